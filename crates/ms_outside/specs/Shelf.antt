@@ -1,0 +1,31 @@
+-- Reading a file from a shelf.
+use Rattle.std.specs.Prelude.{◌≡◌, ◌≤◌, ◌<◌, ℕ, List, length, Option, MatchOption, ⊤}
+use Rattle.ms_outside.specs.declared.shelf.Fetched.{Fetched}
+use Rattle.ms_outside.specs.declared.shelf.Fetched.TheVariants.{Bytes, TooLong, Failed, Memory}
+use Rattle.ms_outside.specs.Faults.{Rose, CountsFault}
+use Rattle.ms_outside.specs.Files.{Files, bytes_of}
+
+-- what a shelf that may not tell its files says of a file
+abbrev pub Told : Option Files → List ℕ → (List ℕ → Type 0) → Type 0
+Told files name P = MatchOption files ⊤ (λ known. P (bytes_of known name))
+
+-- what reading the file gives: too long exactly where it has more bytes than the limit, else all of them
+abbrev pub Fetches : List ℕ → ℕ → Option Files → Fetched → Type 0
+Fetches name limit files (Bytes v) = (length v.items ≤ limit) × Told files name (λ bytes. v.items ≡ bytes)
+Fetches name limit files TooLong = Told files name (λ bytes. limit < length bytes)
+Fetches name limit files Failed = ⊤
+Fetches name limit files Memory = ⊤
+
+-- the counts of faults after a read of the file that gave this
+abbrev pub SameCounts : (List ℕ → ℕ) → (List ℕ → ℕ) → Type 0
+SameCounts before after = (name : List ℕ) → after name ≡ before name
+
+pub record CountsReadFault (name : List ℕ) (before after : List ℕ → ℕ) : Type 0 where
+  pub never_fall : (other : List ℕ) → before other ≤ after other
+  pub rose : Rose (before name) (after name)
+
+abbrev pub CountsRead : List ℕ → Fetched → (List ℕ → ℕ) → (List ℕ → ℕ) → Type 0
+CountsRead name (Bytes v) before after = SameCounts before after
+CountsRead name TooLong before after = SameCounts before after
+CountsRead name Failed before after = CountsReadFault name before after
+CountsRead name Memory before after = SameCounts before after

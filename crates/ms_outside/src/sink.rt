@@ -1,0 +1,27 @@
+ghost use Rattle.std.specs.Prelude.{ℕ, List, Option};
+ghost use Rattle.ms_outside.specs.Sink.{CountsPut, Puts};
+
+/// What a put into a sink gives.
+#[derive(Clone, Copy, Debug, PartialEq, Eq)]
+pub enum Put {
+    /// The sink holds the piece.
+    Done,
+    /// The sink failed, which it has counted. It holds a first part of the piece, perhaps nothing of it.
+    Failed,
+    /// Memory ran out. The sink is unchanged.
+    Memory,
+}
+
+/// Bytes that go outside, a piece at a time.
+pub trait Sink {
+    /// The bytes that the sink holds, where it tells them.
+    ghost held: { Self → Option (List ℕ) };
+
+    /// How many puts have failed so far.
+    ghost faults: { Self → ℕ };
+
+    /// Puts a piece at the end of what the sink holds.
+    fn put(&mut self, piece: &[u8]) -> Put
+        ensures held { Puts result piece.now (held self.old) (held self.new) }
+        ensures faults { CountsPut result (faults self.old) (faults self.new) };
+}
