@@ -1,0 +1,11 @@
+//! Handles, the references into the segment memory, and the arithmetic on them.
+//!
+//! A handle names one allocation by its identity, a part of it by base and length, and a place by an offset from the
+//! base. Arithmetic moves the offset and looks at no memory: only an access checks it.
+#![tactic(auto)]
+
+mod arithmetic;
+mod handle;
+
+pub use arithmetic::{add, diff, eq, is_null, slice};
+pub use handle::{Apart, Handle, Kind};
