@@ -1,13 +1,21 @@
-// A library with one function.
+//! The reader of binary modules (WebAssembly 1.0, chapter 5).
+//!
+//! `read` gives a module exactly where the bytes are a spelling of it. The readers below it follow the grammar of
+//! `ms_module` from left to right, each proved to give what its format gives, with the place of the first fault.
 #![tactic(auto)]
 
-ghost use Rattle.std.specs.Prelude.{◌≡◌};
-ghost use Rattle.ms_bin_read.specs.Echo.{echo_of};
 
-// The `ensures` clause is the contract: what `echo` returns is `echo_of` of its argument, a definition
-// in `specs/Echo.antt`, which a caller's clause can cite too.
-pub fn echo(x: usize) -> usize
-    ensures { result ≡ echo_of x }
-{
-    x
-}
+mod codes;
+mod fault;
+mod items;
+mod names;
+mod numbers;
+
+
+mod reader;
+mod sections;
+mod types;
+
+pub use fault::ReadFault;
+pub use reader::read;
+

@@ -1,13 +1,16 @@
-// A library with one function.
+//! Modules as data (WebAssembly 1.0, chapter 2), and the grammar of the binary format that spells them (chapter 5).
+//!
+//! The grammar stands in `specs/`: `Spells bytes module` says that the bytes are a spelling of the module.
 #![tactic(auto)]
 
-ghost use Rattle.std.specs.Prelude.{◌≡◌};
-ghost use Rattle.ms_module.specs.Echo.{echo_of};
+mod code;
+mod module;
+mod name;
+mod types;
+mod vector;
 
-// The `ensures` clause is the contract: what `echo` returns is `echo_of` of its argument, a definition
-// in `specs/Echo.antt`, which a caller's clause can cite too.
-pub fn echo(x: usize) -> usize
-    ensures { result ≡ echo_of x }
-{
-    x
-}
+pub use code::{Code, Instr, Locals};
+pub use module::{Export, ExportDesc, Func, Module};
+pub use name::Name;
+pub use types::{FuncType, ValType};
+pub use vector::Vector;

@@ -1,0 +1,4 @@
+pub mod Powers
+pub mod Loops
+pub mod Utf8
+pub mod Modules

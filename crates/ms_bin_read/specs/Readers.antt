@@ -1,0 +1,39 @@
+-- What the readers of the code give, against what reading gives.
+use Rattle.std.specs.Prelude.{◌≡◌, ℕ, List, drop, Result, Ok, Err}
+use denote.Ref.{Bor}
+use Rattle.ms_bytes.specs.Spot.{Spot}
+use Rattle.ms_bytes.specs.Reading.{Fault}
+use Rattle.ms_bytes.specs.Reading as reading
+use Rattle.ms_bytes.specs.declared.leb.Leb.{Leb}
+use Rattle.ms_bin_read.specs.declared.fault.Stop.{Stop}
+use Rattle.ms_bin_read.specs.declared.fault.Stop.TheVariants.{Malformed, Memory}
+
+-- the reader stopped where reading does, unless memory ran out
+abbrev pub Fails : {A : Type 0} → Stop → Result A Fault → Type 0
+Fails (Malformed at) read = read ≡ Err (reading.Malformed at)
+Fails Memory read = Unit {0}
+
+-- the answer, and what the cursor has left, are what reading gives, unless memory ran out
+abbrev pub Reads : {A : Type 0} → Spot → Spot → Result A Stop → Result (A × List ℕ) Fault → Type 0
+Reads old new (Ok x) read = (read ≡ Ok (x, new.left)) × (new.end ≡ old.end)
+Reads old new (Err e) read = Fails e read
+
+-- the same where the answer is what a state has become
+abbrev pub Turns : {S : Type 0} → S → Spot → Spot → Result (Unit {0}) Stop → Result (S × List ℕ) Fault → Type 0
+Turns after old new (Ok x) read = (read ≡ Ok (after, new.left)) × (new.end ≡ old.end)
+Turns after old new (Err e) read = Fails e read
+
+-- the same where nothing is taken
+abbrev pub Finds : {A : Type 0} → Result A Stop → Result A Fault → Type 0
+Finds (Ok x) read = read ≡ Ok x
+Finds (Err e) read = Fails e read
+
+-- a number and how many bytes it takes are what reading gives
+abbrev pub Counts : {A : Type 0} → List ℕ → Result (A × ℕ) Leb → Result (A × List ℕ) Leb → Type 0
+Counts bytes (Ok x) read = read ≡ Ok (x.0, drop x.1 bytes)
+Counts bytes (Err e) read = read ≡ Err e
+
+-- the same where the answer is a part of the bytes
+abbrev pub ReadsPart : Spot → Spot → Result (Bor (List ℕ)) Stop → Result (List ℕ × List ℕ) Fault → Type 0
+ReadsPart old new (Ok x) read = (read ≡ Ok (x.now, new.left)) × (new.end ≡ old.end)
+ReadsPart old new (Err e) read = Fails e read

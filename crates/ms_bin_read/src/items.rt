@@ -1,0 +1,109 @@
+//! The parts that readers are made of: items, vectors of items, and items whose size stands before them.
+
+ghost use Rattle.std.specs.Prelude.{◌≡◌};
+ghost use Rattle.ms_bytes.specs.Bounded.{bounded_at, end_at, sized};
+ghost use Rattle.ms_bytes.specs.Choice.{byte_at};
+ghost use Rattle.ms_bytes.specs.Format.{Format, marks_at, number};
+ghost use Rattle.ms_bytes.specs.Repetition.{times, vec};
+ghost use Rattle.ms_bytes.specs.Spot.{Spot};
+ghost use Rattle.ms_bin_read.specs.Readers.{Finds, Reads};
+
+use crate::fault::Stop;
+use crate::numbers::u32_of;
+use ms_bytes::Cursor;
+use ms_module::Vector;
+use std::alloc::Global;
+
+/// What is read from the front of bytes by its format.
+pub trait Item: Sized + Drop {
+    ghost format: { Format Self };
+
+    fn read(alloc: Global, c: &mut Cursor) -> Result<Self, Stop>
+        ensures { Reads c.old c.new result (format.read c.old.end c.old.left) };
+}
+
+/// Reads a byte.
+pub fn byte_of(c: &mut Cursor) -> Result<u8, Stop>
+    ensures { Reads c.old c.new result (byte_at c.old.end c.old.left) }
+{
+    let at = c.at();
+    match c.take() {
+        None => Err(Stop::Malformed { at }),
+        Some(byte) => Ok(byte),
+    }
+}
+
+/// Reads these bytes.
+pub fn marks_of(marks: &[u8], c: &mut Cursor) -> Result<(), Stop>
+    ensures { Reads c.old c.new result (marks_at marks.now c.old.end c.old.left) }
+{
+    if !c.rest().starts_with(marks) {
+        return Err(Stop::Malformed { at: c.at() });
+    }
+    c.skip(marks.len());
+    Ok(())
+}
+
+impl Item for u32 {
+    ghost format = { number };
+
+    fn read(_alloc: Global, c: &mut Cursor) -> Result<Self, Stop> {
+        u32_of(c)
+    }
+}
+
+/// Reads so many items.
+fn times<T: Item>(alloc: Global, count: u32, c: &mut Cursor) -> Result<Vector<T>, Stop>
+    ensures { Reads c.old c.new result ((times count T.format).read c.old.end c.old.left) }
+{
+    let mut items = Vector::new(alloc);
+    for _ in 0..count {
+        items.push(T::read(alloc, c)?)?;
+    }
+    Ok(items)
+}
+
+impl<T: Item> Item for Vector<T> {
+    ghost format = { vec T.format };
+
+    #[tactic(auto, unfolding(ms_bytes::specs::Repetition::vec))]
+    fn read(alloc: Global, c: &mut Cursor) -> Result<Self, Stop> {
+        let count = u32_of(c)?;
+        times(alloc, count, c)
+    }
+}
+
+/// Takes the bytes of an item whose size stands before them, as a cursor of their own.
+#[tactic(auto, unfolding(ms_bytes::specs::Bounded::bounded_at))]
+pub fn bounded<'a>(c: &mut Cursor<'a>) -> Result<Cursor<'a>, Stop>
+    ensures { Reads c.old c.new result (bounded_at c.old.end c.old.left) }
+{
+    let at = c.at();
+    let size = u32_of(c)? as usize;
+    if c.len() < size {
+        return Err(Stop::Malformed { at });
+    }
+    Ok(c.split(size))
+}
+
+/// Whether the bytes of an item have ended with it.
+pub fn ended(c: &Cursor) -> Result<(), Stop>
+    ensures { Finds result (end_at c.now.end c.now.left) }
+{
+    if c.is_empty() {
+        Ok(())
+    } else {
+        Err(Stop::Malformed { at: c.at() })
+    }
+}
+
+/// Reads an item whose size stands before it.
+#[tactic(auto, unfolding(ms_bytes::specs::Bounded::sized_at))]
+pub fn sized_of<T: Item>(alloc: Global, c: &mut Cursor) -> Result<T, Stop>
+    ensures { Reads c.old c.new result ((sized T.format).read c.old.end c.old.left) }
+{
+    let mut inside = bounded(c)?;
+    let item = T::read(alloc, &mut inside)?;
+    ended(&inside)?;
+    Ok(item)
+}
