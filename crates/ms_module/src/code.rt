@@ -50,11 +50,10 @@ impl Code {
         Code { sequences }
     }
 
-    /// The sequences.
-    pub fn sequences(&self) -> &[Vector<Instr>]
-        ensures all { result.now ≡ self.now }
-        ensures numbered { IsNumbered result.now }
+    /// The body's own sequence.
+    pub fn body(&self) -> &[Instr]
+        ensures { self.now ≡ result.now ∷ [] }
     {
-        self.sequences.as_slice()
+        self.sequences.as_slice()[0].as_slice()
     }
 }

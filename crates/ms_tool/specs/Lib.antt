@@ -1,0 +1,4 @@
+pub mod Typing
+pub mod Run
+pub mod Tasks
+pub mod Ends
