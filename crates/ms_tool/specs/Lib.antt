@@ -2,3 +2,8 @@ pub mod Typing
 pub mod Run
 pub mod Tasks
 pub mod Ends
+pub mod Words
+pub mod Lines
+pub mod Top
+pub mod Reporting
+pub mod Outcomes

@@ -1,0 +1,86 @@
+-- What the program answers: the table of its answers, each with its cause.
+use Rattle.std.specs.Prelude.{◌≡◌, ◌<◌, ◌≤◌, ◌⊎◌, ℕ, ℤ, List, [], ◌∷◌, ◌++◌, length, Option, Some, None, MatchOption, IsSomeAnd, ⊤}
+use Rattle.ms_outside.specs.Faults.{Rose}
+use Rattle.ms_outside.specs.Files.{Files, bytes_of}
+use Rattle.ms_outside.specs.Shelf.{Told}
+use Rattle.ms_outside.specs.Sink.{IsFront}
+use Rattle.ms_module.specs.declared.module.Func.{Func}
+use Rattle.ms_module.specs.declared.module.Module.{Module}
+use Rattle.ms_module.specs.Module.{Spells}
+use Rattle.ms_tool.specs.Lines.{no_task_line, read_fault_line, result_line, too_long_line, unread_line, usage_line}
+use Rattle.ms_tool.specs.Run.{Results, run}
+use Rattle.ms_tool.specs.Tasks.{main_name, task_func}
+use Rattle.ms_tool.specs.Typing.{WellTyped, body_of}
+use Rattle.ms_tool.specs.Words.{asked}
+use Rattle.ms_tool.specs.declared.status.Status.{Status}
+use Rattle.ms_tool.specs.declared.status.Status.TheVariants.{Done, OutOfMemory, ReadFault, Refused, TooLong, Usage, WriteFault}
+
+-- how many bytes a file may have, and how many steps a run
+abbrev pub most_bytes : ℕ
+most_bytes = 4194304
+
+abbrev pub default_budget : ℕ
+default_budget = 1000000
+
+-- ---- the table
+
+-- no valid module is spelled so
+abbrev pub IsUnread : List ℕ → Type 0
+IsUnread bytes = (m : Module) → Spells bytes m → ¬ (WellTyped m)
+
+-- the bytes of a file of at most so many bytes, the status and the report
+pub data Executes (bytes : List ℕ) : Status → List ℕ → Type 0 where
+  unread : IsUnread bytes → Executes bytes Refused unread_line
+  no_task : (m : Module) → Spells bytes m → WellTyped m → task_func m main_name ≡ None → Executes bytes Refused no_task_line
+  done : (m : Module) (f : Func) (results : List ℤ) → Spells bytes m → WellTyped m → task_func m main_name ≡ Some f
+      → run default_budget [] (body_of f.code) ≡ Results results → Executes bytes Done (result_line results)
+
+-- what reading a file gave: its bytes, or a fault
+pub data Found : Type 0 where
+  Contents : List ℕ → Found
+  Fault : Found
+
+-- the file of this name, and what was found of it
+pub data Answers (name : List ℕ) : Found → Status → List ℕ → Type 0 where
+  read_fault : Answers name Fault ReadFault (read_fault_line name)
+  too_long : {bytes : List ℕ} → most_bytes < length bytes → Answers name (Contents bytes) TooLong (too_long_line name)
+  executed : {bytes report : List ℕ} {status : Status} → length bytes ≤ most_bytes → Executes bytes status report → Answers name (Contents bytes) status report
+
+-- The words, and what was found of the file that they name, give this status and this report.
+abbrev pub Gives : List (List ℕ) → Found → Status → List ℕ → Type 0
+Gives words found status report = MatchOption (asked words) ((status ≡ Usage) × (report ≡ usage_line)) (λ name. Answers name found status report)
+
+-- ---- what the objects outside have to do with it
+
+-- what was found is the file's bytes, where the shelf tells them; a fault only where the count of its reads rose
+abbrev pub IsFound : Option Files → (List ℕ → ℕ) → (List ℕ → ℕ) → List ℕ → Found → Type 0
+IsFound files before after name (Contents bytes) = Told files name (λ known. bytes ≡ known)
+IsFound files before after name Fault = Rose (before name) (after name)
+
+-- the same of the file that the words name, if they name one
+abbrev pub IsFoundFor : Option Files → (List ℕ → ℕ) → (List ℕ → ℕ) → List (List ℕ) → Found → Type 0
+IsFoundFor files before after words found = MatchOption (asked words) ⊤ (λ name. IsFound files before after name found)
+
+-- the bytes are known: those of the file that the words name, if they name one
+abbrev pub IsKnown : Option Files → List (List ℕ) → List ℕ → Type 0
+IsKnown files words bytes = MatchOption (asked words) ⊤ (λ name. IsSomeAnd files (λ known. bytes ≡ bytes_of known name))
+
+-- what a sink holds has grown by this, where it tells it
+abbrev pub Grows : Option (List ℕ) → Option (List ℕ) → List ℕ → Type 0
+Grows old new piece = MatchOption old (new ≡ None) (λ held. new ≡ Some (held ++ piece))
+
+-- This status is the answer, and the report has grown by exactly what it says.
+abbrev pub IsAnswer : Option Files → (List ℕ → ℕ) → (List ℕ → ℕ) → List (List ℕ) → Option (List ℕ) → Option (List ℕ) → Status → Type 0
+IsAnswer files before after words old new status = (found : Found) × (report : List ℕ) × IsFoundFor files before after words found × Gives words found status report × Grows old new report
+
+-- The report could not be put: it has grown by a first part of what an answer says.
+abbrev pub IsCutOff : Option Files → (List ℕ → ℕ) → (List ℕ → ℕ) → List (List ℕ) → Option (List ℕ) → Option (List ℕ) → Type 0
+IsCutOff files before after words old new =
+    (found : Found) × (status : Status) × (report : List ℕ) × (front : List ℕ) × IsFoundFor files before after words found × Gives words found status report × IsFront front report × Grows old new front
+
+-- The status is a fault of the outside, or want of memory.
+abbrev pub IsPutFault : Status → Type 0
+IsPutFault status = (status ≡ WriteFault) ⊎ (status ≡ OutOfMemory)
+
+abbrev pub IsFaulty : Status → Type 0
+IsFaulty status = (status ≡ ReadFault) ⊎ IsPutFault status
