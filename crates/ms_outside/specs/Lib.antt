@@ -4,3 +4,7 @@ pub mod Sink
 pub mod Files
 pub mod Shelf
 pub mod Script
+pub mod Calls
+pub mod Memory
+pub mod Kept
+pub mod Adapters

@@ -1,5 +1,5 @@
 -- Objects in memory, for tests: what they hold, and which of their calls are to fail.
-use Rattle.std.specs.Prelude.{◌≡◌, ◌==◌, ℕ, ◌+◌, ◌≤◌, Bool, List, [], ◌∷◌, ◌++◌, min, if◌then◌else◌}
+use Rattle.std.specs.Prelude.{◌==◌, ℕ, ◌+◌, Bool, List, [], ◌∷◌, ◌++◌, min, if◌then◌else◌}
 use Rattle.std.specs.List.{list_any}
 
 -- the numbers of the calls that are to fail, counted from 1; how many calls there were; how many of them failed

@@ -2,7 +2,7 @@
 use Rattle.std.specs.Prelude.{◌≡◌, ◌≤◌, ◌<◌, ℕ, List, length, Option, MatchOption, ⊤}
 use Rattle.ms_outside.specs.declared.shelf.Fetched.{Fetched}
 use Rattle.ms_outside.specs.declared.shelf.Fetched.TheVariants.{Bytes, TooLong, Failed, Memory}
-use Rattle.ms_outside.specs.Faults.{Rose, CountsFault}
+use Rattle.ms_outside.specs.Faults.{Rose}
 use Rattle.ms_outside.specs.Files.{Files, bytes_of}
 
 -- what a shelf that may not tell its files says of a file

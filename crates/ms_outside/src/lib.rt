@@ -3,12 +3,33 @@
 //! Each trait says what a call means on the object's content, where the object tells it, and counts its faults. A
 //! caller that is generic over the trait can't raise a count by itself, so a clause "this answer only where the count
 //! rose" refuses a body that gives up.
+//!
+//! `MemSource`, `MemSink` and `MemShelf` are objects in memory for tests, which tell all that they hold and fail exactly
+//! at the calls that they are told to fail at. `StdSource`, `StdSink` and `FileShelf` are over a reader, a writer and the
+//! files of the standard library.
 #![tactic(auto)]
 
+mod count;
+mod file_shelf;
+mod mem_shelf;
+mod mem_sink;
+mod mem_source;
+mod script;
 mod shelf;
 mod sink;
 mod source;
+mod std_sink;
+mod std_source;
 
+pub use file_shelf::FileShelf;
+pub use mem_shelf::MemShelf;
+pub use mem_sink::MemSink;
+pub use mem_source::MemSource;
 pub use shelf::{Fetched, Shelf};
 pub use sink::{Put, Sink};
 pub use source::{Got, Source};
+pub use std_sink::StdSink;
+pub use std_source::StdSource;
+
+#[cfg(test)]
+mod tests;

@@ -1,0 +1,93 @@
+ghost use Rattle.std.specs.Prelude.{◌≡◌, ◌≢◌, ◌≤◌, ◌-◌, [], IfOk, OnErr, IsTrue, ◌↔◌, length};
+ghost use Rattle.ms_outside.specs.Memory.{Output};
+ghost use Rattle.ms_outside.specs.Script.{also_failing, called, next_fails, no_script};
+ghost use Rattle.ms_outside.specs.Sink.{CountsPut, Puts};
+
+use crate::script::Script;
+use crate::sink::{Put, Sink};
+use std::alloc::{AllocError, Global};
+use std::marker::Model;
+
+/// A sink that holds its bytes in memory, for tests: its calls fail where a script has it.
+#[derive(Drop)]
+pub struct MemSink {
+    bytes: Vec<u8>,
+    room: usize,
+    script: Script,
+}
+
+impl Model for MemSink {
+    ghost use Rattle.std.specs.Prelude.{◌+◌, ◌≤◌, vec_capacity, vec_len};
+    ghost use Rattle.ms_outside.specs.Memory.{Output};
+
+    ghost Value = { Output };
+
+    ghost view = { λ s. record { held = s.bytes.items; room = s.room; script = s.script } };
+
+    ghost invariant = { λ s. vec_len s.bytes + s.room ≤ vec_capacity s.bytes };
+}
+
+impl MemSink {
+    /// An empty sink with room for this many bytes, none of whose puts is to fail.
+    pub fn new(alloc: Global, room: usize) -> Result<MemSink, AllocError>
+        ensures { IfOk result (λ sink. sink ≡ record { held = []; room = room; script = no_script }) }
+    {
+        let bytes = Vec::with_capacity(alloc, room)?;
+        Ok(MemSink {
+            bytes,
+            room,
+            script: Script::new(alloc),
+        })
+    }
+
+    /// The put of this number, counted from 1, is to fail too. An error leaves the sink unchanged.
+    pub fn fail_at(&mut self, call: u64) -> Result<(), AllocError>
+        ensures ok { IfOk result (λ _. self.new ≡ record self.old { script = also_failing call self.old.script }) }
+        ensures err { OnErr result (self.new ≡ self.old) }
+    {
+        self.script.fail_at(call)
+    }
+
+    /// How many puts failed, at most `u64::MAX`.
+    pub fn faults(&self) -> u64
+        ensures { result ≡ self.now.script.faults }
+    {
+        self.script.faults()
+    }
+
+    /// The bytes that were put.
+    pub fn held(&self) -> &[u8]
+        ensures { result.now ≡ self.now.held }
+    {
+        self.bytes.as_slice()
+    }
+}
+
+impl Sink for MemSink {
+    ghost use Rattle.std.specs.Prelude.{Some};
+
+    ghost held = { λ s. Some s.held };
+
+    ghost faults = { λ s. s.script.faults };
+
+    fn put(&mut self, piece: &[u8]) -> Put
+        ensures held { Puts result piece.now (Some self.old.held) (Some self.new.held) }
+        ensures faults { CountsPut result self.old.script.faults self.new.script.faults }
+        ensures failed { (result ≡ Put.Failed) ↔ IsTrue (next_fails self.old.script) }
+        ensures script { self.new.script ≡ called (next_fails self.old.script) self.old.script }
+        ensures stays { result ≢ Put.Done → (self.new.held ≡ self.old.held) × (self.new.room ≡ self.old.room) }
+        ensures reserved { length piece.now ≤ self.old.room → result ≢ Put.Memory }
+        ensures room { result ≡ Put.Done → self.new.room ≡ self.old.room - length piece.now }
+    {
+        if self.script.call() {
+            return Put::Failed;
+        }
+        match self.bytes.extend_from_slice(piece) {
+            Ok(()) => {
+                self.room = self.room.saturating_sub(piece.len());
+                Put::Done
+            }
+            Err(_) => Put::Memory,
+        }
+    }
+}
