@@ -1,0 +1,9 @@
+//! What happens to the segment memory, as events with a text of one line each, and which traces of events are safe.
+//!
+//! The colour monitor stands in `specs/Monitor.antt`: it paints addresses with the colour of an allocation and a place in
+//! it, and knows no handle, tag or byte.
+#![tactic(auto)]
+
+mod event;
+
+pub use event::Event;

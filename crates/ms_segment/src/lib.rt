@@ -1,0 +1,10 @@
+//! The segment memory: segments that are made, freed, and read and written through handles.
+//!
+//! It is generic over how live segments and tagged bytes are kept, and proved once, by what `Gaps` and `Tagged` say.
+#![tactic(auto)]
+
+mod segments;
+mod trap;
+
+pub use segments::Segments;
+pub use trap::SegTrap;
