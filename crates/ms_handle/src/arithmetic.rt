@@ -1,5 +1,5 @@
-ghost use Rattle.std.specs.Prelude.{◌≡◌, IsTrue, ◌↔◌};
-ghost use Rattle.ms_handle.specs.Handle.{HasBounds, add, difference, eq, slice};
+ghost use Rattle.std.specs.Prelude.{◌≡◌, IsTrue, ◌↔◌, pos, negsuc, ◌+ℤ◌, ◌≤ℤ◌};
+ghost use Rattle.ms_handle.specs.Handle.{HasBounds, add, difference, eq, farthest, moved, slice};
 
 use crate::handle::{Apart, Handle};
 
@@ -31,7 +31,11 @@ pub fn add(h: Handle, delta: i64, scale: u32) -> Handle
 }
 
 /// The handle at `offset + distance`, or broken where that is too far.
-fn moved(id: u64, base: u32, length: u32, offset: i64, distance: i64) -> Handle {
+fn moved(id: u64, base: u32, length: u32, offset: i64, distance: i64) -> Handle
+    requires { HasBounds (Handle.Good id base length offset) }
+    ensures moved { result ≡ moved (Handle.Good id base length offset) distance }
+    ensures bounds { HasBounds result }
+{
     match offset.checked_add(distance) {
         Some(offset) if -FARTHEST <= offset && offset <= FARTHEST => Handle::Good {
             id,
@@ -80,11 +84,31 @@ pub fn eq(a: Handle, b: Handle) -> bool
 {
     match (a, b) {
         (Handle::Null, Handle::Null) => true,
-        (Handle::Good { id, .. }, Handle::Good { id: other, .. }) if id == other => {
-            diff(a, b) == Ok(0)
-        }
+        (
+            Handle::Good {
+                id,
+                base,
+                offset,
+                ..
+            },
+            Handle::Good {
+                id: other,
+                base: other_base,
+                offset: other_offset,
+                ..
+            },
+        ) => id == other && place(base, offset) == place(other_base, other_offset),
         _ => false,
     }
+}
+
+/// The place in the segment that lies `offset` bytes behind `base`.
+fn place(base: u32, offset: i64) -> i64
+    requires low { negsuc 1099511627775 ≤ℤ offset }
+    requires high { offset ≤ℤ farthest }
+    ensures { result ≡ pos base +ℤ offset }
+{
+    i64::from(base) + offset
 }
 
 /// Whether the handle is null.
@@ -104,7 +128,10 @@ pub fn diff(a: Handle, b: Handle) -> Result<i64, Apart>
     match (a, b) {
         (
             Handle::Good {
-                id, base, offset, ..
+                id,
+                base,
+                offset,
+                ..
             },
             Handle::Good {
                 id: other,
@@ -112,9 +139,7 @@ pub fn diff(a: Handle, b: Handle) -> Result<i64, Apart>
                 offset: other_offset,
                 ..
             },
-        ) if id == other => {
-            Ok((i64::from(base) + offset) - (i64::from(other_base) + other_offset))
-        }
+        ) if id == other => Ok(place(base, offset) - place(other_base, other_offset)),
         _ => Err(Apart),
     }
 }

@@ -2,5 +2,10 @@
 #![tactic(auto)]
 
 mod gaps;
+mod least_gap;
+mod list_gaps;
+#[cfg(test)]
+mod tests;
 
 pub use gaps::{Gaps, Live, MOST_LIVE};
+pub use list_gaps::ListGaps;

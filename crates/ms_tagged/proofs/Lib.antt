@@ -1,0 +1,4 @@
+pub mod Tags
+pub mod Handles
+pub mod Numbers
+pub mod Ranges
