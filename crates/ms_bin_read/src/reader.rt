@@ -45,3 +45,6 @@ pub fn read(alloc: Global, bytes: &[u8]) -> Result<Module, ReadFault>
         Err(Stop::Memory) => Err(ReadFault::Memory),
     }
 }
+
+#[cfg(test)]
+mod tests;

@@ -1,5 +1,5 @@
 -- Items whose size stands before them, and names.
-use Rattle.std.specs.Prelude.{◌≡◌, ◌==◌, ℕ, ◌-◌, ◌≤◌, true, false, List, [], ◌++◌, length, take, drop, nat_lt, Result, Ok, Err, if◌then◌else◌, refl}
+use Rattle.std.specs.Prelude.{◌≡◌, ◌==◌, ℕ, ◌-◌, ◌≤◌, false, List, [], ◌++◌, length, take, drop, nat_lt, Result, Ok, if◌then◌else◌, refl}
 use Rattle.std.specs.Str.{is_utf8, IsUtf8}
 use Rattle.std.proofs.Common.{cond, eqb, ltb, inl, inr, sym, ap, subst, arith}
 use Rattle.std.proofs.lemmas.Bool.{eqb-true, ltb-false, le-ltb}
@@ -9,7 +9,7 @@ use Rattle.ms_bytes.specs.Spot.{Spot, part}
 use Rattle.ms_bytes.specs.Leb128.{UnsignedAt}
 use Rattle.ms_bytes.specs.Leb128Laws.{chosen}
 use Rattle.ms_bytes.specs.Reading.{◌>>=◌, Fault, Reader, bind_ok, malformed, ok_is, okay}
-use Rattle.ms_bytes.specs.Format.{Format, ends_fit, front_fits, number, number_again, number_at, number_takes}
+use Rattle.ms_bytes.specs.Format.{Format, ends_fit, front_fits, number_again, number_at, number_takes}
 
 -- ---- a size in bytes, and an item of exactly that many bytes
 

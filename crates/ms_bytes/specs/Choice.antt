@@ -1,11 +1,11 @@
 -- A choice by the first byte: a table of bytes, each with what stands behind it.
-use Rattle.std.specs.Prelude.{◌≡◌, ◌≢◌, ◌==◌, ℕ, ◌<◌, ◌≤◌, ◌⊎◌, Bool, true, false, List, [], ◌∷◌, length, Result, Ok, Err, if◌then◌else◌, refl}
+use Rattle.std.specs.Prelude.{◌≡◌, ◌≢◌, ◌==◌, ℕ, ◌<◌, ◌≤◌, ◌⊎◌, Bool, true, false, List, [], ◌∷◌, length, Ok, Err, if◌then◌else◌, refl}
 use Rattle.std.proofs.Common.{eqb, inl, inr, ap, arith}
 use Rattle.std.proofs.lemmas.Bool.{eqb-true, eq-eqb}
 use Rattle.std.proofs.lemmas.Bool.Decides.{nat_tests}
 use Rattle.ms_bytes.specs.Spot.{place_of}
 use Rattle.ms_bytes.specs.Leb128Laws.{chosen}
-use Rattle.ms_bytes.specs.Reading.{◌>>=◌, Fault, Malformed, Reader, malformed}
+use Rattle.ms_bytes.specs.Reading.{◌>>=◌, Malformed, Reader, malformed}
 use Rattle.ms_bytes.specs.Format.{Format}
 
 abbrev pub byte_at : Reader ℕ

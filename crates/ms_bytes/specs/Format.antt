@@ -3,7 +3,7 @@
 -- `spelled` alone is the meaning: `spelled s x t` says that the front of the text s is the item x, and that t follows
 -- it. It names no reader. `takes` and `again` are the laws that tie it to `read`: what is read is spelled so, and what
 -- is spelled so is read.
-use Rattle.std.specs.Prelude.{◌≡◌, ◌≤◌, ℕ, Bool, true, List, [], ◌∷◌, ◌++◌, length, drop, nat_eq, Result, Ok, Err, if◌then◌else◌, refl, ℤ}
+use Rattle.std.specs.Prelude.{◌≡◌, ◌≤◌, ℕ, Bool, true, List, [], ◌∷◌, ◌++◌, length, drop, nat_eq, Ok, Err, if◌then◌else◌, refl, ℤ}
 use Rattle.std.specs.List.{starts_with}
 use Rattle.std.specs.Cmp.Lexicographic.{same_text}
 use lib.Pointwise.{pointwise}

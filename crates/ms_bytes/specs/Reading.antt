@@ -1,5 +1,5 @@
 -- Reading from left to right: what stands at the front and what is left, or the first fault.
-use Rattle.std.specs.Prelude.{◌≡◌, ℕ, ◌-◌, List, [], ◌∷◌, length, take, drop, Result, Ok, Err, nat_lt, ◌==◌, if◌then◌else◌, refl}
+use Rattle.std.specs.Prelude.{◌≡◌, ℕ, List, Result, Ok, Err, refl}
 use Rattle.ms_bytes.specs.Spot.{place_of}
 
 -- why bytes are not what is read, and the place at which the first wrong item begins

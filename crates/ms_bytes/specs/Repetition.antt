@@ -1,6 +1,6 @@
 -- Items one after the other: so many, one for each of a list, or steps up to the end of the text.
-use Rattle.std.specs.Prelude.{◌≡◌, ℕ, zero, suc, ◌<◌, ◌≤◌, false, List, [], ◌∷◌, length, drop, Result, Ok, Err, if◌then◌else◌, refl}
-use Rattle.std.proofs.Common.{cond, true, inl, inr, sym, ap, subst, arith}
+use Rattle.std.specs.Prelude.{◌≡◌, ℕ, zero, suc, ◌<◌, ◌≤◌, false, List, [], ◌∷◌, length, drop, Result, Ok, if◌then◌else◌, refl}
+use Rattle.std.proofs.Common.{true, inl, inr, sym, ap, subst, arith}
 use Rattle.std.proofs.lemmas.Bool.{eqb-true, eq-eqb}
 use Rattle.ms_bytes.specs.Spot.{first_is}
 use Rattle.ms_bytes.specs.Leb128Laws.{chosen}
@@ -119,7 +119,7 @@ module _ {A : Type 0} (last : ℕ) (f : Format A) where
             let ys = bind_ok (until_at last f n end x.0.1) (λ ys. Ok (x.0.0 ∷ ys.0, ys.1)) (xs, t) x.2 in
             let p = ok_is (x.0.0 ∷ ys.0.0, ys.0.1) (xs, t) ys.2 in
             subst (λ (q : List A × List ℕ). Until last f s q.0 q.1) p
-                (item h.0 (f.takes end s x.0.0 x.0.1 x.1) (until_takes n end x.0.1 ys.0.0 ys.0.1 ys.1))
+            (item h.0 (f.takes end s x.0.0 x.0.1 x.1) (until_takes n end x.0.1 ys.0.0 ys.0.1 ys.1))
       ]
 
   pub until_fits : {s : List ℕ} {xs : List A} {t : List ℕ} → Until last f s xs t → length t ≤ length s

@@ -121,3 +121,6 @@ impl<'a> Cursor<'a> {
         Cursor { left: front, at }
     }
 }
+
+#[cfg(test)]
+mod tests;

@@ -1,5 +1,5 @@
 -- How modules are spelled (WebAssembly 1.0, 5.5).
-use Rattle.std.specs.Prelude.{◌≡◌, ◌==◌, ℕ, List, [], ◌∷◌, length, nat_lt}
+use Rattle.std.specs.Prelude.{◌==◌, ℕ, List, [], ◌∷◌, length, nat_lt}
 use Rattle.ms_bytes.specs.Reading.{Malformed}
 use Rattle.ms_bytes.specs.Format.{Format, check, marks, number, only, pure}
 use Rattle.ms_bytes.specs.Choice.{Case, Is, IsIf, one_of, one_of_shorter}

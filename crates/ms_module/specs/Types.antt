@@ -1,5 +1,5 @@
 -- How types are spelled (WebAssembly 1.0, 5.3).
-use Rattle.std.specs.Prelude.{ℕ, List, [], ◌∷◌}
+use Rattle.std.specs.Prelude.{[], ◌∷◌}
 use Rattle.ms_bytes.specs.Format.{Format, marks, pure}
 use Rattle.ms_bytes.specs.Choice.{Is, one_of}
 use Rattle.ms_bytes.specs.Repetition.{vec}

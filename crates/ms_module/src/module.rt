@@ -38,3 +38,6 @@ pub struct Module {
     /// The exports.
     pub exports: Vector<Export>,
 }
+
+#[cfg(test)]
+mod tests;

@@ -1,5 +1,5 @@
 -- The table gives one answer at most, so that what it gives for a known file is what was answered.
-use Rattle.std.proofs.Common.{◌≡◌, ℕ, ◌<◌, ◌≤◌, ◌⊎◌, inl, inr, List, length, ℤ, refl, sym, ap, subst, ◌∙◌, arith}
+use Rattle.std.proofs.Common.{◌≡◌, ℕ, ◌⊎◌, inl, inr, List, ℤ, refl, sym, ap, subst, ◌∙◌, arith}
 use Rattle.std.specs.Prelude.{[], ⊤, MatchOption, Option, Some, None, IsSomeAnd}
 use Rattle.ms_outside.specs.Files.{Files, bytes_of}
 use Rattle.ms_outside.specs.Shelf.{Told}
@@ -9,7 +9,7 @@ use Rattle.ms_module.specs.Module.{Spells}
 use Rattle.ms_module.proofs.Spelling.{one_module}
 use Rattle.ms_tool.specs.Lines.{result_line, usage_line}
 use Rattle.ms_tool.specs.Reporting.{Reads, Report, Reports, ReportsWords}
-use Rattle.ms_tool.specs.Run.{End, Results, run}
+use Rattle.ms_tool.specs.Run.{Results, run}
 use Rattle.ms_tool.specs.Tasks.{main_name, task_func}
 use Rattle.ms_tool.specs.Top.{Answers, Contents, Executes, Fault, Found, Gives, Grows, IsFaulty, IsFound, IsKnown, default_budget, done, executed, no_task, read_fault, too_long, unread}
 use Rattle.ms_tool.specs.Typing.{body_of}

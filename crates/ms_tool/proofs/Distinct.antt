@@ -1,5 +1,5 @@
 -- Names that are put into a set one after the other.
-use Rattle.std.proofs.Common.{◌≡◌, ◌≢◌, ℕ, ◌+◌, ◌<◌, Bool, true, false, cond, eqb, ◌⊎◌, inl, inr, List, [], ◌∷◌, ◌++◌, length, take, drop, get_or, refl, sym, ap, ◌∙◌, arith}
+use Rattle.std.proofs.Common.{◌≡◌, ◌≢◌, ℕ, ◌+◌, ◌<◌, Bool, true, false, cond, ◌⊎◌, inl, inr, List, [], ◌∷◌, ◌++◌, length, take, drop, get_or, refl, sym, ap, ◌∙◌}
 use Rattle.std.specs.Prelude.{map, ◌||◌}
 use Rattle.std.specs.List.{list_any}
 use Rattle.std.specs.Str.{bytes_eq}
@@ -67,11 +67,11 @@ pub inserted : (k q y : List ℕ) (xs : List (List ℕ)) (old new : Bool) → k 
 inserted k q y xs old new is step before =
     let test : is_eq (slice_cmp nat_cmp k q) ≡ bytes_eq q y = is_eq-slice_cmp k q ∙ (ap (λ (z : List ℕ). bytes_eq z q) is ∙ eq_sym y q) in
     step ∙ (ap (λ (b : Bool). cond b true old) test ∙ (ap (λ (b : Bool). cond (bytes_eq q y) true b) before ∙ either_way (bytes_eq q y) (list_any (bytes_eq q) xs))) where
-  either_way : (a b : Bool) → cond a true b ≡ (b || a)
-  either_way true true = refl
-  either_way true false = refl
-  either_way false true = refl
-  either_way false false = refl
+      either_way : (a b : Bool) → cond a true b ≡ (b || a)
+      either_way true true = refl
+      either_way true false = refl
+      either_way false true = refl
+      either_way false false = refl
 
 module _ (exports : List Export) (i : ℕ) (d : Export) (lt : i < length exports) where
   next_names : names (take (i + 1) exports) ≡ names (take i exports) ++ (get_or exports i d).name ∷ []
@@ -84,12 +84,12 @@ module _ (exports : List Export) (i : ℕ) (d : Export) (lt : i < length exports
   seen_more q =
       ap (list_any (bytes_eq q)) next_names ∙ (list_any-append (bytes_eq q) (names (take i exports)) ((get_or exports i d).name ∷ [])
       ∙ ap (λ (b : Bool). list_any (bytes_eq q) (names (take i exports)) || b) (or_false (bytes_eq q (get_or exports i d).name))) where
-    or_false : (b : Bool) → (b || false) ≡ b
-    or_false true = refl
-    or_false false = refl
+        or_false : (b : Bool) → (b || false) ≡ b
+        or_false true = refl
+        or_false false = refl
 
   pub name_repeats : list_any (bytes_eq (get_or exports i d).name) (names (take i exports)) ≡ true → AreDistinct (names exports) → ⊥
   name_repeats e h =
       let split : names exports ≡ names (take i exports) ++ (get_or exports i d).name ∷ names (drop (i + 1) exports) =
-          ap names (sym (take-append-drop i exports)) ∙ (ap (λ (l : List Export). names (take i exports ++ l)) (drop_more exports i d lt) ∙ names-append (take i exports) (get_or exports i d ∷ drop (i + 1) exports)) in
+      ap names (sym (take-append-drop i exports)) ∙ (ap (λ (l : List Export). names (take i exports ++ l)) (drop_more exports i d lt) ∙ names-append (take i exports) (get_or exports i d ∷ drop (i + 1) exports)) in
       repeats (names (take i exports)) (get_or exports i d).name (names (drop (i + 1) exports)) e (rw split at h)

@@ -1,12 +1,12 @@
 -- What executing a file comes to is what its bytes give.
-use Rattle.std.proofs.Common.{◌≡◌, ◌≢◌, ℕ, zero, suc, ◌+◌, ◌<◌, ◌≤◌, List, [], ◌∷◌, length, ℤ, refl, sym, ap, ◌∙◌, arith}
-use Rattle.std.specs.Prelude.{Option, Some, None, All, IsSomeAnd, find, option_and_then, slice_get, if◌then◌else◌}
+use Rattle.std.proofs.Common.{◌≡◌, ◌≢◌, ℕ, zero, suc, ◌≤◌, List, [], ◌∷◌, length, ℤ, refl, sym, ◌∙◌, arith}
+use Rattle.std.specs.Prelude.{Option, Some, None, All, IsSomeAnd, option_and_then, slice_get}
 use Rattle.ms_module.specs.declared.types.FuncType.{FuncType}
 use Rattle.ms_module.specs.declared.code.Instr.{Instr}
 use Rattle.ms_module.specs.declared.code.Instr.TheVariants.{I32Const}
 use Rattle.ms_module.specs.declared.module.Func.{Func}
 use Rattle.ms_module.specs.declared.module.Module.{Module}
-use Rattle.ms_tool.specs.Run.{End, OutOfBudget, run}
+use Rattle.ms_tool.specs.Run.{OutOfBudget, run}
 use Rattle.ms_tool.specs.Tasks.{func_index, of_task_type, task_func}
 use Rattle.ms_tool.specs.Typing.{IsTypedFunc, Typed, WellTyped, body_of}
 use Rattle.std.proofs.Common.{cond, inl, inr, subst}

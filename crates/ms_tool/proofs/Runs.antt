@@ -1,5 +1,5 @@
 -- A run, step by step, as the loop takes it.
-use Rattle.std.proofs.Common.{◌≡◌, ℕ, suc, ◌+◌, ◌-◌, ◌<◌, ◌≤◌, List, [], ◌∷◌, ◌++◌, length, refl, sym, ap, ◌∙◌, arith, ℤ}
+use Rattle.std.proofs.Common.{◌≡◌, ℕ, suc, List, [], ◌∷◌, ◌++◌, refl, sym, ◌∙◌, ℤ}
 use Rattle.ms_module.specs.declared.code.Instr.{Instr}
 use Rattle.ms_module.specs.declared.code.Instr.TheVariants.{I32Const}
 use Rattle.ms_tool.specs.Run.{End, OutOfBudget, Results, run, step_on}

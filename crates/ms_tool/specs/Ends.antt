@@ -1,6 +1,4 @@
 -- What the code of the run gives, as the definitions have it.
-use Rattle.std.specs.Prelude.{◌≡◌, ℤ, List}
-use Rattle.ms_module.specs.declared.code.Instr.{Instr}
 use Rattle.ms_tool.specs.declared.run.End as code
 use Rattle.ms_tool.specs.declared.run.End.TheVariants as ends
 use Rattle.ms_tool.specs.Run.{End, OutOfBudget, Results}

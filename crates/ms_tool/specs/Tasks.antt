@@ -1,5 +1,5 @@
 -- Which function a task runs.
-use Rattle.std.specs.Prelude.{◌==◌, ℕ, Bool, true, false, List, [], ◌∷◌, length, Option, Some, None, find, option_and_then, slice_get, if◌then◌else◌, codes, nat_le}
+use Rattle.std.specs.Prelude.{◌==◌, ℕ, Bool, false, List, length, Option, Some, None, find, option_and_then, slice_get, if◌then◌else◌, codes, nat_le}
 use Rattle.std.specs.Str.{bytes_eq}
 use Rattle.ms_module.specs.declared.types.FuncType.{FuncType}
 use Rattle.ms_module.specs.declared.module.Func.{Func}

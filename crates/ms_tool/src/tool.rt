@@ -64,3 +64,6 @@ fn respond<F: Shelf, R: Sink>(
         None => answer(report, Status::Usage, b"usage: mswasm exec FILE\n"),
     }
 }
+
+#[cfg(test)]
+mod tests;

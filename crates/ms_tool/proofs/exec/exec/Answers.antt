@@ -1,5 +1,3 @@
-use Rattle.std.proofs.Common.{◌≡◌, ap, sym, subst}
-use Rattle.ms_tool.specs.Reporting.{ReportsExecution}
 use Rattle.ms_tool.proofs.Files.{file_executed, file_failed, file_too_long}
 use Rattle.ms_tool.proofs.exec.exec.Goals as goal
 

@@ -9,4 +9,4 @@ use Rattle.ms_tool.proofs.exec.results_of.Goals as goal
 pub unreachable-requires : goal.unreachable-requires
 unreachable-requires c =
     never_out c.args._module.now main_name c.args.main.now 1000000 c.requires.valid c.requires.task (omega arith)
-        (ap (run 1000000 []) (ap body_of c.body.ensures) ∙ (sym c.in_ok-results.ensures ∙ ap end_of c.in-OutOfBudget.is))
+    (ap (run 1000000 []) (ap body_of c.body.ensures) ∙ (sym c.in_ok-results.ensures ∙ ap end_of c.in-OutOfBudget.is))

@@ -1,4 +1,3 @@
-use Rattle.std.proofs.Common.{◌≡◌}
 use Rattle.ms_tool.proofs.Types.{counts_results}
 use Rattle.ms_tool.proofs.typing.gives.Goals as goal
 
