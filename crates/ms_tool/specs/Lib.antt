@@ -7,3 +7,4 @@ pub mod Lines
 pub mod Top
 pub mod Reporting
 pub mod Outcomes
+pub mod Statuses

@@ -1,5 +1,7 @@
 //! The statuses with which the program ends.
 
+ghost use Rattle.std.specs.Prelude.{◌≡◌};
+
 /// A status. Its number is the exit status of the program.
 #[derive(Clone, Copy, Debug, PartialEq, Eq)]
 pub enum Status {
@@ -20,8 +22,12 @@ pub enum Status {
 }
 
 impl Status {
+    ghost use Rattle.ms_tool.specs.Statuses.{code_of};
+
     /// The exit status of the program.
-    pub fn code(self) -> u8 {
+    pub fn code(self) -> u8
+        ensures { result ≡ code_of self }
+    {
         self as u8
     }
 }
