@@ -5,5 +5,13 @@
 #![tactic(auto)]
 
 mod event;
+mod fields;
+mod laws;
+mod number;
+mod text;
 
 pub use event::Event;
+pub use laws::{accepted_by_steps, one_text, prefixes_are_accepted};
+
+#[cfg(test)]
+mod tests;

@@ -1,0 +1,5 @@
+pub mod Digits
+pub mod Numbers
+pub mod Groups
+pub mod OneText
+pub mod Traces
