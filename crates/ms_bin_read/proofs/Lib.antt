@@ -1,4 +1,3 @@
-pub mod Powers
 pub mod Loops
 pub mod Utf8
 pub mod Modules

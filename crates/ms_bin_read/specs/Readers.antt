@@ -1,10 +1,9 @@
 -- What the readers of the code give, against what reading gives.
-use Rattle.std.specs.Prelude.{◌≡◌, ℕ, List, drop, Result, Ok, Err}
+use Rattle.std.specs.Prelude.{◌≡◌, ℕ, List, Result, Ok, Err}
 use denote.Ref.{Bor}
 use Rattle.ms_bytes.specs.Spot.{Spot}
 use Rattle.ms_bytes.specs.Reading.{Fault}
 use Rattle.ms_bytes.specs.Reading as reading
-use Rattle.ms_bytes.specs.declared.leb.Leb.{Leb}
 use Rattle.ms_bin_read.specs.declared.fault.Stop.{Stop}
 use Rattle.ms_bin_read.specs.declared.fault.Stop.TheVariants.{Malformed, Memory}
 
@@ -27,11 +26,6 @@ Turns after old new (Err e) read = Fails e read
 abbrev pub Finds : {A : Type 0} → Result A Stop → Result A Fault → Type 0
 Finds (Ok x) read = read ≡ Ok x
 Finds (Err e) read = Fails e read
-
--- a number and how many bytes it takes are what reading gives
-abbrev pub Counts : {A : Type 0} → List ℕ → Result (A × ℕ) Leb → Result (A × List ℕ) Leb → Type 0
-Counts bytes (Ok x) read = read ≡ Ok (x.0, drop x.1 bytes)
-Counts bytes (Err e) read = read ≡ Err e
 
 -- the same where the answer is a part of the bytes
 abbrev pub ReadsPart : Spot → Spot → Result (Bor (List ℕ)) Stop → Result (List ℕ × List ℕ) Fault → Type 0

@@ -1,4 +1,4 @@
-use Rattle.ms_bin_read.proofs.numbers.+signed.Given as goal
+use Rattle.ms_leb.proofs.numbers.+signed.Given as goal
 
 abbrev pub decreases-signed : goal.decreases-signed
 decreases-signed l = l.bits

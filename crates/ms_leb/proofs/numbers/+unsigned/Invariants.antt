@@ -1,4 +1,4 @@
-use Rattle.ms_bin_read.proofs.numbers.+unsigned.Given as goal
+use Rattle.ms_leb.proofs.numbers.+unsigned.Given as goal
 
 abbrev pub decreases-unsigned : goal.decreases-unsigned
 decreases-unsigned l = l.bits

@@ -1,7 +1,7 @@
 use Rattle.std.proofs.Common.{arith}
 use Rattle.std.proofs.lemmas.Int.{ints}
-use Rattle.ms_bin_read.proofs.Powers.{pow_signed, pow_high}
-use Rattle.ms_bin_read.proofs.numbers.+signed.Goals as goal
+use Rattle.ms_leb.proofs.Powers.{pow_signed, pow_high}
+use Rattle.ms_leb.proofs.numbers.+signed.Goals as goal
 
 pub with_low_bits-requires : goal.with_low_bits-requires
 with_low_bits-requires t c =

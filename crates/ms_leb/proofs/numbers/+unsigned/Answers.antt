@@ -1,6 +1,6 @@
 use Rattle.std.proofs.Common.{arith}
-use Rattle.ms_bin_read.proofs.Powers.{pow_seven, pow_word}
-use Rattle.ms_bin_read.proofs.numbers.+unsigned.Goals as goal
+use Rattle.ms_leb.proofs.Powers.{pow_seven, pow_word}
+use Rattle.ms_leb.proofs.numbers.+unsigned.Goals as goal
 
 pub overflow_mul-result : goal.overflow_mul-result
 overflow_mul-result t c =
