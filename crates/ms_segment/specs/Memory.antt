@@ -1,5 +1,5 @@
 -- The segment memory, on plain lists.
-use Rattle.std.specs.Prelude.{◌≡◌, ◌==◌, ℕ, ◌+◌, ◌%◌, ◌<◌, ◌≤◌, Bool, true, false, ◌&&◌, List, [], ◌∷◌, ◌++◌, length, replicate, All, AllPairs, Contains, find, Option, Some, None, Result, Ok, Err, if◌then◌else◌, nat_le, ℤ, pos, negsuc, ◌≤ℤ◌, ⊤}
+use Rattle.std.specs.Prelude.{◌≡◌, ◌==◌, ℕ, ◌+◌, ◌%◌, ◌<◌, ◌≤◌, Bool, true, false, ◌&&◌, List, [], ◌∷◌, ◌++◌, length, replicate, All, AllPairs, Contains, find, Option, Some, None, Result, Ok, Err, if◌then◌else◌, nat_le, ℤ, pos, negsuc, ⊤}
 use Rattle.std.specs.Ordering.{int_eq}
 use Rattle.ms_event.specs.declared.event.Event.{Event}
 use Rattle.ms_event.specs.declared.event.Event.TheVariants as events
@@ -10,7 +10,7 @@ use Rattle.ms_handle.specs.declared.handle.Kind.TheVariants as kinds
 use Rattle.ms_handle.specs.Handle.{HasBounds}
 use Rattle.ms_live.specs.declared.gaps.Live.{Live}
 use Rattle.ms_live.specs.Place.{IsPlace, without}
-use Rattle.ms_tagged.specs.Bytes.{Byte, Data, IsHandleAt, Piece, data_of, number_at, overwritten, pieces, range}
+use Rattle.ms_tagged.specs.Bytes.{Byte, Data, IsHandleAt, Piece, number_at, overwritten, range}
 use Rattle.ms_segment.specs.declared.trap.SegTrap.{SegTrap}
 use Rattle.ms_segment.specs.declared.trap.SegTrap.TheVariants as traps
 

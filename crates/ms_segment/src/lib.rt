@@ -3,7 +3,10 @@
 //! It is generic over how live segments and tagged bytes are kept, and proved once, by what `Gaps` and `Tagged` say.
 #![tactic(auto)]
 
+mod access;
 mod segments;
+#[cfg(test)]
+mod tests;
 mod trap;
 
 pub use segments::Segments;

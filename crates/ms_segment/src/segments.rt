@@ -1,15 +1,21 @@
-ghost use Rattle.std.specs.Prelude.{◌≡◌, ◌<◌, ◌≤◌, ◌^◌, ℕ, List, [], Some, IfOk, length, replicate, slice_get};
+ghost use Rattle.std.specs.Prelude.{◌≡◌, ◌+◌, ◌<◌, ◌≤◌, ◌^◌, ℕ, List, [], Some, IfOk, MatchResult, length, pos, replicate, slice_get};
 ghost use Rattle.ms_handle.specs.declared.handle.Handle.{Handle};
+ghost use Rattle.ms_live.specs.Place.{IsPlace};
 ghost use Rattle.ms_tagged.specs.Bytes.{Data, IsWidth, data_of, pieces, range, shown_at};
 ghost use Rattle.ms_segment.specs.Memory.{Frees, IsFit, IsSound, LoadsHandle, Makes, Stores, access, freed, handle_access, loaded};
+ghost use Rattle.ms_segment.specs.Parts.{IsPlaceIn, access_of, entered};
 
+use crate::access::{Access, access_in, end_of};
 use crate::trap::SegTrap;
 use ms_event::Event;
 use ms_handle::{Handle, Kind};
-use ms_live::{Gaps, Live};
+use ms_live::{Gaps, Live, MOST_LIVE};
 use ms_tagged::Tagged;
 use std::alloc::{AllocError, Global};
 use std::marker::Model;
+
+/// How many bytes a handle has in memory; its address is a multiple of it.
+const WIDTH: u32 = 16;
 
 /// The segment memory, over how live segments and tagged bytes are kept. No call but `new` takes memory, and a trap
 /// changes nothing.
@@ -38,7 +44,8 @@ impl<G: Gaps, T: Tagged> Model for Segments<G, T> {
 impl<G: Gaps, T: Tagged> Segments<G, T> {
     /// So many bytes 0, and no segment.
     pub fn new(alloc: Global, capacity: u32) -> Result<Self, AllocError>
-        ensures { IfOk result (λ m. m ≡ record { bytes = replicate capacity (Data 0); live = []; made = 0 }) }
+        ensures empty { IfOk result (λ m. m ≡ record { bytes = replicate capacity (Data 0); live = []; made = 0 }) }
+        ensures sound { IfOk result IsSound }
     {
         Ok(Segments {
             gaps: G::new(alloc, capacity)?,
@@ -53,52 +60,195 @@ impl<G: Gaps, T: Tagged> Segments<G, T> {
         requires { self.old.made < 2 ^ 63 }
         ensures made { Makes self.old n kind result.0 result.1 self.new }
         ensures fits { IsFit self.new result.0 }
-        ensures sound { IsSound self.new };
+        ensures sound { IsSound self.new }
+        ensures others { (h : Handle) → IsFit self.old h → IsFit self.new h }
+    {
+        match self.place(n) {
+            Some(base) => self.enter(base, n, kind),
+            None => (Handle::Null, Event::Refused { size: n }),
+        }
+    }
 
     /// Ends the segment of a handle to the beginning of the whole of it, of the kind that it was made as.
     pub fn free(&mut self, h: Handle, kind: Kind) -> Result<Event, SegTrap>
         requires { IsFit self.old h }
         ensures freed { Frees self.old (freed self.old h kind) result self.new }
-        ensures sound { IsSound self.new };
+        ensures sound { IsSound self.new }
+        ensures others { (h : Handle) → IsFit self.old h → IsFit self.new h }
+    {
+        let id = self.ending(h, kind)?;
+        self.gaps.leave(id);
+        Ok(Event::Free { id })
+    }
 
     /// Reads the number of `width` bytes at the handle, the lowest byte first.
     pub fn load(&self, h: Handle, width: u32) -> Result<(u64, Event), SegTrap>
         requires fits { IsFit self.now h }
         requires width { IsWidth width }
-        ensures { result ≡ loaded self.now h width };
+        ensures { result ≡ loaded self.now h width }
+    {
+        let access = self.locate(h, width)?;
+        match self.tagged.get(access.address, width) {
+            Some(number) => Ok((number, access.read(width))),
+            None => Err(SegTrap::Provenance),
+        }
+    }
 
     /// Writes the lowest `width` bytes of the value at the handle, as data.
     pub fn store(&mut self, h: Handle, width: u32, value: u64) -> Result<Event, SegTrap>
         requires fits { IsFit self.old h }
         requires width { IsWidth width }
         ensures stored { Stores self.old (data_of width value) width (access self.old h width) result self.new }
-        ensures sound { IsSound self.new };
+        ensures sound { IsSound self.new }
+        ensures others { (h : Handle) → IsFit self.old h → IsFit self.new h }
+    {
+        let access = self.locate(h, width)?;
+        self.tagged.put(access.address, width, value);
+        Ok(access.write(width))
+    }
 
     /// Reads the handle whose pieces stand at the handle.
     pub fn load_handle(&self, h: Handle) -> Result<(Handle, Event), SegTrap>
         requires { IsFit self.now h }
         ensures loaded { LoadsHandle self.now (handle_access self.now h) result }
-        ensures fits { IfOk result (λ x. IsFit self.now x.0) };
+        ensures fits { IfOk result (λ x. IsFit self.now x.0) }
+    {
+        let access = self.locate_handle(h)?;
+        Ok((self.tagged.get_handle(access.address), access.read(WIDTH)))
+    }
 
     /// Writes the pieces of a handle at the handle.
     pub fn store_handle(&mut self, h: Handle, v: Handle) -> Result<Event, SegTrap>
         requires place { IsFit self.old h }
         requires value { IsFit self.old v }
         ensures stored { Stores self.old (pieces v) 16 (handle_access self.old h) result self.new }
-        ensures sound { IsSound self.new };
+        ensures sound { IsSound self.new }
+        ensures others { (h : Handle) → IsFit self.old h → IsFit self.new h }
+    {
+        let access = self.locate_handle(h)?;
+        self.tagged.put_handle(access.address, v);
+        Ok(access.write(WIDTH))
+    }
 
     /// How many segments are live.
     pub fn live(&self) -> u32
         ensures live { result ≡ length self.now.live }
-        ensures sound { IsSound self.now };
+        ensures sound { IsSound self.now }
+    {
+        self.gaps.count()
+    }
 
     /// The live segment with `i` older ones.
     pub fn live_at(&self, i: u32) -> Live
         requires { i < length self.now.live }
-        ensures { slice_get self.now.live i ≡ Some result };
+        ensures { slice_get self.now.live i ≡ Some result }
+    {
+        self.gaps.nth(i)
+    }
 
     /// The data byte at the address. `None` exactly where it is a piece.
     pub fn shown(&self, address: u32) -> Option<u8>
         requires { address < length self.now.bytes }
-        ensures { result ≡ shown_at (range address 1 self.now.bytes) };
+        ensures { result ≡ shown_at (range address 1 self.now.bytes) }
+    {
+        self.tagged.shown(address)
+    }
+
+    /// The least place for a segment of `n` bytes, if one more may be live.
+    fn place(&self, n: u32) -> Option<u32>
+        ensures place { IsPlaceIn self.now n result }
+        ensures sound { IsSound self.now }
+    {
+        if self.gaps.count() == MOST_LIVE {
+            return None;
+        }
+        self.gaps.place(n)
+    }
+
+    /// Makes a segment of `n` bytes 0 at its place.
+    fn enter(&mut self, base: u32, n: u32, kind: Kind) -> (Handle, Event)
+        requires made { self.old.made < 2 ^ 63 }
+        requires few { length self.old.live < MOST_LIVE }
+        requires placed { IsPlace self.old.live (length self.old.bytes) n (Some base) }
+        ensures made { self.new ≡ entered self.old base n kind }
+        ensures handle { result.0 ≡ Handle.Good (self.old.made + 1) 0 n (pos 0) }
+        ensures event { result.1 ≡ Event.Alloc (self.old.made + 1) base n }
+        ensures sound { IsSound self.new }
+    {
+        let id = self.made + 1;
+        self.gaps.enter(Live {
+            id,
+            base,
+            size: n,
+            kind,
+        });
+        self.tagged.clear(base, n);
+        self.made = id;
+        let handle = Handle::Good {
+            id,
+            base: 0,
+            length: n,
+            offset: 0,
+        };
+        (
+            handle,
+            Event::Alloc {
+                id,
+                addr: base,
+                size: n,
+            },
+        )
+    }
+
+    /// The identity of the segment that a handle and a kind end.
+    fn ending(&self, h: Handle, kind: Kind) -> Result<u64, SegTrap>
+        ensures { result ≡ freed self.now h kind }
+    {
+        match h {
+            Handle::Null => Err(SegTrap::Null),
+            Handle::Broken => Err(SegTrap::Invalid),
+            Handle::Good {
+                id,
+                base,
+                length,
+                offset,
+            } => match self.gaps.find(id) {
+                Some(segment) => end_of(segment, base, length, offset, kind),
+                None => Err(SegTrap::Freed),
+            },
+        }
+    }
+
+    /// Where the access of so many bytes through a handle goes.
+    fn locate(&self, h: Handle, width: u32) -> Result<Access, SegTrap>
+        requires { IsFit self.now h }
+        ensures { MatchResult result (λ a. access self.now h width ≡ Ok (access_of a)) (λ e. access self.now h width ≡ Err e) }
+    {
+        match h {
+            Handle::Null => Err(SegTrap::Null),
+            Handle::Broken => Err(SegTrap::Invalid),
+            Handle::Good {
+                id,
+                base,
+                length,
+                offset,
+            } => match self.gaps.find(id) {
+                Some(segment) => access_in(segment, base, length, offset, width),
+                None => Err(SegTrap::Freed),
+            },
+        }
+    }
+
+    /// The same of the pieces of a handle.
+    fn locate_handle(&self, h: Handle) -> Result<Access, SegTrap>
+        requires { IsFit self.now h }
+        ensures { MatchResult result (λ a. handle_access self.now h ≡ Ok (access_of a)) (λ e. handle_access self.now h ≡ Err e) }
+    {
+        let access = self.locate(h, WIDTH)?;
+        if access.address % WIDTH == 0 {
+            Ok(access)
+        } else {
+            Err(SegTrap::Misaligned)
+        }
+    }
 }

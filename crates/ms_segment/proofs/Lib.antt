@@ -1,0 +1,6 @@
+pub mod Finds
+pub mod Fits
+pub mod Sound
+pub mod Reach
+pub mod Calls
+pub mod Keeps

@@ -1,0 +1,29 @@
+use Rattle.std.proofs.Common.{length, arith, ap, subst}
+use Rattle.std.proofs.lemmas.Result.{err_from_is_err_and}
+use Rattle.ms_tagged.specs.Bytes.{IsHandleAt, range}
+use Rattle.ms_segment.specs.Memory.{IsSound, Memory, handle_access}
+use Rattle.ms_segment.specs.Parts.{access_of}
+use Rattle.ms_segment.proofs.Calls.{IsFit-read, LoadsHandle-read, LoadsHandle-stopped}
+use Rattle.ms_segment.proofs.Reach.{handle_access-within}
+use Rattle.ms_segment.proofs.segments.Segments.load_handle.Goals as goal
+
+pub returns-in_err-access-clause-loaded : goal.returns-in_err-access-clause-loaded
+returns-in_err-access-clause-loaded g c =
+    let p = err_from_is_err_and c.from_residual.result c.from_residual.ensures.1 in
+    LoadsHandle-stopped c.args.self.now (handle_access c.args.self.now c.args.h) c.from_residual.result c.in_err-access.field-0.0 c.in_err-access.ensures (cc)
+
+pub get_handle-requires-clause-within : goal.get_handle-requires-clause-within
+get_handle-requires-clause-within g c =
+    let sound : IsSound c.args.self.now = subst IsSound c.self.view_is c.self.invariant.1 in
+    omega (arith, ap (λ (m : Memory). length m.bytes) c.self.view_is, (handle_access-within c.args.self.now c.args.h (access_of c.in_ok-access.access) sound c.requires c.in_ok-access.ensures).0)
+
+pub returns-clause-loaded : goal.returns-clause-loaded
+returns-clause-loaded g c =
+    let at : IsHandleAt (range c.in_ok-access.access.address 16 c.args.self.now.bytes) c.get_handle.result = subst (λ (m : Memory). IsHandleAt (range c.in_ok-access.access.address 16 m.bytes) c.get_handle.result) c.self.view_is c.get_handle.ensures in
+    LoadsHandle-read c.args.self.now (handle_access c.args.self.now c.args.h) (access_of c.in_ok-access.access) c.get_handle.result c.read.result c.in_ok-access.ensures at c.read.ensures
+
+pub returns-clause-fits : goal.returns-clause-fits
+returns-clause-fits g c =
+    let sound : IsSound c.args.self.now = subst IsSound c.self.view_is c.self.invariant.1 in
+    let at : IsHandleAt (range c.in_ok-access.access.address 16 c.args.self.now.bytes) c.get_handle.result = subst (λ (m : Memory). IsHandleAt (range c.in_ok-access.access.address 16 m.bytes) c.get_handle.result) c.self.view_is c.get_handle.ensures in
+    IsFit-read c.args.self.now c.in_ok-access.access.address c.get_handle.result sound at
