@@ -384,7 +384,8 @@ fn numbers_by_width(rt: HostRuntime) -> Result<(), Fail> {
 #[test]
 fn slices(rt: HostRuntime) -> Result<(), Fail> {
     use Step::{
-        Free, Load, Make, Move, NoFree, NoLoad, NoLoadHandle, NoStore, NoStoreHandle, Slice, Store,
+        Equal, Free, Load, Make, Move, NoFree, NoLoad, NoLoadHandle, NoStore, NoStoreHandle, Slice,
+        Store,
     };
     let steps = [
         Make(16, Kind::Heap, 1, 0),
@@ -424,6 +425,10 @@ fn slices(rt: HostRuntime) -> Result<(), Fail> {
         NoStore(5, 8, SegTrap::Freed),
         NoLoadHandle(4, SegTrap::Freed),
         NoStoreHandle(1, 0, SegTrap::Freed),
+        // Slicing looks at no liveness: the slice is good, and an access through it finds the segment ended.
+        Slice(1, 0, 4),
+        NoLoad(10, 1, SegTrap::Freed),
+        Equal(1, 9, true),
         Load(0, 8, 0, (1, 0, 16, 0)),
     ];
     let live = [Live {
