@@ -1,3 +1,2 @@
 pub mod Loops
-pub mod Utf8
 pub mod Modules

@@ -11,7 +11,8 @@ use crate::fault::Stop;
 use crate::items::{Item, byte_of, sized_of};
 use crate::numbers::{i32_of, u32_of};
 use ms_bytes::Cursor;
-use ms_module::{Code, Func, Instr, Locals, ValType, Vector};
+use ms_module::{Code, Func, Instr, Locals};
+use ms_types::{ValType, Vector};
 use std::alloc::Global;
 
 /// The byte that ends an expression.

@@ -11,7 +11,7 @@ ghost use Rattle.ms_bin_read.specs.Readers.{Finds, Reads};
 use crate::fault::Stop;
 use crate::numbers::u32_of;
 use ms_bytes::Cursor;
-use ms_module::Vector;
+use ms_types::Vector;
 use std::alloc::Global;
 
 /// What is read from the front of bytes by its format.

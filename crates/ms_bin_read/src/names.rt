@@ -1,7 +1,5 @@
 //! Reading names (WebAssembly 1.0, 5.2.4).
 
-ghost use Rattle.std.specs.Prelude.{◌≡◌, MatchOption, false, true};
-ghost use Rattle.std.specs.Str.{is_utf8};
 ghost use Rattle.ms_bytes.specs.Bounded.{name, name_at};
 ghost use Rattle.ms_bin_read.specs.Readers.{ReadsPart};
 
@@ -10,18 +8,8 @@ use crate::items::Item;
 use crate::numbers::u32_of;
 use ms_bytes::Cursor;
 use ms_module::Name;
+use ms_names::utf8;
 use std::alloc::Global;
-
-/// The text that the bytes are. `None` exactly where they aren't UTF-8.
-#[tactic(auto, using(crate::proofs::Utf8::is_no_utf8))]
-fn utf8(bytes: &[u8]) -> Option<&str>
-    ensures { MatchOption result (is_utf8 bytes.now ≡ false) (λ text. (text.now ≡ bytes.now) × (is_utf8 bytes.now ≡ true)) }
-{
-    match str::from_utf8(bytes) {
-        Ok(text) => Some(text),
-        Err(_) => None,
-    }
-}
 
 /// Reads a name, in place. Every fault is at its count.
 pub fn text_of<'a>(c: &mut Cursor<'a>) -> Result<&'a str, Stop>

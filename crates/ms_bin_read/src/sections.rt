@@ -13,7 +13,8 @@ use crate::items::{Item, bounded, byte_of, ended, marks_of, sized_of};
 use crate::names::text_of;
 use crate::numbers::u32_of;
 use ms_bytes::Cursor;
-use ms_module::{Export, ExportDesc, Func, FuncType, Module, Name, Vector};
+use ms_module::{Export, ExportDesc, Func, Module, Name};
+use ms_types::{FuncType, Vector};
 use std::alloc::Global;
 
 impl Item for ExportDesc {

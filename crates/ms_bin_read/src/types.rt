@@ -5,7 +5,7 @@ ghost use Rattle.ms_module.specs.Types.{func_type, val_type};
 use crate::fault::Stop;
 use crate::items::{Item, byte_of, marks_of};
 use ms_bytes::Cursor;
-use ms_module::{FuncType, ValType};
+use ms_types::{FuncType, ValType};
 use std::alloc::Global;
 
 impl Item for ValType {

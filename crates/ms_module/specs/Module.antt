@@ -8,7 +8,7 @@ use Rattle.ms_bytes.specs.Bounded.{name, rest, sized}
 use Rattle.ms_module.specs.Do.{◌>>=◌}
 use Rattle.ms_module.specs.Types.{func_type}
 use Rattle.ms_module.specs.Code.{code}
-use Rattle.ms_module.specs.declared.types.FuncType.{FuncType}
+use Rattle.ms_types.specs.declared.types.FuncType.{FuncType}
 use Rattle.ms_module.specs.declared.module.Func.{Func}
 use Rattle.ms_module.specs.declared.module.Export.{Export}
 use Rattle.ms_module.specs.declared.module.ExportDesc.{ExportDesc}

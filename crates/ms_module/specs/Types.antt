@@ -4,9 +4,9 @@ use Rattle.ms_bytes.specs.Format.{Format, marks, pure}
 use Rattle.ms_bytes.specs.Choice.{Is, one_of}
 use Rattle.ms_bytes.specs.Repetition.{vec}
 use Rattle.ms_module.specs.Do.{◌>>=◌}
-use Rattle.ms_module.specs.declared.types.ValType.{ValType}
-use Rattle.ms_module.specs.declared.types.ValType.TheVariants.{I32}
-use Rattle.ms_module.specs.declared.types.FuncType.{FuncType}
+use Rattle.ms_types.specs.declared.types.ValType.{ValType}
+use Rattle.ms_types.specs.declared.types.ValType.TheVariants.{I32}
+use Rattle.ms_types.specs.declared.types.FuncType.{FuncType}
 
 -- 7F
 unfoldable pub val_type : Format ValType

@@ -1,8 +1,7 @@
 ghost use Rattle.std.specs.Prelude.{◌≡◌, List, [], ◌∷◌, length};
 ghost use Rattle.ms_module.specs.Numbered.{IsNumbered};
 
-use crate::types::ValType;
-use crate::vector::Vector;
+use ms_types::{ValType, Vector};
 use std::marker::Model;
 
 /// An instruction (WebAssembly 1.0, 2.4).

@@ -6,11 +6,7 @@
 mod code;
 mod module;
 mod name;
-mod types;
-mod vector;
 
 pub use code::{Code, Instr, Locals};
 pub use module::{Export, ExportDesc, Func, Module};
 pub use name::Name;
-pub use types::{FuncType, ValType};
-pub use vector::Vector;

@@ -1,7 +1,6 @@
 use crate::code::Code;
 use crate::name::Name;
-use crate::types::FuncType;
-use crate::vector::Vector;
+use ms_types::{FuncType, Vector};
 
 /// A function of a module (WebAssembly 1.0, 2.5.3).
 #[derive(Debug, Drop)]

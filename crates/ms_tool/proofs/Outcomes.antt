@@ -1,7 +1,7 @@
 -- What executing a file comes to is what its bytes give.
 use Rattle.std.proofs.Common.{◌≡◌, ◌≢◌, ℕ, zero, suc, ◌≤◌, List, [], ◌∷◌, length, ℤ, refl, sym, ◌∙◌, arith}
 use Rattle.std.specs.Prelude.{Option, Some, None, All, IsSomeAnd, option_and_then, slice_get}
-use Rattle.ms_module.specs.declared.types.FuncType.{FuncType}
+use Rattle.ms_types.specs.declared.types.FuncType.{FuncType}
 use Rattle.ms_module.specs.declared.code.Instr.{Instr}
 use Rattle.ms_module.specs.declared.code.Instr.TheVariants.{I32Const}
 use Rattle.ms_module.specs.declared.module.Func.{Func}

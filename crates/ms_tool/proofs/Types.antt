@@ -1,10 +1,10 @@
 -- Bodies of constants: each instruction gives an i32.
-use Rattle.std.proofs.Common.{◌≡◌, suc, List, [], ◌∷◌, ◌++◌, length, refl, sym, ap, ◌∙◌, append_assoc, arith, eqb}
-use Rattle.std.specs.Prelude.{◌↔◌, IsTrue}
-use Rattle.std.proofs.lemmas.Bool.{eqb-true, eq-eqb}
+use Rattle.std.proofs.Common.{◌≡◌, suc, List, [], ◌∷◌, ◌++◌, length, refl, sym, ap, ◌∙◌, append_assoc, arith}
+use Rattle.std.specs.Prelude.{◌↔◌, All}
 use Rattle.std.proofs.lemmas.List.{append-nil}
-use Rattle.ms_module.specs.declared.types.ValType.{ValType}
-use Rattle.ms_module.specs.declared.types.ValType.TheVariants.{I32}
+use Rattle.std.proofs.lemmas.List.Elements.{All-cons, All-head, All-nil, All-tail}
+use Rattle.ms_types.specs.declared.types.ValType.{ValType}
+use Rattle.ms_types.specs.declared.types.ValType.TheVariants.{I32}
 use Rattle.ms_module.specs.declared.code.Instr.{Instr}
 use Rattle.ms_module.specs.declared.code.Instr.TheVariants.{I32Const}
 use Rattle.ms_tool.specs.Typing.{Typed}
@@ -18,12 +18,16 @@ length-i32s : (is : List Instr) → length (i32s is) ≡ length is
 length-i32s [] = refl
 length-i32s (i ∷ is) = ap suc (length-i32s is)
 
--- there is no other type
-same_types : (ts us : List ValType) → length ts ≡ length us → ts ≡ us
-same_types [] [] e = refl
-same_types [] (u ∷ us) e = absurd (omega arith)
-same_types (t ∷ ts) [] e = absurd (omega arith)
-same_types (I32 ∷ ts) (I32 ∷ us) e = ap (λ (l : List ValType). I32 ∷ l) (same_types ts us (omega arith))
+all_i32 : (is : List Instr) → All (λ t. t ≡ I32) (i32s is)
+all_i32 [] = All-nil (λ t. t ≡ I32)
+all_i32 (i ∷ is) = All-cons (λ t. t ≡ I32) I32 (i32s is) refl (all_i32 is)
+
+-- so many types that are all i32
+same_types : (ts : List ValType) (is : List Instr) → length ts ≡ length is → All (λ t. t ≡ I32) ts → ts ≡ i32s is
+same_types [] [] e h = refl
+same_types [] (i ∷ is) e h = absurd (omega arith)
+same_types (t ∷ ts) [] e h = absurd (omega arith)
+same_types (t ∷ ts) (i ∷ is) e h = rw (All-head (λ t. t ≡ I32) t ts h, same_types ts is (omega arith) (All-tail (λ t. t ≡ I32) t ts h)) refl
 
 typed_gives : (is : List Instr) (before after : List ValType) → Typed is before after → after ≡ before ++ i32s is
 typed_gives [] before after h = sym h ∙ sym (append-nil before)
@@ -36,10 +40,10 @@ typed_i32s [] before = sym (append-nil before)
 typed_i32s (I32Const n ∷ is) before =
     (before, [], I32 ∷ [], sym (append-nil before), (refl, refl), rw (← append_assoc before (I32 ∷ []) (i32s is)) (typed_i32s is (before ++ I32 ∷ [])))
 
-pub counts_results : (is : List Instr) (results : List ValType) → IsTrue (eqb (length is) (length results)) ↔ Typed is [] results
+pub counts_results : (is : List Instr) (results : List ValType) → (length is ≡ length results) × All (λ t. t ≡ I32) results ↔ Typed is [] results
 counts_results is results = (
-  (λ h. rw (same_types results (i32s is) (sym (eqb-true _ _ h) ∙ sym (length-i32s is))) (typed_i32s is [])),
-  (λ h. eq-eqb _ _ (sym (length-i32s is) ∙ ap length (sym (typed_gives is [] results h)))),
+  (λ h. rw (same_types results is (sym h.0) h.1) (typed_i32s is [])),
+  (λ h. let e = typed_gives is [] results h in (sym (length-i32s is) ∙ ap length (sym e), rw (e) (all_i32 is))),
 )
 
 -- a body has as many instructions as results

@@ -1,7 +1,7 @@
 -- Which function a task runs.
 use Rattle.std.specs.Prelude.{◌==◌, ℕ, Bool, false, List, length, Option, Some, None, find, option_and_then, slice_get, if◌then◌else◌, codes, nat_le}
 use Rattle.std.specs.Str.{bytes_eq}
-use Rattle.ms_module.specs.declared.types.FuncType.{FuncType}
+use Rattle.ms_types.specs.declared.types.FuncType.{FuncType}
 use Rattle.ms_module.specs.declared.module.Func.{Func}
 use Rattle.ms_module.specs.declared.module.ExportDesc.{ExportDesc}
 use Rattle.ms_module.specs.declared.module.ExportDesc.TheVariants as descs

@@ -1,8 +1,8 @@
 -- Which modules are valid (WebAssembly 1.0, chapter 3).
 use Rattle.std.specs.Prelude.{◌≡◌, ◌≢◌, ℕ, ◌<◌, ◌≤◌, List, [], ◌∷◌, ◌++◌, length, map, All, IsSomeAnd, slice_get}
-use Rattle.ms_module.specs.declared.types.ValType.{ValType}
-use Rattle.ms_module.specs.declared.types.ValType.TheVariants.{I32}
-use Rattle.ms_module.specs.declared.types.FuncType.{FuncType}
+use Rattle.ms_types.specs.declared.types.ValType.{ValType}
+use Rattle.ms_types.specs.declared.types.ValType.TheVariants.{I32}
+use Rattle.ms_types.specs.declared.types.FuncType.{FuncType}
 use Rattle.ms_module.specs.declared.code.Instr.{Instr}
 use Rattle.ms_module.specs.declared.code.Instr.TheVariants.{I32Const}
 use Rattle.ms_module.specs.declared.module.Func.{Func}

@@ -5,7 +5,8 @@ ghost use Rattle.std.specs.Option.{option_copied};
 ghost use Rattle.std.specs.Str.{bytes_eq};
 ghost use Rattle.ms_tool.specs.Tasks.{is_task_type, of_task_type, task_func};
 
-use ms_module::{Export, ExportDesc, Func, FuncType, Module};
+use ms_module::{Export, ExportDesc, Func, Module};
+use ms_types::FuncType;
 
 /// Whether a function of this type can be a task.
 fn is_task_type(t: &FuncType) -> bool

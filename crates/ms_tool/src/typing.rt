@@ -1,10 +1,11 @@
 //! Which modules are valid (WebAssembly 1.0, chapter 3).
 
 ghost use Rattle.std.specs.Prelude.{◌≡◌, ◌==◌, ◌<◌, ◌≤◌, ◌↔◌, [], IfOk, IsTrue, All, length, map, nat_le, replicate};
-ghost use Rattle.ms_module.specs.declared.types.ValType.TheVariants.{I32};
+ghost use Rattle.ms_types.specs.declared.types.ValType.TheVariants.{I32};
 ghost use Rattle.ms_tool.specs.Typing.{AreDistinct, IsDefined, IsTypedFunc, Typed, WellTyped, body_of};
 
-use ms_module::{Code, Export, ExportDesc, Func, FuncType, Instr, Module, ValType};
+use ms_module::{Code, Export, ExportDesc, Func, Instr, Module};
+use ms_types::{FuncType, ValType};
 use std::alloc::{AllocError, Global};
 use std::collections::BTreeSet;
 
@@ -40,10 +41,23 @@ fn is_typed(m: &Module, f: &Func) -> bool
 }
 
 /// Whether a body gives these results, with no operands before it. Each instruction gives an i32.
+#[tactic(auto, using(crate::proofs::Types::counts_results))]
 fn gives(body: &[Instr], results: &[ValType]) -> bool
     ensures { IsTrue result ↔ Typed body.now [] results.now }
 {
-    body.len() == results.len()
+    body.len() == results.len() && are_i32s(results)
+}
+
+fn are_i32s(types: &[ValType]) -> bool
+    ensures { IsTrue result ↔ All (λ t. t ≡ I32) types.now }
+{
+    types.iter().all(|t| is_i32(*t))
+}
+
+fn is_i32(t: ValType) -> bool
+    ensures { IsTrue result ↔ t ≡ I32 }
+{
+    matches!(t, ValType::I32)
 }
 
 fn are_defined(m: &Module) -> bool

@@ -1,5 +1,6 @@
 use super::*;
-use ms_module::{ExportDesc, Instr, ValType};
+use ms_module::{ExportDesc, Instr};
+use ms_types::ValType;
 use std::process::Abort;
 use std::test::Fail;
 

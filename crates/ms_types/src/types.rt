@@ -1,0 +1,33 @@
+use crate::vector::Vector;
+
+/// A value type (WebAssembly 1.0, 2.3.1), the type of handles among them.
+#[derive(Clone, Copy, Debug, PartialEq, Eq)]
+pub enum ValType {
+    /// Integers of 32 bits.
+    I32,
+    /// Integers of 64 bits.
+    I64,
+    /// Handles into the segment memory.
+    Handle,
+}
+
+/// A function type (WebAssembly 1.0, 2.3.3).
+#[derive(Debug, Drop)]
+pub struct FuncType {
+    /// The types of the parameters.
+    pub params: Vector<ValType>,
+    /// The types of the results.
+    pub results: Vector<ValType>,
+}
+
+/// The size of a memory or a table, in pages or entries (WebAssembly 1.0, 2.3.4).
+#[derive(Clone, Copy, Debug, PartialEq, Eq)]
+pub struct Limits {
+    /// The size at the beginning.
+    pub min: u32,
+    /// The greatest size, if there is one.
+    pub max: Option<u32>,
+}
+
+#[cfg(test)]
+mod tests;

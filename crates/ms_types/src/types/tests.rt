@@ -1,0 +1,19 @@
+use super::*;
+use std::test::Fail;
+
+#[test]
+fn holds_what_it_is_made_of(rt: HostRuntime) -> Result<(), Fail> {
+    let mut params = Vector::new(rt.alloc());
+    assert!(rt; params.is_empty());
+    params.push(ValType::Handle)?;
+    params.push(ValType::I64)?;
+    assert_eq!(rt; params.len(), 2);
+    let results = Vector::from_vec(vec![in rt.alloc(); ValType::I32]?);
+    let t = FuncType { params, results };
+    assert_eq!(rt;
+        t.params.as_slice(),
+        [ValType::Handle, ValType::I64].as_slice()
+    );
+    assert_eq!(rt; t.results.as_slice(), [ValType::I32].as_slice());
+    Ok(())
+}
