@@ -1,0 +1,8 @@
+/// Why a division has no result.
+#[derive(Clone, Copy, Debug, PartialEq, Eq)]
+pub enum Arith {
+    /// The divisor is 0.
+    ZeroDivide,
+    /// The quotient doesn't fit: the least signed number divided by -1.
+    Overflow,
+}
