@@ -1,27 +1,12 @@
-ghost use Rattle.std.specs.Prelude.{◌≡◌, List, [], ◌∷◌, length};
-ghost use Rattle.ms_module.specs.Numbered.{IsNumbered};
+ghost use Rattle.std.specs.Prelude.{◌≡◌, ◌<◌, List, length};
+ghost use Rattle.ms_module.specs.Numbered.{AllNameWithin, IsNumbered, sequence_at};
 
-use ms_types::{ValType, Vector};
+use crate::instr::Instr;
+use ms_types::Vector;
 use std::marker::Model;
 
-/// An instruction (WebAssembly 1.0, 2.4).
-#[derive(Clone, Copy, Debug, PartialEq, Eq)]
-pub enum Instr {
-    /// Gives a constant.
-    I32Const(i32),
-}
-
-/// A declaration of so many locals of one type (WebAssembly 1.0, 5.5.13).
-#[derive(Clone, Copy, Debug, PartialEq, Eq)]
-pub struct Locals {
-    /// How many locals there are.
-    pub count: u32,
-    /// Their type.
-    pub ty: ValType,
-}
-
-/// The instructions of a body, as sequences that are numbered from 0 in the order in which they begin. The body's own
-/// sequence is the first one.
+/// The instructions of a body or of a constant expression, as sequences that are numbered from 0 in the order in which
+/// they begin. The body's own sequence is the first one.
 #[derive(Debug, Drop)]
 pub struct Code {
     sequences: Vector<Vector<Instr>>,
@@ -29,11 +14,10 @@ pub struct Code {
 
 impl Model for Code {
     ghost use Rattle.std.specs.Prelude.{List};
-    ghost use Rattle.ms_module.specs.declared.code.Instr.{Instr};
+    ghost use Rattle.ms_module.specs.declared.instr.Instr.{Instr};
+    ghost use Rattle.ms_module.specs.Numbered.{IsNumbered};
 
     ghost Value = { List (List Instr) };
-
-    ghost use Rattle.ms_module.specs.Numbered.{IsNumbered};
 
     ghost view = { λ c. c.sequences };
 
@@ -41,7 +25,7 @@ impl Model for Code {
 }
 
 impl Code {
-    /// The body with these sequences.
+    /// The code of these sequences.
     pub fn new(sequences: Vector<Vector<Instr>>) -> Self
         requires { IsNumbered sequences }
         ensures { result ≡ sequences }
@@ -49,10 +33,20 @@ impl Code {
         Code { sequences }
     }
 
-    /// The body's own sequence.
-    pub fn body(&self) -> &[Instr]
-        ensures { self.now ≡ result.now ∷ [] }
+    /// How many sequences there are.
+    pub fn len(&self) -> usize
+        ensures len { result ≡ length self.now }
+        ensures numbered { IsNumbered self.now }
     {
-        self.sequences.as_slice()[0].as_slice()
+        self.sequences.len()
+    }
+
+    /// The instructions of the sequence of this number. Those that they name begin after it.
+    pub fn sequence(&self, number: usize) -> &[Instr]
+        requires { number < length self.now }
+        ensures instrs { result.now ≡ sequence_at self.now number }
+        ensures later { AllNameWithin (length self.now) number result.now }
+    {
+        self.sequences.as_slice()[number].as_slice()
     }
 }

@@ -3,10 +3,18 @@
 //! The grammar stands in `specs/`: `Spells bytes module` says that the bytes are a spelling of the module.
 #![tactic(auto)]
 
+mod access;
 mod code;
+mod instr;
+mod locals;
 mod module;
 mod name;
+mod numeric;
 
-pub use code::{Code, Instr, Locals};
-pub use module::{Export, ExportDesc, Func, Module};
+pub use access::{Linear, LoadOp, MemArg, Segment, StoreOp};
+pub use code::Code;
+pub use instr::{BrTable, Instr};
+pub use locals::Locals;
+pub use module::{Element, Export, ExportDesc, Fill, Func, Global, Import, ImportDesc, Module};
 pub use name::Name;
+pub use numeric::{BinOp, Numeric, RelOp, UnOp, Width};

@@ -4,5 +4,5 @@
 mod types;
 mod vector;
 
-pub use types::{FuncType, Limits, ValType};
+pub use types::{FuncType, GlobalType, Limits, ValType};
 pub use vector::Vector;

@@ -29,5 +29,14 @@ pub struct Limits {
     pub max: Option<u32>,
 }
 
+/// The type of a global (WebAssembly 1.0, 2.3.6).
+#[derive(Clone, Copy, Debug, PartialEq, Eq)]
+pub struct GlobalType {
+    /// The type of its value.
+    pub ty: ValType,
+    /// Whether the value may change.
+    pub mutable: bool,
+}
+
 #[cfg(test)]
 mod tests;

@@ -1,0 +1,14 @@
+-- Runs of locals of one type, each up to an index.
+use Rattle.std.specs.Prelude.{ℕ, ◌-◌, ◌≤◌, List, [], ◌∷◌, ◌++◌, replicate}
+use Rattle.ms_types.specs.declared.types.ValType.{ValType}
+use Rattle.ms_module.specs.declared.locals.Run.{Run}
+
+-- the types of the locals from an index on
+abbrev pub types_of : ℕ → List Run → List ValType
+types_of from [] = []
+types_of from (r ∷ rs) = replicate (r.end - from) r.ty ++ types_of r.end rs
+
+-- each run ends where the next begins
+abbrev pub Rise : ℕ → List Run → Type 0
+Rise from [] = Unit {0}
+Rise from (r ∷ rs) = (from ≤ r.end) × Rise r.end rs

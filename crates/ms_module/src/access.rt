@@ -1,0 +1,81 @@
+use ms_handle::Kind;
+
+/// A load, by the type that it gives and the bytes that it reads. `S` extends them by their sign, `U` by zeros.
+#[derive(Clone, Copy, Debug, PartialEq, Eq)]
+pub enum LoadOp {
+    I32Load,
+    I64Load,
+    I32Load8S,
+    I32Load8U,
+    I32Load16S,
+    I32Load16U,
+    I64Load8S,
+    I64Load8U,
+    I64Load16S,
+    I64Load16U,
+    I64Load32S,
+    I64Load32U,
+}
+
+/// A store, by the type that it takes and the bytes that it writes.
+#[derive(Clone, Copy, Debug, PartialEq, Eq)]
+pub enum StoreOp {
+    I32Store,
+    I64Store,
+    I32Store8,
+    I32Store16,
+    I64Store8,
+    I64Store16,
+    I64Store32,
+}
+
+/// How a linear access is aligned, and where it is (WebAssembly 1.0, 2.4.4).
+#[derive(Clone, Copy, Debug, PartialEq, Eq)]
+pub struct MemArg {
+    /// The address is taken to be a multiple of 2 to this power, which is at most 31 in a body.
+    pub align: u32,
+    /// What is added to the address.
+    pub offset: u32,
+}
+
+/// An instruction on the linear memory (WebAssembly 1.0, 2.4.4).
+#[derive(Clone, Copy, Debug, PartialEq, Eq)]
+pub enum Linear {
+    /// Reads from an address.
+    Load(LoadOp, MemArg),
+    /// Writes to an address.
+    Store(StoreOp, MemArg),
+    /// `memory.size`.
+    Size,
+    /// `memory.grow`.
+    Grow,
+}
+
+/// An instruction on handles and segments, in the order of their codes behind E0.
+#[derive(Clone, Copy, Debug, PartialEq, Eq)]
+pub enum Segment {
+    /// `handle.null`.
+    Null,
+    /// `segment.new`.
+    New(Kind),
+    /// `segment.free`.
+    Free(Kind),
+    /// `handle.add`, by its scale.
+    Add(u32),
+    /// `handle.slice`.
+    Slice,
+    /// `handle.eq`.
+    Eq,
+    /// `handle.is_null`.
+    IsNull,
+    /// `handle.diff`.
+    Diff,
+    /// `handle.load`.
+    LoadHandle,
+    /// `handle.store`.
+    StoreHandle,
+    /// `i32.segload` and its kin.
+    Load(LoadOp),
+    /// `i32.segstore` and its kin.
+    Store(StoreOp),
+}
