@@ -1,15 +1,7 @@
 use crate::access::{Linear, Segment};
+use crate::br_table::BrTable;
 use crate::numeric::Numeric;
-use ms_types::{ValType, Vector};
-
-/// Where `br_table` goes (WebAssembly 1.0, 2.4.5).
-#[derive(Debug, Drop)]
-pub struct BrTable {
-    /// The labels, by the operand.
-    pub labels: Vector<u32>,
-    /// The label for any other operand.
-    pub default: u32,
-}
+use ms_types::ValType;
 
 /// An instruction (WebAssembly 1.0, 2.4). Indices are those of the module, labels count from the innermost block.
 ///
@@ -30,7 +22,7 @@ pub enum Instr {
     },
     Br(u32),
     BrIf(u32),
-    BrTable(Box<BrTable>),
+    BrTable(BrTable),
     Return,
     Call(u32),
     /// By the index of the function type.

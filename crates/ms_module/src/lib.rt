@@ -4,6 +4,7 @@
 #![tactic(auto)]
 
 mod access;
+mod br_table;
 mod code;
 mod instr;
 mod locals;
@@ -13,7 +14,8 @@ mod numeric;
 
 pub use access::{Linear, LoadOp, MemArg, Segment, StoreOp};
 pub use code::Code;
-pub use instr::{BrTable, Instr};
+pub use br_table::{BrTable, Targets};
+pub use instr::Instr;
 pub use locals::Locals;
 pub use module::{Element, Export, ExportDesc, Fill, Func, Global, Import, ImportDesc, Module};
 pub use name::Name;

@@ -1,0 +1,4 @@
+pub mod Instructions
+pub mod Context
+pub mod Typing
+pub mod Modules

@@ -1,0 +1,2 @@
+//! The validator (WebAssembly 1.0, chapter 3, with the algorithm of its appendix in its own words).
+#![tactic(auto)]

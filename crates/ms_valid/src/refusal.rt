@@ -1,0 +1,21 @@
+use thiserror::Error;
+
+/// The part of a module that is wrong.
+#[derive(Clone, Copy, Debug, PartialEq, Eq)]
+pub enum Part {
+    /// All but the bodies of functions.
+    Head,
+    /// The body of this function of the function index space, the first that is not typed.
+    Function(u32),
+}
+
+/// Why a module is not taken.
+#[derive(Clone, Copy, Debug, PartialEq, Eq, Error)]
+pub enum Refusal {
+    /// A part of it is not well typed.
+    #[error("a part of the module is not well typed")]
+    Invalid { part: Part },
+    /// Memory ran out.
+    #[error("memory ran out")]
+    Memory,
+}
