@@ -217,3 +217,6 @@ coded codes = record { read = coded_at codes; spelled = CodedSpelled codes; take
 -- one of these, and no other
 abbrev pub one_of : {A : Type 0} → List (ℕ × Case A) → Format A
 one_of rows = coded (among rows (no_other (λ code. false)))
+
+pub one_of_shorter : {A : Type 0} (rows : List (ℕ × Case A)) (s : List ℕ) (x : A) (t : List ℕ) → (one_of rows).spelled s x t → length t < length s
+one_of_shorter rows s x t h = coded_shorter (among rows (no_other (λ code. false))) s x t h

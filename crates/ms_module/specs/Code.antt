@@ -21,6 +21,7 @@ use Rattle.ms_module.specs.declared.access.StoreOp.TheVariants.{I32Store, I64Sto
 use Rattle.ms_module.specs.declared.access.MemArg.{MemArg}
 use Rattle.ms_module.specs.declared.access.Linear.TheVariants as linear
 use Rattle.ms_module.specs.declared.access.Segment.TheVariants as segment
+use Rattle.ms_module.specs.declared.br_table.Targets.{Targets}
 use Rattle.ms_module.specs.declared.instr.Instr.{Instr}
 use Rattle.ms_module.specs.declared.instr.Instr.TheVariants as instr
 
@@ -107,14 +108,22 @@ segment_rows = (0x00, Is (pure (instr.Segment segment.Null))) ∷ (
     ∷ (0x08, Is (pure (instr.Segment segment.LoadHandle)))
     ∷ (0x09, Is (pure (instr.Segment segment.StoreHandle))) ∷ []
 
-unfoldable pub segments : Coded Instr
-segments =
-    among segment_rows
-    (table segment_load_codes (λ op. pure (instr.Segment (segment.Load op)))
+unfoldable pub segment_accesses : Coded Instr
+segment_accesses =
+    table segment_load_codes (λ op. pure (instr.Segment (segment.Load op)))
     (table segment_store_codes (λ op. pure (instr.Segment (segment.Store op)))
-    (no_other (λ code. false))))
+    (no_other (λ code. false)))
+
+unfoldable pub segments : Coded Instr
+segments = among segment_rows segment_accesses
 
 -- ---- control, parametric and variable instructions, and constants (5.4.1 to 5.4.3, 5.4.5)
+
+unfoldable pub br_table : Format Targets
+br_table = do
+  labels ← vec number
+  default ← number
+  pure (record { labels = labels; default = default })
 
 unfoldable pub operand_rows : List (ℕ × Case Instr)
 operand_rows = (0x00, Is (pure instr.Unreachable)) ∷ (0x01, Is (pure instr.Nop)) ∷ (
@@ -130,9 +139,8 @@ operand_rows = (0x00, Is (pure instr.Unreachable)) ∷ (0x01, Is (pure instr.Nop
 ) ∷ (
   0x0E,
   Is (do
-    ls ← vec number
-    default ← number
-    pure (instr.BrTable (record { labels = ls; default = default }))),
+    targets ← br_table
+    pure (instr.BrTable targets)),
 ) ∷ (0x0F, Is (pure instr.Return)) ∷ (
   0x10,
   Is (do
@@ -202,12 +210,15 @@ is_float code =
     is_between 0x2A 0x2B code || is_between 0x38 0x39 code || is_between 0x43 0x44 code || is_between 0x5B 0x66 code
     || is_between 0x8B 0xA6 code || is_between 0xA8 0xAB code || is_between 0xAE 0xBF code
 
--- an instruction that is no block, by its opcode
-unfoldable pub plain : Coded Instr
-plain =
-    among operand_rows
-    (table numeric_codes (λ i. pure (instr.Numeric i))
+-- an instruction that has no row of its own, by its opcode
+unfoldable pub operations : Coded Instr
+operations =
+    table numeric_codes (λ i. pure (instr.Numeric i))
     (table load_codes load
     (table store_codes store
     (paired 0xE0 segments
-    (no_other is_float)))))
+    (no_other is_float))))
+
+-- an instruction that is no block, by its opcode
+unfoldable pub plain : Coded Instr
+plain = among operand_rows operations
