@@ -1,15 +1,16 @@
 -- Reading items one after the other, as loops do.
-use Rattle.std.proofs.Common.{◌≡◌, ℕ, suc, ◌-◌, ◌+◌, ◌≤◌, ◌<◌, List, [], ◌∷◌, ◌++◌, Result, Ok, Err, refl, sym, ap, ◌∙◌, append_assoc, arith}
+use Rattle.std.proofs.Common.{◌≡◌, ℕ, suc, ◌-◌, ◌+◌, ◌≤◌, ◌<◌, true, false, eqb, List, [], ◌∷◌, ◌++◌, length, Result, Ok, Err, refl, sym, ap, ◌∙◌, append_assoc, arith}
 use Rattle.std.proofs.lemmas.Bool.{eqb-true}
 use Rattle.std.proofs.lemmas.List.{append-nil, nil_from_length}
 use Rattle.ms_bytes.specs.Spot.{first_is, place_of}
 use Rattle.ms_bytes.specs.Reading.{◌>>=◌, Fault}
 use Rattle.ms_bytes.specs.Reading as reading
 use Rattle.ms_bytes.specs.Format.{Format}
-use Rattle.ms_bytes.specs.Repetition.{chain_at, each, times}
+use Rattle.ms_bytes.specs.Repetition.{chain_at, each, repeat, times}
 use Rattle.ms_bin_read.specs.declared.fault.ReadFault.{ReadFault}
 use Rattle.ms_bin_read.specs.declared.fault.ReadFault.TheVariants.{Float, Limit, Malformed, Memory}
 use Rattle.ms_bin_read.specs.Readers.{Fails}
+use Rattle.ms_bin_read.specs.Parts.{at_end}
 
 -- what was read before, and what is still read
 abbrev pub with_front : {A : Type 0} → List A → Result (List A × List ℕ) Fault → Result (List A × List ℕ) Fault
@@ -77,3 +78,72 @@ unfolding each
 each_done item front left end bytes total so_far none =
     let one : with_front front ((each item left).read end bytes) ≡ Ok (front, bytes) = rw none (nothing_more front bytes) in
     sym so_far ∙ one
+
+-- ---- so many steps, each from the state that the one before left
+
+module _ {S : Type 0} (step : S → Format S) (count i : ℕ) (st : S) (end : ℕ) (bytes : List ℕ) (total : Result (S × List ℕ) Fault) (so_far : (repeat step (count - i) st).read end bytes ≡ total) where
+  pub repeat_fails : (e : ReadFault) → i < count → Fails e ((step st).read end bytes) → Fails e total
+  unfolding repeat
+  repeat_fails e lt h =
+      let k : count - i ≡ suc (count - (i + 1)) = omega arith in
+      rw (← so_far, k) (fails_first e ((step st).read end bytes) _ h)
+
+  pub repeat_goes : (next : S) (after : List ℕ) → i < count → (step st).read end bytes ≡ Ok (next, after) → (repeat step (count - (i + 1)) next).read end after ≡ total
+  unfolding repeat
+  repeat_goes next after lt h =
+      let k : count - i ≡ suc (count - (i + 1)) = omega arith in
+      let one : (repeat step (count - i) st).read end bytes ≡ (repeat step (count - (i + 1)) next).read end after = rw (k, h) refl in
+      sym one ∙ so_far
+
+  pub repeat_done : count ≤ i → total ≡ Ok (st, bytes)
+  unfolding repeat
+  repeat_done le =
+      let k : count - i ≡ 0 = omega arith in
+      let one : (repeat step (count - i) st).read end bytes ≡ Ok (st, bytes) = rw k refl in
+      sym so_far ∙ one
+
+-- ---- steps up to the end of the text
+
+none_left : (bytes : List ℕ) → eqb (length bytes) 0 ≡ true → bytes ≡ []
+none_left bytes e = nil_from_length bytes (eqb-true _ _ e)
+
+module _ {S : Type 0} (step : S → Format S) where
+  step_fails : (k : ℕ) (st : S) (end : ℕ) (bytes : List ℕ) (e : ReadFault) → eqb (length bytes) 0 ≡ false → Fails e ((step st).read end bytes) → Fails e (chain_at step (suc k) st end bytes)
+  unfolding chain_at
+  step_fails k st end [] e some h = absurd (let z : eqb 0 0 ≡ false = some in cc)
+  step_fails k st end (b ∷ bytes) e some h = fails_first e ((step st).read end (b ∷ bytes)) _ h
+
+  step_goes : (k : ℕ) (st : S) (end : ℕ) (bytes : List ℕ) (next : S) (rest : List ℕ) → eqb (length bytes) 0 ≡ false → (step st).read end bytes ≡ Ok (next, rest) → chain_at step (suc k) st end bytes ≡ chain_at step k next end rest
+  unfolding chain_at
+  step_goes k st end [] next rest some h = absurd (let z : eqb 0 0 ≡ false = some in cc)
+  step_goes k st end (b ∷ bytes) next rest some h = rw h refl
+
+  step_none : (k : ℕ) (st : S) (end : ℕ) (bytes : List ℕ) → eqb (length bytes) 0 ≡ true → chain_at step k st end bytes ≡ Ok st
+  unfolding chain_at
+  step_none k st end bytes none = rw (none_left bytes none) (nothing k) where
+    nothing : (n : ℕ) → chain_at step n st end [] ≡ Ok st
+    nothing n = refl
+
+  step_out : (st : S) (end : ℕ) (bytes : List ℕ) → eqb (length bytes) 0 ≡ false → chain_at step 0 st end bytes ≡ Err (reading.Malformed (place_of end bytes))
+  unfolding chain_at
+  step_out st end [] some = absurd (let z : eqb 0 0 ≡ false = some in cc)
+  step_out st end (b ∷ bytes) some = refl
+
+module _ {S : Type 0} (step : S → Format S) (most i : ℕ) (st : S) (end : ℕ) (bytes : List ℕ) (total : Result S Fault) (so_far : chain_at step (most - i) st end bytes ≡ total) where
+  pub chain_ends : eqb (length bytes) 0 ≡ true → at_end total ≡ Ok (st, bytes)
+  chain_ends none = rw (← so_far, step_none step (most - i) st end bytes none) (ap (λ (l : List ℕ). Ok (st, l)) (sym (none_left bytes none)))
+
+  pub chain_fails : (e : ReadFault) → i < most → eqb (length bytes) 0 ≡ false → Fails e ((step st).read end bytes) → Fails e (at_end total)
+  chain_fails e lt some h =
+      let k : most - i ≡ suc (most - (i + 1)) = omega arith in
+      rw (← so_far, k) (fails_first e _ _ (step_fails step (most - (i + 1)) st end bytes e some h))
+
+  pub chain_goes : (next : S) (rest : List ℕ) → i < most → eqb (length bytes) 0 ≡ false → (step st).read end bytes ≡ Ok (next, rest) → chain_at step (most - (i + 1)) next end rest ≡ total
+  chain_goes next rest lt some h =
+      let k : most - i ≡ suc (most - (i + 1)) = omega arith in
+      sym (ap (λ (n : ℕ). chain_at step n st end bytes) k ∙ step_goes step (most - (i + 1)) st end bytes next rest some h) ∙ so_far
+
+  pub chain_left : most ≤ i → eqb (length bytes) 0 ≡ false → at_end total ≡ Err (reading.Malformed (place_of end bytes))
+  chain_left le some =
+      let k : most - i ≡ 0 = omega arith in
+      rw (← so_far, k, step_out step st end bytes some) refl

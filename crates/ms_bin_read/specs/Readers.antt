@@ -4,6 +4,7 @@ use denote.Ref.{Bor}
 use Rattle.ms_bytes.specs.Spot.{Spot}
 use Rattle.ms_bytes.specs.Reading.{Fault}
 use Rattle.ms_bytes.specs.Reading as reading
+use Rattle.ms_module.specs.Module.{Stops}
 use Rattle.ms_bin_read.specs.declared.fault.Counted.{Counted}
 use Rattle.ms_bin_read.specs.declared.fault.Counted.TheVariants.{Blocks, Locals}
 use Rattle.ms_bin_read.specs.declared.fault.ReadFault.{ReadFault}
@@ -39,3 +40,19 @@ Finds (Err e) read = Fails e read
 abbrev pub ReadsPart : Spot → Spot → Result (Bor (List ℕ)) ReadFault → Result (List ℕ × List ℕ) Fault → Type 0
 ReadsPart old new (Ok x) read = (read ≡ Ok (x.now, new.left)) × (new.end ≡ old.end)
 ReadsPart old new (Err e) read = Fails e read
+
+-- ---- the answers of the whole reader
+
+-- a fault of the grammar as the reader tells it
+abbrev pub told : Fault → ReadFault
+told (reading.Malformed at) = Malformed at
+told (reading.Float at) = Float at
+told (reading.Limit reading.Blocks at) = Limit Blocks at
+told (reading.Limit reading.Locals at) = Limit Locals at
+
+-- this is the first fault of the bytes, unless memory ran out
+abbrev pub IsFirstFault : List ℕ → ReadFault → Type 0
+IsFirstFault bytes (Malformed at) = Stops bytes (reading.Malformed at)
+IsFirstFault bytes (Float at) = Stops bytes (reading.Float at)
+IsFirstFault bytes (Limit which at) = Stops bytes (reading.Limit (counted_of which) at)
+IsFirstFault bytes Memory = Unit {0}

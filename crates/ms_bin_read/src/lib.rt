@@ -4,11 +4,17 @@
 //! `ms_module` from left to right, each proved to give what its format gives, with the place of the first fault.
 #![tactic(auto)]
 
+mod body;
 mod fault;
+mod funcs;
 mod instrs;
 mod items;
 mod names;
 mod numbers;
+mod parts;
+mod reader;
+mod sections;
 mod types;
 
 pub use fault::{Counted, ReadFault};
+pub use reader::read;

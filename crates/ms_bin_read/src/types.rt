@@ -2,6 +2,7 @@
 
 ghost use Rattle.std.specs.Prelude.{◌≡◌};
 ghost use Rattle.ms_bytes.specs.Choice.{named};
+ghost use Rattle.ms_bytes.specs.Repetition.{times, vec};
 ghost use Rattle.ms_module.specs.Types.{block_type, func_type, global_type, is_float_type, limits, mutability, table_type, val_type, value_codes};
 ghost use Rattle.ms_bin_read.specs.Readers.{Reads};
 
@@ -9,7 +10,7 @@ use crate::fault::ReadFault;
 use crate::items::{Item, byte_of, marks_of};
 use crate::numbers::u32_of;
 use ms_bytes::Cursor;
-use ms_types::{FuncType, GlobalType, Limits, ValType};
+use ms_types::{FuncType, GlobalType, Limits, ValType, Vector};
 use std::alloc::Global;
 
 /// The value type of this code.
@@ -108,6 +109,25 @@ pub fn table_type_of(alloc: Global, c: &mut Cursor) -> Result<Limits, ReadFault>
 {
     marks_of(&[0x70], c)?;
     Limits::read(alloc, c)
+}
+
+fn times_table(alloc: Global, count: u32, c: &mut Cursor) -> Result<Vector<Limits>, ReadFault>
+    ensures { Reads c.old c.new result ((times count table_type).read c.old.end c.old.left) }
+{
+    let mut tables = Vector::new(alloc);
+    for _ in 0..count {
+        tables.push(table_type_of(alloc, c)?)?;
+    }
+    Ok(tables)
+}
+
+/// Reads a vector of table types.
+#[tactic(auto, unfolding(ms_bytes::specs::Repetition::vec))]
+pub fn tables_of(alloc: Global, c: &mut Cursor) -> Result<Vector<Limits>, ReadFault>
+    ensures { Reads c.old c.new result ((vec table_type).read c.old.end c.old.left) }
+{
+    let count = u32_of(c)?;
+    times_table(alloc, count, c)
 }
 
 /// Reads whether a global may change.
