@@ -13,3 +13,6 @@ pub use instructions::{
     integer, linear_params, linear_result, load_bytes, loaded, numeric_params, numeric_result,
     segment_params, segment_result, store_bytes, stored,
 };
+
+#[cfg(test)]
+mod tests;
