@@ -101,7 +101,7 @@ impl Item for Element {
 fn bytes_of(alloc: Global, count: u32, c: &mut Cursor) -> Result<Vector<u8>, ReadFault>
     ensures { Reads c.old c.new result ((bytes count).read c.old.end c.old.left) }
 {
-    let end = c.at() + c.len();
+    let end = c.end();
     match c.take_n(count as usize) {
         Some(bytes) => Ok(Vector::from_vec(Vec::from_slice(alloc, bytes)?)),
         None => Err(ReadFault::Malformed { at: end }),

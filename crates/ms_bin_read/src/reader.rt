@@ -44,5 +44,8 @@ pub fn read(alloc: Global, bytes: &[u8]) -> Result<Module, ReadFault>
     ensures stops { (first : Fault) → Stops bytes.now first → (result ≡ Err (told first)) ⊎ (result ≡ Err ReadFault.Memory) }
 {
     let mut c = Cursor::new(bytes);
-    module_of(alloc, &mut c)
+    match module_of(alloc, &mut c) {
+        Ok(module) => Ok(module),
+        Err(fault) => Err(fault),
+    }
 }

@@ -39,6 +39,13 @@ impl<'a> Cursor<'a> {
         self.at
     }
 
+    /// The place behind the last byte.
+    pub fn end(&self) -> usize
+        ensures { result ≡ self.now.end }
+    {
+        self.at + self.left.len()
+    }
+
     /// The bytes that are left.
     pub fn rest(&self) -> &'a [u8]
         ensures { result.now ≡ self.now.left }
