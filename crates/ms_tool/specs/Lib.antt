@@ -1,4 +1,4 @@
-pub mod Typing
+pub mod FirstCut
 pub mod Run
 pub mod Tasks
 pub mod Ends

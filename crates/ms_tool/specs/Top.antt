@@ -6,11 +6,12 @@ use Rattle.ms_outside.specs.Shelf.{Told}
 use Rattle.ms_outside.specs.Sink.{IsFront}
 use Rattle.ms_module.specs.declared.module.Func.{Func}
 use Rattle.ms_module.specs.declared.module.Module.{Module}
-use Rattle.ms_module.specs.Module.{Spells}
+use Rattle.ms_module.specs.Module.{SpellsWithin, usual}
+use Rattle.ms_rules.specs.Modules.{WellTyped}
+use Rattle.ms_tool.specs.FirstCut.{IsInCut, body_of, constants_of}
 use Rattle.ms_tool.specs.Lines.{no_task_line, read_fault_line, result_line, too_long_line, unread_line, usage_line}
-use Rattle.ms_tool.specs.Run.{Results, run}
+use Rattle.ms_tool.specs.Run.{End, Results, run}
 use Rattle.ms_tool.specs.Tasks.{main_name, task_func}
-use Rattle.ms_tool.specs.Typing.{WellTyped, body_of}
 use Rattle.ms_tool.specs.Words.{asked}
 use Rattle.ms_tool.specs.declared.status.Status.{Status}
 use Rattle.ms_tool.specs.declared.status.Status.TheVariants.{Done, OutOfMemory, ReadFault, Refused, TooLong, Usage, WriteFault}
@@ -24,16 +25,26 @@ default_budget = 1000000
 
 -- ---- the table
 
--- no valid module is spelled so
+-- These bytes spell this module, which is valid, and all of it runs today.
+pub record Holds (bytes : List ℕ) (m : Module) : Type 0 where
+  pub spelled : SpellsWithin usual bytes m
+  pub typed : WellTyped m
+  pub in_cut : IsInCut m
+
+-- no such module is spelled so
 abbrev pub IsUnread : List ℕ → Type 0
-IsUnread bytes = (m : Module) → Spells bytes m → ¬ (WellTyped m)
+IsUnread bytes = (m : Module) → ¬ (Holds bytes m)
+
+-- what running this function gives
+abbrev pub run_of : Func → End
+run_of f = run default_budget [] (constants_of (body_of f.body))
 
 -- the bytes of a file of at most so many bytes, the status and the report
 pub data Executes (bytes : List ℕ) : Status → List ℕ → Type 0 where
   unread : IsUnread bytes → Executes bytes Refused unread_line
-  no_task : (m : Module) → Spells bytes m → WellTyped m → task_func m main_name ≡ None → Executes bytes Refused no_task_line
-  done : (m : Module) (f : Func) (results : List ℤ) → Spells bytes m → WellTyped m → task_func m main_name ≡ Some f
-      → run default_budget [] (body_of f.code) ≡ Results results → Executes bytes Done (result_line results)
+  no_task : (m : Module) → Holds bytes m → task_func m main_name ≡ None → Executes bytes Refused no_task_line
+  done : (m : Module) (f : Func) (results : List ℤ) → Holds bytes m → task_func m main_name ≡ Some f
+      → run_of f ≡ Results results → Executes bytes Done (result_line results)
 
 -- what reading a file gave: its bytes, or a fault
 pub data Found : Type 0 where

@@ -1,21 +1,23 @@
 //! `exec`: a file is read, validated and run.
 
-ghost use Rattle.std.specs.Prelude.{◌≡◌, [], IfOk, Some};
+ghost use Rattle.std.specs.Prelude.{◌≡◌, IfOk, MatchOption, Some};
 ghost use Rattle.ms_tool.specs.Outcomes.{IsOutcome, status_of, text_of};
 ghost use Rattle.ms_tool.specs.Reporting.{Reports, ReportsExecution, ReportsFile};
-ghost use Rattle.ms_tool.specs.Run.{Results, run};
+ghost use Rattle.ms_rules.specs.Modules.{WellTyped};
+ghost use Rattle.ms_tool.specs.FirstCut.{IsInCut};
+ghost use Rattle.ms_tool.specs.Run.{Results};
 ghost use Rattle.ms_tool.specs.Tasks.{main_name, task_func};
-ghost use Rattle.ms_tool.specs.Top.{default_budget};
-ghost use Rattle.ms_tool.specs.Typing.{WellTyped, body_of};
+ghost use Rattle.ms_tool.specs.Top.{Holds, IsUnread, run_of};
 
+use crate::first_cut::{body_of, is_in_cut};
 use crate::report::{answer, answer_of_file, answer_results};
 use crate::run::{End, run};
 use crate::status::Status;
 use crate::tasks::task_func;
-use crate::typing::is_well_typed;
 use ms_bin_read::{ReadFault, read};
 use ms_module::{Func, Module};
 use ms_outside::{Fetched, Shelf, Sink};
+use ms_valid::{Refusal, Valid, validate};
 use std::alloc::{AllocError, Global};
 
 /// How many bytes a file may have.
@@ -27,7 +29,7 @@ const DEFAULT_BUDGET: u64 = 1_000_000;
 /// What executing a file comes to.
 #[derive(Debug, Drop)]
 enum Outcome {
-    /// The bytes spell no valid module.
+    /// The bytes spell no valid module all of which runs today.
     Unread,
     /// The module exports no `main` that can be a task.
     NoTask,
@@ -38,28 +40,46 @@ enum Outcome {
 /// Runs the task of a valid module. It ends within the budget.
 fn results_of(alloc: Global, _module: &Module, main: &Func) -> Result<Vec<i32>, AllocError>
     requires valid { WellTyped _module.now }
+    requires in_cut { IsInCut _module.now }
     requires task { task_func _module.now main_name ≡ Some main.now }
-    ensures { IfOk result (λ v. run default_budget [] (body_of main.now.code) ≡ Results v.items) }
+    ensures { IfOk result (λ v. run_of main.now ≡ Results v.items) }
 {
-    match run(alloc, main.code.body(), DEFAULT_BUDGET)? {
+    match run(alloc, body_of(&main.body), DEFAULT_BUDGET)? {
         End::Results(results) => Ok(results),
         End::OutOfBudget => unreachable!(),
+    }
+}
+
+/// The valid module that the bytes spell, if all of it runs today.
+fn module_of(alloc: Global, bytes: &[u8]) -> Result<Option<Valid>, AllocError>
+    ensures { IfOk result (λ o. MatchOption o (IsUnread bytes.now) (λ m. Holds bytes.now m)) }
+{
+    let module = match read(alloc, bytes) {
+        Ok(module) => module,
+        Err(ReadFault::Memory) => return Err(AllocError),
+        Err(_) => return Ok(None),
+    };
+    let valid = match validate(alloc, module) {
+        Ok(valid) => valid,
+        Err((_, Refusal::Memory)) => return Err(AllocError),
+        Err(_) => return Ok(None),
+    };
+    if is_in_cut(valid.module()) {
+        Ok(Some(valid))
+    } else {
+        Ok(None)
     }
 }
 
 fn outcome_of(alloc: Global, bytes: &[u8]) -> Result<Outcome, AllocError>
     ensures { IfOk result (IsOutcome bytes.now) }
 {
-    let module = match read(alloc, bytes) {
-        Ok(module) => module,
-        Err(ReadFault::Unread) => return Ok(Outcome::Unread),
-        Err(ReadFault::Memory) => return Err(AllocError),
-    };
-    if !is_well_typed(alloc, &module)? {
+    let Some(valid) = module_of(alloc, bytes)? else {
         return Ok(Outcome::Unread);
-    }
-    match task_func(&module, "main") {
-        Some(main) => Ok(Outcome::Results(results_of(alloc, &module, main)?)),
+    };
+    let module = valid.module();
+    match task_func(module, "main") {
+        Some(main) => Ok(Outcome::Results(results_of(alloc, module, main)?)),
         None => Ok(Outcome::NoTask),
     }
 }

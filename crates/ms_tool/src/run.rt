@@ -1,7 +1,8 @@
-//! Running a task (WebAssembly 1.0, 4.4).
+//! Running a task whose body is constants (WebAssembly 1.0, 4.4).
 
-ghost use Rattle.std.specs.Prelude.{◌≡◌, ◌∷◌, [], IfOk, OnOk};
-ghost use Rattle.ms_tool.specs.Run.{run, step_on};
+ghost use Rattle.std.specs.Prelude.{◌≡◌, [], IfOk};
+ghost use Rattle.ms_tool.specs.FirstCut.{constants_of};
+ghost use Rattle.ms_tool.specs.Run.{run};
 ghost use Rattle.ms_tool.specs.Ends.{end_of};
 
 use ms_module::Instr;
@@ -16,28 +17,21 @@ pub enum End {
     OutOfBudget,
 }
 
-/// Carries out an instruction.
-fn step(operands: &mut Vec<i32>, instr: Instr) -> Result<(), AllocError>
-    ensures { OnOk result (operands.new.items ≡ (step_on operands.old.items (instr ∷ [])).operands) }
-{
-    match instr {
-        Instr::I32Const(n) => operands.push(n)?,
-    }
-    Ok(())
-}
-
-/// Runs a body from its beginning, within a budget of steps.
+/// Runs the constants of a body, within a budget of steps.
 pub fn run(alloc: Global, body: &[Instr], budget: u64) -> Result<End, AllocError>
-    ensures { IfOk result (λ end. end_of end ≡ run budget [] body.now) }
+    ensures { IfOk result (λ end. end_of end ≡ run budget [] (constants_of body.now)) }
 {
     let mut operands = Vec::new(alloc);
     let mut left = budget;
     for instr in body {
+        let Instr::I32Const(constant) = instr else {
+            continue;
+        };
         if left == 0 {
             return Ok(End::OutOfBudget);
         }
         left -= 1;
-        step(&mut operands, *instr)?;
+        operands.push(*constant)?;
     }
     Ok(End::Results(operands))
 }

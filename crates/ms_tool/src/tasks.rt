@@ -3,7 +3,7 @@
 ghost use Rattle.std.specs.Prelude.{◌≡◌, find};
 ghost use Rattle.std.specs.Option.{option_copied};
 ghost use Rattle.std.specs.Str.{bytes_eq};
-ghost use Rattle.ms_tool.specs.Tasks.{is_task_type, of_task_type, task_func};
+ghost use Rattle.ms_tool.specs.Tasks.{exported_func, is_task_type, of_task_type, task_func};
 
 use ms_module::{Export, ExportDesc, Func, Module};
 use ms_types::FuncType;
@@ -32,6 +32,16 @@ fn of_task_type<'a>(m: &Module, func: &'a Func) -> Option<&'a Func>
     }
 }
 
+/// The function that is exported so.
+fn exported_func(m: &Module, desc: ExportDesc) -> Option<&Func>
+    ensures { option_copied result ≡ exported_func m.now desc }
+{
+    match desc {
+        ExportDesc::Func(index) => m.funcs.as_slice().get(index as usize),
+        _ => None,
+    }
+}
+
 /// The function that is exported by this name, where it can be a task.
 pub fn task_func<'a>(m: &'a Module, name: &str) -> Option<&'a Func>
     ensures { option_copied result ≡ task_func m.now name.now }
@@ -39,8 +49,7 @@ pub fn task_func<'a>(m: &'a Module, name: &str) -> Option<&'a Func>
     let Some(export) = export_named(m.exports.as_slice(), name) else {
         return None;
     };
-    let ExportDesc::Func(index) = export.desc;
-    match m.funcs.as_slice().get(index as usize) {
+    match exported_func(m, export.desc) {
         Some(func) => of_task_type(m, func),
         None => None,
     }
