@@ -1,9 +1,10 @@
 -- What the readers of the code give, against what reading gives.
-use Rattle.std.specs.Prelude.{◌≡◌, ℕ, List, Result, Ok, Err}
+use Rattle.std.specs.Prelude.{◌≡◌, ℕ, Bool, List, Result, Ok, Err}
 use denote.Ref.{Bor}
 use Rattle.ms_bytes.specs.Spot.{Spot}
 use Rattle.ms_bytes.specs.Reading.{Fault}
 use Rattle.ms_bytes.specs.Reading as reading
+use Rattle.ms_module.specs.Building.{State, Turn}
 use Rattle.ms_module.specs.Module.{Stops}
 use Rattle.ms_bin_read.specs.declared.fault.Counted.{Counted}
 use Rattle.ms_bin_read.specs.declared.fault.Counted.TheVariants.{Blocks, Locals}
@@ -56,3 +57,10 @@ IsFirstFault bytes (Malformed at) = Stops bytes (reading.Malformed at)
 IsFirstFault bytes (Float at) = Stops bytes (reading.Float at)
 IsFirstFault bytes (Limit which at) = Stops bytes (reading.Limit (counted_of which) at)
 IsFirstFault bytes Memory = Unit {0}
+
+-- ---- the turns of a body
+
+-- whether the body has ended, and what the sequences have become
+abbrev pub Steps : State → Spot → Spot → Result Bool ReadFault → Result (Turn × List ℕ) Fault → Type 0
+Steps after old new (Ok ended) read = (read ≡ Ok ((ended, after), new.left)) × (new.end ≡ old.end)
+Steps after old new (Err e) read = Fails e read

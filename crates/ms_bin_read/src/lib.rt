@@ -5,6 +5,7 @@
 #![tactic(auto)]
 
 mod body;
+mod builder;
 mod fault;
 mod funcs;
 mod instrs;
