@@ -81,7 +81,7 @@ module _ (most : ℕ) where
       → Begins if_alone s ty s' → AreInstrs depth (suc (length ss)) s' is inner (5 ∷ u) → first_is 11 u ≡ false
       → Completes os ss s body t
   armed (goes_else d2 e2 then c2 f2 k2) ss ty depth s s' is inner e arm-is ty-is seq-is lt d b c1 f = absurd cc
-  armed (close {o = o2} {os = os} {ss = ss'} {inner = us} {body = body} {u = w} {v = v} {t = t} {is = ks} d2 e2 c2 cl k) ss ty depth s s' is inner e arm-is ty-is seq-is lt d b c1 f =
+  armed {u = u} (close {o = o2} {os = os} {ss = ss'} {inner = us} {body = body} {u = w} {v = v} {t = t} {is = ks} d2 e2 c2 cl k) ss ty depth s s' is inner e arm-is ty-is seq-is lt d b c1 f =
       let first = ss ++ is ∷ inner in
       let m = length first in
       let i : Instr = If ty (length ss) (Some m) in
@@ -89,7 +89,7 @@ module _ (most : ℕ) where
       let regrouped : put (first ++ ks ∷ us) (current os) i ≡ put ss (current os) i ++ (is ∷ inner ++ ks ∷ us) = rw (append_assoc ss (is ∷ inner) (ks ∷ us)) (puts-left ss (is ∷ inner ++ ks ∷ us) (current os) (i ∷ []) lt) in
       let now : put (puts ss' o2.seq ks ++ us) (current os) (whole_of o2.arm o2.ty o2.seq) ≡ put ss (current os) i ++ (is ∷ inner ++ ks ∷ us) = rw (e, arm-is, ty-is, seq-is, seqs) regrouped in
       let n : length ss' ≡ suc m = ap length e ∙ omega (arith, length-append first ([] ∷ [])) in
-      let c2' = recast (omega (arith, d, e2)) n refl (closes_else o2.arm w v cl (length ss) arm-is) c2 in
+      let c2' : AreInstrs depth (suc m) u ks us (0x0B ∷ v) = recast (omega (arith, d, e2)) n refl (closes_else o2.arm w v cl (length ss) arm-is) c2 in
       prefixed k ss (is ∷ inner ++ ks ∷ us) i s lt now (λ depth' js vs x d' a.
       let deeper : depth' ≡ suc depth = omega (arith, d, d') in
       let after : length ss + length (is ∷ inner ++ ks ∷ us) ≡ m + suc (length us) = omega (arith, length-append ss (is ∷ inner), length-append (is ∷ inner) (ks ∷ us)) in
