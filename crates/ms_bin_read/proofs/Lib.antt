@@ -1,2 +1,4 @@
 pub mod Loops
 pub mod Modules
+pub mod Blocks
+pub mod TurnLoop

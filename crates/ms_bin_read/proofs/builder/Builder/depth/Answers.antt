@@ -1,4 +1,5 @@
-use Rattle.std.proofs.Common.{length, reverse, sym, ap, ◌∙◌, arith, common_steps}
+use Rattle.std.proofs.Common.{length, reverse, ap, arith}
+use Rattle.std.proofs.lemmas.Grind.{common_steps}
 use Rattle.ms_bin_read.proofs.Blocks.{length-opens_of}
 use Rattle.ms_bin_read.proofs.builder.Builder.depth.Goals as goal
 
