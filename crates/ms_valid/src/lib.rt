@@ -1,2 +1,12 @@
 //! The validator (WebAssembly 1.0, chapter 3, with the algorithm of its appendix in its own words).
 #![tactic(auto)]
+
+mod branches;
+mod calls;
+mod operands;
+mod refusal;
+mod stack;
+mod typed;
+mod variables;
+
+pub use refusal::{Part, Refusal};
