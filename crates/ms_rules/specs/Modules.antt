@@ -12,8 +12,6 @@ use Rattle.ms_module.specs.declared.module.ImportDesc.{ImportDesc}
 use Rattle.ms_module.specs.declared.module.ImportDesc.TheVariants as imports
 use Rattle.ms_module.specs.declared.module.ExportDesc.{ExportDesc}
 use Rattle.ms_module.specs.declared.module.ExportDesc.TheVariants as exports
-use Rattle.ms_module.specs.declared.module.Import.{Import}
-use Rattle.ms_module.specs.declared.module.Export.{Export}
 use Rattle.ms_module.specs.declared.module.Func.{Func}
 use Rattle.ms_module.specs.declared.module.Global.{Global}
 use Rattle.ms_module.specs.declared.module.Element.{Element}

@@ -1,6 +1,6 @@
 //! The types of the instructions that have one type each.
 
-ghost use Rattle.std.specs.Prelude.{◌≡◌, List, []};
+ghost use Rattle.std.specs.Prelude.{◌≡◌};
 ghost use Rattle.ms_rules.specs.Instructions as spec;
 
 use ms_module::{Linear, LoadOp, Numeric, Segment, StoreOp, Width};
@@ -32,5 +32,123 @@ pub fn numeric_params(i: Numeric) -> &'static [ValType]
         Numeric::Binary(Width::W64, _) => &[I64, I64],
         Numeric::Wrap => &[I64],
         Numeric::ExtendS | Numeric::ExtendU => &[I32],
+    }
+}
+
+/// The type of the result of a numeric instruction.
+pub fn numeric_result(i: Numeric) -> Option<ValType>
+    ensures { result ≡ (spec.numeric_arrow i).gives }
+{
+    match i {
+        Numeric::Eqz(_) | Numeric::Compare(_, _) | Numeric::Wrap => Some(I32),
+        Numeric::Unary(width, _) | Numeric::Binary(width, _) => Some(integer(width)),
+        Numeric::ExtendS | Numeric::ExtendU => Some(I64),
+    }
+}
+
+/// The type of the value that a load gives.
+pub fn loaded(op: LoadOp) -> ValType
+    ensures { result ≡ spec.loaded op }
+{
+    match op {
+        LoadOp::I32Load
+        | LoadOp::I32Load8S
+        | LoadOp::I32Load8U
+        | LoadOp::I32Load16S
+        | LoadOp::I32Load16U => I32,
+        _ => I64,
+    }
+}
+
+/// How many bytes of memory a load reads.
+pub fn load_bytes(op: LoadOp) -> u32
+    ensures { result ≡ spec.load_bytes op }
+{
+    match op {
+        LoadOp::I32Load8S | LoadOp::I32Load8U | LoadOp::I64Load8S | LoadOp::I64Load8U => 1,
+        LoadOp::I32Load16S | LoadOp::I32Load16U | LoadOp::I64Load16S | LoadOp::I64Load16U => 2,
+        LoadOp::I32Load | LoadOp::I64Load32S | LoadOp::I64Load32U => 4,
+        LoadOp::I64Load => 8,
+    }
+}
+
+/// The type of the value that a store takes.
+pub fn stored(op: StoreOp) -> ValType
+    ensures { result ≡ spec.stored op }
+{
+    match op {
+        StoreOp::I32Store | StoreOp::I32Store8 | StoreOp::I32Store16 => I32,
+        _ => I64,
+    }
+}
+
+/// How many bytes of memory a store writes.
+pub fn store_bytes(op: StoreOp) -> u32
+    ensures { result ≡ spec.store_bytes op }
+{
+    match op {
+        StoreOp::I32Store8 | StoreOp::I64Store8 => 1,
+        StoreOp::I32Store16 | StoreOp::I64Store16 => 2,
+        StoreOp::I32Store | StoreOp::I64Store32 => 4,
+        StoreOp::I64Store => 8,
+    }
+}
+
+/// The types of the operands of an instruction on the linear memory, the last one topmost.
+pub fn linear_params(i: Linear) -> &'static [ValType]
+    ensures { result.now ≡ (spec.linear_arrow i).takes }
+{
+    match i {
+        Linear::Load(_, _) | Linear::Grow => &[I32],
+        Linear::Store(op, _) => match stored(op) {
+            I32 => &[I32, I32],
+            I64 => &[I32, I64],
+            Handle => &[I32, Handle],
+        },
+        Linear::Size => &[],
+    }
+}
+
+/// The type of the result of an instruction on the linear memory, if it has one.
+pub fn linear_result(i: Linear) -> Option<ValType>
+    ensures { result ≡ (spec.linear_arrow i).gives }
+{
+    match i {
+        Linear::Load(op, _) => Some(loaded(op)),
+        Linear::Store(_, _) => None,
+        Linear::Size | Linear::Grow => Some(I32),
+    }
+}
+
+/// The types of the operands of an instruction on handles and segments, the last one topmost.
+pub fn segment_params(i: Segment) -> &'static [ValType]
+    ensures { result.now ≡ (spec.segment_arrow i).takes }
+{
+    match i {
+        Segment::Null => &[],
+        Segment::New(_) => &[I32],
+        Segment::Free(_) | Segment::IsNull | Segment::LoadHandle | Segment::Load(_) => &[Handle],
+        Segment::Add(_) => &[Handle, I64],
+        Segment::Slice => &[Handle, I32, I32],
+        Segment::Eq | Segment::Diff | Segment::StoreHandle => &[Handle, Handle],
+        Segment::Store(op) => match stored(op) {
+            I32 => &[Handle, I32],
+            I64 => &[Handle, I64],
+            Handle => &[Handle, Handle],
+        },
+    }
+}
+
+/// The type of the result of an instruction on handles and segments, if it has one.
+pub fn segment_result(i: Segment) -> Option<ValType>
+    ensures { result ≡ (spec.segment_arrow i).gives }
+{
+    match i {
+        Segment::Null | Segment::New(_) | Segment::Add(_) | Segment::Slice | Segment::LoadHandle =>
+            Some(Handle),
+        Segment::Free(_) | Segment::StoreHandle | Segment::Store(_) => None,
+        Segment::Eq | Segment::IsNull => Some(I32),
+        Segment::Diff => Some(I64),
+        Segment::Load(op) => Some(loaded(op)),
     }
 }

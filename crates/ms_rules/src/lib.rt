@@ -4,6 +4,12 @@
 //! instructions, and the context of a module.
 #![tactic(auto)]
 
+mod context;
 mod instructions;
+mod spaces;
 
-pub use instructions::{integer, numeric_params};
+pub use context::Context;
+pub use instructions::{
+    integer, linear_params, linear_result, load_bytes, loaded, numeric_params, numeric_result,
+    segment_params, segment_result, store_bytes, stored,
+};
