@@ -1,11 +1,12 @@
 //! Calls (WebAssembly 1.0, 3.3.5), by the type of what is called.
 
-ghost use Rattle.std.specs.Prelude.{◌≡◌, ◌≤◌, ◌<◌, ℕ, List, [], ◌∷◌, length, IfOk, IsTrue, ◌↔◌, MatchOption, Option, Some};
+ghost use Rattle.std.specs.Prelude.{◌≡◌, ◌≤◌, ◌<◌, ℕ, List, [], ◌∷◌, length, IfOk, IsTrue, ◌↔◌, slice_get, MatchOption, Option, Some};
 ghost use Rattle.ms_types.specs.declared.types.ValType.{ValType};
-ghost use Rattle.ms_rules.specs.Typing.{Invokes, types};
+ghost use Rattle.ms_rules.specs.Typing.{Calls, CallsByTable, Invokes, types};
 ghost use Rattle.ms_valid.specs.Shape.{Answers};
 
 use crate::operands::Operands;
+use crate::scope::Scope;
 use ms_types::{FuncType, ValType};
 use std::alloc::AllocError;
 
@@ -32,4 +33,34 @@ pub fn invoke(operands: &mut Operands, func: &FuncType) -> Result<bool, AllocErr
     }
     operands.give_result(ty)?;
     Ok(true)
+}
+
+/// `call`.
+pub fn call(operands: &mut Operands, scope: &Scope, index: u32) -> Result<bool, AllocError>
+    ensures { IfOk result (λ b. Answers b operands.old (Calls (slice_get scope.now.context.funcs index)) operands.new) }
+{
+    let Some(func) = scope.func(index) else {
+        return Ok(false);
+    };
+    Ok(invoke(operands, func)?)
+}
+
+/// `call_indirect`, by the index of the function type.
+pub fn call_indirect(
+    operands: &mut Operands,
+    scope: &Scope,
+    index: u32,
+) -> Result<bool, AllocError>
+    ensures { IfOk result (λ b. Answers b operands.old (CallsByTable (length scope.now.context.tables) (slice_get scope.now.context.sigs index)) operands.new) }
+{
+    if scope.tables() == 0 {
+        return Ok(false);
+    }
+    let Some(func) = scope.sig(index) else {
+        return Ok(false);
+    };
+    if !operands.take(ValType::I32) {
+        return Ok(false);
+    }
+    Ok(invoke(operands, func)?)
 }

@@ -3,8 +3,10 @@
 
 mod branches;
 mod calls;
+mod control;
 mod operands;
 mod refusal;
+mod scope;
 mod stack;
 mod typed;
 mod variables;
