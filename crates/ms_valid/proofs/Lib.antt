@@ -1,2 +1,3 @@
 pub mod Shapes
 pub mod Parts
+pub mod Sequences

@@ -46,7 +46,7 @@ tees_nothing o t e x = stuck_as (tees_are o t e) (stuck_first x)
 
 -- ---- calls
 
-one_result : (j k : Option ValType) → types j ≡ types k → j ≡ k
+pub one_result : (j k : Option ValType) → types j ≡ types k → j ≡ k
 one_result None None e = refl
 one_result None (Some t) e = cc
 one_result (Some s) None e = cc

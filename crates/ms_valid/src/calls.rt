@@ -11,7 +11,7 @@ use ms_types::{FuncType, ValType};
 use std::alloc::AllocError;
 
 /// These types as a result type, if they are one.
-fn result_of(results: &[ValType]) -> Option<Option<ValType>>
+pub fn result_of(results: &[ValType]) -> Option<Option<ValType>>
     ensures { MatchOption result ((ty : Option ValType) → results.now ≡ types ty → ⊥) (λ ty. results.now ≡ types ty) }
 {
     match results.len() {

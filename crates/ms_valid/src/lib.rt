@@ -1,6 +1,7 @@
 //! The validator (WebAssembly 1.0, chapter 3, with the algorithm of its appendix in its own words).
 #![tactic(auto)]
 
+mod body;
 mod branches;
 mod calls;
 mod control;
