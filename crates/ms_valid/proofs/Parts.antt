@@ -1,13 +1,13 @@
 -- Instructions by their parts.
 use Rattle.std.proofs.Math.Nat.{pow-le-pow_right}
-use Rattle.std.proofs.Common.{◌≡◌, ◌≢◌, ℕ, ◌<◌, ◌≤◌, ◌^◌, arith, List, [], ◌∷◌, ◌++◌, Option, Some, None, Bool, true, false, reverse, slice_get, refl, sym, ap, ◌∙◌, subst, ◌↔◌}
+use Rattle.std.proofs.Common.{◌≡◌, ℕ, ◌<◌, ◌≤◌, ◌^◌, arith, List, [], ◌∷◌, ◌++◌, Option, Some, None, Bool, true, false, reverse, slice_get, refl, sym, ap, ◌∙◌, subst, ◌↔◌}
 use Rattle.ms_types.specs.declared.types.ValType.{ValType}
 use Rattle.ms_types.specs.declared.types.ValType.TheVariants.{I32}
 use Rattle.ms_types.specs.declared.types.FuncType.{FuncType}
 use Rattle.ms_types.specs.declared.types.GlobalType.{GlobalType}
 use Rattle.ms_module.specs.declared.access.Linear.{Linear}
-use Rattle.ms_rules.specs.Instructions.{Arrow, arrow, linear_arrow}
-use Rattle.ms_rules.specs.Typing.{Accesses, AllTake, Calls, CallsByTable, Gets, Invokes, IsAligned, Leads, LeadsByTable, Sets, SetsGlobal, Tees, Turns, Rel, types}
+use Rattle.ms_rules.specs.Instructions.{arrow, linear_arrow}
+use Rattle.ms_rules.specs.Typing.{Accesses, AllTake, Calls, CallsByTable, Invokes, IsAligned, Leads, LeadsByTable, Sets, SetsGlobal, Tees, Turns, Rel, types}
 use Rattle.ms_valid.specs.Shape.{Shape, Answers, Becomes, Gives, Stuck, Takes, Then}
 use Rattle.ms_valid.proofs.Shapes.{becomes_as, becomes_then, stuck_as, stuck_first, stuck_then}
 

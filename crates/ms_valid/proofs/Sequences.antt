@@ -1,5 +1,5 @@
 -- Typed sequences, and what is left of them from a shape.
-use Rattle.std.proofs.Common.{◌≡◌, ℕ, slice_get, List, [], ◌∷◌, ◌++◌, Option, Some, None, Bool, true, false, IsTrue, refl, sym, ap, ◌∙◌, subst, ◌↔◌}
+use Rattle.std.proofs.Common.{◌≡◌, ℕ, slice_get, List, [], ◌∷◌, ◌++◌, Option, Some, Bool, false, IsTrue, refl, sym, ap, ◌∙◌, subst, ◌↔◌}
 use Rattle.ms_types.specs.declared.types.ValType.{ValType}
 use Rattle.ms_types.specs.declared.types.ValType.TheVariants.{I32}
 use Rattle.ms_module.specs.declared.instr.Instr.{Instr}
@@ -12,7 +12,7 @@ use Rattle.ms_rules.specs.Modules.{FuncTyped}
 use Rattle.ms_rules.specs.Typing.{InstrTyped, Known, OtherTyped, SequenceTyped, Typed, types}
 use Rattle.ms_rules.proofs.Bodies.{typed_is}
 use Rattle.ms_valid.specs.Scope.{Scope, scope}
-use Rattle.ms_valid.specs.Shape.{Shape, shape, Admits, Becomes, Finishes, Gives, Stuck, Takes}
+use Rattle.ms_valid.specs.Shape.{Shape, shape, Becomes, Finishes, Gives, Stuck, Takes}
 use Rattle.ms_valid.proofs.Parts.{one_result}
 use Rattle.ms_valid.proofs.Shapes.{becomes_as, becomes_then}
 
@@ -26,20 +26,6 @@ begins c body labels s k a is e here =
     let t = typed_is c body labels s k in
     let w = starts (Typed c body) c labels (sequence_at body s) (types k) in
     subst (λ z. Typed c body labels s k ↔ Finishes (Typed c body) c labels a z (types k)) (sym here) (subst (λ z. Typed c body labels s k ↔ Finishes (Typed c body) c labels z (sequence_at body s) (types k)) (sym e) ((λ d. w.0 (t.0 d)), (λ x. t.1 (w.1 x))))
-
--- one instruction further
-pub goes_on : (K : Known) (c : Context) (labels : List (Option ValType)) (a b : Shape) (i : Instr) (is : List Instr) (end : List ValType) → Becomes a (InstrTyped K c labels i) b → Finishes K c labels a (i ∷ is) end ↔ Finishes K c labels b is end
-goes_on K c labels a b i is end x = (
-  (λ y. record { start = y.typed.0; admits = x.reached y.start y.typed.0 y.admits y.typed.1; typed = y.typed.2 }),
-  (λ y. let z = x.from y.start y.admits in record { start = z.0; admits = z.1; typed = (y.start, z.2, y.typed) }),
-)
-
-pub stuck : (K : Known) (c : Context) (labels : List (Option ValType)) (a : Shape) (i : Instr) (is : List Instr) (end : List ValType) → Stuck a (InstrTyped K c labels i) → Finishes K c labels a (i ∷ is) end → ⊥
-stuck K c labels a i is end x y = x.none y.start y.typed.0 y.admits y.typed.1
-
-pub finishes : (K : Known) (c : Context) (labels : List (Option ValType)) (a : Shape) (end : List ValType) → Finishes K c labels a [] end ↔ Admits a end
-finishes K c labels a end =
-    ((λ y. subst (Admits a) y.typed y.admits), (λ m. record { start = end; admits = m; typed = refl }))
 
 -- ---- if
 
@@ -55,11 +41,10 @@ if_nothing K c labels k s other x = record { none = λ t1 t2 m z. x.none t1 z.0 
 pub func_typed : (c : Context) (f : Func) (t : FuncType) (k : Option ValType) (p : List ValType) (s : Scope) (labels : List (Option ValType)) (b : Bool) → slice_get c.sigs f.sig ≡ Some t → t.results ≡ types k → p ≡ t.params → s ≡ scope (inside c (p ++ f.locals) k) f.body → labels ≡ [] → (IsTrue b ↔ Typed s.context s.code (k ∷ labels) 0 k) → IsTrue b ↔ FuncTyped c f
 func_typed c f t k p s labels b et ek ep es el h =
     let same : s ≡ scope (inside c (t.params ++ f.locals) k) f.body = es ∙ ap (λ q. scope (inside c (q ++ f.locals) k) f.body) ep in
-    let body : IsTrue b ↔ Typed (inside c (t.params ++ f.locals) k) f.body (k ∷ []) 0 k = subst (λ ls. IsTrue b ↔ Typed (inside c (t.params ++ f.locals) k) f.body (k ∷ ls) 0 k) el (subst (λ z. IsTrue b ↔ Typed z.context z.code (k ∷ labels) 0 k) same h) in
-    (
+    let body : IsTrue b ↔ Typed (inside c (t.params ++ f.locals) k) f.body (k ∷ []) 0 k = subst (λ ls. IsTrue b ↔ Typed (inside c (t.params ++ f.locals) k) f.body (k ∷ ls) 0 k) el (subst (λ z. IsTrue b ↔ Typed z.context z.code (k ∷ labels) 0 k) same h) in (
       (λ z. (t, k, et, ek, body.0 z)),
       (λ x.
-        let whole : x.0 ≡ t = (let e = x.2 in cc) in
-        let one : x.1 ≡ k = one_result x.1 k (sym x.3 ∙ ap (λ u. u.results) whole ∙ ek) in
-        body.1 (subst (λ j. Typed (inside c (t.params ++ f.locals) j) f.body (j ∷ []) 0 j) one (subst (λ u. Typed (inside c (u.params ++ f.locals) x.1) f.body (x.1 ∷ []) 0 x.1) whole x.4))),
+          let whole : x.0 ≡ t = (let e = x.2 in cc) in
+          let one : x.1 ≡ k = one_result x.1 k (sym x.3 ∙ ap (λ u. u.results) whole ∙ ek) in
+          body.1 (subst (λ j. Typed (inside c (t.params ++ f.locals) j) f.body (j ∷ []) 0 j) one (subst (λ u. Typed (inside c (u.params ++ f.locals) x.1) f.body (x.1 ∷ []) 0 x.1) whole x.4))),
     )

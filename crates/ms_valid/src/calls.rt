@@ -46,11 +46,7 @@ pub fn call(operands: &mut Operands, scope: &Scope, index: u32) -> Result<bool, 
 }
 
 /// `call_indirect`, by the index of the function type.
-pub fn call_indirect(
-    operands: &mut Operands,
-    scope: &Scope,
-    index: u32,
-) -> Result<bool, AllocError>
+pub fn call_indirect(operands: &mut Operands, scope: &Scope, index: u32) -> Result<bool, AllocError>
     ensures { IfOk result (λ b. Answers b operands.old (CallsByTable (length scope.now.context.tables) (slice_get scope.now.context.sigs index)) operands.new) }
 {
     if scope.tables() == 0 {

@@ -12,4 +12,5 @@ mod stack;
 mod typed;
 mod variables;
 
+pub use body::{Checker, is_func_typed};
 pub use refusal::{Part, Refusal};

@@ -7,8 +7,10 @@ ghost use Rattle.ms_valid.specs.Shape.{Answers};
 
 use crate::operands::Operands;
 use ms_module::{Linear, Numeric, Segment};
-use ms_rules::{load_bytes, store_bytes};
-use ms_rules::{linear_params, linear_result, numeric_params, numeric_result, segment_params, segment_result};
+use ms_rules::{
+    linear_params, linear_result, load_bytes, numeric_params, numeric_result, segment_params,
+    segment_result, store_bytes,
+};
 use ms_types::ValType;
 use std::alloc::AllocError;
 
@@ -60,11 +62,7 @@ fn is_aligned(instr: Linear) -> bool
 }
 
 /// An instruction on the linear memory, where there are so many memories.
-pub fn linear(
-    operands: &mut Operands,
-    memories: usize,
-    instr: Linear,
-) -> Result<bool, AllocError>
+pub fn linear(operands: &mut Operands, memories: usize, instr: Linear) -> Result<bool, AllocError>
     ensures { IfOk result (λ b. Answers b operands.old (Accesses memories instr) operands.new) }
 {
     if memories == 0 {

@@ -48,10 +48,7 @@ pub fn tee(operands: &mut Operands, local: Option<ValType>) -> Result<bool, Allo
 }
 
 /// `global.get`.
-pub fn get_global(
-    operands: &mut Operands,
-    global: Option<GlobalType>,
-) -> Result<bool, AllocError>
+pub fn get_global(operands: &mut Operands, global: Option<GlobalType>) -> Result<bool, AllocError>
     ensures { IfOk result (λ b. Answers b operands.old (GetsGlobal global) operands.new) }
 {
     match global {
