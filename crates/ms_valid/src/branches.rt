@@ -1,6 +1,6 @@
 //! Branches (WebAssembly 1.0, 3.3.5), by what the label takes.
 
-ghost use Rattle.std.specs.Prelude.{◌≡◌, slice_get, IfOk, IsTrue, ◌↔◌};
+ghost use Rattle.std.specs.Prelude.{◌≡◌, slice_get, Some, IfOk, IsTrue, ◌↔◌};
 ghost use Rattle.ms_rules.specs.Typing.{AllTake, Leads, LeadsByTable, LeadsIf};
 ghost use Rattle.ms_valid.specs.Shape.{Answers};
 
@@ -20,13 +20,38 @@ pub fn label_at(labels: &Stack<Option<ValType>>, index: u32) -> Option<Option<Va
     Some(labels.get(index as usize))
 }
 
-/// `br` and `return`.
+/// Takes the operand of a label, to which control then goes.
+pub fn leave(operands: &mut Operands, label: Option<ValType>) -> bool
+    ensures { Answers result operands.old (Leads (Some label)) operands.new }
+{
+    if !operands.take_result(label) {
+        return false;
+    }
+    operands.jump();
+    true
+}
+
+/// The same under a condition.
+fn leave_if(operands: &mut Operands, label: Option<ValType>) -> Result<bool, AllocError>
+    ensures { IfOk result (λ b. Answers b operands.old (LeadsIf (Some label)) operands.new) }
+{
+    if !operands.take(ValType::I32) {
+        return Ok(false);
+    }
+    if !operands.take_result(label) {
+        return Ok(false);
+    }
+    operands.give_result(label)?;
+    Ok(true)
+}
+
+/// `br`.
 pub fn branch(operands: &mut Operands, label: Option<Option<ValType>>) -> bool
     ensures { Answers result operands.old (Leads label) operands.new }
 {
     match label {
         None => false,
-        Some(ty) => operands.branch(ty),
+        Some(ty) => leave(operands, ty),
     }
 }
 
@@ -39,7 +64,7 @@ pub fn branch_if(
 {
     match label {
         None => Ok(false),
-        Some(ty) => operands.branch_if(ty),
+        Some(ty) => leave_if(operands, ty),
     }
 }
 
@@ -79,5 +104,5 @@ pub fn branch_table(
     if !operands.take(ValType::I32) {
         return false;
     }
-    operands.branch(ty)
+    leave(operands, ty)
 }

@@ -2,10 +2,11 @@ ghost use Rattle.std.specs.Prelude.{IfOk};
 ghost use Rattle.ms_rules.specs.Typing.{InstrTyped, Typed};
 ghost use Rattle.ms_valid.specs.Shape.{Answers, IsSimple};
 
-use crate::branches::{branch, branch_if, branch_table, label_at};
+use crate::branches::{branch, branch_if, branch_table, label_at, leave};
 use crate::calls::{call, call_indirect};
 use crate::operands::Operands;
 use crate::scope::Scope;
+use crate::select::select;
 use crate::stack::Stack;
 use crate::typed::{linear, numeric, segment};
 use crate::variables::{get, get_global, set, set_global, tee};
@@ -32,11 +33,11 @@ pub fn simple(
         Instr::Br(label) => Ok(branch(operands, label_at(labels, *label))),
         Instr::BrIf(label) => Ok(branch_if(operands, label_at(labels, *label))?),
         Instr::BrTable(table) => Ok(branch_table(operands, labels, table)),
-        Instr::Return => Ok(operands.branch(scope.returns())),
+        Instr::Return => Ok(leave(operands, scope.returns())),
         Instr::Call(func) => Ok(call(operands, scope, *func)?),
         Instr::CallIndirect(sig) => Ok(call_indirect(operands, scope, *sig)?),
         Instr::Drop => Ok(operands.take_any()),
-        Instr::Select => Ok(operands.select()?),
+        Instr::Select => Ok(select(operands)?),
         Instr::LocalGet(local) => Ok(get(operands, scope.local(*local))?),
         Instr::LocalSet(local) => Ok(set(operands, scope.local(*local))),
         Instr::LocalTee(local) => Ok(tee(operands, scope.local(*local))?),

@@ -8,6 +8,7 @@ mod control;
 mod operands;
 mod refusal;
 mod scope;
+mod select;
 mod stack;
 mod typed;
 mod variables;

@@ -1,7 +1,6 @@
-ghost use Rattle.std.specs.Prelude.{◌≡◌, List, [], ◌∷◌, reverse, OnOk, IfOk, MatchOption, Option, IsTrue, ◌↔◌, false};
-ghost use Rattle.ms_types.specs.declared.types.ValType.{ValType};
-ghost use Rattle.ms_rules.specs.Typing.{Drops, Leads, LeadsIf, Selects, types};
-ghost use Rattle.ms_valid.specs.Shape.{shape, Admits, Allows, Answers, Becomes, Gives, Jumps, Merges, Takes, front, behind};
+ghost use Rattle.std.specs.Prelude.{◌≡◌, [], ◌∷◌, reverse, OnOk, IsTrue, ◌↔◌, false};
+ghost use Rattle.ms_rules.specs.Typing.{Drops, types};
+ghost use Rattle.ms_valid.specs.Shape.{shape, Admits, Allows, Answers, Becomes, Gives, Jumps, Takes, front, behind};
 
 use crate::stack::Stack;
 use ms_types::ValType;
@@ -42,14 +41,16 @@ impl Operands {
         self.dead = false;
     }
 
-    fn push(&mut self, slot: Option<ValType>) -> Result<(), AllocError>
+    /// Puts a slot on top.
+    pub fn push(&mut self, slot: Option<ValType>) -> Result<(), AllocError>
         ensures { OnOk result (self.new ≡ shape (slot ∷ self.old.slots) self.old.dead) }
     {
         self.slots.push(slot)?;
         Ok(())
     }
 
-    fn pop(&mut self) -> Option<Option<ValType>>
+    /// Takes the topmost slot. In dead code there always is one.
+    pub fn pop(&mut self) -> Option<Option<ValType>>
         ensures slot { result ≡ front self.old.slots self.old.dead }
         ensures shape { self.new ≡ shape (behind self.old.slots) self.old.dead }
     {
@@ -130,60 +131,6 @@ impl Operands {
         true
     }
 
-    /// Takes two operands of one type and gives one of them.
-    fn merge(&mut self) -> Result<bool, AllocError>
-        ensures { IfOk result (λ b. Answers b self.old Merges self.new) }
-    {
-        let Some(a) = self.pop() else {
-            return Ok(false);
-        };
-        let Some(b) = self.pop() else {
-            return Ok(false);
-        };
-        match meet(a, b) {
-            None => Ok(false),
-            Some(slot) => {
-                self.push(slot)?;
-                Ok(true)
-            }
-        }
-    }
-
-    /// `select`.
-    pub fn select(&mut self) -> Result<bool, AllocError>
-        ensures { IfOk result (λ b. Answers b self.old Selects self.new) }
-    {
-        if !self.take(ValType::I32) {
-            return Ok(false);
-        }
-        Ok(self.merge()?)
-    }
-
-    /// Takes the operand of a label, to which control then goes.
-    pub fn branch(&mut self, label: Option<ValType>) -> bool
-        ensures { Answers result self.old (Leads (Some label)) self.new }
-    {
-        if !self.take_result(label) {
-            return false;
-        }
-        self.jump();
-        true
-    }
-
-    /// The same under a condition.
-    pub fn branch_if(&mut self, label: Option<ValType>) -> Result<bool, AllocError>
-        ensures { IfOk result (λ b. Answers b self.old (LeadsIf (Some label)) self.new) }
-    {
-        if !self.take(ValType::I32) {
-            return Ok(false);
-        }
-        if !self.take_result(label) {
-            return Ok(false);
-        }
-        self.give_result(label)?;
-        Ok(true)
-    }
-
     /// Whether these may be the operands of this result type and no others.
     pub fn ends(&self, ty: Option<ValType>) -> bool
         ensures { IsTrue result ↔ Admits self.now (types ty) }
@@ -212,16 +159,5 @@ fn allows(slot: Option<ValType>, ty: ValType) -> bool
     match slot {
         None => true,
         Some(slot) => slot == ty,
-    }
-}
-
-/// The slot that admits what both admit, if they admit one type.
-fn meet(a: Option<ValType>, b: Option<ValType>) -> Option<Option<ValType>>
-    ensures { MatchOption result ((t : ValType) → Allows a t → Allows b t → ⊥) (λ slot. (t : ValType) → Allows slot t ↔ (Allows a t × Allows b t)) }
-{
-    match (a, b) {
-        (None, _) => Some(b),
-        (_, None) => Some(a),
-        (Some(x), Some(y)) => { if x == y { Some(a) } else { None } }
     }
 }

@@ -13,4 +13,4 @@ pub returns : goal.returns
 returns c =
     let default : slice_get c.args.labels.now c.args.table.now.default ≡ Some c.in-Some.ty = ap (slice_get c.args.labels.now) (sym c.default.ensures) ∙ sym c.in-Some.ensures in
     let all : AllTake c.args.labels.now c.in-Some.ty c.args.table.now.labels = subst (AllTake c.args.labels.now c.in-Some.ty) c.labels.ensures (c.if-not-all_take.ensures.0 refl) in
-    table c.branch-operands.new.self c.branch-operands.result c.args.labels.now c.args.table.now.labels c.args.table.now.default c.in-Some.ty default all c.if-not-take.ensures c.branch-operands.ensures
+    table c.leave.new.operands c.leave.result c.args.labels.now c.args.table.now.labels c.args.table.now.default c.in-Some.ty default all c.if-not-take.ensures c.leave.ensures

@@ -1,5 +1,5 @@
 use Rattle.ms_valid.proofs.Shapes.{leads_if, leads_if_other, leads_if_nothing}
-use Rattle.ms_valid.proofs.operands.Operands.branch_if.Goals as goal
+use Rattle.ms_valid.proofs.branches.leave_if.Goals as goal
 
 pub returns-then-not-take : goal.returns-then-not-take
 returns-then-not-take c = leads_if_nothing c.args.label c.if-not-take.ensures
