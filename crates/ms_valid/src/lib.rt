@@ -1,2 +1,11 @@
 //! The validator (WebAssembly 1.0, chapter 3, with the algorithm of its appendix in its own words).
 #![tactic(auto)]
+
+mod constants;
+mod exports;
+mod head;
+mod limits;
+mod refusal;
+
+pub use head::is_head_typed;
+pub use refusal::{Part, Refusal};
