@@ -1,16 +1,15 @@
 //! Whether a module meets every rule but those on the bodies of functions (WebAssembly 1.0, 3.4).
 
-ghost use Rattle.std.specs.Prelude.{◌≡◌, ◌↔◌, All, IfOk, IsTrue};
-ghost use Rattle.ms_rules.specs.Context.{context_of, imported_globals};
+ghost use Rattle.std.specs.Prelude.{◌≡◌, ◌↔◌, IfOk, IsTrue};
+ghost use Rattle.ms_rules.specs.Context.{context_of};
 ghost use Rattle.ms_rules.specs.Modules.{Head, ImportTyped};
-ghost use Rattle.ms_valid.specs.Heads.{DeclarationsTyped, ElementIn, ExpressionsTyped, FillIn, GlobalIn, IndicesTyped, PartsTyped, StartIn};
+ghost use Rattle.ms_valid.specs.Heads.{DeclarationsTyped, IndicesTyped, PartsTyped, StartIn};
 
-use crate::constants::is_constant;
 use crate::exports::{are_names_distinct, is_export_typed};
+use crate::expressions::are_expressions_typed;
 use crate::limits::{is_memory_typed, is_sig_typed, is_table_typed};
-use ms_module::{Element, Fill, ImportDesc, Module};
+use ms_module::{ImportDesc, Module};
 use ms_rules::Context;
-use ms_types::{GlobalType, ValType};
 use std::alloc::{AllocError, Global};
 
 /// Whether a module is well typed but for the bodies of its functions.
@@ -74,51 +73,6 @@ fn is_import_typed(module: &Module, desc: ImportDesc) -> bool
     }
 }
 
-/// Whether the expressions of globals, elements and fills are.
-#[tactic(auto, unfolding(crate::specs::Heads::ExpressionsTyped))]
-fn are_expressions_typed(module: &Module, context: &Context) -> bool
-    requires { context.now ≡ context_of «module».now }
-    ensures { IsTrue result ↔ ExpressionsTyped context.now «module».now }
-{
-    are_globals_typed(imported_globals(module, context), module.globals.as_slice())
-        && are_elements_typed(context, module.elements.as_slice())
-        && are_fills_typed(context, module.fills.as_slice())
-}
-
-fn are_globals_typed(imported: &[GlobalType], globals: &[ms_module::Global]) -> bool
-    ensures { IsTrue result ↔ All (GlobalIn imported.now) globals.now }
-{
-    globals.iter().all(|g| is_global_typed(imported, g))
-}
-
-#[tactic(auto, unfolding(crate::specs::Heads::GlobalIn))]
-fn is_global_typed(imported: &[GlobalType], global: &ms_module::Global) -> bool
-    ensures { IsTrue result ↔ GlobalIn imported.now global.now }
-{
-    is_constant(imported, global.ty.ty, &global.init)
-}
-
-fn are_elements_typed(context: &Context, elements: &[Element]) -> bool
-    ensures { IsTrue result ↔ All (ElementIn context.now) elements.now }
-{
-    elements.iter().all(|e| is_element_typed(context, e))
-}
-
-fn are_fills_typed(context: &Context, fills: &[Fill]) -> bool
-    ensures { IsTrue result ↔ All (FillIn context.now) fills.now }
-{
-    fills.iter().all(|f| is_fill_typed(context, f))
-}
-
-/// The types of the imported globals, which alone the first values of globals may read.
-fn imported_globals<'a>(module: &Module, context: &'a Context) -> &'a [GlobalType]
-    requires { context.now ≡ context_of «module».now }
-    ensures { result.now ≡ imported_globals «module».now.imports }
-{
-    let globals = context.globals();
-    &globals[..globals.len() - module.globals.len()]
-}
-
 /// Whether the start function and what is exported are, and there is one table and one memory at most.
 #[tactic(auto, unfolding(crate::specs::Heads::IndicesTyped))]
 fn are_indices_typed(module: &Module, context: &Context) -> bool
@@ -132,28 +86,6 @@ fn are_indices_typed(module: &Module, context: &Context) -> bool
             .all(|e| is_export_typed(context, e.desc))
         && context.tables().len() <= 1
         && context.memories().len() <= 1
-}
-
-#[tactic(auto, unfolding(crate::specs::Heads::ElementIn))]
-fn is_element_typed(context: &Context, element: &Element) -> bool
-    ensures { IsTrue result ↔ ElementIn context.now element.now }
-{
-    let count = context.funcs_len();
-    (element.table as usize) < context.tables().len()
-        && is_constant(context.globals(), ValType::I32, &element.offset)
-        && element
-            .funcs
-            .as_slice()
-            .iter()
-            .all(|f| (*f as usize) < count)
-}
-
-#[tactic(auto, unfolding(crate::specs::Heads::FillIn))]
-fn is_fill_typed(context: &Context, fill: &Fill) -> bool
-    ensures { IsTrue result ↔ FillIn context.now fill.now }
-{
-    (fill.memory as usize) < context.memories().len()
-        && is_constant(context.globals(), ValType::I32, &fill.offset)
 }
 
 fn is_start_typed(context: &Context, start: Option<u32>) -> bool

@@ -3,9 +3,12 @@
 
 mod constants;
 mod exports;
+mod expressions;
 mod head;
 mod limits;
 mod refusal;
+mod valid;
 
 pub use head::is_head_typed;
 pub use refusal::{Part, Refusal};
+pub use valid::{Valid, validate};
