@@ -1,3 +1,5 @@
 pub mod Refusals
 pub mod Scope
 pub mod Shape
+pub mod Heads
+pub mod Untyped

@@ -1,5 +1,4 @@
-ghost use Rattle.std.specs.Prelude.{◌≡◌, ◌∷◌, ◌<◌, ◌≤◌, [], false, true, length, slice_get, IfOk, IsTrue, ◌↔◌, Ok, Some, None};
-ghost use Rattle.ms_types.specs.declared.types.FuncType.{FuncType};
+ghost use Rattle.std.specs.Prelude.{◌≡◌, ◌∷◌, ◌<◌, [], false, true, length, IfOk, IsTrue, ◌↔◌, Ok, Some, None};
 ghost use Rattle.ms_module.specs.Numbered.{ElseWithin, NamesWithin};
 ghost use Rattle.ms_rules.specs.Modules.{FuncTyped};
 ghost use Rattle.ms_rules.specs.Typing.{InstrTyped, OtherTyped, Typed};
@@ -157,13 +156,4 @@ impl Checker {
             Some(arm) => Ok(self.sequence(scope, arm as usize, ty, ty)?),
         }
     }
-}
-
-/// Whether the body of a function leaves the function's result (WebAssembly 1.0, 3.4.1).
-pub fn is_func_typed(alloc: Global, context: &Context, func: &Func) -> Result<bool, AllocError>
-    requires { (t : FuncType) → slice_get context.now.sigs func.now.sig ≡ Some t → length t.results ≤ 1 }
-    ensures { IfOk result (λ b. IsTrue b ↔ FuncTyped context.now func.now) }
-{
-    let mut checker = Checker::new(alloc);
-    Ok(checker.is_func_typed(context, func)?)
 }

@@ -4,14 +4,20 @@
 mod body;
 mod branches;
 mod calls;
+mod constants;
 mod control;
+mod exports;
+mod expressions;
+mod head;
+mod limits;
 mod operands;
 mod refusal;
 mod scope;
 mod select;
 mod stack;
 mod typed;
+mod valid;
 mod variables;
 
-pub use body::{Checker, is_func_typed};
 pub use refusal::{Part, Refusal};
+pub use valid::{Valid, validate};
