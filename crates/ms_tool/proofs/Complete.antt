@@ -5,14 +5,13 @@ use Rattle.ms_outside.specs.Files.{Files, bytes_of}
 use Rattle.ms_outside.specs.Shelf.{Told}
 use Rattle.ms_module.specs.declared.module.Func.{Func}
 use Rattle.ms_module.specs.declared.module.Module.{Module}
-use Rattle.ms_module.specs.Module.{Spells}
+use Rattle.ms_module.specs.Module.{usual}
 use Rattle.ms_module.proofs.Spelling.{one_module}
 use Rattle.ms_tool.specs.Lines.{result_line, usage_line}
 use Rattle.ms_tool.specs.Reporting.{Reads, Report, Reports, ReportsWords}
-use Rattle.ms_tool.specs.Run.{Results, run}
+use Rattle.ms_tool.specs.Run.{Results}
 use Rattle.ms_tool.specs.Tasks.{main_name, task_func}
-use Rattle.ms_tool.specs.Top.{Answers, Contents, Executes, Fault, Found, Gives, Grows, IsFaulty, IsFound, IsKnown, default_budget, done, executed, no_task, read_fault, too_long, unread}
-use Rattle.ms_tool.specs.Typing.{body_of}
+use Rattle.ms_tool.specs.Top.{Answers, Contents, Executes, Fault, Found, Gives, Grows, Holds, IsFaulty, IsFound, IsKnown, done, executed, no_task, read_fault, run_of, too_long, unread}
 use Rattle.ms_tool.specs.Words.{asked}
 use Rattle.ms_tool.specs.declared.status.Status.{Status}
 use Rattle.ms_tool.specs.declared.status.Status.TheVariants as statuses
@@ -21,8 +20,8 @@ abbrev pub Same : Status → List ℕ → Status → List ℕ → Type 0
 Same s t s' t' = (s ≡ s') × (t ≡ t')
 
 -- the task of a module, and what it gives
-task_again : (bytes : List ℕ) (m n : Module) → Spells bytes m → Spells bytes n → task_func m main_name ≡ task_func n main_name
-task_again bytes m n h k = ap (λ (x : Module). task_func x main_name) (one_module bytes m n h k)
+task_again : (bytes : List ℕ) (m n : Module) → Holds bytes m → Holds bytes n → task_func m main_name ≡ task_func n main_name
+task_again bytes m n h k = ap (λ (x : Module). task_func x main_name) (one_module usual bytes m n h.spelled k.spelled)
 
 some_func : (f g : Func) → ◌≡◌ {A = Option Func} (Some f) (Some g) → f ≡ g
 some_func f g e = cc
@@ -32,17 +31,16 @@ results_is a b e = cc
 
 one_execution : (bytes : List ℕ) (s : Status) (t : List ℕ) (s' : Status) (t' : List ℕ) → Executes bytes s t → Executes bytes s' t' → Same s t s' t'
 one_execution bytes s t s' t' (unread h) (unread k) = (refl, refl)
-one_execution bytes s t s' t' (unread h) (no_task m b c d) = absurd (h m b c)
-one_execution bytes s t s' t' (unread h) (done m f r b c d e) = absurd (h m b c)
-one_execution bytes s t s' t' (no_task m b c d) (unread k) = absurd (k m b c)
-one_execution bytes s t s' t' (no_task m b c d) (no_task n b' c' d') = (refl, refl)
-one_execution bytes s t s' t' (no_task m b c d) (done n f r b' c' d' e') = absurd (let p = task_again bytes m n b b' in cc)
-one_execution bytes s t s' t' (done m f r b c d e) (unread k) = absurd (k m b c)
-one_execution bytes s t s' t' (done m f r b c d e) (no_task n b' c' d') = absurd (let p = task_again bytes m n b b' in cc)
-one_execution bytes s t s' t' (done m f r b c d e) (done n g q b' c' d' e') =
-    let same : f ≡ g = some_func f g (sym d ∙ (task_again bytes m n b b' ∙ d')) in
-    let runs : run default_budget [] (body_of f.code) ≡ run default_budget [] (body_of g.code) = ap (λ (x : Func). run default_budget [] (body_of x.code)) same in
-    (refl, ap result_line (results_is r q (sym e ∙ (runs ∙ e'))))
+one_execution bytes s t s' t' (unread h) (no_task m b c) = absurd (h m b)
+one_execution bytes s t s' t' (unread h) (done m f r b c d) = absurd (h m b)
+one_execution bytes s t s' t' (no_task m b c) (unread k) = absurd (k m b)
+one_execution bytes s t s' t' (no_task m b c) (no_task n b' c') = (refl, refl)
+one_execution bytes s t s' t' (no_task m b c) (done n f r b' c' d') = absurd (let p = task_again bytes m n b b' in cc)
+one_execution bytes s t s' t' (done m f r b c d) (unread k) = absurd (k m b)
+one_execution bytes s t s' t' (done m f r b c d) (no_task n b' c') = absurd (let p = task_again bytes m n b b' in cc)
+one_execution bytes s t s' t' (done m f r b c d) (done n g q b' c' d') =
+    let same : f ≡ g = some_func f g (sym c ∙ (task_again bytes m n b b' ∙ c')) in
+    (refl, ap result_line (results_is r q (sym d ∙ (ap run_of same ∙ d'))))
 
 one_answer : (name bytes : List ℕ) (s : Status) (t : List ℕ) (s' : Status) (t' : List ℕ) → Answers name (Contents bytes) s t → Answers name (Contents bytes) s' t' → Same s t s' t'
 one_answer name bytes s t s' t' (too_long h) (too_long k) = (refl, refl)

@@ -1,6 +1,5 @@
-pub mod Types
 pub mod Runs
-pub mod Distinct
 pub mod Outcomes
 pub mod Files
 pub mod Complete
+pub mod Cuts

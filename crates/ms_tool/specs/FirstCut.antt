@@ -13,7 +13,7 @@ use Rattle.ms_module.specs.declared.module.Module.{Module}
 abbrev pub IsI32 : ValType → Type 0
 IsI32 t = t ≡ I32
 
-abbrev pub SigInCut : FuncType → Type 0
+unfoldable pub SigInCut : FuncType → Type 0
 SigInCut t = All IsI32 t.params × All IsI32 t.results
 
 abbrev pub ExportInCut : ExportDesc → Type 0
@@ -32,17 +32,14 @@ body_of (is ∷ ss) = is
 abbrev pub FuncInCut : Func → Type 0
 FuncInCut f = (f.locals ≡ []) × (length f.body ≡ 1) × All IsConstant (body_of f.body)
 
+abbrev pub HasNoOther : Module → Type 0
+HasNoOther m = (m.imports ≡ []) × (m.tables ≡ []) × (m.memories ≡ []) × (m.globals ≡ []) × (m.elements ≡ []) × (m.fills ≡ []) × (m.start ≡ None)
+
 pub record IsInCut (m : Module) : Type 0 where
   pub sigs : All SigInCut m.sigs
   pub funcs : All FuncInCut m.funcs
   pub exports : All (λ e. ExportInCut e.desc) m.exports
-  pub imports : m.imports ≡ []
-  pub tables : m.tables ≡ []
-  pub memories : m.memories ≡ []
-  pub globals : m.globals ≡ []
-  pub elements : m.elements ≡ []
-  pub fills : m.fills ≡ []
-  pub start : m.start ≡ None
+  pub others : HasNoOther m
 
 -- the constants among these instructions
 abbrev pub constants_of : List Instr → List ℤ

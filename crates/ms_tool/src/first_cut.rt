@@ -1,7 +1,7 @@
 //! Which modules run today.
 
-ghost use Rattle.std.specs.Prelude.{◌≡◌, ◌↔◌, [], All, IsTrue, length};
-ghost use Rattle.ms_tool.specs.FirstCut.{ExportInCut, FuncInCut, IsConstant, IsI32, IsInCut, SigInCut, body_of};
+ghost use Rattle.std.specs.Prelude.{◌≡◌, ◌↔◌, All, IsTrue};
+ghost use Rattle.ms_tool.specs.FirstCut.{ExportInCut, FuncInCut, HasNoOther, IsConstant, IsI32, IsInCut, SigInCut, body_of};
 
 use ms_module::{Code, Export, ExportDesc, Func, Instr, Module};
 use ms_types::{FuncType, ValType};
@@ -18,13 +18,15 @@ fn is_i32(t: ValType) -> bool
     matches!(t, ValType::I32)
 }
 
+#[tactic(auto, unfolding(crate::specs::FirstCut::SigInCut))]
 fn is_sig_in_cut(sig: &FuncType) -> bool
     ensures { IsTrue result ↔ SigInCut sig.now }
 {
     are_i32s(sig.params.as_slice()) && are_i32s(sig.results.as_slice())
 }
 
-fn is_constant(i: &Instr) -> bool
+/// Whether the instruction is a constant of 32 bits.
+pub fn is_constant(i: &Instr) -> bool
     ensures { IsTrue result ↔ IsConstant i.now }
 {
     matches!(i, Instr::I32Const(_))
@@ -34,6 +36,7 @@ fn is_constant(i: &Instr) -> bool
 pub fn body_of(code: &Code) -> &[Instr]
     ensures { result.now ≡ body_of code.now }
 {
+    prove!(code.len() > 0);
     code.sequence(0)
 }
 
@@ -50,7 +53,7 @@ fn is_export_in_cut(e: &Export) -> bool
 }
 
 fn has_no_other_part(m: &Module) -> bool
-    ensures { IsTrue result ↔ (m.now.imports ≡ []) × (m.now.tables ≡ []) × (m.now.memories ≡ []) × (m.now.globals ≡ []) × (m.now.elements ≡ []) × (m.now.fills ≡ []) × (m.now.start ≡ None) }
+    ensures { IsTrue result ↔ HasNoOther m.now }
 {
     m.imports.is_empty()
         && m.tables.is_empty()
@@ -61,12 +64,30 @@ fn has_no_other_part(m: &Module) -> bool
         && m.start.is_none()
 }
 
+fn are_sigs_in_cut(m: &Module) -> bool
+    ensures { IsTrue result ↔ All SigInCut m.now.sigs }
+{
+    m.sigs.as_slice().iter().all(is_sig_in_cut)
+}
+
+fn are_funcs_in_cut(m: &Module) -> bool
+    ensures { IsTrue result ↔ All FuncInCut m.now.funcs }
+{
+    m.funcs.as_slice().iter().all(is_func_in_cut)
+}
+
+fn are_exports_in_cut(m: &Module) -> bool
+    ensures { IsTrue result ↔ All (λ e. ExportInCut e.desc) m.now.exports }
+{
+    m.exports.as_slice().iter().all(is_export_in_cut)
+}
+
 /// Whether all of a module runs today.
 pub fn is_in_cut(m: &Module) -> bool
     ensures { IsTrue result ↔ IsInCut m.now }
 {
-    m.sigs.as_slice().iter().all(is_sig_in_cut)
-        && m.funcs.as_slice().iter().all(is_func_in_cut)
-        && m.exports.as_slice().iter().all(is_export_in_cut)
-        && has_no_other_part(m)
+    if !are_sigs_in_cut(m) || !are_funcs_in_cut(m) || !are_exports_in_cut(m) {
+        return false;
+    }
+    has_no_other_part(m)
 }

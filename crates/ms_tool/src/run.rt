@@ -1,10 +1,11 @@
 //! Running a task whose body is constants (WebAssembly 1.0, 4.4).
 
-ghost use Rattle.std.specs.Prelude.{◌≡◌, [], IfOk};
+ghost use Rattle.std.specs.Prelude.{◌≡◌, ◌++◌, ◌∷◌, [], IfOk, OnOk};
 ghost use Rattle.ms_tool.specs.FirstCut.{constants_of};
 ghost use Rattle.ms_tool.specs.Run.{run};
 ghost use Rattle.ms_tool.specs.Ends.{end_of};
 
+use crate::first_cut::is_constant;
 use ms_module::Instr;
 use std::alloc::{AllocError, Global};
 
@@ -17,6 +18,17 @@ pub enum End {
     OutOfBudget,
 }
 
+/// Carries out an instruction, if it is a constant.
+fn step(operands: &mut Vec<i32>, instr: &Instr) -> Result<(), AllocError>
+    ensures { OnOk result (operands.new.items ≡ operands.old.items ++ constants_of (instr.now ∷ [])) }
+{
+    match instr {
+        Instr::I32Const(n) => operands.push(*n)?,
+        _ => {}
+    }
+    Ok(())
+}
+
 /// Runs the constants of a body, within a budget of steps.
 pub fn run(alloc: Global, body: &[Instr], budget: u64) -> Result<End, AllocError>
     ensures { IfOk result (λ end. end_of end ≡ run budget [] (constants_of body.now)) }
@@ -24,14 +36,14 @@ pub fn run(alloc: Global, body: &[Instr], budget: u64) -> Result<End, AllocError
     let mut operands = Vec::new(alloc);
     let mut left = budget;
     for instr in body {
-        let Instr::I32Const(constant) = instr else {
+        if !is_constant(instr) {
             continue;
-        };
+        }
         if left == 0 {
             return Ok(End::OutOfBudget);
         }
         left -= 1;
-        operands.push(*constant)?;
+        step(&mut operands, instr)?;
     }
     Ok(End::Results(operands))
 }
