@@ -8,7 +8,7 @@ ghost use Rattle.ms_bytes.specs.Repetition.{times, vec};
 ghost use Rattle.ms_bytes.specs.Spot.{Spot};
 ghost use Rattle.ms_bin_read.specs.Readers.{Finds, Reads};
 
-use crate::fault::Stop;
+use crate::fault::ReadFault;
 use crate::numbers::u32_of;
 use ms_bytes::Cursor;
 use ms_types::Vector;
@@ -18,27 +18,27 @@ use std::alloc::Global;
 pub trait Item: Sized + Drop {
     ghost format: { Format Self };
 
-    fn read(alloc: Global, c: &mut Cursor) -> Result<Self, Stop>
+    fn read(alloc: Global, c: &mut Cursor) -> Result<Self, ReadFault>
         ensures { Reads c.old c.new result (format.read c.old.end c.old.left) };
 }
 
 /// Reads a byte.
-pub fn byte_of(c: &mut Cursor) -> Result<u8, Stop>
+pub fn byte_of(c: &mut Cursor) -> Result<u8, ReadFault>
     ensures { Reads c.old c.new result (byte_at c.old.end c.old.left) }
 {
     let at = c.at();
     match c.take() {
-        None => Err(Stop::Malformed { at }),
+        None => Err(ReadFault::Malformed { at }),
         Some(byte) => Ok(byte),
     }
 }
 
 /// Reads these bytes.
-pub fn marks_of(marks: &[u8], c: &mut Cursor) -> Result<(), Stop>
+pub fn marks_of(marks: &[u8], c: &mut Cursor) -> Result<(), ReadFault>
     ensures { Reads c.old c.new result (marks_at marks.now c.old.end c.old.left) }
 {
     if !c.rest().starts_with(marks) {
-        return Err(Stop::Malformed { at: c.at() });
+        return Err(ReadFault::Malformed { at: c.at() });
     }
     c.skip(marks.len());
     Ok(())
@@ -47,13 +47,13 @@ pub fn marks_of(marks: &[u8], c: &mut Cursor) -> Result<(), Stop>
 impl Item for u32 {
     ghost format = { number };
 
-    fn read(_alloc: Global, c: &mut Cursor) -> Result<Self, Stop> {
+    fn read(_alloc: Global, c: &mut Cursor) -> Result<Self, ReadFault> {
         u32_of(c)
     }
 }
 
 /// Reads so many items.
-fn times<T: Item>(alloc: Global, count: u32, c: &mut Cursor) -> Result<Vector<T>, Stop>
+fn times<T: Item>(alloc: Global, count: u32, c: &mut Cursor) -> Result<Vector<T>, ReadFault>
     ensures { Reads c.old c.new result ((times count T.format).read c.old.end c.old.left) }
 {
     let mut items = Vector::new(alloc);
@@ -67,7 +67,7 @@ impl<T: Item> Item for Vector<T> {
     ghost format = { vec T.format };
 
     #[tactic(auto, unfolding(ms_bytes::specs::Repetition::vec))]
-    fn read(alloc: Global, c: &mut Cursor) -> Result<Self, Stop> {
+    fn read(alloc: Global, c: &mut Cursor) -> Result<Self, ReadFault> {
         let count = u32_of(c)?;
         times(alloc, count, c)
     }
@@ -75,31 +75,31 @@ impl<T: Item> Item for Vector<T> {
 
 /// Takes the bytes of an item whose size stands before them, as a cursor of their own.
 #[tactic(auto, unfolding(ms_bytes::specs::Bounded::bounded_at))]
-pub fn bounded<'a>(c: &mut Cursor<'a>) -> Result<Cursor<'a>, Stop>
+pub fn bounded<'a>(c: &mut Cursor<'a>) -> Result<Cursor<'a>, ReadFault>
     ensures { Reads c.old c.new result (bounded_at c.old.end c.old.left) }
 {
     let at = c.at();
     let size = u32_of(c)? as usize;
     if c.len() < size {
-        return Err(Stop::Malformed { at });
+        return Err(ReadFault::Malformed { at });
     }
     Ok(c.split(size))
 }
 
 /// Whether the bytes of an item have ended with it.
-pub fn ended(c: &Cursor) -> Result<(), Stop>
+pub fn ended(c: &Cursor) -> Result<(), ReadFault>
     ensures { Finds result (end_at c.now.end c.now.left) }
 {
     if c.is_empty() {
         Ok(())
     } else {
-        Err(Stop::Malformed { at: c.at() })
+        Err(ReadFault::Malformed { at: c.at() })
     }
 }
 
 /// Reads an item whose size stands before it.
 #[tactic(auto, unfolding(ms_bytes::specs::Bounded::sized_at))]
-pub fn sized_of<T: Item>(alloc: Global, c: &mut Cursor) -> Result<T, Stop>
+pub fn sized_of<T: Item>(alloc: Global, c: &mut Cursor) -> Result<T, ReadFault>
     ensures { Reads c.old c.new result ((sized T.format).read c.old.end c.old.left) }
 {
     let mut inside = bounded(c)?;

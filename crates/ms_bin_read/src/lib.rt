@@ -4,14 +4,11 @@
 //! `ms_module` from left to right, each proved to give what its format gives, with the place of the first fault.
 #![tactic(auto)]
 
-mod codes;
 mod fault;
+mod instrs;
 mod items;
 mod names;
 mod numbers;
-mod reader;
-mod sections;
 mod types;
 
-pub use fault::ReadFault;
-pub use reader::read;
+pub use fault::{Counted, ReadFault};

@@ -3,7 +3,7 @@
 ghost use Rattle.ms_bytes.specs.Bounded.{name, name_at};
 ghost use Rattle.ms_bin_read.specs.Readers.{ReadsPart};
 
-use crate::fault::Stop;
+use crate::fault::ReadFault;
 use crate::items::Item;
 use crate::numbers::u32_of;
 use ms_bytes::Cursor;
@@ -12,24 +12,24 @@ use ms_names::utf8;
 use std::alloc::Global;
 
 /// Reads a name, in place. Every fault is at its count.
-pub fn text_of<'a>(c: &mut Cursor<'a>) -> Result<&'a str, Stop>
+pub fn text_of<'a>(c: &mut Cursor<'a>) -> Result<&'a str, ReadFault>
     ensures { ReadsPart c.old c.new result (name_at c.old.end c.old.left) }
 {
     let at = c.at();
     let size = u32_of(c)? as usize;
     let Some(bytes) = c.take_n(size) else {
-        return Err(Stop::Malformed { at });
+        return Err(ReadFault::Malformed { at });
     };
     match utf8(bytes) {
         Some(text) => Ok(text),
-        None => Err(Stop::Malformed { at }),
+        None => Err(ReadFault::Malformed { at }),
     }
 }
 
 impl Item for Name {
     ghost format = { name };
 
-    fn read(alloc: Global, c: &mut Cursor) -> Result<Self, Stop> {
+    fn read(alloc: Global, c: &mut Cursor) -> Result<Self, ReadFault> {
         let text = text_of(c)?;
         Ok(Name::new(alloc, text)?)
     }

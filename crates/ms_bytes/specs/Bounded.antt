@@ -1,5 +1,5 @@
 -- Items whose size stands before them, and names.
-use Rattle.std.specs.Prelude.{◌≡◌, ◌==◌, ℕ, ◌-◌, ◌≤◌, false, List, [], ◌++◌, length, take, drop, nat_lt, Result, Ok, if◌then◌else◌, refl}
+use Rattle.std.specs.Prelude.{◌≡◌, ◌==◌, ℕ, ◌-◌, ◌≤◌, false, List, [], ◌++◌, length, take, drop, nat_lt, Result, Ok, Err, if◌then◌else◌, refl}
 use Rattle.std.specs.Str.{is_utf8, IsUtf8}
 use Rattle.std.proofs.Common.{cond, eqb, ltb, inl, inr, sym, ap, subst, arith}
 use Rattle.std.proofs.lemmas.Bool.{eqb-true, ltb-false, le-ltb}
@@ -8,7 +8,7 @@ use Rattle.std.proofs.lemmas.Str.{IsUtf8-from_is_utf8, is_utf8-from_IsUtf8}
 use Rattle.ms_bytes.specs.Spot.{Spot, part}
 use Rattle.ms_bytes.specs.Leb128.{UnsignedAt}
 use Rattle.ms_bytes.specs.Leb128Laws.{chosen}
-use Rattle.ms_bytes.specs.Reading.{◌>>=◌, Fault, Reader, bind_ok, malformed, ok_is, okay}
+use Rattle.ms_bytes.specs.Reading.{◌>>=◌, Fault, Malformed, Reader, bind_ok, malformed, ok_is, okay}
 use Rattle.ms_bytes.specs.Format.{Format, ends_fit, front_fits, number_again, number_at, number_takes}
 
 -- ---- a size in bytes, and an item of exactly that many bytes
@@ -122,6 +122,29 @@ name_fits s x t h = let le = front_fits s h.0.0 (x ++ t) h.0.2 in omega (arith, 
 
 abbrev pub name : Format (List ℕ)
 name = record { read = name_at; spelled = IsName; takes = name_takes; again = name_again; fits = name_fits }
+
+-- ---- so many bytes, of which a missing one is a fault where the text ends
+
+abbrev pub bytes_at : ℕ → Reader (List ℕ)
+bytes_at n end s = if nat_lt (length s) n then Err (Malformed end) else Ok (take n s, drop n s)
+
+pub bytes_takes : (n end : ℕ) (s x t : List ℕ) → bytes_at n end s ≡ Ok (x, t) → (length x ≡ n) × (s ≡ x ++ t)
+bytes_takes n end s x t e =
+    elim (chosen (ltb (length s) n) _ _ _ e) [
+      | inl h ↦ absurd cc
+      | inr h ↦
+          let room : n ≤ length s = ltb-false _ _ h.0 in
+          let len : length (take n s) ≡ n = omega (arith, length-take n s) in
+          subst (λ (q : List ℕ × List ℕ). (length q.0 ≡ n) × (s ≡ q.0 ++ q.1)) (ok_is (take n s, drop n s) (x, t) h.1) (len, sym (take-append-drop n s))
+    ]
+
+pub bytes_again : (n end : ℕ) (s x t : List ℕ) → (length x ≡ n) × (s ≡ x ++ t) → bytes_at n end s ≡ Ok (x, t)
+bytes_again n end s x t h =
+    let room : ltb (length (x ++ t)) n ≡ false = le-ltb _ _ (omega (arith, length-append x t, h.0)) in
+    rw (h.1, room, take_at x t n h.0, drop_at x t n h.0) refl
+
+abbrev pub bytes : ℕ → Format (List ℕ)
+bytes n = record { read = bytes_at n; spelled = λ s x t. (length x ≡ n) × (s ≡ x ++ t); takes = bytes_takes n; again = bytes_again n; fits = λ s x t h. front_fits s x t h.1 }
 
 -- ---- any bytes, up to the end
 

@@ -2,9 +2,18 @@
 use Rattle.std.specs.Prelude.{◌≡◌, ℕ, List, Result, Ok, Err, refl}
 use Rattle.ms_bytes.specs.Spot.{place_of}
 
+-- what a limit is on
+pub data Counted : Type 0 where
+  Blocks : Counted
+  Locals : Counted
+
 -- why bytes are not what is read, and the place at which the first wrong item begins
 pub data Fault : Type 0 where
   Malformed : ℕ → Fault
+  -- a code of floating-point numbers stands there
+  Float : ℕ → Fault
+  -- a limit is passed there
+  Limit : Counted → ℕ → Fault
 
 -- A reader is given the place at which the text ends, and what is left of the text.
 abbrev pub Reader : Type 0 → Type 0
@@ -18,6 +27,9 @@ abbrev pub ◌>>=◌ : {A B : Type 0} → Result A Fault → (A → Result B Fau
 -- a fault at the item that would begin here
 abbrev pub malformed : {A : Type 0} → ℕ → List ℕ → Result A Fault
 malformed end bytes = Err (Malformed (place_of end bytes))
+
+abbrev pub refused : {A : Type 0} → Fault → Result A Fault
+refused fault = Err fault
 
 -- where there was no value, a fault at the item
 abbrev pub well_formed : {A E : Type 0} → ℕ → List ℕ → Result A E → Result A Fault

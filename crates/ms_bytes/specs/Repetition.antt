@@ -1,9 +1,6 @@
--- Items one after the other: so many, one for each of a list, or steps up to the end of the text.
-use Rattle.std.specs.Prelude.{◌≡◌, ℕ, zero, suc, ◌<◌, ◌≤◌, false, List, [], ◌∷◌, length, drop, Result, Ok, if◌then◌else◌, refl}
-use Rattle.std.proofs.Common.{true, inl, inr, sym, ap, subst, arith}
-use Rattle.std.proofs.lemmas.Bool.{eqb-true, eq-eqb}
-use Rattle.ms_bytes.specs.Spot.{first_is}
-use Rattle.ms_bytes.specs.Leb128Laws.{chosen}
+-- Items one after the other: so many, one for each of a list, so many steps, or steps up to the end of the text.
+use Rattle.std.specs.Prelude.{◌≡◌, ℕ, zero, suc, ◌<◌, ◌≤◌, List, [], ◌∷◌, length, Result, Ok, refl}
+use Rattle.std.proofs.Common.{sym, ap, subst, arith}
 use Rattle.ms_bytes.specs.Reading.{◌>>=◌, Fault, Reader, bind_ok, malformed, ok_is}
 use Rattle.ms_bytes.specs.Format.{Format, ends_fit, number, pure, seq}
 
@@ -21,6 +18,12 @@ vec f = seq number (λ n. times n f)
 unfoldable pub each : {K A : Type 0} → (K → Format A) → List K → Format (List A)
 each f [] = pure []
 each f (k ∷ ks) = seq (f k) (λ x. seq (each f ks) (λ xs. pure (x ∷ xs)))
+
+-- ---- so many steps, each from the state that the one before left
+
+unfoldable pub repeat : {S : Type 0} → (S → Format S) → ℕ → S → Format S
+repeat step zero st = pure st
+repeat step (suc n) st = seq (step st) (λ next. repeat step n next)
 
 -- ---- steps up to the end of the text
 
@@ -83,71 +86,4 @@ chain step shorter st = record {
   takes = chain_ok step st;
   again = chain_back step shorter st;
   fits = λ s x t h. ends_fit s t h.1;
-}
-
--- ---- items up to a byte that ends them
-
-pub data Until {A : Type 0} (last : ℕ) (f : Format A) : List ℕ → List A → List ℕ → Type 0 where
-  at_last : {s t : List ℕ} → s ≡ last ∷ t → Until last f s [] t
-  item : {s m t : List ℕ} {x : A} {xs : List A} → first_is last s ≡ false → f.spelled s x m → Until last f m xs t → Until last f s (x ∷ xs) t
-
--- with at most so many items
-unfoldable pub until_at : {A : Type 0} → ℕ → Format A → ℕ → Reader (List A)
-until_at last f zero end s = malformed end s
-until_at last f (suc n) end s =
-    if first_is last s then Ok ([], drop 1 s) else (f.read end s >>= λ x. until_at last f n end x.1 >>= λ xs. Ok (x.0 ∷ xs.0, xs.1))
-
--- what begins with a byte
-first_byte : (b : ℕ) (s : List ℕ) → first_is b s ≡ true → s ≡ b ∷ drop 1 s
-first_byte b [] e = absurd cc
-first_byte b (c ∷ s) e = ap (λ (x : ℕ). x ∷ s) (eqb-true c b e)
-
-is_first : (b : ℕ) (t : List ℕ) → first_is b (b ∷ t) ≡ true
-is_first b t = eq-eqb b b refl
-
-module _ {A : Type 0} (last : ℕ) (f : Format A) where
-  pub until_takes : (n end : ℕ) (s : List ℕ) (xs : List A) (t : List ℕ) → until_at last f n end s ≡ Ok (xs, t) → Until last f s xs t
-  unfolding until_at
-  until_takes zero end s xs t e = absurd cc
-  until_takes (suc n) end s xs t e =
-      elim (chosen (first_is last s) _ _ _ e) [
-        | inl h ↦
-            let p = ok_is ([], drop 1 s) (xs, t) h.1 in
-            subst (λ (q : List A × List ℕ). Until last f s q.0 q.1) p (at_last (first_byte last s h.0))
-        | inr h ↦
-            let x = bind_ok (f.read end s) (λ x. until_at last f n end x.1 >>= λ ys. Ok (x.0 ∷ ys.0, ys.1)) (xs, t) h.1 in
-            let ys = bind_ok (until_at last f n end x.0.1) (λ ys. Ok (x.0.0 ∷ ys.0, ys.1)) (xs, t) x.2 in
-            let p = ok_is (x.0.0 ∷ ys.0.0, ys.0.1) (xs, t) ys.2 in
-            subst (λ (q : List A × List ℕ). Until last f s q.0 q.1) p
-            (item h.0 (f.takes end s x.0.0 x.0.1 x.1) (until_takes n end x.0.1 ys.0.0 ys.0.1 ys.1))
-      ]
-
-  pub until_fits : {s : List ℕ} {xs : List A} {t : List ℕ} → Until last f s xs t → length t ≤ length s
-  until_fits {s = s} {t = t} (at_last e) = let l = ap length e in omega arith
-  until_fits {s = s} {t = t} (item {m = m} {x = x} h one rest) = let le = f.fits s x m one in let ih = until_fits rest in omega arith
-
-  until_end : (n end : ℕ) (s t : List ℕ) → s ≡ last ∷ t → length s ≤ n → until_at last f n end s ≡ Ok ([], t)
-  unfolding until_at
-  until_end zero end s t e le = absurd (let l = ap length e in omega arith)
-  until_end (suc n) end s t e le = rw (e, is_first last t) refl
-
-  until_on : (n end : ℕ) (s m t : List ℕ) (x : A) (xs : List A) → first_is last s ≡ false → f.read end s ≡ Ok (x, m) → length m < length s → length s ≤ n
-      → ((k : ℕ) → length m ≤ k → until_at last f k end m ≡ Ok (xs, t)) → until_at last f n end s ≡ Ok (x ∷ xs, t)
-  unfolding until_at
-  until_on zero end s m t x xs h e lt le on = absurd (omega arith)
-  until_on (suc n) end s m t x xs h e lt le on = rw (h, e, on n (omega arith)) refl
-
-  pub until_again : ((s : List ℕ) (x : A) (t : List ℕ) → f.spelled s x t → length t < length s)
-      → {s : List ℕ} {xs : List A} {t : List ℕ} → Until last f s xs t → (n end : ℕ) → length s ≤ n → until_at last f n end s ≡ Ok (xs, t)
-  until_again shorter {s = s} {t = t} (at_last e) n end le = until_end n end s t e le
-  until_again shorter {s = s} {t = t} (item {m = m} {x = x} {xs = xs} h one rest) n end le =
-      until_on n end s m t x xs h (f.again end s x m one) (shorter s x m one) le (λ k fits. until_again shorter rest k end fits)
-
-abbrev pub until : {A : Type 0} → ℕ → (f : Format A) → ((s : List ℕ) (x : A) (t : List ℕ) → f.spelled s x t → length t < length s) → Format (List A)
-until last f shorter = record {
-  read = λ end s. until_at last f (length s) end s;
-  spelled = Until last f;
-  takes = λ end s xs t e. until_takes last f (length s) end s xs t e;
-  again = λ end s xs t h. until_again last f shorter h (length s) end (omega arith);
-  fits = λ s xs t h. until_fits last f h;
 }

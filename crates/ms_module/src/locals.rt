@@ -1,4 +1,4 @@
-ghost use Rattle.std.specs.Prelude.{◌≡◌, ◌+◌, ◌<◌, ◌^◌, ◌++◌, List, [], length, replicate, slice_get, is_ok, if◌then◌else◌};
+ghost use Rattle.std.specs.Prelude.{◌≡◌, ◌==◌, ◌+◌, ◌<◌, ◌^◌, ◌++◌, List, [], length, replicate, slice_get, is_ok, nat_le, if◌then◌else◌};
 
 use ms_types::ValType;
 use std::alloc::{AllocError, Global};
@@ -40,4 +40,59 @@ impl Locals {
             runs: Vec::new(alloc),
         }
     }
+
+    /// How many locals there are.
+    pub fn len(&self) -> usize
+        ensures { result ≡ length self.now }
+    {
+        self.end() as usize
+    }
+
+    /// Whether there are none.
+    pub fn is_empty(&self) -> bool
+        ensures { result ≡ (length self.now == 0) }
+    {
+        self.end() == 0
+    }
+
+    /// The type of the local of this index.
+    pub fn get(&self, index: u32) -> Option<ValType>
+        ensures { result ≡ slice_get self.now index }
+    {
+        let run = self.runs.partition_point(
+            |run: &Run| -> bool
+                ensures { result ≡ nat_le run.now.end index }
+            { run.end <= index },
+        );
+        self.runs.get(run).map(|run| run.ty)
+    }
+
+    /// Adds so many locals of a type at the end. After an error nothing has changed.
+    pub fn push(&mut self, count: u32, ty: ValType) -> Result<(), AllocError>
+        requires { length self.old + count < 2 ^ 32 }
+        ensures { self.new ≡ (if is_ok result then self.old ++ replicate count ty else self.old) }
+    {
+        if count == 0 {
+            return Ok(());
+        }
+        let end = self.end() + count;
+        match self.runs.last_mut() {
+            Some(run) if run.ty == ty => run.end = end,
+            _ => self.runs.push(Run { end, ty })?,
+        }
+        Ok(())
+    }
+
+    /// The index behind the last local.
+    fn end(&self) -> u32
+        ensures { result ≡ length self.now }
+    {
+        match self.runs.last() {
+            None => 0,
+            Some(run) => run.end,
+        }
+    }
 }
+
+#[cfg(test)]
+mod tests;

@@ -1,4 +1,4 @@
-ghost use Rattle.std.specs.Prelude.{◌≡◌, ◌==◌, List, [], ◌∷◌, ◌++◌, length, is_ok, if◌then◌else◌};
+ghost use Rattle.std.specs.Prelude.{◌≡◌, ◌==◌, List, [], ◌∷◌, ◌++◌, length, is_ok, IfErr, if◌then◌else◌};
 
 use std::alloc::{AllocError, AllocFailed, Global};
 use std::marker::Model;
@@ -55,7 +55,8 @@ impl<T> Vector<T> {
 
     /// Adds an item at the end. After an error, which gives the item back, nothing has changed.
     pub fn push(&mut self, item: T) -> Result<(), AllocFailed<T>>
-        ensures { self.new ≡ (if is_ok result then self.old ++ item ∷ [] else self.old) }
+        ensures items { self.new ≡ (if is_ok result then self.old ++ item ∷ [] else self.old) }
+        ensures given_back { IfErr result (λ e. e.value ≡ item) }
     {
         self.items.push(item)
     }

@@ -1,3 +1,5 @@
 pub mod Refusals
 pub mod Heads
 pub mod Untyped
+pub mod Scope
+pub mod Shape

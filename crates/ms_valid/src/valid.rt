@@ -1,14 +1,14 @@
 //! Modules that are well typed, and which part of one is not.
 
-ghost use Rattle.std.specs.Prelude.{◌≡◌, ◌≤◌, ◌<◌, ◌^◌, All, IfErr, IfOk, MatchResult};
+ghost use Rattle.std.specs.Prelude.{◌≡◌, ◌≤◌, ◌<◌, ◌^◌, IfErr, IfOk, MatchResult};
 ghost use Rattle.ms_rules.specs.Context.{context_of};
-ghost use Rattle.ms_rules.specs.Modules.{SigTyped, WellTyped};
+ghost use Rattle.ms_rules.specs.Modules.{WellTyped};
 ghost use Rattle.ms_valid.specs.Refusals.{Blames};
 ghost use Rattle.ms_valid.specs.Untyped.{IsFirstUntypedOf};
 ghost use Rattle.ms_valid.specs.declared.refusal.Part.TheVariants.{Function};
 ghost use Rattle.ms_valid.specs.declared.refusal.Refusal.TheVariants.{Invalid, Memory};
 
-use crate::body::is_func_typed;
+use crate::body::Checker;
 use crate::head::is_head_typed;
 use crate::refusal::{Part, Refusal};
 use ms_module::{Func, Module};
@@ -88,11 +88,11 @@ fn first_untyped(
     context: &Context,
     funcs: &[Func],
 ) -> Result<Option<usize>, AllocError>
-    requires { All SigTyped context.now.sigs }
     ensures { IfOk result (IsFirstUntypedOf context.now funcs.now) }
 {
+    let mut checker = Checker::new(alloc);
     for (number, func) in funcs.iter().enumerate() {
-        if !is_func_typed(alloc, context, func)? {
+        if !checker.is_func_typed(context, func)? {
             return Ok(Some(number));
         }
     }

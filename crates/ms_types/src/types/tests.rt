@@ -17,3 +17,14 @@ fn holds_what_it_is_made_of(rt: HostRuntime) -> Result<(), Fail> {
     assert_eq!(rt; t.results.as_slice(), [ValType::I32].as_slice());
     Ok(())
 }
+
+#[test]
+fn gives_the_item_back_where_memory_is_out(rt: HostRuntime) -> Result<(), Fail> {
+    let mut v = Vector::new(rt.alloc());
+    for ty in [ValType::I32, ValType::I64, ValType::Handle] {
+        if let Err(failed) = v.push(ty) {
+            assert_eq!(rt; failed.value, ty);
+        }
+    }
+    Ok(())
+}
