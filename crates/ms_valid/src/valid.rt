@@ -98,3 +98,6 @@ fn first_untyped(
     }
     Ok(None)
 }
+
+#[cfg(test)]
+mod tests;
