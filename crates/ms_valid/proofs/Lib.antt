@@ -1,3 +1,4 @@
 pub mod Shapes
 pub mod Parts
 pub mod Sequences
+pub mod Numbering

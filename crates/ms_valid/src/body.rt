@@ -27,7 +27,9 @@ pub struct Checker {
 
 impl Checker {
     /// A checker. Takes no memory.
-    pub fn new(alloc: Global) -> Self {
+    pub fn new(alloc: Global) -> Self
+        ensures { result.labels ≡ [] }
+    {
         Checker {
             alloc,
             labels: Stack::new(alloc),
@@ -167,3 +169,6 @@ pub fn is_func_typed(alloc: Global, context: &Context, func: &Func) -> Result<bo
     let mut checker = Checker::new(alloc);
     Ok(checker.is_func_typed(context, func)?)
 }
+
+#[cfg(test)]
+mod tests;
