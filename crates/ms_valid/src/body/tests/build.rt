@@ -5,9 +5,12 @@ ghost use Rattle.ms_types.specs.declared.types.ValType.{ValType};
 ghost use Rattle.ms_module.specs.declared.instr.Instr.{Instr};
 ghost use Rattle.ms_module.specs.Numbered.{IsNumbered, IsPlain};
 
-use ms_module::{BinOp, BrTable, Code, Import, ImportDesc, Instr, Linear, LoadOp, MemArg, Module, Name, Numeric, Segment, Targets, Width};
-use ms_types::{FuncType, GlobalType, Limits, ValType, Vector};
+use ms_module::{
+    BinOp, BrTable, Code, Import, ImportDesc, Instr, Linear, LoadOp, MemArg, Module, Name, Numeric,
+    Segment, Targets, Width,
+};
 use ms_types::ValType::{Handle, I32, I64};
+use ms_types::{FuncType, GlobalType, Limits, ValType, Vector};
 use std::alloc::{AllocError, Global};
 use std::process::Abort;
 use std::test::Fail;
@@ -62,7 +65,13 @@ fn are_plain(instrs: &Vec<Instr>) -> bool
 
 /// The code of a body.
 pub fn code_of<R: Abort>(rt: &R, alloc: Global, body: Body) -> Result<Code, Fail> {
-    let Body { block, before, then, other, after } = body;
+    let Body {
+        block,
+        before,
+        then,
+        other,
+        after,
+    } = body;
     assert!(rt; are_plain(&before));
     assert!(rt; are_plain(&then));
     assert!(rt; are_plain(&other));
@@ -88,7 +97,13 @@ fn straight(alloc: Global, instrs: Vec<Instr>) -> Result<Code, AllocError>
     Ok(Code::new(sequences))
 }
 
-fn block_code(alloc: Global, ty: Option<ValType>, before: Vec<Instr>, then: Vec<Instr>, after: Vec<Instr>) -> Result<Code, AllocError>
+fn block_code(
+    alloc: Global,
+    ty: Option<ValType>,
+    before: Vec<Instr>,
+    then: Vec<Instr>,
+    after: Vec<Instr>,
+) -> Result<Code, AllocError>
     requires before { All IsPlain before.items }
     requires then { All IsPlain then.items }
     requires after { All IsPlain after.items }
@@ -99,7 +114,13 @@ fn block_code(alloc: Global, ty: Option<ValType>, before: Vec<Instr>, then: Vec<
     Ok(Code::new(sequences))
 }
 
-fn loop_code(alloc: Global, ty: Option<ValType>, before: Vec<Instr>, then: Vec<Instr>, after: Vec<Instr>) -> Result<Code, AllocError>
+fn loop_code(
+    alloc: Global,
+    ty: Option<ValType>,
+    before: Vec<Instr>,
+    then: Vec<Instr>,
+    after: Vec<Instr>,
+) -> Result<Code, AllocError>
     requires before { All IsPlain before.items }
     requires then { All IsPlain then.items }
     requires after { All IsPlain after.items }
@@ -110,18 +131,39 @@ fn loop_code(alloc: Global, ty: Option<ValType>, before: Vec<Instr>, then: Vec<I
     Ok(Code::new(sequences))
 }
 
-fn if_code(alloc: Global, ty: Option<ValType>, before: Vec<Instr>, then: Vec<Instr>, after: Vec<Instr>) -> Result<Code, AllocError>
+fn if_code(
+    alloc: Global,
+    ty: Option<ValType>,
+    before: Vec<Instr>,
+    then: Vec<Instr>,
+    after: Vec<Instr>,
+) -> Result<Code, AllocError>
     requires before { All IsPlain before.items }
     requires then { All IsPlain then.items }
     requires after { All IsPlain after.items }
 {
     let mut sequences = Vector::new(alloc);
-    sequences.push(around(before, Instr::If { ty, then: 1, other: None }, after)?)?;
+    sequences.push(around(
+        before,
+        Instr::If {
+            ty,
+            then: 1,
+            other: None,
+        },
+        after,
+    )?)?;
     sequences.push(Vector::from_vec(then))?;
     Ok(Code::new(sequences))
 }
 
-fn else_code(alloc: Global, ty: Option<ValType>, before: Vec<Instr>, then: Vec<Instr>, other: Vec<Instr>, after: Vec<Instr>) -> Result<Code, AllocError>
+fn else_code(
+    alloc: Global,
+    ty: Option<ValType>,
+    before: Vec<Instr>,
+    then: Vec<Instr>,
+    other: Vec<Instr>,
+    after: Vec<Instr>,
+) -> Result<Code, AllocError>
     requires before { All IsPlain before.items }
     requires then { All IsPlain then.items }
     requires other { All IsPlain other.items }
@@ -129,7 +171,15 @@ fn else_code(alloc: Global, ty: Option<ValType>, before: Vec<Instr>, then: Vec<I
     requires after { All IsPlain after.items }
 {
     let mut sequences = Vector::new(alloc);
-    sequences.push(around(before, Instr::If { ty, then: 1, other: Some(2) }, after)?)?;
+    sequences.push(around(
+        before,
+        Instr::If {
+            ty,
+            then: 1,
+            other: Some(2),
+        },
+        after,
+    )?)?;
     sequences.push(Vector::from_vec(then))?;
     sequences.push(Vector::from_vec(other))?;
     Ok(Code::new(sequences))
@@ -145,3 +195,80 @@ fn around(before: Vec<Instr>, instr: Instr, after: Vec<Instr>) -> Result<Vector<
     Ok(Vector::from_vec(outer))
 }
 
+/// The function types of the modules below.
+pub const NONE: u32 = 0;
+
+pub const GIVES_I32: u32 = 1;
+
+pub const GIVES_I64: u32 = 2;
+
+pub const GIVES_HANDLE: u32 = 3;
+/// From an integer and a handle to a long integer.
+pub const MIXED: u32 = 4;
+/// Two results.
+pub const TWO: u32 = 5;
+/// No type.
+pub const MISSING: u32 = 6;
+
+fn import(alloc: Global, desc: ImportDesc) -> Result<Import, AllocError> {
+    Ok(Import {
+        module: Name::new(alloc, "m")?,
+        name: Name::new(alloc, "n")?,
+        desc,
+    })
+}
+
+fn sigs(alloc: Global) -> Result<Vec<FuncType>, AllocError> {
+    let mut sigs = Vec::new(alloc);
+    sigs.push(FuncType {
+        params: Vector::new(alloc),
+        results: Vector::new(alloc),
+    })?;
+    for ty in [I32, I64, Handle] {
+        sigs.push(FuncType {
+            params: Vector::new(alloc),
+            results: Vector::from_vec(vec![in alloc; ty]?),
+        })?;
+    }
+    sigs.push(FuncType {
+        params: Vector::from_vec(vec![in alloc; I32, Handle]?),
+        results: Vector::from_vec(vec![in alloc; I64]?),
+    })?;
+    sigs.push(FuncType {
+        params: Vector::new(alloc),
+        results: Vector::from_vec(vec![in alloc; I32, I32]?),
+    })?;
+    Ok(sigs)
+}
+
+/// A module with functions of the types `MIXED`, `TWO` and `MISSING`, an integer that may not be set, a handle that may,
+/// and so many memories and tables.
+pub fn module(alloc: Global, memories: usize, tables: usize) -> Result<Module, AllocError> {
+    let limits = Limits { min: 0, max: None };
+    let constant = GlobalType {
+        ty: I32,
+        mutable: false,
+    };
+    let variable = GlobalType {
+        ty: Handle,
+        mutable: true,
+    };
+    Ok(Module {
+        sigs: Vector::from_vec(sigs(alloc)?),
+        imports: Vector::from_vec(vec![in alloc;
+            import(alloc, ImportDesc::Func(MIXED))?,
+            import(alloc, ImportDesc::Global(constant))?,
+            import(alloc, ImportDesc::Func(TWO))?,
+            import(alloc, ImportDesc::Global(variable))?,
+            import(alloc, ImportDesc::Func(MISSING))?,
+        ]?),
+        funcs: Vector::new(alloc),
+        tables: Vector::from_vec(vec![in alloc; limits; tables]?),
+        memories: Vector::from_vec(vec![in alloc; limits; memories]?),
+        globals: Vector::new(alloc),
+        exports: Vector::new(alloc),
+        elements: Vector::new(alloc),
+        fills: Vector::new(alloc),
+        start: None,
+    })
+}
