@@ -26,7 +26,9 @@ pub struct Checker {
 
 impl Checker {
     /// A checker. Takes no memory.
-    pub fn new(alloc: Global) -> Self {
+    pub fn new(alloc: Global) -> Self
+        ensures { result.labels ≡ [] }
+    {
         Checker {
             alloc,
             labels: Stack::new(alloc),
@@ -157,3 +159,6 @@ impl Checker {
         }
     }
 }
+
+#[cfg(test)]
+mod tests;
