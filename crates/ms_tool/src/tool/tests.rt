@@ -145,6 +145,60 @@ fn refuses_what_is_no_valid_module(rt: HostRuntime) -> Result<(), Fail> {
     expect_file(&rt, zeros.as_slice(), Status::Refused, b"refused unread\n")
 }
 
+/// The module of `SEVEN` with another code section, behind other sections.
+fn with_code(alloc: Global, sections: &[u8], code: &[u8]) -> Result<Vec<u8>, Fail> {
+    let mut module = Vec::from_slice(alloc, &SEVEN[..15])?;
+    module.extend_from_slice(sections)?;
+    module.extend_from_slice(&SEVEN[15..29])?;
+    module.extend_from_slice(code)?;
+    Ok(module)
+}
+
+#[test]
+fn refuses_a_valid_module_that_does_not_run_yet(rt: HostRuntime) -> Result<(), Fail> {
+    let alloc = rt.alloc();
+    let code: [&[u8]; 5] = [
+        &[0x0A, 0x07, 0x01, 0x05, 0x00, 0x01, 0x41, 0x07, 0x0B], // nop
+        &[0x0A, 0x08, 0x01, 0x06, 0x01, 0x01, 0x7F, 0x41, 0x07, 0x0B], // a local
+        &[
+            0x0A, 0x09, 0x01, 0x07, 0x00, 0x02, 0x7F, 0x41, 0x07, 0x0B, 0x0B,
+        ], // a block
+        &[0x0A, 0x05, 0x01, 0x03, 0x00, 0x00, 0x0B], // unreachable
+        &[
+            0x0A, 0x09, 0x01, 0x07, 0x00, 0x41, 0x01, 0x41, 0x02, 0x6A, 0x0B,
+        ], // i32.add
+    ];
+    for section in code {
+        let module = with_code(alloc, &[], section)?;
+        expect_file(&rt, module.as_slice(), Status::Refused, b"refused unread\n")?;
+    }
+    // An import of a function, which comes before `main` in the index space.
+    let import = [
+        0x02, 0x07, 0x01, 0x01, 0x63, 0x01, 0x66, 0x00, 0x00, // "c" "f"
+    ];
+    let imported = with_code(alloc, &import, &SEVEN[29..])?;
+    expect_file(
+        &rt,
+        imported.as_slice(),
+        Status::Refused,
+        b"refused unread\n",
+    )?;
+    // The markers and a memory of one page, or a global, or a type with a handle.
+    let sections: [&[u8]; 3] = [
+        &[0x05, 0x03, 0x01, 0x00, 0x01],
+        &[0x06, 0x06, 0x01, 0x7F, 0x00, 0x41, 0x00, 0x0B],
+        &[0x01, 0x05, 0x01, 0x60, 0x01, 0x58, 0x00],
+    ];
+    for section in sections {
+        let mut module = Vec::from_slice(alloc, &SEVEN[..8])?;
+        module.extend_from_slice(section)?;
+        expect_file(&rt, module.as_slice(), Status::Refused, b"refused unread\n")?;
+    }
+    // Sections of nothing are no part of a module.
+    let nothing = with_code(alloc, &[0x02, 0x01, 0x00], &SEVEN[29..])?;
+    expect_file(&rt, nothing.as_slice(), Status::Done, b"result 7\n")
+}
+
 #[test]
 fn refuses_a_module_with_no_task(rt: HostRuntime) -> Result<(), Fail> {
     expect_file(&rt, &SEVEN[..8], Status::Refused, b"refused task 0\n")?;
