@@ -1,6 +1,6 @@
 -- What a refusal says, and what follows where none is found.
-use Rattle.std.proofs.Common.{◌≡◌, ℕ, ◌+◌, ◌-◌, ◌≤◌, ◌<◌, ◌^◌, Bool, true, List, length, get_or, refl, sym, ap, subst, ◌∙◌, ◌↔◌, inl, inr, IsTrue, slice_get, arith}
-use Rattle.std.specs.Prelude.{All, Option, Some, None, map, IsTrue}
+use Rattle.std.proofs.Common.{◌≡◌, ℕ, ◌+◌, ◌-◌, ◌≤◌, ◌<◌, ◌^◌, List, length, get_or, refl, sym, ap, subst, ◌∙◌, inl, inr, slice_get, arith}
+use Rattle.std.specs.Prelude.{All, Option, Some, None, map}
 use Rattle.std.proofs.lemmas.List.{length-append, length-map}
 use Rattle.std.proofs.lemmas.List.Elements.{All-get_or}
 use Rattle.std.proofs.lemmas.Option.{get_or_from_slice_get, slice_get-get_or, slice_get_within}
