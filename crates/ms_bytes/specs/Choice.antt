@@ -1,6 +1,6 @@
 -- A choice by a code, the byte that stands first: tables of codes, each with what stands behind it.
 use Rattle.std.specs.Prelude.{◌≡◌, ◌≢◌, ◌==◌, ℕ, ◌<◌, ◌≤◌, ◌⊎◌, Bool, true, false, Option, Some, None, List, [], ◌∷◌, length, Ok, Err, if◌then◌else◌, refl}
-use Rattle.std.proofs.Common.{eqb, inl, inr, ap, arith, sym, subst}
+use Rattle.std.proofs.Common.{eqb, inl, inr, ap, arith}
 use Rattle.std.proofs.lemmas.Bool.{eqb-true, eq-eqb}
 use Rattle.std.proofs.lemmas.Bool.Decides.{nat_tests}
 use Rattle.ms_bytes.specs.Spot.{place_of}
