@@ -1,5 +1,5 @@
 -- The numbering of bodies that have one block at most, as tests build them.
-use Rattle.std.proofs.Common.{ℕ, suc, ◌<◌, length, arith, List, [], ◌∷◌, ◌++◌, Option, Some, None, ◌≡◌, ◌∙◌, ap, refl}
+use Rattle.std.proofs.Common.{ℕ, ◌<◌, length, arith, List, [], ◌∷◌, ◌++◌, Option, Some, ◌≡◌, ◌∙◌, ap, refl}
 use Rattle.std.specs.List.{All}
 use Rattle.std.proofs.lemmas.List.Elements.{All-head, All-tail}
 use Rattle.ms_types.specs.declared.types.ValType.{ValType}

@@ -402,25 +402,16 @@ fn has_one_result(context: &Context, sig: u32) -> bool
 }
 
 #[test]
-fn functions(rt: HostRuntime) -> Result<(), Fail> {
+fn a_function(rt: HostRuntime) -> Result<(), Fail> {
     let alloc = rt.alloc();
     let module = module(alloc, 0, 0)?;
     let context = Context::of(alloc, &module)?;
-    let rows = [
-        (MIXED, "i64", true),
-        (MIXED, "get:1", false),
-        (MISSING, "unreachable", false),
-    ];
-    for (sig, text, want) in rows {
-        let body = words::body(&rt, alloc, text)?;
-        let func = Func {
-            sig,
-            locals: Locals::new(alloc),
-            body: code_of(&rt, alloc, body)?,
-        };
-        assert!(rt; has_one_result(&context, func.sig));
-        let typed = is_func_typed(alloc, &context, &func)?;
-        assert_eq!(rt; typed, want, "type {sig}: {text}");
-    }
+    let func = Func {
+        sig: MIXED,
+        locals: Locals::new(alloc),
+        body: code_of(&rt, alloc, words::body(&rt, alloc, "i64")?)?,
+    };
+    assert!(rt; has_one_result(&context, func.sig));
+    assert!(rt; is_func_typed(alloc, &context, &func)?);
     Ok(())
 }

@@ -1,7 +1,6 @@
-use Rattle.std.proofs.Common.{◌≡◌, ◌∷◌, ◌++◌, [], List, Option, Some, None, subst, sym}
-use Rattle.ms_module.specs.declared.instr.Instr.{Instr}
-use Rattle.ms_module.specs.declared.instr.Instr.TheVariants.{Block, If, Loop}
-use Rattle.ms_module.specs.Numbered.{IsNumbered, block, if_alone, loop}
+use Rattle.std.proofs.Common.{◌≡◌, ◌∷◌, ◌++◌, [], subst, sym}
+use Rattle.ms_module.specs.declared.instr.Instr.TheVariants.{Block}
+use Rattle.ms_module.specs.Numbered.{IsNumbered, block}
 use Rattle.ms_valid.proofs.Numbering.{pushed_two, one_numbered}
 use Rattle.ms_valid.proofs.body.tests.build.block_code.Goals as goal
 

@@ -1,7 +1,6 @@
-use Rattle.std.proofs.Common.{◌≡◌, ◌∷◌, ◌++◌, [], List, Option, Some, None, subst, sym}
-use Rattle.ms_module.specs.declared.instr.Instr.{Instr}
-use Rattle.ms_module.specs.declared.instr.Instr.TheVariants.{Block, If, Loop}
-use Rattle.ms_module.specs.Numbered.{IsNumbered, block, if_alone, loop}
+use Rattle.std.proofs.Common.{◌≡◌, ◌∷◌, ◌++◌, [], Some, subst, sym}
+use Rattle.ms_module.specs.declared.instr.Instr.TheVariants.{If}
+use Rattle.ms_module.specs.Numbered.{IsNumbered}
 use Rattle.ms_valid.proofs.Numbering.{pushed_three, else_numbered}
 use Rattle.ms_valid.proofs.body.tests.build.else_code.Goals as goal
 
