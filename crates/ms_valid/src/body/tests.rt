@@ -1,6 +1,3 @@
-ghost use Rattle.std.specs.Prelude.{◌≡◌, ◌≤◌, length, slice_get, IsTrue, Some};
-ghost use Rattle.ms_types.specs.declared.types.FuncType.{FuncType};
-
 mod build;
 mod words;
 
@@ -388,30 +385,5 @@ fn alignments(rt: HostRuntime) -> Result<(), Fail> {
     ));
     let typed = takes(&rt, alloc, far, &[I32], Some(I64))?;
     assert!(rt; !typed);
-    Ok(())
-}
-
-/// Whether the function type of this index is missing or has one result at most.
-fn has_one_result(context: &Context, sig: u32) -> bool
-    ensures { IsTrue result → (t : FuncType) → slice_get context.now.sigs sig ≡ Some t → length t.results ≤ 1 }
-{
-    match context.sig(sig) {
-        None => true,
-        Some(t) => t.results.len() <= 1,
-    }
-}
-
-#[test]
-fn a_function(rt: HostRuntime) -> Result<(), Fail> {
-    let alloc = rt.alloc();
-    let module = module(alloc, 0, 0)?;
-    let context = Context::of(alloc, &module)?;
-    let func = Func {
-        sig: MIXED,
-        locals: Locals::new(alloc),
-        body: code_of(&rt, alloc, words::body(&rt, alloc, "i64")?)?,
-    };
-    assert!(rt; has_one_result(&context, func.sig));
-    assert!(rt; is_func_typed(alloc, &context, &func)?);
     Ok(())
 }
