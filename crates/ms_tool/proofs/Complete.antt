@@ -1,6 +1,6 @@
 -- The table gives one answer at most, so that what it gives for a known file is what was answered.
 use Rattle.std.proofs.Common.{◌≡◌, ℕ, ◌⊎◌, inl, inr, List, ℤ, refl, sym, ap, subst, ◌∙◌, arith}
-use Rattle.std.specs.Prelude.{[], ⊤, MatchOption, Option, Some, None, IsSomeAnd}
+use Rattle.std.specs.Prelude.{⊤, MatchOption, Option, Some, None, IsSomeAnd}
 use Rattle.ms_outside.specs.Files.{Files, bytes_of}
 use Rattle.ms_outside.specs.Shelf.{Told}
 use Rattle.ms_module.specs.declared.module.Func.{Func}

@@ -6,7 +6,6 @@ use Rattle.std.proofs.lemmas.List.Elements.{All-get_or, All-head, All-tail}
 use Rattle.std.proofs.lemmas.Option.{slice_get_cases}
 use Rattle.ms_bytes.specs.Leb128Laws.{chosen}
 use Rattle.ms_types.specs.declared.types.ValType.{ValType}
-use Rattle.ms_types.specs.declared.types.FuncType.{FuncType}
 use Rattle.ms_module.specs.declared.instr.Instr.{Instr}
 use Rattle.ms_module.specs.declared.instr.Instr.TheVariants.{I32Const}
 use Rattle.ms_module.specs.declared.module.Export.{Export}

@@ -1,5 +1,5 @@
 -- The modules that run today: integers of 32 bits, functions that are exported, and bodies of constants.
-use Rattle.std.specs.Prelude.{◌≡◌, ℕ, ℤ, List, [], ◌∷◌, length, Option, None, All}
+use Rattle.std.specs.Prelude.{◌≡◌, ℤ, List, [], ◌∷◌, length, None, All}
 use Rattle.ms_types.specs.declared.types.ValType.{ValType}
 use Rattle.ms_types.specs.declared.types.ValType.TheVariants.{I32}
 use Rattle.ms_types.specs.declared.types.FuncType.{FuncType}

@@ -5,6 +5,7 @@ use super::*;
 use crate::body::tests::build::{
     Body, GIVES_HANDLE, GIVES_I32, GIVES_I64, MISSING, MIXED, NONE, TWO, code_of, module,
 };
+use ms_handle::Kind;
 use ms_module::{Linear, LoadOp, Locals, MemArg, Segment, StoreOp};
 use ms_types::ValType::{Handle, I32, I64};
 use std::process::Abort;
@@ -306,8 +307,10 @@ fn takes<R: Abort>(
 #[test]
 fn segments(rt: HostRuntime) -> Result<(), Fail> {
     let alloc = rt.alloc();
-    let rows: [(Segment, &[ValType], Option<ValType>); 12] = [
+    let rows: [(Segment, &[ValType], Option<ValType>); 14] = [
         (Segment::Null, &[], Some(Handle)),
+        (Segment::New(Kind::Heap), &[I32], Some(Handle)),
+        (Segment::Free(Kind::Frame), &[Handle], None),
         (Segment::Add(4), &[Handle, I64], Some(Handle)),
         (Segment::Slice, &[Handle, I32, I32], Some(Handle)),
         (Segment::Eq, &[Handle, Handle], Some(I32)),

@@ -1,6 +1,6 @@
 use Rattle.std.proofs.Common.{◌≡◌, suc, ◌+◌, ◌-◌, sym, drop, arith}
 use Rattle.std.proofs.Math.ListN.{drop_of_length-le}
-use Rattle.ms_tool.proofs.Runs.{next_is, run_ends, run_goes, run_skips, run_stops}
+use Rattle.ms_tool.proofs.Runs.{next_is, run_ends, run_goes, run_stops}
 use Rattle.ms_tool.proofs.run.run.Goals as goal
 
 pub returns-then-left-eq0 : goal.returns-then-left-eq0
