@@ -25,12 +25,7 @@ const END: u8 = 0x0B;
 
 /// Opens a block, behind its opcode at `at`.
 #[tactic(auto, unfolding(ms_module::specs::Building::opening_at))]
-fn open(
-    b: &mut Builder,
-    at: usize,
-    opening: Opening,
-    c: &mut Cursor,
-) -> Result<bool, ReadFault>
+fn open(b: &mut Builder, at: usize, opening: Opening, c: &mut Cursor) -> Result<bool, ReadFault>
     ensures { Steps b.new c.old c.new result (opening_at 500 b.old at (opening_of opening) c.old.end c.old.left) }
 {
     if b.depth() >= MOST_BLOCKS {
