@@ -52,9 +52,7 @@ fn in_sections(rt: HostRuntime) -> Result<(), Fail> {
             put(&mut bytes, number)?;
             if front.len() > 2 {
                 // the section's other bytes
-                while bytes.len() < 138 {
-                    bytes.push(0x80)?;
-                }
+                put_times(&mut bytes, 127, "80")?;
             }
             expect(&rt, bytes.as_slice(), Some(malformed(at)), front);
         }
