@@ -40,9 +40,10 @@ in_order n (one {next = next} {after = after} {is = is} {ss = ss} {ts = ts} o ty
     let len = length-append ss ts in
     let inner = in_order n r (omega arith) in
     let outer = in_order n q (omega arith) in
-    let behind : (j : ℕ) → AllNameWithin n (suc next + length ss + j) (sequence_at ts j) = λ j. subst (λ (k : ℕ). AllNameWithin n (k + j) (sequence_at ts j)) (let e2 : after ≡ suc next + length ss = omega arith in e2) (outer.1 j) in
-    ((λ s lt. (one_names n s next o ty lt (omega arith), outer.0 s (omega arith))),
-    headed (AllNameWithin n) is (ss ++ ts) next (inner.0 next (omega arith)) (joined (AllNameWithin n) ss ts (suc next) inner.1 behind))
+    let behind : (j : ℕ) → AllNameWithin n (suc next + length ss + j) (sequence_at ts j) = λ j. subst (λ (k : ℕ). AllNameWithin n (k + j) (sequence_at ts j)) (let e2 : after ≡ suc next + length ss = omega arith in e2) (outer.1 j) in (
+      (λ s lt. (one_names n s next o ty lt (omega arith), outer.0 s (omega arith))),
+      headed (AllNameWithin n) is (ss ++ ts) next (inner.0 next (omega arith)) (joined (AllNameWithin n) ss ts (suc next) inner.1 behind),
+    )
 in_order n (two {next = next} {other = other} {after = after} {k = k} {is = is} {ks = ks} {ss = ss} {ts = ts} {us = us} ty r e r2 e2 q) le =
     let len = length-append ss ((k ∷ ks) ∷ (us ++ ts)) in
     let len2 = length-append us ts in
@@ -52,9 +53,10 @@ in_order n (two {next = next} {other = other} {after = after} {k = k} {is = is} 
     let P = AllNameWithin n in
     let last : (j : ℕ) → P (suc other + length us + j) (sequence_at ts j) = λ j. subst (λ (m : ℕ). P (m + j) (sequence_at ts j)) (let f : after ≡ suc other + length us = omega arith in f) (outer.1 j) in
     let second : (j : ℕ) → P (other + j) (sequence_at ((k ∷ ks) ∷ (us ++ ts)) j) = headed P (k ∷ ks) (us ++ ts) other (arm.0 other (omega arith)) (joined P us ts (suc other) arm.1 last) in
-    let behind : (j : ℕ) → P (suc next + length ss + j) (sequence_at ((k ∷ ks) ∷ (us ++ ts)) j) = λ j. subst (λ (m : ℕ). P (m + j) (sequence_at ((k ∷ ks) ∷ (us ++ ts)) j)) (let f : other ≡ suc next + length ss = omega arith in f) (second j) in
-    ((λ s lt. ((lt, (omega arith), ((omega arith), (omega arith))), outer.0 s (omega arith))),
-    headed P is (ss ++ ((k ∷ ks) ∷ (us ++ ts))) next (inner.0 next (omega arith)) (joined P ss ((k ∷ ks) ∷ (us ++ ts)) (suc next) inner.1 behind))
+    let behind : (j : ℕ) → P (suc next + length ss + j) (sequence_at ((k ∷ ks) ∷ (us ++ ts)) j) = λ j. subst (λ (m : ℕ). P (m + j) (sequence_at ((k ∷ ks) ∷ (us ++ ts)) j)) (let f : other ≡ suc next + length ss = omega arith in f) (second j) in (
+      (λ s lt. ((lt, (omega arith), ((omega arith), (omega arith))), outer.0 s (omega arith))),
+      headed P is (ss ++ ((k ∷ ks) ∷ (us ++ ts))) next (inner.0 next (omega arith)) (joined P ss ((k ∷ ks) ∷ (us ++ ts)) (suc next) inner.1 behind),
+    )
 
 pub names_later : (ss : List (List Instr)) → IsNumbered ss → (s : ℕ) → AllNameWithin (length ss) s (sequence_at ss s)
 names_later [] h s = absurd h

@@ -11,9 +11,15 @@ pub enum Instr {
     Unreachable,
     Nop,
     /// Leaves a value of this type, if any, after its sequence.
-    Block { ty: Option<ValType>, body: u32 },
+    Block {
+        ty: Option<ValType>,
+        body: u32,
+    },
     /// The same; a branch to it begins the sequence again.
-    Loop { ty: Option<ValType>, body: u32 },
+    Loop {
+        ty: Option<ValType>,
+        body: u32,
+    },
     /// Has a second sequence where there is an `else` that is not empty.
     If {
         ty: Option<ValType>,

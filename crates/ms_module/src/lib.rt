@@ -13,8 +13,8 @@ mod name;
 mod numeric;
 
 pub use access::{Linear, LoadOp, MemArg, Segment, StoreOp};
-pub use code::Code;
 pub use br_table::{BrTable, Targets};
+pub use code::Code;
 pub use instr::Instr;
 pub use locals::Locals;
 pub use module::{Element, Export, ExportDesc, Fill, Func, Global, Import, ImportDesc, Module};

@@ -24,7 +24,10 @@ fn one_block(alloc: Alloc) -> Result<Vector<Vector<Instr>>, AllocError>
 fn sequences_of_code(rt: HostRuntime) -> Result<(), Fail> {
     let code = Code::new(one_block(rt.alloc())?);
     assert_eq!(rt; code.len(), 2);
-    for (i, wanted) in ["[Block { ty: None, body: 1 }]", "[Nop]"].iter().enumerate() {
+    for (i, wanted) in ["[Block { ty: None, body: 1 }]", "[Nop]"]
+        .iter()
+        .enumerate()
+    {
         assert!(rt; i < code.len());
         let text = format!(in rt.alloc(); "{:?}", code.sequence(i))?;
         assert_eq!(rt; text.as_str(), *wanted);
