@@ -7,7 +7,7 @@ const WRONG: [&str; 3] = ["80 80 80 80 80 00", "FF FF FF FF 1F", "80 80"];
 
 #[test]
 fn in_sections(rt: HostRuntime) -> Result<(), Fail> {
-    // What stands before the number. It is in a section of 127 bytes at least, but for the sizes.
+    // What stands before the number, which is a size or is in a section of 127 bytes.
     let table = [
         // sizes
         "00",
@@ -62,7 +62,7 @@ fn in_sections(rt: HostRuntime) -> Result<(), Fail> {
 
 #[test]
 fn in_functions(rt: HostRuntime) -> Result<(), Fail> {
-    // What stands before the number in a function's text.
+    // What stands in the function before the number.
     let table = [
         "",
         "01",
