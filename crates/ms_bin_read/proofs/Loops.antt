@@ -2,7 +2,7 @@
 use Rattle.std.proofs.Common.{◌≡◌, ℕ, suc, ◌-◌, ◌+◌, ◌≤◌, ◌<◌, true, false, eqb, List, [], ◌∷◌, ◌++◌, length, Result, Ok, Err, refl, sym, ap, ◌∙◌, append_assoc, arith}
 use Rattle.std.proofs.lemmas.Bool.{eqb-true}
 use Rattle.std.proofs.lemmas.List.{append-nil, nil_from_length}
-use Rattle.ms_bytes.specs.Spot.{first_is, place_of}
+use Rattle.ms_bytes.specs.Spot.{place_of}
 use Rattle.ms_bytes.specs.Reading.{◌>>=◌, Fault}
 use Rattle.ms_bytes.specs.Reading as reading
 use Rattle.ms_bytes.specs.Format.{Format}

@@ -1,11 +1,11 @@
 -- The sequences that an instruction names begin after its own.
-use Rattle.std.proofs.Common.{◌≡◌, ℕ, zero, suc, ◌+◌, ◌-◌, ◌<◌, ◌≤◌, List, [], ◌∷◌, ◌++◌, length, get_or, refl, sym, ap, subst, arith}
-use Rattle.std.specs.Prelude.{Option, Some, None}
+use Rattle.std.proofs.Common.{◌≡◌, ℕ, zero, suc, ◌+◌, ◌<◌, ◌≤◌, List, [], ◌∷◌, ◌++◌, length, get_or, subst, arith}
+use Rattle.std.specs.Prelude.{Option}
 use Rattle.std.proofs.lemmas.List.{length-append}
 use Rattle.ms_types.specs.declared.types.ValType.{ValType}
 use Rattle.ms_module.specs.declared.instr.Instr.{Instr}
 use Rattle.ms_module.specs.declared.instr.Instr.TheVariants.{Block, Loop, If}
-use Rattle.ms_module.specs.Numbered.{AllNameWithin, AreNumbered, ElseWithin, IsNumbered, IsPlain, NamesWithin, Opening, block, if_alone, loop, nothing, one, one_sequence, plain, sequence_at, two}
+use Rattle.ms_module.specs.Numbered.{AllNameWithin, AreNumbered, IsNumbered, IsPlain, NamesWithin, Opening, block, if_alone, loop, nothing, one, one_sequence, plain, sequence_at, two}
 
 plain_names : (n s : ℕ) (i : Instr) → IsPlain i → NamesWithin n s i
 plain_names n s (Block ty body) h = absurd h

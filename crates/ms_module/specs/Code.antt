@@ -1,9 +1,9 @@
 -- How instructions are spelled (WebAssembly 1.0, 5.4), but for blocks. Codes of floating-point instructions are told
 -- apart from those of no instruction.
-use Rattle.std.specs.Prelude.{ℕ, ◌==◌, ◌||◌, ◌&&◌, Bool, false, List, [], ◌∷◌, nat_le}
+use Rattle.std.specs.Prelude.{ℕ, ◌||◌, ◌&&◌, Bool, false, List, [], ◌∷◌, nat_le}
 use Rattle.ms_bytes.specs.Reading.{Malformed}
 use Rattle.ms_bytes.specs.Format.{Format, marks, number, only, pure, signed}
-use Rattle.ms_bytes.specs.Choice.{Case, Coded, Is, among, coded, no_other, one_of, paired, table}
+use Rattle.ms_bytes.specs.Choice.{Case, Coded, Is, among, no_other, one_of, paired, table}
 use Rattle.ms_bytes.specs.Repetition.{vec}
 use Rattle.ms_module.specs.Do.{◌>>=◌}
 use Rattle.ms_handle.specs.declared.handle.Kind.{Kind}

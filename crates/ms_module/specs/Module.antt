@@ -1,5 +1,5 @@
 -- How modules are spelled (WebAssembly 1.0, 5.5).
-use Rattle.std.specs.Prelude.{◌≡◌, ◌==◌, ◌+◌, ℕ, Bool, List, [], ◌∷◌, ◌++◌, length, replicate, nat_le, nat_lt, Option, Some, None, Err}
+use Rattle.std.specs.Prelude.{◌≡◌, ◌==◌, ◌+◌, ℕ, List, [], ◌∷◌, ◌++◌, length, replicate, nat_le, nat_lt, Option, Some, None, Err}
 use Rattle.ms_bytes.specs.Reading.{Fault, Limit, Locals, Malformed}
 use Rattle.ms_bytes.specs.Format.{Format, check, marks, number, only, pure}
 use Rattle.ms_bytes.specs.Choice.{Case, Is, IsIf, one_of, one_of_shorter}
@@ -11,7 +11,6 @@ use Rattle.ms_types.specs.declared.types.Limits.{Limits}
 use Rattle.ms_module.specs.Do.{◌>>=◌}
 use Rattle.ms_module.specs.Types.{func_type, global_type, limits, table_type, val_type}
 use Rattle.ms_module.specs.Body.{body}
-use Rattle.ms_module.specs.declared.instr.Instr.{Instr}
 use Rattle.ms_module.specs.declared.module.ImportDesc.{ImportDesc}
 use Rattle.ms_module.specs.declared.module.ImportDesc.TheVariants as imported
 use Rattle.ms_module.specs.declared.module.Import.{Import}

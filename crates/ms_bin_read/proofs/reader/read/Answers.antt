@@ -1,7 +1,6 @@
-use Rattle.std.proofs.Common.{ap, inl, inr, Ok, Err, ◌⊎◌, ◌≡◌, Result}
+use Rattle.std.proofs.Common.{ap, inl, inr, Ok, Err, Result}
 use Rattle.ms_module.specs.declared.module.Module.{Module}
 use Rattle.ms_bin_read.specs.declared.fault.ReadFault.{ReadFault}
-use Rattle.ms_bin_read.specs.declared.fault.ReadFault.TheVariants.{Memory}
 use Rattle.ms_bin_read.proofs.Modules.{is_first, is_found, is_only, is_told, no_fault, no_module}
 use Rattle.ms_bin_read.proofs.reader.read.Goals as goal
 

@@ -1,4 +1,4 @@
-use Rattle.std.proofs.Common.{◌≡◌, refl, sym, subst, None}
+use Rattle.std.proofs.Common.{refl, sym, subst, None}
 use Rattle.ms_module.specs.Numbered.{IsNumbered, block, nothing, one, plain}
 use Rattle.ms_module.proofs.tests.sequences_of_code.Goals as goal
 
