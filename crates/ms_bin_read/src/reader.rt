@@ -49,3 +49,6 @@ pub fn read(alloc: Global, bytes: &[u8]) -> Result<Module, ReadFault>
         Err(fault) => Err(fault),
     }
 }
+
+#[cfg(test)]
+mod tests;

@@ -20,3 +20,6 @@ pub use locals::Locals;
 pub use module::{Element, Export, ExportDesc, Fill, Func, Global, Import, ImportDesc, Module};
 pub use name::Name;
 pub use numeric::{BinOp, Numeric, RelOp, UnOp, Width};
+
+#[cfg(test)]
+mod tests;
