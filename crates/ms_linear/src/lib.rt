@@ -7,5 +7,5 @@ mod table;
 mod value;
 
 pub use memory::{Linear, Outside};
-pub use table::{CallTrap, Entry, FuncRef};
+pub use table::{CallTrap, Entry, FuncRef, Table, target};
 pub use value::Value;
