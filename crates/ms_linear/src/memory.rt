@@ -131,3 +131,6 @@ impl Linear {
         Ok(address as usize)
     }
 }
+
+#[cfg(test)]
+mod tests;

@@ -22,12 +22,7 @@ pub(crate) fn read_4(bytes: &[u8], at: usize) -> u64
     requires { at + 4 ≤ length bytes.now }
     ensures { result ≡ number_of (take 4 (drop at bytes.now)) }
 {
-    u64::from(u32::from_le_bytes([
-        bytes[at],
-        bytes[at + 1],
-        bytes[at + 2],
-        bytes[at + 3],
-    ]))
+    u64::from(u32::from_le_bytes([bytes[at], bytes[at + 1], bytes[at + 2], bytes[at + 3]]))
 }
 
 /// The number that eight bytes are, the lowest first.

@@ -42,11 +42,14 @@ pub struct Table {
 }
 
 impl Model for Table {
+    ghost use Rattle.std.specs.Prelude.{◌≤◌, length};
     ghost use Rattle.ms_linear.specs.Table.{Table};
 
     ghost Value = { Table };
 
     ghost view = { λ t. record { entries = t.entries.items; max = t.max } };
+
+    ghost invariant = { λ t. length t.entries.items ≤ 65536 };
 }
 
 impl Table {
@@ -66,10 +69,11 @@ impl Table {
     }
 
     /// How many entries it has.
-    pub fn len(&self) -> usize
-        ensures { result ≡ length self.now.entries }
+    pub fn len(&self) -> u32
+        ensures entries { result ≡ length self.now.entries }
+        ensures few { result ≤ 65536 }
     {
-        self.entries.len()
+        self.entries.len() as u32
     }
 
     /// Puts a function at an index.
@@ -102,7 +106,8 @@ pub fn target(table: &Table, i: u32, sig: &FuncType) -> Result<FuncRef, CallTrap
 fn is_same_type(a: &FuncType, b: &FuncType) -> bool
     ensures { IsTrue result ↔ (a.now ≡ b.now) }
 {
-    are_same(a.params.as_slice(), b.params.as_slice()) && are_same(a.results.as_slice(), b.results.as_slice())
+    are_same(a.params.as_slice(), b.params.as_slice())
+        && are_same(a.results.as_slice(), b.results.as_slice())
 }
 
 /// Whether the types are the same, in order.
@@ -111,3 +116,6 @@ fn are_same(a: &[ValType], b: &[ValType]) -> bool
 {
     a == b
 }
+
+#[cfg(test)]
+mod tests;

@@ -38,3 +38,6 @@ impl Value {
         }
     }
 }
+
+#[cfg(test)]
+mod tests;
