@@ -62,12 +62,12 @@ impl Linear {
             (λ v. IsInside self.now address width × (v ≡ loaded self.now address width))
             (λ _. ¬ IsInside self.now address width) }
     {
-        let at = self.place(address, width)?;
+        let from = self.place(address, width)?;
         Ok(match width {
-            1 => read_1(&self.bytes, at),
-            2 => read_2(&self.bytes, at),
-            4 => read_4(&self.bytes, at),
-            _ => read_8(&self.bytes, at),
+            1 => read_1(&self.bytes, from),
+            2 => read_2(&self.bytes, from),
+            4 => read_4(&self.bytes, from),
+            _ => read_8(&self.bytes, from),
         })
     }
 
@@ -79,12 +79,12 @@ impl Linear {
             (λ _. IsInside self.old address width × (self.new ≡ stored self.old address width value))
             (λ _. (¬ IsInside self.old address width) × (self.new ≡ self.old)) }
     {
-        let at = self.place(address, width)?;
+        let to = self.place(address, width)?;
         match width {
-            1 => write_1(&mut self.bytes, at, value),
-            2 => write_2(&mut self.bytes, at, value),
-            4 => write_4(&mut self.bytes, at, value),
-            _ => write_8(&mut self.bytes, at, value),
+            1 => write_1(&mut self.bytes, to, value),
+            2 => write_2(&mut self.bytes, to, value),
+            4 => write_4(&mut self.bytes, to, value),
+            _ => write_8(&mut self.bytes, to, value),
         }
         Ok(())
     }
