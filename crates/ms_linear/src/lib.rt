@@ -1,0 +1,11 @@
+//! Values, the linear memory and tables (WebAssembly 1.0, 4.2).
+#![tactic(auto)]
+
+mod memory;
+mod number;
+mod table;
+mod value;
+
+pub use memory::{Linear, Outside};
+pub use table::{CallTrap, Entry, FuncRef, Table, target};
+pub use value::Value;
