@@ -1,5 +1,5 @@
-ghost use Rattle.std.specs.Prelude.{◌≡◌, ◌≤◌, ◌*◌, ◌++◌, ◌↔◌, IfOk, IsTrue, MatchOption, MatchResult, OnErr, length, replicate, take, drop};
-ghost use Rattle.ms_linear.specs.Memory.{IsInside, IsWidth, MayGrow, bytes_of, grown, loaded, number_of, page, pages, stored};
+ghost use Rattle.std.specs.Prelude.{◌≡◌, ◌^◌, ◌<◌, ◌≤◌, ◌*◌, ◌++◌, ◌↔◌, IfOk, IsTrue, MatchOption, MatchResult, OnErr, length, replicate};
+ghost use Rattle.ms_linear.specs.Memory.{IsInside, IsWidth, MayGrow, grown, loaded, page, pages, stored};
 
 use crate::number::{read_1, read_2, read_4, read_8, write_1, write_2, write_4, write_8};
 use ms_types::Limits;
@@ -58,9 +58,10 @@ impl Linear {
     /// The number of `width` bytes that stands at the address, the lowest first.
     pub fn load(&self, address: u64, width: u32) -> Result<u64, Outside>
         requires { IsWidth width }
-        ensures { MatchResult result
+        ensures number { MatchResult result
             (λ v. IsInside self.now address width × (v ≡ loaded self.now address width))
             (λ _. ¬ IsInside self.now address width) }
+        ensures fits { IfOk result (λ v. v < 256 ^ width) }
     {
         let from = self.place(address, width)?;
         Ok(match width {

@@ -1,10 +1,11 @@
-ghost use Rattle.std.specs.Prelude.{◌≡◌, ◌+◌, ◌≤◌, ◌++◌, length, take, drop};
+ghost use Rattle.std.specs.Prelude.{◌≡◌, ◌+◌, ◌^◌, ◌<◌, ◌≤◌, ◌++◌, length, take, drop};
 ghost use Rattle.ms_linear.specs.Memory.{bytes_of, number_of};
 
 /// The byte at a place.
 pub(crate) fn read_1(bytes: &[u8], at: usize) -> u64
     requires { at + 1 ≤ length bytes.now }
-    ensures { result ≡ number_of (take 1 (drop at bytes.now)) }
+    ensures number { result ≡ number_of (take 1 (drop at bytes.now)) }
+    ensures fits { result < 256 ^ 1 }
 {
     u64::from(bytes[at])
 }
@@ -12,7 +13,8 @@ pub(crate) fn read_1(bytes: &[u8], at: usize) -> u64
 /// The number that two bytes are, the lowest first.
 pub(crate) fn read_2(bytes: &[u8], at: usize) -> u64
     requires { at + 2 ≤ length bytes.now }
-    ensures { result ≡ number_of (take 2 (drop at bytes.now)) }
+    ensures number { result ≡ number_of (take 2 (drop at bytes.now)) }
+    ensures fits { result < 256 ^ 2 }
 {
     u64::from(u16::from_le_bytes([bytes[at], bytes[at + 1]]))
 }
@@ -20,7 +22,8 @@ pub(crate) fn read_2(bytes: &[u8], at: usize) -> u64
 /// The number that four bytes are, the lowest first.
 pub(crate) fn read_4(bytes: &[u8], at: usize) -> u64
     requires { at + 4 ≤ length bytes.now }
-    ensures { result ≡ number_of (take 4 (drop at bytes.now)) }
+    ensures number { result ≡ number_of (take 4 (drop at bytes.now)) }
+    ensures fits { result < 256 ^ 4 }
 {
     u64::from(u32::from_le_bytes([bytes[at], bytes[at + 1], bytes[at + 2], bytes[at + 3]]))
 }
