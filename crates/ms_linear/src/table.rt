@@ -5,13 +5,11 @@ use ms_types::{FuncType, Limits, ValType};
 use std::alloc::{AllocError, Global};
 use std::marker::Model;
 
-/// A function of the store: an instance, and the index of the function in it.
+/// A function of the store, by its address: its place in the store's functions (WebAssembly 1.0, 4.2.4).
 #[derive(Clone, Copy, Debug, PartialEq, Eq)]
 pub struct FuncRef {
-    /// The number of the instance.
-    pub instance: u32,
-    /// The index in the instance's functions.
-    pub func: u32,
+    /// The address.
+    pub address: u32,
 }
 
 /// An entry of a table: a function and its type.

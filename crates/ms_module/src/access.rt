@@ -1,3 +1,6 @@
+ghost use Rattle.std.specs.Prelude.{◌≡◌};
+ghost use Rattle.ms_module.specs.Accesses.{load_bytes, store_bytes};
+
 use ms_handle::Kind;
 
 /// A load, by the type that it gives and the bytes that it reads. `S` extends them by their sign, `U` by zeros.
@@ -17,6 +20,20 @@ pub enum LoadOp {
     I64Load32U,
 }
 
+impl LoadOp {
+    /// How many bytes of memory it reads: 1, 2, 4 or 8.
+    pub fn bytes(self) -> u32
+        ensures { result ≡ load_bytes self }
+    {
+        match self {
+            LoadOp::I32Load8S | LoadOp::I32Load8U | LoadOp::I64Load8S | LoadOp::I64Load8U => 1,
+            LoadOp::I32Load16S | LoadOp::I32Load16U | LoadOp::I64Load16S | LoadOp::I64Load16U => 2,
+            LoadOp::I32Load | LoadOp::I64Load32S | LoadOp::I64Load32U => 4,
+            LoadOp::I64Load => 8,
+        }
+    }
+}
+
 /// A store, by the type that it takes and the bytes that it writes.
 #[derive(Clone, Copy, Debug, PartialEq, Eq)]
 pub enum StoreOp {
@@ -27,6 +44,20 @@ pub enum StoreOp {
     I64Store8,
     I64Store16,
     I64Store32,
+}
+
+impl StoreOp {
+    /// How many bytes of memory it writes: 1, 2, 4 or 8.
+    pub fn bytes(self) -> u32
+        ensures { result ≡ store_bytes self }
+    {
+        match self {
+            StoreOp::I32Store8 | StoreOp::I64Store8 => 1,
+            StoreOp::I32Store16 | StoreOp::I64Store16 => 2,
+            StoreOp::I32Store | StoreOp::I64Store32 => 4,
+            StoreOp::I64Store => 8,
+        }
+    }
 }
 
 /// How a linear access is aligned, and where it is (WebAssembly 1.0, 2.4.4).

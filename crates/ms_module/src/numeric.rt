@@ -1,4 +1,5 @@
-use ms_types::ValType;
+ghost use Rattle.std.specs.Prelude.{◌≡◌};
+ghost use Rattle.ms_module.specs.Accesses.{bits};
 
 /// The width of an integer type (WebAssembly 1.0, 2.3.1).
 #[derive(Clone, Copy, Debug, PartialEq, Eq)]
@@ -7,6 +8,18 @@ pub enum Width {
     W32,
     /// 64 bits.
     W64,
+}
+
+impl Width {
+    /// How many bits there are.
+    pub fn bits(self) -> u32
+        ensures { result ≡ bits self }
+    {
+        match self {
+            Width::W32 => 32,
+            Width::W64 => 64,
+        }
+    }
 }
 
 /// An operation on one integer.

@@ -1,5 +1,5 @@
 -- The types of the instructions that have one type each (WebAssembly 1.0, 3.3.1 and 3.3.4), and of those on handles.
-use Rattle.std.specs.Prelude.{ℕ, List, [], ◌∷◌, Option, Some, None}
+use Rattle.std.specs.Prelude.{List, [], ◌∷◌, Option, Some, None}
 use Rattle.ms_types.specs.declared.types.ValType.{ValType}
 use Rattle.ms_types.specs.declared.types.ValType.TheVariants.{I32, I64, Handle}
 use Rattle.ms_module.specs.declared.numeric.Width.{Width}
@@ -36,7 +36,7 @@ numeric_arrow Wrap = arrow (I64 ∷ []) (Some I32)
 numeric_arrow ExtendS = arrow (I32 ∷ []) (Some I64)
 numeric_arrow ExtendU = arrow (I32 ∷ []) (Some I64)
 
--- ---- accesses: the type of the value, and how many bytes it has in memory
+-- ---- accesses: the type of the value
 
 abbrev pub loaded : LoadOp → ValType
 loaded loads.I32Load = I32
@@ -46,34 +46,11 @@ loaded loads.I32Load16S = I32
 loaded loads.I32Load16U = I32
 loaded _ = I64
 
-abbrev pub load_bytes : LoadOp → ℕ
-load_bytes loads.I32Load = 4
-load_bytes loads.I64Load = 8
-load_bytes loads.I32Load8S = 1
-load_bytes loads.I32Load8U = 1
-load_bytes loads.I32Load16S = 2
-load_bytes loads.I32Load16U = 2
-load_bytes loads.I64Load8S = 1
-load_bytes loads.I64Load8U = 1
-load_bytes loads.I64Load16S = 2
-load_bytes loads.I64Load16U = 2
-load_bytes loads.I64Load32S = 4
-load_bytes loads.I64Load32U = 4
-
 abbrev pub stored : StoreOp → ValType
 stored stores.I32Store = I32
 stored stores.I32Store8 = I32
 stored stores.I32Store16 = I32
 stored _ = I64
-
-abbrev pub store_bytes : StoreOp → ℕ
-store_bytes stores.I32Store = 4
-store_bytes stores.I64Store = 8
-store_bytes stores.I32Store8 = 1
-store_bytes stores.I32Store16 = 2
-store_bytes stores.I64Store8 = 1
-store_bytes stores.I64Store16 = 2
-store_bytes stores.I64Store32 = 4
 
 -- ---- the linear memory, and segments
 

@@ -9,7 +9,8 @@ use Rattle.ms_module.specs.declared.access.Linear.TheVariants.{Load, Store}
 use Rattle.ms_module.specs.declared.instr.Instr.{Instr}
 use Rattle.ms_module.specs.declared.instr.Instr.TheVariants.{Unreachable, Nop, Block, Loop, If, Br, BrIf, BrTable, Return, Call, CallIndirect, Drop, Select, LocalGet, LocalSet, LocalTee, GlobalGet, GlobalSet, I32Const, I64Const, Numeric, Linear, Segment}
 use Rattle.ms_module.specs.Numbered.{sequence_at}
-use Rattle.ms_rules.specs.Instructions.{Arrow, linear_arrow, load_bytes, numeric_arrow, segment_arrow, store_bytes}
+use Rattle.ms_module.specs.Accesses.{load_bytes, store_bytes}
+use Rattle.ms_rules.specs.Instructions.{Arrow, linear_arrow, numeric_arrow, segment_arrow}
 use Rattle.ms_rules.specs.Context.{Context}
 
 -- A result type: one value or none (2.3.2).

@@ -60,18 +60,6 @@ pub fn loaded(op: LoadOp) -> ValType
     }
 }
 
-/// How many bytes of memory a load reads.
-pub fn load_bytes(op: LoadOp) -> u32
-    ensures { result ≡ spec.load_bytes op }
-{
-    match op {
-        LoadOp::I32Load8S | LoadOp::I32Load8U | LoadOp::I64Load8S | LoadOp::I64Load8U => 1,
-        LoadOp::I32Load16S | LoadOp::I32Load16U | LoadOp::I64Load16S | LoadOp::I64Load16U => 2,
-        LoadOp::I32Load | LoadOp::I64Load32S | LoadOp::I64Load32U => 4,
-        LoadOp::I64Load => 8,
-    }
-}
-
 /// The type of the value that a store takes.
 pub fn stored(op: StoreOp) -> ValType
     ensures { result ≡ spec.stored op }
@@ -79,18 +67,6 @@ pub fn stored(op: StoreOp) -> ValType
     match op {
         StoreOp::I32Store | StoreOp::I32Store8 | StoreOp::I32Store16 => I32,
         _ => I64,
-    }
-}
-
-/// How many bytes of memory a store writes.
-pub fn store_bytes(op: StoreOp) -> u32
-    ensures { result ≡ spec.store_bytes op }
-{
-    match op {
-        StoreOp::I32Store8 | StoreOp::I64Store8 => 1,
-        StoreOp::I32Store16 | StoreOp::I64Store16 => 2,
-        StoreOp::I32Store | StoreOp::I64Store32 => 4,
-        StoreOp::I64Store => 8,
     }
 }
 

@@ -10,8 +10,8 @@ mod spaces;
 
 pub use context::Context;
 pub use instructions::{
-    integer, linear_params, linear_result, load_bytes, loaded, numeric_params, numeric_result,
-    segment_params, segment_result, store_bytes, stored,
+    integer, linear_params, linear_result, loaded, numeric_params, numeric_result, segment_params,
+    segment_result, stored,
 };
 
 #[cfg(test)]

@@ -38,7 +38,7 @@ fn linear_instructions(rt: HostRuntime) {
         (LoadOp::I64Load8S, I64, 1),
     ] {
         assert_eq!(rt; loaded(op), ty);
-        assert_eq!(rt; load_bytes(op), bytes);
+        assert_eq!(rt; op.bytes(), bytes);
         assert_eq!(rt; linear_params(Linear::Load(op, ANY)), [I32].as_slice());
         assert_eq!(rt; linear_result(Linear::Load(op, ANY)), Some(ty));
         assert_eq!(rt; segment_params(Segment::Load(op)), [Handle].as_slice());
@@ -50,7 +50,7 @@ fn linear_instructions(rt: HostRuntime) {
         (StoreOp::I64Store, I64, 8),
     ] {
         assert_eq!(rt; stored(op), ty);
-        assert_eq!(rt; store_bytes(op), bytes);
+        assert_eq!(rt; op.bytes(), bytes);
         assert_eq!(rt; linear_params(Linear::Store(op, ANY)), [I32, ty].as_slice());
         assert_eq!(rt; linear_result(Linear::Store(op, ANY)), None);
         assert_eq!(rt; segment_params(Segment::Store(op)), [Handle, ty].as_slice());

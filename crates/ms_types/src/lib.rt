@@ -1,8 +1,10 @@
-//! Types of values, functions and limits (WebAssembly 1.0, 2.3), and vectors of items.
+//! Types of values, functions and limits (WebAssembly 1.0, 2.3), and vectors and stacks of items.
 #![tactic(auto)]
 
+mod stack;
 mod types;
 mod vector;
 
+pub use stack::Stack;
 pub use types::{FuncType, GlobalType, Limits, ValType};
 pub use vector::Vector;

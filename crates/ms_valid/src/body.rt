@@ -8,10 +8,9 @@ use crate::calls::result_of;
 use crate::control::simple;
 use crate::operands::Operands;
 use crate::scope::Scope;
-use crate::stack::Stack;
 use ms_module::{Func, Instr};
 use ms_rules::Context;
-use ms_types::ValType;
+use ms_types::{Stack, ValType};
 use std::alloc::{AllocError, Global};
 
 /// Tells whether bodies of functions are typed. Keeps its memory from one to the next.

@@ -5,9 +5,8 @@ ghost use Rattle.ms_rules.specs.Typing.{AllTake, Leads, LeadsByTable, LeadsIf};
 ghost use Rattle.ms_valid.specs.Shape.{Answers};
 
 use crate::operands::Operands;
-use crate::stack::Stack;
 use ms_module::BrTable;
-use ms_types::ValType;
+use ms_types::{Stack, ValType};
 use std::alloc::AllocError;
 
 /// What the label of this index takes, if there is such a label.

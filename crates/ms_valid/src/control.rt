@@ -7,11 +7,10 @@ use crate::calls::{call, call_indirect};
 use crate::operands::Operands;
 use crate::scope::Scope;
 use crate::select::select;
-use crate::stack::Stack;
 use crate::typed::{linear, numeric, segment};
 use crate::variables::{get, get_global, set, set_global, tee};
 use ms_module::Instr;
-use ms_types::ValType;
+use ms_types::{Stack, ValType};
 use std::alloc::AllocError;
 
 /// An instruction that has no sequence inside.

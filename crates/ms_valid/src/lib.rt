@@ -14,7 +14,6 @@ mod operands;
 mod refusal;
 mod scope;
 mod select;
-mod stack;
 mod typed;
 mod valid;
 mod variables;

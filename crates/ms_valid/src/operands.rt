@@ -2,8 +2,7 @@ ghost use Rattle.std.specs.Prelude.{◌≡◌, [], ◌∷◌, reverse, OnOk, IsT
 ghost use Rattle.ms_rules.specs.Typing.{Drops, types};
 ghost use Rattle.ms_valid.specs.Shape.{shape, Admits, Allows, Answers, Becomes, Gives, Jumps, Takes, front, behind};
 
-use crate::stack::Stack;
-use ms_types::ValType;
+use ms_types::{Stack, ValType};
 use std::alloc::{AllocError, Global};
 use std::marker::Model;
 

@@ -8,8 +8,7 @@ ghost use Rattle.ms_valid.specs.Shape.{Answers};
 use crate::operands::Operands;
 use ms_module::{Linear, Numeric, Segment};
 use ms_rules::{
-    linear_params, linear_result, load_bytes, numeric_params, numeric_result, segment_params,
-    segment_result, store_bytes,
+    linear_params, linear_result, numeric_params, numeric_result, segment_params, segment_result,
 };
 use ms_types::ValType;
 use std::alloc::AllocError;
@@ -55,8 +54,8 @@ fn is_aligned(instr: Linear) -> bool
     ensures { IsTrue result ↔ IsAligned instr }
 {
     match instr {
-        Linear::Load(op, arg) => is_within(arg.align, load_bytes(op)),
-        Linear::Store(op, arg) => is_within(arg.align, store_bytes(op)),
+        Linear::Load(op, arg) => is_within(arg.align, op.bytes()),
+        Linear::Store(op, arg) => is_within(arg.align, op.bytes()),
         _ => true,
     }
 }

@@ -27,9 +27,9 @@ fn table(rt: &impl Abort, alloc: Global) -> Result<Table, AllocError> {
             max: Some(4),
         },
     )?;
-    for (i, instance, func, sig) in [(1, 5, 9, PAIR), (1, 5, 10, NOTHING), (3, 6, 11, PAIR)] {
+    for (i, address, sig) in [(1, 9, PAIR), (1, 10, NOTHING), (3, 11, PAIR)] {
         let entry = Entry {
-            func: FuncRef { instance, func },
+            func: FuncRef { address },
             sig: sig_of(alloc, sig)?,
         };
         assert!(rt; i < table.len());
@@ -42,9 +42,9 @@ fn table(rt: &impl Abort, alloc: Global) -> Result<Table, AllocError> {
 fn a_call_goes_to_a_function_of_the_type(rt: HostRuntime) -> Result<(), Fail> {
     let table = table(&rt, rt.alloc())?;
     assert_eq!(rt; table.len(), 4);
-    let calls: [(u32, Sig, Result<(u32, u32), CallTrap>); 14] = [
-        (1, NOTHING, Ok((5, 10))),
-        (3, PAIR, Ok((6, 11))),
+    let calls: [(u32, Sig, Result<u32, CallTrap>); 14] = [
+        (1, NOTHING, Ok(10)),
+        (3, PAIR, Ok(11)),
         (0, NOTHING, Err(CallTrap::Empty)),
         (2, PAIR, Err(CallTrap::Empty)),
         (4, NOTHING, Err(CallTrap::Outside)),
@@ -79,7 +79,7 @@ fn a_call_goes_to_a_function_of_the_type(rt: HostRuntime) -> Result<(), Fail> {
         ),
     ];
     for (i, sig, answer) in calls {
-        let wanted = answer.map(|(instance, func)| FuncRef { instance, func });
+        let wanted = answer.map(|address| FuncRef { address });
         let sig = sig_of(rt.alloc(), sig)?;
         assert_eq!(rt; target(&table, i, &sig), wanted, "{i}");
     }

@@ -78,7 +78,7 @@ fn blocks_of_a_constant_expression(rt: HostRuntime) -> Result<(), Fail> {
     Ok(())
 }
 
-/// 50,000 is D0 86 03. The locals begin at 30.
+/// 50,000 is spelled as the bytes `D0 86 03`. The locals begin at 30.
 #[test]
 fn locals(rt: HostRuntime) -> Result<(), Fail> {
     for func in ["01 D0 86 03 7F 0B", "04 CF 86 03 7F 00 58 01 7F 00 7E 0B"] {

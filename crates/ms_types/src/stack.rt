@@ -1,9 +1,9 @@
-ghost use Rattle.std.specs.Prelude.{◌≡◌, ◌<◌, List, [], ◌∷◌, length, reverse, slice_get, OnOk, OnErr, Some};
+ghost use Rattle.std.specs.Prelude.{◌≡◌, ◌<◌, ◌≤◌, List, [], ◌∷◌, drop, length, reverse, slice_get, OnOk, OnErr, Some};
 
 use std::alloc::{AllocError, Global};
 use std::marker::Model;
 
-/// A stack. Contracts see it as a list with the topmost item first.
+/// A stack (WebAssembly 1.0, 4.2.12). Contracts see it as a list with the topmost item first.
 #[derive(Debug, Drop)]
 pub struct Stack<T> {
     items: Vec<T>,
@@ -52,6 +52,14 @@ impl<T: Drop> Stack<T> {
         }
     }
 
+    /// Drops the topmost items, so many of them, and keeps their memory.
+    pub fn cut(&mut self, n: usize)
+        requires { n ≤ length self.old }
+        ensures { self.new ≡ drop n self.old }
+    {
+        self.items.truncate(self.items.len() - n);
+    }
+
     /// Drops all items and keeps their memory.
     pub fn clear(&mut self)
         ensures { self.new ≡ [] }
@@ -68,4 +76,26 @@ impl<T: Copy + Drop> Stack<T> {
     {
         self.items[self.items.len() - 1 - depth]
     }
+
+    /// The topmost item, if there is one.
+    pub fn last(&self) -> Option<T>
+        ensures { result ≡ slice_get self.now 0 }
+    {
+        if self.items.is_empty() {
+            return None;
+        }
+        Some(self.get(0))
+    }
+
+    /// Puts an item in the place of the topmost one.
+    pub fn set_top(&mut self, item: T)
+        requires { 0 < length self.old }
+        ensures { self.new ≡ item ∷ drop 1 self.old }
+    {
+        let top = self.items.len() - 1;
+        self.items[top] = item;
+    }
 }
+
+#[cfg(test)]
+mod tests;

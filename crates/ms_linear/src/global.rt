@@ -1,0 +1,26 @@
+ghost use Rattle.std.specs.Prelude.{◌≡◌};
+ghost use Rattle.ms_linear.specs.Values.{global_type_of};
+
+use crate::value::Value;
+use ms_types::GlobalType;
+
+/// A global of the store (WebAssembly 1.0, 4.2.9).
+#[derive(Clone, Copy, Debug, PartialEq, Eq)]
+pub struct GlobalInst {
+    /// Its value.
+    pub value: Value,
+    /// Whether the value may change.
+    pub mutable: bool,
+}
+
+impl GlobalInst {
+    /// The global's type.
+    pub fn ty(self) -> GlobalType
+        ensures { result ≡ global_type_of self }
+    {
+        GlobalType {
+            ty: self.value.ty(),
+            mutable: self.mutable,
+        }
+    }
+}
