@@ -1,0 +1,5 @@
+pub mod Outcomes
+pub mod Integers
+pub mod Accesses
+pub mod Numbers
+pub mod Memories

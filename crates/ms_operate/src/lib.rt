@@ -1,0 +1,6 @@
+//! What numeric instructions, and those on the linear memory, make of the operands (WebAssembly 1.0, 4.4.1 and 4.4.4).
+#![tactic(auto)]
+
+mod trap;
+
+pub use trap::{Fault, Trap};
