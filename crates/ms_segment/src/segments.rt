@@ -3,6 +3,8 @@ ghost use Rattle.ms_handle.specs.declared.handle.Handle.{Handle};
 ghost use Rattle.ms_live.specs.Place.{IsPlace};
 ghost use Rattle.ms_tagged.specs.Bytes.{Data, IsWidth, data_of, pieces, range, shown_at};
 ghost use Rattle.ms_segment.specs.Memory.{Frees, IsFit, IsSound, LoadsHandle, Makes, Stores, access, freed, handle_access, loaded};
+ghost use Rattle.ms_segment.specs.Calls as call;
+ghost use Rattle.ms_segment.specs.Calls.{Changes};
 ghost use Rattle.ms_segment.specs.Parts.{IsPlaceIn, access_of, entered};
 
 use crate::access::{Access, access_in, end_of};
@@ -59,6 +61,7 @@ impl<G: Gaps, T: Tagged> Segments<G, T> {
     pub fn make(&mut self, n: u32, kind: Kind) -> (Handle, Event)
         requires { self.old.made < 2 ^ 63 }
         ensures made { Makes self.old n kind result.0 result.1 self.new }
+        ensures call { record { handle = result.0; event = result.1; memory = self.new } ≡ call.make self.old n kind }
         ensures fits { IsFit self.new result.0 }
         ensures sound { IsSound self.new }
         ensures others { (h : Handle) → IsFit self.old h → IsFit self.new h }
@@ -73,6 +76,7 @@ impl<G: Gaps, T: Tagged> Segments<G, T> {
     pub fn free(&mut self, h: Handle, kind: Kind) -> Result<Event, SegTrap>
         requires { IsFit self.old h }
         ensures freed { Frees self.old (freed self.old h kind) result self.new }
+        ensures call { Changes (call.free self.old h kind) self.old self.new result }
         ensures sound { IsSound self.new }
         ensures others { (h : Handle) → IsFit self.old h → IsFit self.new h }
     {
@@ -99,6 +103,7 @@ impl<G: Gaps, T: Tagged> Segments<G, T> {
         requires fits { IsFit self.old h }
         requires width { IsWidth width }
         ensures stored { Stores self.old (data_of width value) width (access self.old h width) result self.new }
+        ensures call { Changes (call.store self.old h width value) self.old self.new result }
         ensures sound { IsSound self.new }
         ensures others { (h : Handle) → IsFit self.old h → IsFit self.new h }
     {
@@ -111,6 +116,7 @@ impl<G: Gaps, T: Tagged> Segments<G, T> {
     pub fn load_handle(&self, h: Handle) -> Result<(Handle, Event), SegTrap>
         requires { IsFit self.now h }
         ensures loaded { LoadsHandle self.now (handle_access self.now h) result }
+        ensures call { result ≡ call.load_handle self.now h }
         ensures fits { IfOk result (λ x. IsFit self.now x.0) }
     {
         let access = self.locate_handle(h)?;
@@ -122,6 +128,7 @@ impl<G: Gaps, T: Tagged> Segments<G, T> {
         requires place { IsFit self.old h }
         requires value { IsFit self.old v }
         ensures stored { Stores self.old (pieces v) 16 (handle_access self.old h) result self.new }
+        ensures call { Changes (call.store_handle self.old h v) self.old self.new result }
         ensures sound { IsSound self.new }
         ensures others { (h : Handle) → IsFit self.old h → IsFit self.new h }
     {
