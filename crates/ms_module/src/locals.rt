@@ -43,7 +43,8 @@ impl Locals {
 
     /// How many locals there are.
     pub fn len(&self) -> usize
-        ensures { result ≡ length self.now }
+        ensures len { result ≡ length self.now }
+        ensures few { result < 2 ^ 32 }
     {
         self.end() as usize
     }

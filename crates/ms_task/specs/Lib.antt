@@ -1,0 +1,4 @@
+pub mod Thread
+pub mod Control
+pub mod Marks
+pub mod View

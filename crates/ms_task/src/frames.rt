@@ -1,0 +1,81 @@
+// The locals of all frames, one frame's after another's.
+
+ghost use Rattle.std.specs.Prelude.{◌≡◌, ℕ, ◌+◌, ◌<◌, ◌≤◌, [], ◌∷◌, ◌++◌, length, drop, take, slice_get, slice_set, OnOk, OnErr, Some};
+
+use ms_linear::Value;
+use std::alloc::{AllocError, Global};
+use std::marker::Model;
+
+/// The locals of the kept frames, and those of the current frame.
+#[derive(Drop)]
+pub struct Frames {
+    items: Vec<Value>,
+    base: usize,
+}
+
+impl Model for Frames {
+    ghost use Rattle.std.specs.Prelude.{List, drop, take, ◌≤◌, length};
+    ghost use Rattle.ms_linear.specs.declared.value.Value.{Value as V};
+
+    ghost Value = { List V × List V };
+
+    ghost view = { λ l. (take l.base l.items.items, drop l.base l.items.items) };
+
+    ghost invariant = { λ l. l.base ≤ length l.items.items };
+}
+
+impl Frames {
+    pub fn new(alloc: Global) -> Self
+        ensures { result ≡ ([], []) }
+    {
+        Frames {
+            items: Vec::new(alloc),
+            base: 0,
+        }
+    }
+
+    pub fn get(&self, i: usize) -> Value
+        requires { i < length self.now.1 }
+        ensures { slice_get self.now.1 i ≡ Some result }
+    {
+        self.items[self.base + i]
+    }
+
+    pub fn len(&self) -> usize
+        ensures { result ≡ length self.now.1 }
+    {
+        self.items.len() - self.base
+    }
+
+    pub fn set(&mut self, i: usize, v: Value)
+        requires { i < length self.old.1 }
+        ensures { self.new ≡ (self.old.0, slice_set self.old.1 i v) }
+    {
+        let at = self.base + i;
+        self.items[at] = v;
+    }
+
+    pub fn add(&mut self, v: Value) -> Result<(), AllocError>
+        ensures ok { OnOk result (self.new ≡ (self.old.0, self.old.1 ++ v ∷ [])) }
+        ensures err { OnErr result (self.new ≡ self.old) }
+    {
+        self.items.push(v)?;
+        Ok(())
+    }
+
+    pub fn enter(&mut self) -> usize
+        ensures base { result ≡ length self.old.0 }
+        ensures locals { self.new ≡ (self.old.0 ++ self.old.1, []) }
+    {
+        let base = self.base;
+        self.base = self.items.len();
+        base
+    }
+
+    pub fn leave(&mut self, base: usize)
+        ensures { self.new ≡ (take base self.old.0, drop base self.old.0) }
+    {
+        self.items.truncate(self.base);
+        self.base = base.min(self.items.len());
+    }
+}

@@ -1,0 +1,27 @@
+ghost use Rattle.std.specs.Prelude.{◌≡◌};
+ghost use Rattle.ms_task.specs.Thread.{result_of};
+
+use ms_module::{Code, Locals};
+use ms_types::{FuncType, ValType};
+
+/// A function of the store (WebAssembly 1.0, 4.2.6).
+#[derive(Debug, Drop)]
+pub struct FuncInst {
+    /// The number of its instance.
+    pub instance: u32,
+    /// Its type.
+    pub ty: FuncType,
+    /// The types of the locals that it declares, its parameters not among them.
+    pub locals: Locals,
+    /// Its body.
+    pub body: Code,
+}
+
+impl FuncInst {
+    /// What it leaves: one value or none.
+    pub fn result(&self) -> Option<ValType>
+        ensures { result ≡ result_of self.now }
+    {
+        self.ty.results.as_slice().first().copied()
+    }
+}

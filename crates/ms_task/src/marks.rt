@@ -1,0 +1,147 @@
+// The marks of open blocks and calls.
+
+ghost use Rattle.std.specs.Prelude.{◌≡◌, ◌≢◌, ℕ, ◌+◌, ◌-◌, ◌<◌, ◌≤◌, List, [], ◌∷◌, length, drop, take, slice_get, OnOk, OnErr, Option, Some, IsTrue, ◌↔◌};
+ghost use Rattle.ms_task.specs.Marks.{labels_in, calls_in};
+
+use ms_types::{Stack, ValType};
+use std::alloc::{AllocError, Global};
+use std::marker::Model;
+
+/// The end of an open block or call: what a branch keeps, the number of values below, and where the work goes on.
+#[derive(Clone, Copy, Debug)]
+pub enum Mark {
+    Label {
+        keeps: Option<ValType>,
+        height: usize,
+        sequence: usize,
+        next: usize,
+        again: bool,
+    },
+    Activation {
+        keeps: Option<ValType>,
+        height: usize,
+        function: usize,
+        sequence: usize,
+        next: usize,
+        base: usize,
+        floor: usize,
+    },
+}
+
+/// The marks, the innermost first. It knows how many lie up to that of the current call, and how many calls there are.
+#[derive(Drop)]
+pub struct Marks {
+    items: Stack<Mark>,
+    floor: usize,
+    depth: usize,
+}
+
+impl Model for Marks {
+    ghost use Rattle.std.specs.Prelude.{List, ◌≡◌};
+    ghost use Rattle.ms_task.specs.declared.marks.Mark.{Mark as M};
+
+    ghost Value = { List M };
+
+    ghost use Rattle.ms_task.specs.Marks.{IsCounted};
+
+    ghost view = { λ m. m.items };
+
+    ghost invariant = { λ m. IsCounted m.items m.floor m.depth };
+}
+
+impl Marks {
+    pub fn new(alloc: Global) -> Self
+        ensures { result ≡ [] }
+    {
+        Marks {
+            items: Stack::new(alloc),
+            floor: 0,
+            depth: 0,
+        }
+    }
+
+    pub fn labels(&self) -> usize
+        ensures { result ≡ labels_in self.now }
+    {
+        self.items.len() - self.floor
+    }
+
+    pub fn depth(&self) -> usize
+        ensures { result ≡ calls_in self.now }
+    {
+        self.depth
+    }
+
+    pub fn is_empty(&self) -> bool
+        ensures { IsTrue result ↔ (self.now ≡ []) }
+    {
+        self.items.len() == 0
+    }
+
+    pub fn push_label(
+        &mut self,
+        keeps: Option<ValType>,
+        height: usize,
+        sequence: usize,
+        next: usize,
+        again: bool,
+    ) -> Result<(), AllocError>
+        ensures ok { OnOk result (self.new ≡ Mark.Label keeps height sequence next again ∷ self.old) }
+        ensures err { OnErr result (self.new ≡ self.old) }
+    {
+        self.items.push(Mark::Label {
+            keeps,
+            height,
+            sequence,
+            next,
+            again,
+        })
+    }
+
+    pub fn push_call(
+        &mut self,
+        keeps: Option<ValType>,
+        height: usize,
+        function: usize,
+        sequence: usize,
+        next: usize,
+        base: usize,
+    ) -> Result<(), AllocError>
+        ensures ok { OnOk result ((floor : ℕ) × (self.new ≡ Mark.Activation keeps height function sequence next base floor ∷ self.old)) }
+        ensures err { OnErr result (self.new ≡ self.old) }
+    {
+        let floor = self.floor;
+        self.items.push(Mark::Activation {
+            keeps,
+            height,
+            function,
+            sequence,
+            next,
+            base,
+            floor,
+        })?;
+        self.floor = self.items.len();
+        self.depth += 1;
+        Ok(())
+    }
+
+    pub fn pop(&mut self) -> Mark
+        requires { 0 < length self.old }
+        ensures { self.old ≡ result ∷ self.new }
+    {
+        let mark = self.items.pop();
+        if let Mark::Activation { floor, .. } = mark {
+            self.floor = floor;
+            self.depth -= 1;
+        }
+        mark
+    }
+
+    /// Drops the innermost marks, which are of blocks.
+    pub fn cut(&mut self, n: usize)
+        requires { n ≤ labels_in self.old }
+        ensures { self.new ≡ drop n self.old }
+    {
+        self.items.cut(n);
+    }
+}

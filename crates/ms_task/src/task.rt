@@ -1,0 +1,150 @@
+//! A task, the start of one, and the places of instructions.
+
+ghost use Rattle.std.specs.Prelude.{◌≡◌, ◌↔◌, ℕ, List, [], ◌∷◌, Some, IfOk, IsTrue, drop, slice_get};
+ghost use Rattle.ms_task.specs.Control.{settled, started};
+ghost use Rattle.ms_task.specs.Thread.{Begins, sequence, with_first};
+ghost use Rattle.ms_task.specs.View.{at_next, before, frame_of, items_of, settle_one, thread_of};
+ghost use Rattle.ms_task.specs.declared.func.FuncInst.{FuncInst};
+
+use crate::control::add_locals;
+use crate::frames::Frames;
+use crate::func::FuncInst;
+use crate::marks::{Mark, Marks};
+use ms_linear::Value;
+use ms_module::Instr;
+use ms_types::Stack;
+use std::alloc::{AllocError, Global};
+
+/// A task: the place of its next instruction, its operands, the locals of its frames, and its open blocks and calls.
+///
+/// Contracts see it, among the functions of its store, as the thread `thread_of`.
+#[derive(Drop)]
+pub struct Task {
+    pub(crate) function: usize,
+    pub(crate) sequence: usize,
+    pub(crate) place: usize,
+    /// The operands, the last one topmost.
+    pub operands: Stack<Value>,
+    /// The locals of the current frame, over those of its callers.
+    pub frames: Frames,
+    pub(crate) marks: Marks,
+}
+
+/// The next instruction of a task.
+#[derive(Clone, Copy)]
+pub struct Fetched<'a> {
+    /// The instruction.
+    pub instr: &'a Instr,
+    /// The place of what follows it.
+    pub next: usize,
+    /// Whether an instruction follows it in its sequence.
+    pub more: bool,
+}
+
+impl Task {
+    /// A task that carries out the function of an address, which has no parameters. It may have nothing to do.
+    pub fn start(alloc: Global, funcs: &[FuncInst], address: u32) -> Result<Task, AllocError>
+        requires { (g : FuncInst) × (slice_get funcs.now address ≡ Some g) × (g.ty.params ≡ []) }
+        ensures { (g : FuncInst) → slice_get funcs.now address ≡ Some g → IfOk result (λ t. thread_of funcs.now t ≡ settled (started funcs.now address g)) }
+    {
+        let mut frames = Frames::new(alloc);
+        let base = frames.enter();
+        let func = &funcs[address as usize];
+        add_locals(&mut frames, &func.locals)?;
+        let mut marks = Marks::new(alloc);
+        marks.push_call(func.result(), 0, funcs.len(), 0, 0, base)?;
+        let mut task = Task {
+            function: address as usize,
+            sequence: 0,
+            place: 0,
+            operands: Stack::new(alloc),
+            frames,
+            marks,
+        };
+        task.settle(funcs);
+        Ok(task)
+    }
+
+    /// Whether nothing is left to do.
+    pub fn has_ended(&self, funcs: &[FuncInst]) -> bool
+        ensures { IsTrue result ↔ ((thread_of funcs.now self.now).work ≡ []) }
+    {
+        self.marks.is_empty() && self.is_at_end(funcs)
+    }
+
+    /// The next instruction.
+    pub fn fetch<'a>(&self, funcs: &'a [FuncInst]) -> Fetched<'a>
+        requires { Begins (thread_of funcs.now self.now).work }
+        ensures instr { thread_of funcs.now self.now ≡ with_first result.instr.now (at_next funcs.now self.now result.next) }
+        ensures before { before funcs.now self.now result.next ≡ Some result.instr.now }
+        ensures more { IsTrue result.more → Begins (at_next funcs.now self.now result.next).work }
+    {
+        let sequence = funcs[self.function].body.sequence(self.sequence);
+        Fetched {
+            instr: &sequence[self.place],
+            next: self.place + 1,
+            more: sequence.len() - self.place > 1,
+        }
+    }
+
+    /// Goes on at a place of the current sequence.
+    pub fn go_to(&mut self, next: usize)
+        ensures { (funcs : List FuncInst) → thread_of funcs self.new ≡ at_next funcs self.old next }
+    {
+        self.place = next;
+    }
+
+    /// Leaves blocks and calls that are at their ends, and says whether nothing is left to do.
+    pub fn settle(&mut self, funcs: &[FuncInst]) -> bool
+        ensures thread { thread_of funcs.now self.new ≡ settled (thread_of funcs.now self.old) }
+        ensures ended { IsTrue result ↔ ((thread_of funcs.now self.new).work ≡ []) }
+    {
+        while self.is_at_end(funcs) {
+            if self.marks.is_empty() {
+                return true;
+            }
+            let mark = self.marks.pop();
+            self.go_on_behind(mark);
+        }
+        false
+    }
+
+    /// Whether the current sequence has ended.
+    fn is_at_end(&self, funcs: &[FuncInst]) -> bool
+        ensures { IsTrue result ↔ (drop self.now.place (sequence funcs.now self.now.function self.now.sequence) ≡ []) }
+    {
+        if self.function >= funcs.len() {
+            return true;
+        }
+        let body = &funcs[self.function].body;
+        if self.sequence >= body.len() {
+            return true;
+        }
+        self.place >= body.sequence(self.sequence).len()
+    }
+
+    /// Goes on behind a block or call.
+    fn go_on_behind(&mut self, mark: Mark)
+        ensures marks { self.new.marks ≡ self.old.marks }
+        ensures thread { (funcs : List FuncInst) → thread_of funcs self.new ≡ settle_one (frame_of self.old) self.old.operands (items_of funcs self.old.function self.old.frames.0 (mark ∷ self.old.marks)) }
+    {
+        match mark {
+            Mark::Label { sequence, next, .. } => {
+                self.sequence = sequence;
+                self.place = next;
+            }
+            Mark::Activation {
+                function,
+                sequence,
+                next,
+                base,
+                ..
+            } => {
+                self.function = function;
+                self.sequence = sequence;
+                self.place = next;
+                self.frames.leave(base);
+            }
+        }
+    }
+}
