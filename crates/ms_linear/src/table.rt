@@ -1,5 +1,5 @@
 ghost use Rattle.std.specs.Prelude.{◌≡◌, ◌<◌, ◌≤◌, ◌↔◌, IfOk, IsTrue, length, None, replicate, slice_set, Some};
-ghost use Rattle.ms_linear.specs.Table.{IsTarget, with_entry};
+ghost use Rattle.ms_linear.specs.Table.{IsTarget, target_of, with_entry};
 
 use ms_types::{FuncType, Limits, ValType};
 use std::alloc::{AllocError, Global};
@@ -85,7 +85,8 @@ impl Table {
 
 /// The function that a call through the table goes to: that at the index, if it has the type.
 pub fn target(table: &Table, i: u32, sig: &FuncType) -> Result<FuncRef, CallTrap>
-    ensures { IsTarget table.now.entries i sig.now result }
+    ensures target { IsTarget table.now.entries i sig.now result }
+    ensures call { result ≡ target_of table.now.entries i sig.now }
 {
     let index = i as usize;
     if table.entries.len() <= index {
