@@ -1,0 +1,6 @@
+pub mod Store
+pub mod Segments
+pub mod Step
+pub mod Stepped
+pub mod Typing
+pub mod Holding

@@ -1,0 +1,92 @@
+-- What instructions on handles and segments make of the operands and of the segment memory. Of several operands the last
+-- one is topmost.
+use Rattle.std.specs.Prelude.{ℕ, ◌+◌, Bool, true, false, List, [], ◌∷◌, Option, Some, None, Result, Ok, Err, ℤ}
+use Rattle.ms_num.specs.Integers.{signed, truth, wrapped}
+use Rattle.ms_event.specs.declared.event.Event.{Event}
+use Rattle.ms_event.specs.declared.event.Event.TheVariants as events
+use Rattle.ms_handle.specs.Handle.{add, difference, eq, slice}
+use Rattle.ms_handle.specs.declared.handle.Apart.{Apart}
+use Rattle.ms_handle.specs.declared.handle.Handle.{Handle}
+use Rattle.ms_handle.specs.declared.handle.Handle.TheVariants as handles
+use Rattle.ms_linear.specs.declared.value.Value.{Value}
+use Rattle.ms_linear.specs.declared.value.Value.TheVariants as values
+use Rattle.ms_module.specs.Accesses.{load_bytes, store_bytes}
+use Rattle.ms_module.specs.declared.access.LoadOp.{LoadOp}
+use Rattle.ms_module.specs.declared.access.Segment.{Segment}
+use Rattle.ms_module.specs.declared.access.Segment.TheVariants.{Null, New, Free, Add, Slice, Eq, IsNull, Diff, LoadHandle, StoreHandle, Load, Store}
+use Rattle.ms_operate.specs.Accesses.{number_of, value_of, width_of}
+use Rattle.ms_segment.specs.Calls as call
+use Rattle.ms_segment.specs.Calls.{Change, Made}
+use Rattle.ms_segment.specs.Memory.{Memory, loaded}
+use Rattle.ms_segment.specs.declared.trap.SegTrap.{SegTrap}
+use Rattle.ms_segment.specs.declared.trap.SegTrap.TheVariants as seg
+use Rattle.ms_machine.specs.declared.trap.TrapKind.{TrapKind}
+use Rattle.ms_machine.specs.declared.trap.TrapKind.TheVariants as traps
+
+pub data Effect : Type 0 where
+  -- these operands and this memory are there afterwards, and this has happened
+  Leaves : List Value → Memory → Option Event → Effect
+  -- it stops the program
+  Stops : TrapKind → Effect
+  -- the operands that it takes aren't there
+  Misses : Effect
+
+abbrev pub trap_of : SegTrap → TrapKind
+trap_of seg.Null = traps.Null
+trap_of seg.Invalid = traps.Invalid
+trap_of seg.Freed = traps.Freed
+trap_of seg.Bounds = traps.Bounds
+trap_of seg.Misaligned = traps.Misaligned
+trap_of seg.Provenance = traps.Provenance
+trap_of seg.Whole = traps.Whole
+trap_of seg.Kind = traps.Kind
+
+abbrev pub made : List Value → Made → Effect
+made rest m = Leaves (values.Handle m.handle ∷ rest) m.memory (Some m.event)
+
+abbrev pub changed : List Value → Result Change SegTrap → Effect
+changed rest (Ok c) = Leaves rest c.memory (Some c.event)
+changed rest (Err e) = Stops (trap_of e)
+
+-- a slice of a good handle is told
+abbrev pub slice_event : Handle → Handle → Option Event
+slice_event (handles.Good id base size offset) (handles.Good id' base' size' offset') = Some (events.Slice id base (base + size) base' (base' + size'))
+slice_event h g = None
+
+abbrev pub sliced : Memory → List Value → Handle → Handle → Effect
+sliced m rest h g = Leaves (values.Handle g ∷ rest) m (slice_event h g)
+
+abbrev pub is_null : Handle → Bool
+is_null handles.Null = true
+is_null _ = false
+
+abbrev pub measured : Memory → List Value → Result ℤ Apart → Effect
+measured m rest (Ok n) = Leaves (values.I64 (wrapped 64 n) ∷ rest) m None
+measured m rest (Err e) = Stops traps.Apart
+
+abbrev pub handle_read : Memory → List Value → Result (Handle × Event) SegTrap → Effect
+handle_read m rest (Ok x) = Leaves (values.Handle x.0 ∷ rest) m (Some x.1)
+handle_read m rest (Err e) = Stops (trap_of e)
+
+abbrev pub number_read : LoadOp → Memory → List Value → Result (ℕ × Event) SegTrap → Effect
+number_read op m rest (Ok x) = Leaves (value_of op x.0 ∷ rest) m (Some x.1)
+number_read op m rest (Err e) = Stops (trap_of e)
+
+abbrev pub number_stored : Memory → List Value → Handle → ℕ → Option ℕ → Effect
+number_stored m rest h width (Some n) = changed rest (call.store m h width n)
+number_stored m rest h width None = Misses
+
+abbrev pub segment_on : Segment → Memory → List Value → Effect
+segment_on Null m vs = Leaves (values.Handle handles.Null ∷ vs) m None
+segment_on (New kind) m (values.I32 n ∷ rest) = made rest (call.make m n kind)
+segment_on (Free kind) m (values.Handle h ∷ rest) = changed rest (call.free m h kind)
+segment_on (Add scale) m (values.I64 delta ∷ values.Handle h ∷ rest) = Leaves (values.Handle (add h (signed 64 delta) scale) ∷ rest) m None
+segment_on Slice m (values.I32 len ∷ values.I32 from ∷ values.Handle h ∷ rest) = sliced m rest h (slice h from len)
+segment_on Eq m (values.Handle b ∷ values.Handle a ∷ rest) = Leaves (values.I32 (truth (eq a b)) ∷ rest) m None
+segment_on IsNull m (values.Handle h ∷ rest) = Leaves (values.I32 (truth (is_null h)) ∷ rest) m None
+segment_on Diff m (values.Handle b ∷ values.Handle a ∷ rest) = measured m rest (difference a b)
+segment_on LoadHandle m (values.Handle h ∷ rest) = handle_read m rest (call.load_handle m h)
+segment_on StoreHandle m (values.Handle v ∷ values.Handle h ∷ rest) = changed rest (call.store_handle m h v)
+segment_on (Load op) m (values.Handle h ∷ rest) = number_read op m rest (loaded m h (load_bytes op))
+segment_on (Store op) m (v ∷ values.Handle h ∷ rest) = number_stored m rest h (store_bytes op) (number_of (width_of op) v)
+segment_on i m vs = Misses

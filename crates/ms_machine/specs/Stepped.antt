@@ -1,0 +1,17 @@
+-- What a step answers, against what it does.
+use Rattle.std.specs.Prelude.{◌≡◌, ◌≢◌, [], slice_get}
+use Rattle.ms_task.specs.Thread.{Thread}
+use Rattle.ms_machine.specs.Step.{Outcome, Next, Trap}
+use Rattle.ms_machine.specs.Store.{Store}
+use Rattle.ms_machine.specs.declared.stepped.Stepped.{Stepped}
+use Rattle.ms_machine.specs.declared.stepped.Stepped.TheVariants as answers
+
+-- The answer tells the outcome, from a store and a thread to a store and a thread. A trap changes nothing. No
+-- instruction reads the input or writes the output yet.
+abbrev pub Carries : Stepped → Outcome → Store → Thread → Store → Thread → Type 0
+Carries (answers.On event) o s t s' t' = (o ≡ Next s' t' event) × (t'.work ≢ [])
+Carries (answers.Ended value event) o s t s' t' = (o ≡ Next s' t' event) × (t'.work ≡ []) × (value ≡ slice_get t'.operands 0)
+Carries (answers.Trap kind) o s t s' t' = (o ≡ Trap kind) × (s' ≡ s) × (t' ≡ t)
+Carries answers.ReadFault o s t s' t' = ⊥
+Carries answers.WriteFault o s t s' t' = ⊥
+Carries answers.Memory o s t s' t' = Unit {0}

@@ -1,0 +1,12 @@
+//! The machine: a store, and one step of a task on it (WebAssembly 1.0, chapter 4), with the segment memory.
+//!
+//! `specs/Step.antt` says what a step does, on lists; `specs/Typing.antt` what a well-typed task is.
+#![tactic(auto)]
+
+mod store;
+mod stepped;
+mod trap;
+
+pub use stepped::Stepped;
+pub use store::{Instance, Store};
+pub use trap::TrapKind;

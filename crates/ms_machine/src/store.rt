@@ -1,0 +1,52 @@
+ghost use Rattle.std.specs.Prelude.{◌≡◌};
+
+use ms_linear::{GlobalInst, Linear, Table};
+use ms_live::Gaps;
+use ms_segment::Segments;
+use ms_tagged::Tagged;
+use ms_task::FuncInst;
+use ms_types::{FuncType, Vector};
+use std::marker::Model;
+
+/// An instance of a module (WebAssembly 1.0, 4.2.5): its types, and the addresses of what its indices name.
+#[derive(Debug, Drop)]
+pub struct Instance {
+    /// The function types.
+    pub types: Vector<FuncType>,
+    /// The functions, by their addresses in the store.
+    pub funcs: Vector<u32>,
+    /// The address of the table, if there is one.
+    pub table: Option<u32>,
+    /// The address of the linear memory, if there is one.
+    pub memory: Option<u32>,
+    /// The addresses of the globals.
+    pub globals: Vector<u32>,
+}
+
+/// What tasks share (WebAssembly 1.0, 4.2.3), with the segment memory.
+#[derive(Drop)]
+pub struct Store<G: Gaps, T: Tagged> {
+    pub(crate) funcs: Vec<FuncInst>,
+    pub(crate) instances: Vec<Instance>,
+    pub(crate) tables: Vec<Table>,
+    pub(crate) memories: Vec<Linear>,
+    pub(crate) globals: Vec<GlobalInst>,
+    pub(crate) segments: Segments<G, T>,
+}
+
+impl<G: Gaps, T: Tagged> Model for Store<G, T> {
+    ghost use Rattle.ms_machine.specs.Store.{Store};
+
+    ghost Value = { Store };
+
+    ghost view = { λ s. record { funcs = s.funcs.items; instances = s.instances.items; tables = s.tables.items; memories = s.memories.items; globals = s.globals.items; segments = s.segments } };
+}
+
+impl<G: Gaps, T: Tagged> Store<G, T> {
+    /// The segment memory.
+    pub fn segments(&self) -> &Segments<G, T>
+        ensures { result.now ≡ self.now.segments }
+    {
+        &self.segments
+    }
+}

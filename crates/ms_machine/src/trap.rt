@@ -1,0 +1,40 @@
+/// Why a program was stopped.
+#[derive(Clone, Copy, Debug, PartialEq, Eq)]
+pub enum TrapKind {
+    /// The instruction `unreachable`.
+    Unreachable,
+    /// A division by zero.
+    Zero,
+    /// A quotient that doesn't fit.
+    Overflow,
+    /// An access outside the linear memory.
+    Linear,
+    /// A call through an index outside the table.
+    Table,
+    /// A call through an empty entry of the table.
+    Element,
+    /// A call through an entry of another type.
+    Signature,
+    /// A call that would be too deep.
+    Depth,
+    /// A call of the host's `abort`.
+    Abort,
+    /// An access through the null handle.
+    Null,
+    /// An access through a broken handle.
+    Invalid,
+    /// An access to a segment that has ended.
+    Freed,
+    /// An access outside the handle's bound.
+    Bounds,
+    /// An access for a handle at an address that is no multiple of 16.
+    Misaligned,
+    /// A load of a number where a piece of a handle stands.
+    Provenance,
+    /// A free through a handle to a part of a segment.
+    Whole,
+    /// A free of a segment that was made as another kind.
+    Kind,
+    /// The distance of handles of different segments.
+    Apart,
+}
