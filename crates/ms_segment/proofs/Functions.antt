@@ -14,14 +14,14 @@ use Rattle.ms_live.specs.Overlap.{overlaps}
 use Rattle.ms_live.specs.Place.{IsAligned, IsFree, IsPlace}
 use Rattle.ms_live.proofs.Found.{is_some-find}
 use Rattle.ms_live.proofs.Places.{free-from_None, none_at_all, passes, taken}
-use Rattle.ms_tagged.specs.Bytes.{Byte, Data, IsHandleAt, Piece, cleared, pieces, range, torn, whole}
+use Rattle.ms_tagged.specs.Bytes.{Byte, Data, IsHandleAt, Piece, cleared, data_of, pieces, range, torn, whole}
 use Rattle.ms_tagged.specs.Tags.{pieces_from}
 use Rattle.ms_tagged.proofs.Handles.{IsHandleAt-unique}
 use Rattle.ms_tagged.proofs.Ranges.{length-range}
 use Rattle.ms_segment.specs.declared.trap.SegTrap.{SegTrap}
-use Rattle.ms_segment.specs.Memory.{Access, IsFit, IsSound, LoadsHandle, Makes, Memory, full, handle_access, made, most_live, no_room, read, read_event, stopped}
+use Rattle.ms_segment.specs.Memory.{Access, Frees, IsFit, IsSound, LoadsHandle, Makes, Memory, Stores, access, ended, freed, full, handle_access, made, most_live, no_room, read, read_event, stopped, stored}
 use Rattle.ms_segment.specs.Parts.{IsPlaceIn}
-use Rattle.ms_segment.specs.Calls.{are_pieces, are_zeros, handle_at, handle_loaded_at, is_free, load_handle, make, made_at, place_from, place_of, same_handle}
+use Rattle.ms_segment.specs.Calls.{Changes, are_pieces, are_zeros, ended_at, free, handle_at, handle_loaded_at, is_free, load_handle, make, made_at, place_from, place_of, same_handle, store, store_handle, stored_at}
 use Rattle.ms_segment.proofs.Reach.{handle_access-within}
 
 -- ---- whether a place is free
@@ -201,3 +201,23 @@ loaded_at_is m r result within stopped = refl
 pub loads_alone : (m : Memory) (h : Handle) (result : Result (Handle × Event) SegTrap) → IsSound m → IsFit m h → LoadsHandle m (handle_access m h) result → result ≡ load_handle m h
 loads_alone m h result sound fit loads =
     loaded_at_is m (handle_access m h) result (λ a is. (handle_access-within m h a sound fit is).0) loads
+
+-- ---- freeing and storing
+
+ended_at_is : (m after : Memory) (r : Result ℕ SegTrap) (result : Result Event SegTrap) → Frees m r result after → Changes (ended_at m r) m after result
+ended_at_is m after r result ended = (refl, refl)
+ended_at_is m after r result stopped = (refl, refl)
+
+pub frees_alone : (m after : Memory) (h : Handle) (kind : Kind) (result : Result Event SegTrap) → Frees m (freed m h kind) result after → Changes (free m h kind) m after result
+frees_alone m after h kind result frees = ended_at_is m after (freed m h kind) result frees
+
+stored_at_is : (m after : Memory) (new : List Byte) (width : ℕ) (r : Result Access SegTrap) (result : Result Event SegTrap) → Stores m new width r result after → Changes (stored_at m new width r) m after result
+stored_at_is m after new width r result stored = (refl, refl)
+stored_at_is m after new width r result stopped = (refl, refl)
+
+pub stores_alone : (m after : Memory) (h : Handle) (width value : ℕ) (result : Result Event SegTrap) → Stores m (data_of width value) width (access m h width) result after → Changes (store m h width value) m after result
+stores_alone m after h width value result stores =
+    stored_at_is m after (data_of width value) width (access m h width) result stores
+
+pub stores_handle_alone : (m after : Memory) (h v : Handle) (result : Result Event SegTrap) → Stores m (pieces v) 16 (handle_access m h) result after → Changes (store_handle m h v) m after result
+stores_handle_alone m after h v result stores = stored_at_is m after (pieces v) 16 (handle_access m h) result stores

@@ -5,3 +5,4 @@ pub mod Reach
 pub mod Calls
 pub mod Keeps
 pub mod Functions
+pub mod Effects
