@@ -31,7 +31,7 @@ free-from_None live capacity n place within e k below =
     (omega arith, All-weaker (λ s. overlaps place n s ≡ false) (IsOutside (place + k)) (λ s apart. outside-from_apart place n k s below apart) live (find-None (overlaps place n) live e))
 
 -- a segment that overlaps at one place does so at each place from there up to its end
-taken : (live : List Live) (capacity n place lower : ℕ) (s : Live) → 0 < n → find (overlaps place n) live ≡ Some s → place ≤ lower → lower < s.base + s.size → ¬ (IsFree live capacity n lower)
+pub taken : (live : List Live) (capacity n place lower : ℕ) (s : Live) → 0 < n → find (overlaps place n) live ≡ Some s → place ≤ lower → lower < s.base + s.size → ¬ (IsFree live capacity n lower)
 taken live capacity n place lower s some e from below free =
     let found = find-Some (overlaps place n) live s e in
     let begins = begins_before place n s found.1 in

@@ -4,3 +4,5 @@ pub mod Sound
 pub mod Reach
 pub mod Calls
 pub mod Keeps
+pub mod Functions
+pub mod Effects

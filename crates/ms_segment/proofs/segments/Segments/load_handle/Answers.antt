@@ -1,9 +1,10 @@
-use Rattle.std.proofs.Common.{length, arith, ap, subst}
+use Rattle.std.proofs.Common.{Ok, length, arith, ap, subst}
 use Rattle.std.proofs.lemmas.Result.{err_from_is_err_and}
 use Rattle.ms_tagged.specs.Bytes.{IsHandleAt, range}
 use Rattle.ms_segment.specs.Memory.{IsSound, Memory, handle_access}
 use Rattle.ms_segment.specs.Parts.{access_of}
 use Rattle.ms_segment.proofs.Calls.{IsFit-read, LoadsHandle-read, LoadsHandle-stopped}
+use Rattle.ms_segment.proofs.Functions.{loads_alone}
 use Rattle.ms_segment.proofs.Reach.{handle_access-within}
 use Rattle.ms_segment.proofs.segments.Segments.load_handle.Goals as goal
 
@@ -27,3 +28,9 @@ returns-clause-fits g c =
     let sound : IsSound c.args.self.now = subst IsSound c.self.view_is c.self.invariant.1 in
     let at : IsHandleAt (range c.in_ok-access.access.address 16 c.args.self.now.bytes) c.get_handle.result = subst (λ (m : Memory). IsHandleAt (range c.in_ok-access.access.address 16 m.bytes) c.get_handle.result) c.self.view_is c.get_handle.ensures in
     IsFit-read c.args.self.now c.in_ok-access.access.address c.get_handle.result sound at
+
+pub returns-clause-call : goal.returns-clause-call
+returns-clause-call g c =
+    let sound : IsSound c.args.self.now = subst IsSound c.self.view_is c.self.invariant.1 in
+    let at : IsHandleAt (range c.in_ok-access.access.address 16 c.args.self.now.bytes) c.get_handle.result = subst (λ (m : Memory). IsHandleAt (range c.in_ok-access.access.address 16 m.bytes) c.get_handle.result) c.self.view_is c.get_handle.ensures in
+    loads_alone c.args.self.now c.args.h (Ok (c.get_handle.result, c.read.result)) sound c.requires (LoadsHandle-read c.args.self.now (handle_access c.args.self.now c.args.h) (access_of c.in_ok-access.access) c.get_handle.result c.read.result c.in_ok-access.ensures at c.read.ensures)
