@@ -1,7 +1,6 @@
 -- The store (WebAssembly 1.0, 4.2.3), with the segment memory, and what an instance's indices name in it.
-use Rattle.std.specs.Prelude.{ℕ, List, slice_get, slice_set, Option, Some, None}
+use Rattle.std.specs.Prelude.{ℕ, List, slice_get, Option, Some, None}
 use Rattle.ms_linear.specs.declared.global.GlobalInst.{GlobalInst}
-use Rattle.ms_linear.specs.declared.value.Value.{Value}
 use Rattle.ms_linear.specs.Memory.{Memory as Linear}
 use Rattle.ms_linear.specs.Table.{Table}
 use Rattle.ms_segment.specs.Memory.{Memory}

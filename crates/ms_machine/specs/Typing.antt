@@ -1,6 +1,6 @@
 -- Well-typed stores and threads, after the standard's appendix on soundness (WebAssembly 1.0, A.3). The judgement on
 -- instructions is that of validation.
-use Rattle.std.specs.Prelude.{◌≡◌, ◌≤◌, ◌<◌, ℕ, false, List, [], ◌∷◌, ◌++◌, length, map, slice_get, Option, Some, None, All}
+use Rattle.std.specs.Prelude.{◌≡◌, ◌<◌, ℕ, false, List, [], ◌∷◌, ◌++◌, length, map, slice_get, Option, Some, None, All}
 use Rattle.ms_linear.specs.declared.table.Entry.{Entry}
 use Rattle.ms_linear.specs.declared.value.Value.{Value}
 use Rattle.ms_linear.specs.Table.{Table}

@@ -3,8 +3,8 @@
 //! `specs/Step.antt` says what a step does, on lists; `specs/Typing.antt` what a well-typed task is.
 #![tactic(auto)]
 
-mod store;
 mod stepped;
+mod store;
 mod trap;
 
 pub use stepped::Stepped;
