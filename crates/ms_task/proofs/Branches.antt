@@ -1,17 +1,15 @@
 -- A branch, as the code makes it.
-use Rattle.std.proofs.Common.{◌≡◌, ◌≢◌, ℕ, zero, suc, ◌+◌, ◌-◌, ◌<◌, ◌≤◌, List, [], ◌∷◌, ◌++◌, Bool, true, false, length, drop, take, slice_get, Option, Some, None, refl, sym, ap, ◌∙◌, arith, length-drop}
-use Rattle.std.proofs.Common.{subst, ⊎_elim, reverse, map, cond, unwrap_or}
+use Rattle.std.proofs.Common.{◌≡◌, ◌≢◌, ℕ, zero, suc, ◌<◌, ◌≤◌, List, [], ◌∷◌, ◌++◌, Bool, length, drop, take, slice_get, Option, Some, None, refl, sym, ap, ◌∙◌, arith}
+use Rattle.std.proofs.Common.{unwrap_or}
 use Rattle.ms_types.specs.declared.types.ValType.{ValType}
 use Rattle.ms_linear.specs.declared.value.Value.{Value}
 use Rattle.ms_linear.specs.declared.value.Value.TheVariants.{I32}
-use Rattle.ms_linear.specs.Values.{default_of}
-use Rattle.ms_module.specs.declared.instr.Instr.{Instr}
 use Rattle.ms_task.specs.declared.func.FuncInst.{FuncInst}
 use Rattle.ms_task.specs.declared.marks.Mark.{Mark}
 use Rattle.ms_task.specs.declared.marks.Mark.TheVariants as marks
-use Rattle.ms_task.specs.Marks.{labels_in, calls_in}
+use Rattle.ms_task.specs.Marks.{labels_in}
 use Rattle.ms_task.specs.Control.{To, Lost, again, br_if_on, br_table_on, branch, keep, kept, return_on}
-use Rattle.ms_task.specs.Thread.{Activation, Do, Frame, Item, Label, Thread, dos, sequence, thread}
+use Rattle.ms_task.specs.Thread.{Frame, Item, dos, sequence, thread}
 use Rattle.ms_task.specs.View.{again_at, items_of, resume, rest_at}
 use Rattle.ms_task.proofs.Items.{branch_past, return_past, again-at}
 

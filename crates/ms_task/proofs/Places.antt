@@ -1,15 +1,15 @@
 -- What stands at a place of a sequence.
-use Rattle.std.proofs.Common.{◌≡◌, ◌≢◌, ℕ, zero, suc, ◌+◌, ◌<◌, ◌≤◌, List, [], ◌∷◌, ◌++◌, length, drop, slice_get, Some, refl, sym, ap, ◌∙◌, ⊎_elim, arith, length-drop}
+use Rattle.std.proofs.Common.{◌≡◌, ◌≢◌, ℕ, zero, suc, ◌+◌, ◌<◌, ◌≤◌, List, [], ◌∷◌, ◌++◌, true, length, drop, slice_get, get_or, Some, refl, sym, ap, ◌∙◌, ⊎_elim, arith, length-drop, drop-cons}
 use Rattle.std.proofs.lemmas.Bool.{cases_lt}
 use Rattle.std.proofs.lemmas.List.{drop_all}
-use Rattle.std.proofs.lemmas.Option.{slice_get_past}
+use Rattle.std.proofs.lemmas.Option.{slice_get_past, slice_get_read}
 use Rattle.ms_linear.specs.declared.value.Value.{Value}
 use Rattle.ms_module.specs.declared.instr.Instr.{Instr}
 use Rattle.ms_module.specs.Numbered.{sequence_at}
 use Rattle.ms_task.specs.declared.func.FuncInst.{FuncInst}
 use Rattle.ms_task.specs.declared.marks.Mark.{Mark}
 use Rattle.ms_task.specs.declared.marks.Mark.TheVariants as marks
-use Rattle.ms_task.specs.Thread.{Begins, Do, Frame, Item, body_in, dos, sequence, thread, with_first}
+use Rattle.ms_task.specs.Thread.{Begins, Frame, Item, body_in, dos, sequence, thread, with_first}
 use Rattle.ms_task.specs.View.{again_at, items_of, rest_at}
 use Rattle.ms_task.proofs.Items.{begins_past}
 
@@ -43,6 +43,17 @@ ended_at funcs f s place g is e i le = ap (drop place) (sequence_is funcs f s g 
 pub at_end : (funcs : List FuncInst) (f s place : ℕ) (g : FuncInst) (is : List Instr) → slice_get funcs f ≡ Some g → is ≡ sequence_at g.body s → drop place (sequence funcs f s) ≡ [] → length is ≤ place
 at_end funcs f s place g is e i n = drop_is_nil place is (ap (drop place) (i ∙ sym (sequence_is funcs f s g e)) ∙ n)
 
+pub nothing_left : (is : List Instr) (funcs : List FuncInst) (f : ℕ) (below : List Value) (ms : List Mark) → ms ≡ [] → is ≡ [] → dos is ++ items_of funcs f below ms ≡ []
+nothing_left [] funcs f below [] m e = refl
+nothing_left (i ∷ is) funcs f below [] m e = cc
+nothing_left is funcs f below (x ∷ ms) m e = cc
+
+pub marks_are_nil : (is : List Instr) (funcs : List FuncInst) (f : ℕ) (below : List Value) (ms : List Mark) → dos is ++ items_of funcs f below ms ≡ [] → ms ≡ []
+marks_are_nil (i ∷ is) funcs f below ms e = cc
+marks_are_nil [] funcs f below [] e = refl
+marks_are_nil [] funcs f below (marks.Label k h s next a ∷ ms) e = cc
+marks_are_nil [] funcs f below (marks.Activation k h g s next base floor ∷ ms) e = cc
+
 -- ---- where something stands
 
 pub begins_here : (is : List Instr) (funcs : List FuncInst) (f : ℕ) (below : List Value) (ms : List Mark) → Begins (dos is ++ items_of funcs f below ms) → is ≢ []
@@ -62,3 +73,23 @@ sequence_there funcs f s place g e n =
 pub place_there : (funcs : List FuncInst) (f s place : ℕ) (g : FuncInst) (is : List Instr) → slice_get funcs f ≡ Some g → is ≡ sequence_at g.body s → drop place (sequence funcs f s) ≢ [] → place < length is
 place_there funcs f s place g is e i n =
     ⊎_elim (λ lt. lt) (λ le. absurd (n (ended_at funcs f s place g is e i le))) (cases_lt place (length is))
+
+-- ---- the instruction of a place
+
+front : (funcs : List FuncInst) (f s place : ℕ) (g : FuncInst) (is : List Instr) (i : Instr) → slice_get funcs f ≡ Some g → is ≡ sequence_at g.body s → place < length is → i ≡ get_or is place i → drop place (sequence funcs f s) ≡ i ∷ drop (place + 1) (sequence funcs f s)
+front funcs f s place g is i found same within read =
+    let all = sequence_is funcs f s g found ∙ sym same in
+    let one : suc place ≡ place + 1 = omega arith in
+    ap (drop place) all ∙ drop-cons is place i within ∙ ap (λ x. x ∷ drop (suc place) is) (sym read) ∙ ap (λ n. i ∷ drop n is) one ∙ ap (λ l. i ∷ drop (place + 1) l) (sym all)
+
+pub fetched : (funcs : List FuncInst) (fr : Frame) (vs : List Value) (w : List Item) (f s place : ℕ) (g : FuncInst) (is : List Instr) (i : Instr) → slice_get funcs f ≡ Some g → is ≡ sequence_at g.body s → place < length is → i ≡ get_or is place i → thread fr vs (rest_at funcs f s place ++ w) ≡ with_first i (thread fr vs (rest_at funcs f s (place + 1) ++ w))
+fetched funcs fr vs w f s place g is i found same within read = ap (λ l. thread fr vs (dos l ++ w)) (front funcs f s place g is i found same within read)
+
+pub fetched_before : (funcs : List FuncInst) (f s place : ℕ) (g : FuncInst) (is : List Instr) (i : Instr) → slice_get funcs f ≡ Some g → is ≡ sequence_at g.body s → place < length is → i ≡ get_or is place i → again_at true (place + 1) (sequence funcs f s) ≡ Some i
+fetched_before funcs f s place g is i found same within read =
+    let one : place + 1 ≡ suc place = omega arith in
+    ap (λ n. again_at true n (sequence funcs f s)) one ∙ ap (λ l. slice_get l place) (sequence_is funcs f s g found ∙ sym same) ∙ slice_get_read is (length is) place i refl within read
+
+pub begins_behind : (funcs : List FuncInst) (w : List Item) (f s place : ℕ) (g : FuncInst) (is : List Instr) → slice_get funcs f ≡ Some g → is ≡ sequence_at g.body s → place + 1 < length is → Begins (rest_at funcs f s (place + 1) ++ w)
+begins_behind funcs w f s place g is found same within =
+    begins_past (drop (place + 1) (sequence funcs f s)) w (λ e. absurd (let le = at_end funcs f s (place + 1) g is found same e in omega arith))
