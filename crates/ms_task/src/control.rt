@@ -30,6 +30,8 @@ pub enum CallFault {
 }
 
 impl From<AllocError> for CallFault {
+    ghost from_gives = { λ _ e. e ≡ CallFault.Memory };
+
     fn from(_: AllocError) -> Self {
         CallFault::Memory
     }
@@ -79,9 +81,10 @@ pub(crate) fn add_locals(frames: &mut Frames, types: &Locals) -> Result<(), Allo
     ensures { OnOk result (frames.new ≡ (frames.old.0, frames.old.1 ++ map default_of types.now)) }
 {
     for index in 0..types.len() as u32 {
-        if let Some(ty) = types.get(index) {
-            frames.add(Value::default_of(ty))?;
-        }
+        let Some(ty) = types.get(index) else {
+            unreachable!()
+        };
+        frames.add(Value::default_of(ty))?;
     }
     Ok(())
 }

@@ -1,0 +1,114 @@
+-- A call and the start of a task, as the code makes them.
+use Rattle.std.proofs.Common.{◌≡◌, ◌≢◌, ℕ, suc, ◌+◌, ◌-◌, ◌<◌, ◌≤◌, List, [], ◌∷◌, ◌++◌, length, drop, take, slice_get, Option, Some, refl, sym, ap, ◌∙◌, arith, length-drop}
+use Rattle.std.proofs.Common.{subst, ⊎_elim, reverse, map, cond, append_assoc}
+use Rattle.ms_types.specs.declared.types.ValType.{ValType}
+use Rattle.ms_linear.specs.declared.value.Value.{Value}
+use Rattle.ms_linear.specs.Values.{default_of}
+use Rattle.ms_task.specs.declared.func.FuncInst.{FuncInst}
+use Rattle.ms_task.specs.declared.marks.Mark.{Mark}
+use Rattle.ms_task.specs.declared.marks.Mark.TheVariants as marks
+use Rattle.ms_task.specs.Marks.{calls_in}
+use Rattle.std.proofs.lemmas.Bool.{lt-ltb, le-ltb, le-leb, cases_lt, lt-leb}
+use Rattle.std.proofs.lemmas.Option.{slice_get_past, slice_get_within, get_or_from_slice_get}
+use Rattle.std.proofs.lemmas.List.{length-take-le, get_or-take, map-append, reverse-append}
+use Rattle.std.proofs.Math.Seq.{take-append_seam, drop-append_seam, drop-cons, take-suc}
+use Rattle.ms_task.specs.Control.{To, Lost, TooDeep, call_on, enter, entered, started}
+use Rattle.ms_task.specs.Thread.{Activation, Frame, Thread, depth_of, dos, result_of, sequence, thread}
+use Rattle.ms_task.specs.View.{items_of, rest_at}
+use Rattle.ms_task.proofs.Items.{depth_past}
+use Rattle.ms_task.proofs.Places.{no_function}
+
+pub depth_of-items_of : (funcs : List FuncInst) (f : ℕ) (below : List Value) (ms : List Mark) → depth_of (items_of funcs f below ms) ≡ calls_in ms
+depth_of-items_of funcs f below [] = refl
+depth_of-items_of funcs f below (marks.Label k h seq next a ∷ ms) = depth_past (drop next (sequence funcs f seq)) (items_of funcs f below ms) ∙ depth_of-items_of funcs f below ms
+depth_of-items_of funcs f below (marks.Activation k h g seq next base floor ∷ ms) = ap suc (depth_past (drop next (sequence funcs g seq)) (items_of funcs g (take base below) ms) ∙ depth_of-items_of funcs g (take base below) ms)
+
+pub depth_of_rest : (funcs : List FuncInst) (f seq next : ℕ) (below : List Value) (ms : List Mark) → depth_of (rest_at funcs f seq next ++ items_of funcs f below ms) ≡ calls_in ms
+depth_of_rest funcs f seq next below ms = depth_past (drop next (sequence funcs f seq)) (items_of funcs f below ms) ∙ depth_of-items_of funcs f below ms
+
+pub call_deep : (funcs : List FuncInst) (f : ℕ) (t : Thread) → 4096 ≤ depth_of t.work → call_on funcs f t ≡ TooDeep
+call_deep funcs f t h = ap (λ b. cond b (enter funcs f (slice_get funcs f) t) (TooDeep)) (le-ltb _ _ h)
+
+pub call_on-enter : (funcs : List FuncInst) (f : ℕ) (t : Thread) → depth_of t.work < 4096 → call_on funcs f t ≡ enter funcs f (slice_get funcs f) t
+call_on-enter funcs f t h = ap (λ b. cond b (enter funcs f (slice_get funcs f) t) (TooDeep)) (lt-ltb _ _ h)
+
+pub call_found : (funcs : List FuncInst) (f : ℕ) (t : Thread) → call_on funcs f t ≢ Lost → depth_of t.work < 4096 → f < length funcs
+call_found funcs f t n h =
+    ⊎_elim (λ lt. lt) (λ le. absurd (n (call_on-enter funcs f t h ∙ ap (λ o. enter funcs f o t) (slice_get_past funcs f le)))) (cases_lt f (length funcs))
+
+pub call_room : (funcs : List FuncInst) (f : ℕ) (g : FuncInst) (t : Thread) → call_on funcs f t ≢ Lost → depth_of t.work < 4096 → slice_get funcs f ≡ Some g → length g.ty.params ≤ length t.operands
+call_room funcs f g t n h e =
+    ⊎_elim
+    (λ lt. absurd (n (call_on-enter funcs f t h ∙ ap (λ o. enter funcs f o t) e ∙ ap (λ b. cond b (To (entered funcs f g t)) Lost) (lt-leb _ _ lt))))
+    (λ le. le)
+    (cases_lt (length t.operands) (length g.ty.params))
+
+-- the locals of the new frame, behind those that are kept
+entered_frames : (below here args others : List Value) (frames1 frames2 frames3 : List Value × List Value) → frames1 ≡ (below ++ here, []) → frames2 ≡ (frames1.0, frames1.1 ++ args) → frames3 ≡ (frames2.0, frames2.1 ++ others) → frames3 ≡ (below ++ here, args ++ others)
+entered_frames below here args others frames1 frames2 frames3 is1 is2 is3 =
+    is3 ∙ ap (λ (x : List Value × List Value). (x.0, x.1 ++ others)) (is2 ∙ ap (λ (x : List Value × List Value). (x.0, x.1 ++ args)) is1)
+
+pub call_enters : (funcs : List FuncInst) (f fn s next : ℕ) (g : FuncInst) (below here vs : List Value) (ms ms' : List Mark) (n base height floor : ℕ) (k : Option ValType) (frames1 frames2 frames3 : List Value × List Value) (vs' : List Value) → slice_get funcs f ≡ Some g → n ≡ length g.ty.params → n ≤ length vs → calls_in ms < 4096 → base ≡ length below → k ≡ result_of g → frames1 ≡ (below ++ here, []) → frames2 ≡ (frames1.0, frames1.1 ++ reverse (take n vs)) → frames3 ≡ (frames2.0, frames2.1 ++ map default_of g.locals) → vs' ≡ drop n vs → height ≡ length vs' → ms' ≡ marks.Activation k height fn s next base floor ∷ ms → To (thread (record { function = f; locals = frames3.1 }) vs' (rest_at funcs f 0 0 ++ items_of funcs f frames3.0 ms')) ≡ call_on funcs f (thread (record { function = fn; locals = here }) vs (rest_at funcs fn s next ++ items_of funcs fn below ms))
+call_enters funcs f fn s next g below here vs ms ms' n base height floor k frames1 frames2 frames3 vs' found n-is room shallow base-is keeps is1 is2 is3 vs-is height-is ms-is =
+    let fr : Frame = record { function = fn; locals = here } in
+    let w = rest_at funcs fn s next ++ items_of funcs fn below ms in
+    let t = thread fr vs w in
+    let fr' : Frame = record { function = f; locals = reverse (take n vs) ++ map default_of g.locals } in
+    let all = entered_frames below here (reverse (take n vs)) (map default_of g.locals) frames1 frames2 frames3 is1 is2 is3 in
+    let deep : depth_of w < 4096 = rw (depth_of_rest funcs fn s next below ms) shallow in
+    let high : height ≡ length vs - length g.ty.params = omega (arith, ap length vs-is, length-drop n vs) in
+    let back : take base (below ++ here) ≡ below = ap (λ k. take k (below ++ here)) base-is ∙ take-append_seam below here in
+    let mine : drop base (below ++ here) ≡ here = ap (λ k. drop k (below ++ here)) base-is ∙ drop-append_seam below here in
+    ap (λ (x : List Value × List Value). To (thread (record { function = f; locals = x.1 }) vs' (rest_at funcs f 0 0 ++ items_of funcs f x.0 ms'))) all
+    ∙ ap (λ x. To (thread fr' vs' (rest_at funcs f 0 0 ++ items_of funcs f (below ++ here) x))) ms-is
+    ∙ ap (λ x. To (thread fr' vs' (rest_at funcs f 0 0 ++ Activation k height (record { function = fn; locals = x }) ∷ (rest_at funcs fn s next ++ items_of funcs fn (take base (below ++ here)) ms)))) mine
+    ∙ ap (λ x. To (thread fr' vs' (rest_at funcs f 0 0 ++ Activation k height fr ∷ (rest_at funcs fn s next ++ items_of funcs fn x ms)))) back
+    ∙ ap (λ x. To (thread fr' vs' (rest_at funcs f 0 0 ++ Activation x height fr ∷ w))) keeps
+    ∙ ap (λ x. To (thread fr' vs' (rest_at funcs f 0 0 ++ Activation (result_of g) x fr ∷ w))) high
+    ∙ ap (λ x. To (thread fr' x (rest_at funcs f 0 0 ++ Activation (result_of g) (length vs - length g.ty.params) fr ∷ w))) vs-is
+    ∙ ap (λ k. To (thread (record { function = f; locals = reverse (take k vs) ++ map default_of g.locals }) (drop k vs) (rest_at funcs f 0 0 ++ Activation (result_of g) (length vs - length g.ty.params) fr ∷ w))) n-is
+    ∙ sym (call_on-enter funcs f t deep
+    ∙ ap (λ o. enter funcs f o t) found
+    ∙ ap (λ b. cond b (To (entered funcs f g t)) Lost) (le-leb _ _ (subst (λ k. k ≤ length vs) n-is room)))
+
+pub arguments_more : (i n : ℕ) (vs : List Value) (v : Value) → i < n → n ≤ length vs → slice_get vs (n - 1 - i) ≡ Some v → reverse (drop (n - (i + 1)) (take n vs)) ≡ reverse (drop (n - i) (take n vs)) ++ v ∷ []
+arguments_more i n vs v lt le e =
+    let k = n - 1 - i in
+    let t = take n vs in
+    let long = length-take-le n vs le in
+    let here : k < n = omega arith in
+    let one = get_or-take n vs k v here ∙ get_or_from_slice_get vs k v v e in
+    let a : n - (i + 1) ≡ k = omega arith in
+    let b : suc k ≡ n - i = omega arith in
+    ap (λ j. reverse (drop j t)) a
+    ∙ ap reverse (drop-cons t k v (omega arith) ∙ ap (λ x. x ∷ drop (suc k) t) one)
+    ∙ reverse-append (v ∷ []) (drop (suc k) t)
+    ∙ ap (λ j. reverse (drop j t) ++ v ∷ []) b
+
+pub locals_more : (types : List ValType) (i : ℕ) (ty : ValType) (v : Value) (vs : List Value) → Some ty ≡ slice_get types i → v ≡ default_of ty → (vs ++ map default_of (take i types)) ++ v ∷ [] ≡ vs ++ map default_of (take (i + 1) types)
+locals_more types i ty v vs e default =
+    let read = get_or_from_slice_get types i ty ty (sym e) in
+    let one : suc i ≡ i + 1 = omega arith in
+    let more = take-suc types i ty (slice_get_within types i ty (sym e)) ∙ ap (λ x. take i types ++ x ∷ []) read in
+    append_assoc vs (map default_of (take i types)) (v ∷ [])
+    ∙ ap (λ l. vs ++ l)
+    (ap (λ x. map default_of (take i types) ++ x ∷ []) default
+    ∙ sym (map-append default_of (take i types) (ty ∷ []))
+    ∙ ap (map default_of) (sym more)
+    ∙ ap (λ k. map default_of (take k types)) one)
+
+-- ---- the start
+
+pub start_is : (funcs : List FuncInst) (f : ℕ) (g : FuncInst) (vs : List Value) (frames0 frames1 frames2 : List Value × List Value) (ms ms0 : List Mark) (base floor : ℕ) (k : Option ValType) → frames0 ≡ ([], []) → frames1 ≡ (frames0.0 ++ frames0.1, []) → frames2 ≡ (frames1.0, frames1.1 ++ map default_of g.locals) → ms0 ≡ [] → ms ≡ marks.Activation k 0 (length funcs) 0 0 base floor ∷ ms0 → base ≡ length frames0.0 → k ≡ result_of g → vs ≡ [] → thread (record { function = f; locals = frames2.1 }) vs (rest_at funcs f 0 0 ++ items_of funcs f frames2.0 ms) ≡ started funcs f g
+start_is funcs f g vs frames0 frames1 frames2 ms ms0 base floor k e0 e1 e2 m0 m b keeps v =
+    let fr : Frame = record { function = f; locals = map default_of g.locals } in
+    let no : Frame = record { function = length funcs; locals = [] } in
+    let all : frames2 ≡ ([], map default_of g.locals) = e2 ∙ ap (λ (x : List Value × List Value). (x.0, x.1 ++ map default_of g.locals)) (e1 ∙ ap (λ (x : List Value × List Value). (x.0 ++ x.1, [])) e0) in
+    let zero_base : base ≡ 0 = b ∙ ap (λ (x : List Value × List Value). length x.0) e0 in
+    let bottom : ms ≡ marks.Activation k 0 (length funcs) 0 0 0 floor ∷ [] = m ∙ ap (λ l. marks.Activation k 0 (length funcs) 0 0 base floor ∷ l) m0 ∙ ap (λ j. marks.Activation k 0 (length funcs) 0 0 j floor ∷ []) zero_base in
+    let nothing : rest_at funcs (length funcs) 0 0 ≡ [] = ap dos (no_function funcs (length funcs) 0 (omega arith)) in
+    ap (λ (x : List Value × List Value). thread (record { function = f; locals = x.1 }) vs (rest_at funcs f 0 0 ++ items_of funcs f x.0 ms)) all
+    ∙ ap (λ l. thread fr vs (rest_at funcs f 0 0 ++ items_of funcs f [] l)) bottom
+    ∙ ap (λ l. thread fr l (rest_at funcs f 0 0 ++ Activation k 0 no ∷ (rest_at funcs (length funcs) 0 0 ++ []))) v
+    ∙ ap (λ l. thread fr [] (rest_at funcs f 0 0 ++ Activation k 0 no ∷ (l ++ []))) nothing
+    ∙ ap (λ x. thread fr [] (rest_at funcs f 0 0 ++ Activation x 0 no ∷ [])) keeps

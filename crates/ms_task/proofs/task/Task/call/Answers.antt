@@ -1,0 +1,47 @@
+use Rattle.std.proofs.Common.{◌<◌, ◌≤◌, sym, refl, length}
+use Rattle.std.proofs.lemmas.Option.{slice_get_read}
+use Rattle.ms_task.specs.Marks.{calls_in}
+use Rattle.ms_task.specs.Thread.{depth_of}
+use Rattle.ms_task.specs.View.{at_next}
+use Rattle.ms_task.proofs.Calls.{call_deep, call_enters, call_found, call_room, depth_of_rest}
+use Rattle.ms_task.proofs.task.Task.call.Goals as goal
+
+pub returns-then-depth-ge-DEEPEST-clause-too_deep : goal.returns-then-depth-ge-DEEPEST-clause-too_deep
+returns-then-depth-ge-DEEPEST-clause-too_deep c = λ _.
+    let t = c.args.self.now in
+    let funcs = c.args.funcs.now in
+    let d = depth_of_rest funcs t.function t.sequence c.args.next t.frames.0 t.marks in
+    let deep : 4096 ≤ depth_of (at_next funcs t c.args.next).work = rw (d, ← c.depth.ensures) c.if-depth-ge-DEEPEST.true in
+    (sym (call_deep funcs c.args.address (at_next funcs t c.args.next) deep), refl)
+
+pub bounds-funcs-address : goal.bounds-funcs-address
+bounds-funcs-address c =
+    let t = c.args.self.now in
+    let funcs = c.args.funcs.now in
+    let d = depth_of_rest funcs t.function t.sequence c.args.next t.frames.0 t.marks in
+    let shallow : depth_of (at_next funcs t c.args.next).work < 4096 = rw (d, ← c.depth.ensures) c.if-depth-ge-DEEPEST.false in
+    call_found funcs c.args.address (at_next funcs t c.args.next) c.requires shallow
+
+pub take_arguments-requires : goal.take_arguments-requires
+take_arguments-requires c =
+    let t = c.args.self.now in
+    let funcs = c.args.funcs.now in
+    let d = depth_of_rest funcs t.function t.sequence c.args.next t.frames.0 t.marks in
+    let shallow : depth_of (at_next funcs t c.args.next).work < 4096 = rw (d, ← c.depth.ensures) c.if-depth-ge-DEEPEST.false in
+    let within = call_found funcs c.args.address (at_next funcs t c.args.next) c.requires shallow in
+    let found = slice_get_read funcs (length funcs) c.args.address c.index-funcs-address.result refl within c.index-funcs-address.is in
+    rw c.len.ensures (call_room funcs c.args.address c.index-funcs-address.result (at_next funcs t c.args.next) c.requires shallow found)
+
+pub returns-clause-ok : goal.returns-clause-ok
+returns-clause-ok c =
+    let t = c.args.self.now in
+    let funcs = c.args.funcs.now in
+    let d = depth_of_rest funcs t.function t.sequence c.args.next t.frames.0 t.marks in
+    let calls : calls_in t.marks < 4096 = rw (← c.depth.ensures) c.if-depth-ge-DEEPEST.false in
+    let shallow : depth_of (at_next funcs t c.args.next).work < 4096 = rw d calls in
+    let within = call_found funcs c.args.address (at_next funcs t c.args.next) c.requires shallow in
+    let g = c.index-funcs-address.result in
+    let found = slice_get_read funcs (length funcs) c.args.address c.index-funcs-address.result refl within c.index-funcs-address.is in
+    let room = call_room funcs c.args.address g (at_next funcs t c.args.next) c.requires shallow found in
+    let pushed = c.in_ok-push_call.ensures.ok in
+    call_enters funcs c.args.address t.function t.sequence c.args.next g t.frames.0 t.frames.1 t.operands t.marks c.push_call.new.self c.len.result c.enter-base.result c.len-2.result pushed.0 c.result.result c.enter-base.new.self c.take_arguments.new.frames c.add_locals.new.frames c.take_arguments.new.operands found c.len.ensures (rw c.len.ensures room) calls c.enter-base.ensures.base c.result.ensures c.enter-base.ensures.locals c.in_ok-take_arguments.ensures.frames c.in_ok-add_locals.ensures c.in_ok-take_arguments.ensures.operands c.len-2.ensures pushed.1
