@@ -4,3 +4,4 @@ pub mod Step
 pub mod Stepped
 pub mod Typing
 pub mod Holding
+pub mod Doing

@@ -115,9 +115,9 @@ abbrev pub InstrTypedAt : Outline → ℕ → List (Option ValType) → Instr �
 InstrTypedAt o f labels i t1 t2 = InstrTyped (Typed (context_at o f) (body_of o.funcs f)) (context_at o f) labels i t1 t2
 
 -- In the function f the work takes operands of the types ts, over operands of the types below, which the end of the
--- innermost block or call keeps.
+-- innermost block or call keeps. With nothing left the frame is nobody's.
 abbrev pub WorkTyped : Outline → ℕ → List Item → (ts below : List ValType) → Type 0
-WorkTyped o f [] ts below = Unit {0}
+WorkTyped o f [] ts below = (context_at o f).returns ≡ None
 WorkTyped o f (Do i ∷ w) ts below = (t : List ValType) × InstrTypedAt o f (labels_of w) i ts t × WorkTyped o f w t below
 WorkTyped o f (Label k h None ∷ w) ts below =
     (mine : List ValType) × (rest : List ValType) × (below ≡ mine ++ rest) × (h ≡ length below)

@@ -4,6 +4,8 @@
 #![tactic(auto)]
 
 mod stepped;
+mod fault;
+mod segment;
 mod store;
 mod trap;
 

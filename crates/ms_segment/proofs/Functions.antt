@@ -205,14 +205,14 @@ loads_alone m h result sound fit loads =
 -- ---- freeing and storing
 
 ended_at_is : (m after : Memory) (r : Result ℕ SegTrap) (result : Result Event SegTrap) → Frees m r result after → Changes (ended_at m r) m after result
-ended_at_is m after r result ended = (refl, refl)
+ended_at_is m after r result ended = refl
 ended_at_is m after r result stopped = (refl, refl)
 
 pub frees_alone : (m after : Memory) (h : Handle) (kind : Kind) (result : Result Event SegTrap) → Frees m (freed m h kind) result after → Changes (free m h kind) m after result
 frees_alone m after h kind result frees = ended_at_is m after (freed m h kind) result frees
 
 stored_at_is : (m after : Memory) (new : List Byte) (width : ℕ) (r : Result Access SegTrap) (result : Result Event SegTrap) → Stores m new width r result after → Changes (stored_at m new width r) m after result
-stored_at_is m after new width r result stored = (refl, refl)
+stored_at_is m after new width r result stored = refl
 stored_at_is m after new width r result stopped = (refl, refl)
 
 pub stores_alone : (m after : Memory) (h : Handle) (width value : ℕ) (result : Result Event SegTrap) → Stores m (data_of width value) width (access m h width) result after → Changes (store m h width value) m after result

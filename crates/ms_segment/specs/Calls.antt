@@ -100,6 +100,5 @@ load_handle m h = handle_loaded_at m (handle_access m h)
 
 -- The code did so: the event is that one and the memory is so, or it stopped and the memory is as before.
 abbrev pub Changes : Result Change SegTrap → Memory → Memory → Result Event SegTrap → Type 0
-Changes (Ok change) old new (Ok event) = (event ≡ change.event) × (new ≡ change.memory)
-Changes (Err trap) old new (Err e) = (e ≡ trap) × (new ≡ old)
-Changes _ old new result = ⊥
+Changes change old new (Ok event) = change ≡ Ok (record { event = event; memory = new })
+Changes change old new (Err e) = (change ≡ Err e) × (new ≡ old)

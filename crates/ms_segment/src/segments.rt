@@ -89,7 +89,8 @@ impl<G: Gaps, T: Tagged> Segments<G, T> {
     pub fn load(&self, h: Handle, width: u32) -> Result<(u64, Event), SegTrap>
         requires fits { IsFit self.now h }
         requires width { IsWidth width }
-        ensures { result ≡ loaded self.now h width }
+        ensures loaded { result ≡ loaded self.now h width }
+        ensures fits { IfOk result (λ x. x.0 < 256 ^ width) }
     {
         let access = self.locate(h, width)?;
         match self.tagged.get(access.address, width) {

@@ -1,4 +1,4 @@
-ghost use Rattle.std.specs.Prelude.{◌≡◌, ◌≤◌, ◌↔◌, IsTrue, length, replicate};
+ghost use Rattle.std.specs.Prelude.{◌≡◌, ◌<◌, ◌≤◌, ◌^◌, ◌↔◌, IfSome, IsTrue, length, replicate};
 ghost use Rattle.ms_tagged.specs.Bytes.{Data, IsHandleAt, data_of, number_at};
 ghost use Rattle.ms_tagged.specs.Tags.{bytes_of, pieces_from};
 
@@ -19,7 +19,8 @@ pub(crate) enum Tag {
 /// The number that at most eight bytes are, the lowest byte first. `None` exactly where one is a piece.
 pub(crate) fn number(tags: &[Tag]) -> Option<u64>
     requires { length tags.now ≤ 8 }
-    ensures { result ≡ number_at (bytes_of tags.now) }
+    ensures number { result ≡ number_at (bytes_of tags.now) }
+    ensures fits { IfSome result (λ n. n < 256 ^ length tags.now) }
 {
     let mut value = 0;
     for index in (0..tags.len()).rev() {

@@ -1,4 +1,4 @@
-ghost use Rattle.std.specs.Prelude.{◌≡◌, ◌<◌, ◌≤◌, ◌+◌, ◌^◌, ◌*◌, ℕ, List, IfOk, length, slice_index, replicate};
+ghost use Rattle.std.specs.Prelude.{◌≡◌, ◌<◌, ◌≤◌, ◌+◌, ◌^◌, ◌*◌, ℕ, List, IfOk, IfSome, length, slice_index, replicate};
 
 use ms_handle::Handle;
 use std::alloc::{AllocError, Global};
@@ -19,7 +19,8 @@ pub trait Tagged: Sized + Drop {
     fn get(&self, address: u32, width: u32) -> Option<u64>
         requires width { IsWidth width }
         requires within { address + width ≤ length (bytes self.now) }
-        ensures { result ≡ number_at (range address width (bytes self.now)) };
+        ensures number { result ≡ number_at (range address width (bytes self.now)) }
+        ensures fits { IfSome result (λ n. n < 256 ^ width) };
 
     /// Writes the lowest `width` bytes of the value as data bytes. All other bytes stay.
     fn put(&mut self, address: u32, width: u32, value: u64)

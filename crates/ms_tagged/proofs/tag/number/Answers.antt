@@ -19,6 +19,6 @@ loop-index-preserved c = record {
   small = digit-more c.loop-index.value c.from.result (length c.args.tags.now - c.loop-index.index) _ (omega arith) (omega arith) c.loop-index.invariant.small;
 }
 
-pub returns-in-Piece : goal.returns-in-Piece
-returns-in-Piece c =
+pub returns-in-Piece-clause-number : goal.returns-in-Piece-clause-number
+returns-in-Piece-clause-number c =
     sym (no_number-read c.args.tags.now (c.loop-index.index - 1) c.in-Piece.field-0 c.in-Piece.field-1 (omega arith) c.in-Piece.is)

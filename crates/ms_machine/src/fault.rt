@@ -1,0 +1,50 @@
+use crate::trap::TrapKind;
+use ms_operate::{Fault as OperateFault, Trap};
+use ms_segment::SegTrap;
+use std::alloc::AllocError;
+
+ghost use Rattle.std.specs.Prelude.{◌≡◌};
+ghost use Rattle.ms_machine.specs.Segments.{trap_of as segment_trap_of};
+ghost use Rattle.ms_machine.specs.Step.{trap_of};
+
+/// Why an instruction was not carried out.
+#[derive(Clone, Copy, Debug, PartialEq, Eq)]
+pub(crate) enum Fault {
+    /// It stops the program.
+    Trap(TrapKind),
+    /// Memory has run out.
+    Memory,
+}
+
+impl From<AllocError> for Fault {
+    fn from(_: AllocError) -> Self {
+        Fault::Memory
+    }
+}
+
+/// The trap of an instruction on numbers or on the linear memory.
+pub(crate) fn of_operate(trap: Trap) -> TrapKind
+    ensures { result ≡ trap_of trap }
+{
+    match trap {
+        Trap::Zero => TrapKind::Zero,
+        Trap::Overflow => TrapKind::Overflow,
+        Trap::Linear => TrapKind::Linear,
+    }
+}
+
+/// The trap of a call on the segment memory.
+pub(crate) fn of_segment(trap: SegTrap) -> TrapKind
+    ensures { result ≡ segment_trap_of trap }
+{
+    match trap {
+        SegTrap::Null => TrapKind::Null,
+        SegTrap::Invalid => TrapKind::Invalid,
+        SegTrap::Freed => TrapKind::Freed,
+        SegTrap::Bounds => TrapKind::Bounds,
+        SegTrap::Misaligned => TrapKind::Misaligned,
+        SegTrap::Provenance => TrapKind::Provenance,
+        SegTrap::Whole => TrapKind::Whole,
+        SegTrap::Kind => TrapKind::Kind,
+    }
+}

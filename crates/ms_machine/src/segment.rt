@@ -1,0 +1,316 @@
+//! Instructions on handles and segments, each in a small function.
+
+ghost use Rattle.std.specs.Prelude.{◌≡◌, ◌≢◌, ◌<◌, ◌^◌, List, [], ◌∷◌};
+ghost use Rattle.ms_handle.specs.Handle.{HasBounds};
+ghost use Rattle.ms_machine.specs.Doing.{DoesInSegments};
+ghost use Rattle.ms_machine.specs.Holding.{Each, Fits};
+ghost use Rattle.ms_machine.specs.Segments.{Misses, is_null, segment_on, slice_event};
+ghost use Rattle.ms_module.specs.declared.access.Segment.TheVariants as instr;
+
+use crate::fault::{Fault, of_segment};
+use crate::trap::TrapKind;
+use ms_event::Event;
+use ms_handle::{Handle, Kind, add, diff, eq, slice};
+use ms_linear::Value;
+use ms_live::Gaps;
+use ms_module::{LoadOp, Segment, StoreOp};
+use ms_operate::{number_for, value_of};
+use ms_segment::Segments;
+use ms_tagged::Tagged;
+use ms_types::Stack;
+
+/// Carries out an instruction on handles and segments. Where it stops the program nothing has changed.
+pub(crate) fn segment<G: Gaps, T: Tagged>(
+    i: Segment,
+    segments: &mut Segments<G, T>,
+    operands: &mut Stack<Value>,
+) -> Result<Option<Event>, Fault>
+    requires there { segment_on i segments.old operands.old ≢ Misses }
+    requires few { segments.old.made < 2 ^ 63 }
+    requires fit { Each (Fits segments.old) operands.old }
+    ensures { DoesInSegments (segment_on i segments.old operands.old) operands.old operands.new segments.old segments.new result }
+{
+    match i {
+        Segment::Null => null(segments, operands),
+        Segment::New(kind) => new(kind, segments, operands),
+        Segment::Free(kind) => free(kind, segments, operands),
+        Segment::Add(scale) => add_to(scale, segments, operands),
+        Segment::Slice => slice_of(segments, operands),
+        Segment::Eq => are_equal(segments, operands),
+        Segment::IsNull => is_null(segments, operands),
+        Segment::Diff => difference(segments, operands),
+        Segment::LoadHandle => load_handle(segments, operands),
+        Segment::StoreHandle => store_handle(segments, operands),
+        Segment::Load(op) => load(op, segments, operands),
+        Segment::Store(op) => store(op, segments, operands),
+    }
+}
+
+/// `handle.null`.
+fn null<G: Gaps, T: Tagged>(
+    segments: &Segments<G, T>,
+    operands: &mut Stack<Value>,
+) -> Result<Option<Event>, Fault>
+    ensures { DoesInSegments (segment_on instr.Null segments.now operands.old) operands.old operands.new segments.now segments.now result }
+{
+    let _ = segments;
+    match operands.push(Value::Handle(Handle::Null)) {
+        Ok(()) => Ok(None),
+        Err(_) => Err(Fault::Memory),
+    }
+}
+
+/// `segment.new`.
+fn new<G: Gaps, T: Tagged>(
+    kind: Kind,
+    segments: &mut Segments<G, T>,
+    operands: &mut Stack<Value>,
+) -> Result<Option<Event>, Fault>
+    requires there { segment_on (instr.New kind) segments.old operands.old ≢ Misses }
+    requires few { segments.old.made < 2 ^ 63 }
+    ensures { DoesInSegments (segment_on (instr.New kind) segments.old operands.old) operands.old operands.new segments.old segments.new result }
+{
+    let Value::I32(n) = operands.get(0) else {
+        unreachable!()
+    };
+    let (handle, event) = segments.make(n, kind);
+    operands.set_top(Value::Handle(handle));
+    Ok(Some(event))
+}
+
+/// `segment.free`.
+fn free<G: Gaps, T: Tagged>(
+    kind: Kind,
+    segments: &mut Segments<G, T>,
+    operands: &mut Stack<Value>,
+) -> Result<Option<Event>, Fault>
+    requires there { segment_on (instr.Free kind) segments.old operands.old ≢ Misses }
+    requires fit { Each (Fits segments.old) operands.old }
+    ensures { DoesInSegments (segment_on (instr.Free kind) segments.old operands.old) operands.old operands.new segments.old segments.new result }
+{
+    let Value::Handle(handle) = operands.get(0) else {
+        unreachable!()
+    };
+    match segments.free(handle, kind) {
+        Ok(event) => {
+            operands.cut(1);
+            Ok(Some(event))
+        }
+        Err(trap) => Err(Fault::Trap(of_segment(trap))),
+    }
+}
+
+/// `handle.add`.
+fn add_to<G: Gaps, T: Tagged>(
+    scale: u32,
+    segments: &Segments<G, T>,
+    operands: &mut Stack<Value>,
+) -> Result<Option<Event>, Fault>
+    requires there { segment_on (instr.Add scale) segments.now operands.old ≢ Misses }
+    requires fit { Each (Fits segments.now) operands.old }
+    ensures { DoesInSegments (segment_on (instr.Add scale) segments.now operands.old) operands.old operands.new segments.now segments.now result }
+{
+    let _ = segments;
+    let Value::I64(delta) = operands.get(0) else {
+        unreachable!()
+    };
+    let Value::Handle(handle) = operands.get(1) else {
+        unreachable!()
+    };
+    operands.pop();
+    operands.set_top(Value::Handle(add(handle, delta.cast_signed(), scale)));
+    Ok(None)
+}
+
+/// What a slice of a handle that gave this tells.
+fn told_slice(handle: Handle, part: Handle) -> Option<Event>
+    requires whole { HasBounds handle }
+    requires bounds { HasBounds part }
+    ensures { result ≡ slice_event handle part }
+{
+    match (handle, part) {
+        (
+            Handle::Good {
+                id, base, length, ..
+            },
+            Handle::Good {
+                base: base2,
+                length: length2,
+                ..
+            },
+        ) => Some(Event::Slice {
+            id,
+            lo: base,
+            hi: base + length,
+            lo2: base2,
+            hi2: base2 + length2,
+        }),
+        _ => None,
+    }
+}
+
+/// `handle.slice`.
+fn slice_of<G: Gaps, T: Tagged>(
+    segments: &Segments<G, T>,
+    operands: &mut Stack<Value>,
+) -> Result<Option<Event>, Fault>
+    requires there { segment_on instr.Slice segments.now operands.old ≢ Misses }
+    requires fit { Each (Fits segments.now) operands.old }
+    ensures { DoesInSegments (segment_on instr.Slice segments.now operands.old) operands.old operands.new segments.now segments.now result }
+{
+    let _ = segments;
+    let (Value::I32(len), Value::I32(from)) = (operands.get(0), operands.get(1)) else {
+        unreachable!()
+    };
+    let Value::Handle(handle) = operands.get(2) else {
+        unreachable!()
+    };
+    let part = slice(handle, from, len);
+    operands.cut(2);
+    operands.set_top(Value::Handle(part));
+    Ok(told_slice(handle, part))
+}
+
+/// `handle.eq`.
+fn are_equal<G: Gaps, T: Tagged>(
+    segments: &Segments<G, T>,
+    operands: &mut Stack<Value>,
+) -> Result<Option<Event>, Fault>
+    requires there { segment_on instr.Eq segments.now operands.old ≢ Misses }
+    requires fit { Each (Fits segments.now) operands.old }
+    ensures { DoesInSegments (segment_on instr.Eq segments.now operands.old) operands.old operands.new segments.now segments.now result }
+{
+    let _ = segments;
+    let (Value::Handle(b), Value::Handle(a)) = (operands.get(0), operands.get(1)) else {
+        unreachable!()
+    };
+    operands.pop();
+    operands.set_top(Value::I32(u32::from(eq(a, b))));
+    Ok(None)
+}
+
+/// `handle.is_null`.
+fn is_null<G: Gaps, T: Tagged>(
+    segments: &Segments<G, T>,
+    operands: &mut Stack<Value>,
+) -> Result<Option<Event>, Fault>
+    requires there { segment_on instr.IsNull segments.now operands.old ≢ Misses }
+    ensures { DoesInSegments (segment_on instr.IsNull segments.now operands.old) operands.old operands.new segments.now segments.now result }
+{
+    let _ = segments;
+    let Value::Handle(handle) = operands.get(0) else {
+        unreachable!()
+    };
+    operands.set_top(Value::I32(u32::from(matches!(handle, Handle::Null))));
+    Ok(None)
+}
+
+/// `handle.diff`.
+fn difference<G: Gaps, T: Tagged>(
+    segments: &Segments<G, T>,
+    operands: &mut Stack<Value>,
+) -> Result<Option<Event>, Fault>
+    requires there { segment_on instr.Diff segments.now operands.old ≢ Misses }
+    requires fit { Each (Fits segments.now) operands.old }
+    ensures { DoesInSegments (segment_on instr.Diff segments.now operands.old) operands.old operands.new segments.now segments.now result }
+{
+    let _ = segments;
+    let (Value::Handle(b), Value::Handle(a)) = (operands.get(0), operands.get(1)) else {
+        unreachable!()
+    };
+    match diff(a, b) {
+        Ok(distance) => {
+            operands.pop();
+            operands.set_top(Value::I64(distance.cast_unsigned()));
+            Ok(None)
+        }
+        Err(_) => Err(Fault::Trap(TrapKind::Apart)),
+    }
+}
+
+/// `handle.load`.
+fn load_handle<G: Gaps, T: Tagged>(
+    segments: &Segments<G, T>,
+    operands: &mut Stack<Value>,
+) -> Result<Option<Event>, Fault>
+    requires there { segment_on instr.LoadHandle segments.now operands.old ≢ Misses }
+    requires fit { Each (Fits segments.now) operands.old }
+    ensures { DoesInSegments (segment_on instr.LoadHandle segments.now operands.old) operands.old operands.new segments.now segments.now result }
+{
+    let Value::Handle(handle) = operands.get(0) else {
+        unreachable!()
+    };
+    match segments.load_handle(handle) {
+        Ok((value, event)) => {
+            operands.set_top(Value::Handle(value));
+            Ok(Some(event))
+        }
+        Err(trap) => Err(Fault::Trap(of_segment(trap))),
+    }
+}
+
+/// `handle.store`.
+fn store_handle<G: Gaps, T: Tagged>(
+    segments: &mut Segments<G, T>,
+    operands: &mut Stack<Value>,
+) -> Result<Option<Event>, Fault>
+    requires there { segment_on instr.StoreHandle segments.old operands.old ≢ Misses }
+    requires fit { Each (Fits segments.old) operands.old }
+    ensures { DoesInSegments (segment_on instr.StoreHandle segments.old operands.old) operands.old operands.new segments.old segments.new result }
+{
+    let (Value::Handle(value), Value::Handle(place)) = (operands.get(0), operands.get(1)) else {
+        unreachable!()
+    };
+    match segments.store_handle(place, value) {
+        Ok(event) => {
+            operands.cut(2);
+            Ok(Some(event))
+        }
+        Err(trap) => Err(Fault::Trap(of_segment(trap))),
+    }
+}
+
+/// `i32.segload` and its kin.
+fn load<G: Gaps, T: Tagged>(
+    op: LoadOp,
+    segments: &Segments<G, T>,
+    operands: &mut Stack<Value>,
+) -> Result<Option<Event>, Fault>
+    requires there { segment_on (instr.Load op) segments.now operands.old ≢ Misses }
+    requires fit { Each (Fits segments.now) operands.old }
+    ensures { DoesInSegments (segment_on (instr.Load op) segments.now operands.old) operands.old operands.new segments.now segments.now result }
+{
+    let Value::Handle(handle) = operands.get(0) else {
+        unreachable!()
+    };
+    match segments.load(handle, op.bytes()) {
+        Ok((number, event)) => {
+            operands.set_top(value_of(op, number));
+            Ok(Some(event))
+        }
+        Err(trap) => Err(Fault::Trap(of_segment(trap))),
+    }
+}
+
+/// `i32.segstore` and its kin.
+fn store<G: Gaps, T: Tagged>(
+    op: StoreOp,
+    segments: &mut Segments<G, T>,
+    operands: &mut Stack<Value>,
+) -> Result<Option<Event>, Fault>
+    requires there { segment_on (instr.Store op) segments.old operands.old ≢ Misses }
+    requires fit { Each (Fits segments.old) operands.old }
+    ensures { DoesInSegments (segment_on (instr.Store op) segments.old operands.old) operands.old operands.new segments.old segments.new result }
+{
+    let Value::Handle(handle) = operands.get(1) else {
+        unreachable!()
+    };
+    let number = number_for(op, operands.get(0));
+    match segments.store(handle, op.bytes(), number) {
+        Ok(event) => {
+            operands.cut(2);
+            Ok(Some(event))
+        }
+        Err(trap) => Err(Fault::Trap(of_segment(trap))),
+    }
+}
