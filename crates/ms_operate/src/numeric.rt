@@ -1,37 +1,50 @@
-ghost use Rattle.std.specs.Prelude.{◌≡◌, ◌≢◌, ◌^◌, ◌<◌};
-ghost use Rattle.ms_num.specs.Integers.{IsWidth};
-ghost use Rattle.ms_module.specs.declared.numeric.Numeric.TheVariants.{Eqz, Unary, Wrap, ExtendS, ExtendU};
+ghost use Rattle.std.specs.Prelude.{◌≡◌, ◌≢◌, ◌^◌, ◌<◌, None, Some, IfOk};
+ghost use Rattle.ms_num.specs.Integers.{IsWidth, truth};
+ghost use Rattle.ms_module.specs.Accesses.{bits};
+ghost use Rattle.ms_module.specs.declared.numeric.Numeric.TheVariants.{Eqz, Compare, Unary, Binary, Wrap, ExtendS, ExtendU};
+ghost use Rattle.ms_operate.specs.Accesses as access;
+ghost use Rattle.ms_operate.specs.Accesses.{number_of};
 ghost use Rattle.ms_operate.specs.Integers as int;
+ghost use Rattle.ms_operate.specs.Numbers as numbers;
 ghost use Rattle.ms_operate.specs.Numbers.{numeric_on};
-ghost use Rattle.ms_operate.specs.Outcomes.{Gives, Lacks};
+ghost use Rattle.ms_operate.specs.Outcomes.{Does, Gives, Lacks};
 
+use crate::trap::Trap;
 use ms_linear::Value;
-use ms_module::{UnOp, Width};
-use ms_num::{clz, ctz, popcnt};
+use ms_module::{BinOp, RelOp, UnOp, Width};
+use ms_num::{
+    Arith, add, and, clz, ctz, div_s, div_u, eq, ge_s, ge_u, gt_s, gt_u, le_s, le_u, lt_s, lt_u,
+    mul, ne, or, popcnt, rem_s, rem_u, rotl, rotr, shl, shr_s, shr_u, sub, xor,
+};
 use ms_types::Stack;
 
-/// What `eqz` makes of the operands.
-fn eqz(w: Width, operands: &mut Stack<Value>)
-    requires { numeric_on (Eqz w) operands.old ≢ Lacks }
-    ensures { numeric_on (Eqz w) operands.old ≡ Gives operands.new }
+/// The number that a value of this width is.
+#[inline(always)]
+fn number(w: Width, value: Value) -> u64
+    requires { number_of w value ≢ None }
+    ensures value { number_of w value ≡ Some result }
+    ensures small { result < 2 ^ bits w }
 {
-    match w {
-        Width::W32 => {
-            let Value::I32(a) = operands.get(0) else {
-                unreachable!()
-            };
-            operands.set_top(Value::I32(u32::from(a == 0)));
-        }
-        Width::W64 => {
-            let Value::I64(a) = operands.get(0) else {
-                unreachable!()
-            };
-            operands.set_top(Value::I32(u32::from(a == 0)));
-        }
+    match (w, value) {
+        (Width::W32, Value::I32(n)) => u64::from(n),
+        (Width::W64, Value::I64(n)) => n,
+        _ => unreachable!(),
     }
 }
 
-/// The number that an operation makes of one of so many bits.
+/// A number as a value of this width.
+#[inline(always)]
+fn integer(w: Width, n: u64) -> Value
+    requires { n < 2 ^ bits w }
+    ensures { result ≡ access.integer w n }
+{
+    match w {
+        Width::W32 => Value::I32(n as u32),
+        Width::W64 => Value::I64(n),
+    }
+}
+
+/// An operation on a number of so many bits.
 #[inline(always)]
 #[tactic(auto, using(crate::proofs::Zeros::leading_is, crate::proofs::Zeros::trailing_is))]
 fn unary(op: UnOp, w: u32, a: u64) -> u64
@@ -47,23 +60,114 @@ fn unary(op: UnOp, w: u32, a: u64) -> u64
     }
 }
 
-/// What an operation on one integer makes of the operands.
-fn count(w: Width, op: UnOp, operands: &mut Stack<Value>)
+/// An operation on two numbers of so many bits.
+#[inline(always)]
+fn binary(op: BinOp, w: u32, a: u64, b: u64) -> Result<u64, Arith>
+    requires width { IsWidth w }
+    requires a { a < 2 ^ w }
+    requires b { b < 2 ^ w }
+    ensures value { result ≡ int.binary op w a b }
+    ensures small { IfOk result (λ n. n < 2 ^ w) }
+{
+    match op {
+        BinOp::Add => Ok(add(w, a, b)),
+        BinOp::Sub => Ok(sub(w, a, b)),
+        BinOp::Mul => Ok(mul(w, a, b)),
+        BinOp::DivS => div_s(w, a, b),
+        BinOp::DivU => div_u(w, a, b),
+        BinOp::RemS => rem_s(w, a, b),
+        BinOp::RemU => rem_u(w, a, b),
+        BinOp::And => Ok(and(w, a, b)),
+        BinOp::Or => Ok(or(w, a, b)),
+        BinOp::Xor => Ok(xor(w, a, b)),
+        BinOp::Shl => Ok(shl(w, a, b)),
+        BinOp::ShrS => Ok(shr_s(w, a, b)),
+        BinOp::ShrU => Ok(shr_u(w, a, b)),
+        BinOp::Rotl => Ok(rotl(w, a, b)),
+        BinOp::Rotr => Ok(rotr(w, a, b)),
+    }
+}
+
+/// A comparison of two numbers of so many bits: 1 or 0.
+#[inline(always)]
+fn compare(op: RelOp, w: u32, a: u64, b: u64) -> u64
+    requires width { IsWidth w }
+    requires a { a < 2 ^ w }
+    requires b { b < 2 ^ w }
+    ensures value { result ≡ truth (int.compare op w a b) }
+    ensures bit { result < 2 }
+{
+    match op {
+        RelOp::Eq => eq(w, a, b),
+        RelOp::Ne => ne(w, a, b),
+        RelOp::LtS => lt_s(w, a, b),
+        RelOp::LtU => lt_u(w, a, b),
+        RelOp::GtS => gt_s(w, a, b),
+        RelOp::GtU => gt_u(w, a, b),
+        RelOp::LeS => le_s(w, a, b),
+        RelOp::LeU => le_u(w, a, b),
+        RelOp::GeS => ge_s(w, a, b),
+        RelOp::GeU => ge_u(w, a, b),
+    }
+}
+
+/// Why a division stops the program.
+fn trap_of(error: Arith) -> Trap
+    ensures { result ≡ numbers.trap_of error }
+{
+    match error {
+        Arith::ZeroDivide => Trap::Zero,
+        Arith::Overflow => Trap::Overflow,
+    }
+}
+
+/// `eqz` on the operands.
+#[inline(always)]
+fn test(w: Width, operands: &mut Stack<Value>)
+    requires { numeric_on (Eqz w) operands.old ≢ Lacks }
+    ensures { numeric_on (Eqz w) operands.old ≡ Gives operands.new }
+{
+    let a = number(w, operands.get(0));
+    operands.set_top(Value::I32(u32::from(a == 0)));
+}
+
+/// An operation on the topmost operand.
+#[inline(always)]
+fn on_one(w: Width, op: UnOp, operands: &mut Stack<Value>)
     requires { numeric_on (Unary w op) operands.old ≢ Lacks }
     ensures { numeric_on (Unary w op) operands.old ≡ Gives operands.new }
 {
-    match w {
-        Width::W32 => {
-            let Value::I32(a) = operands.get(0) else {
-                unreachable!()
-            };
-            operands.set_top(Value::I32(unary(op, 32, u64::from(a)) as u32));
+    let a = number(w, operands.get(0));
+    operands.set_top(integer(w, unary(op, w.bits(), a)));
+}
+
+/// An operation on the two topmost operands.
+#[inline(always)]
+fn on_two(w: Width, op: BinOp, operands: &mut Stack<Value>) -> Result<(), Trap>
+    requires { numeric_on (Binary w op) operands.old ≢ Lacks }
+    ensures { Does (numeric_on (Binary w op) operands.old) operands.old operands.new result }
+{
+    let b = number(w, operands.get(0));
+    let a = number(w, operands.get(1));
+    match binary(op, w.bits(), a, b) {
+        Ok(n) => {
+            operands.pop();
+            operands.set_top(integer(w, n));
+            Ok(())
         }
-        Width::W64 => {
-            let Value::I64(a) = operands.get(0) else {
-                unreachable!()
-            };
-            operands.set_top(Value::I64(unary(op, 64, a)));
-        }
+        Err(error) => Err(trap_of(error)),
     }
+}
+
+/// A comparison of the two topmost operands.
+#[inline(always)]
+fn compare_two(w: Width, op: RelOp, operands: &mut Stack<Value>)
+    requires { numeric_on (Compare w op) operands.old ≢ Lacks }
+    ensures { numeric_on (Compare w op) operands.old ≡ Gives operands.new }
+{
+    let b = number(w, operands.get(0));
+    let a = number(w, operands.get(1));
+    let answer = compare(op, w.bits(), a, b);
+    operands.pop();
+    operands.set_top(Value::I32(answer as u32));
 }
