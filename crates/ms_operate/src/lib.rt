@@ -1,7 +1,8 @@
 //! What numeric instructions, and those on the linear memory, make of the operands (WebAssembly 1.0, 4.4.1 and 4.4.4).
 #![tactic(auto)]
 
-mod numeric;
+mod numbers;
 mod trap;
 
+pub use numbers::numeric;
 pub use trap::{Fault, Trap};

@@ -11,12 +11,35 @@ ghost use Rattle.ms_operate.specs.Outcomes.{Does, Gives, Lacks};
 
 use crate::trap::Trap;
 use ms_linear::Value;
-use ms_module::{BinOp, RelOp, UnOp, Width};
+use ms_module::{BinOp, Numeric, RelOp, UnOp, Width};
 use ms_num::{
-    Arith, add, and, clz, ctz, div_s, div_u, eq, ge_s, ge_u, gt_s, gt_u, le_s, le_u, lt_s, lt_u,
-    mul, ne, or, popcnt, rem_s, rem_u, rotl, rotr, shl, shr_s, shr_u, sub, xor,
+    Arith, add, and, clz, ctz, div_s, div_u, eq, extend, ge_s, ge_u, gt_s, gt_u, le_s, le_u, lt_s, lt_u,
+    mul, narrow, ne, or, popcnt, rem_s, rem_u, rotl, rotr, shl, shr_s, shr_u, sub, xor,
 };
 use ms_types::Stack;
+
+/// Carries out a numeric instruction on the operands. Where it stops the program the operands are as before.
+///
+/// The widths are told apart here, so that each is a constant in what is done with it.
+pub fn numeric(i: Numeric, operands: &mut Stack<Value>) -> Result<(), Trap>
+    requires { numeric_on i operands.old ≢ Lacks }
+    ensures { Does (numeric_on i operands.old) operands.old operands.new result }
+{
+    match i {
+        Numeric::Binary(Width::W32, op) => return on_two(Width::W32, op, operands),
+        Numeric::Binary(Width::W64, op) => return on_two(Width::W64, op, operands),
+        Numeric::Compare(Width::W32, op) => compare_two(Width::W32, op, operands),
+        Numeric::Compare(Width::W64, op) => compare_two(Width::W64, op, operands),
+        Numeric::Unary(Width::W32, op) => on_one(Width::W32, op, operands),
+        Numeric::Unary(Width::W64, op) => on_one(Width::W64, op, operands),
+        Numeric::Eqz(Width::W32) => test(Width::W32, operands),
+        Numeric::Eqz(Width::W64) => test(Width::W64, operands),
+        Numeric::Wrap => wrap(operands),
+        Numeric::ExtendS => extend_signed(operands),
+        Numeric::ExtendU => extend_unsigned(operands),
+    }
+    Ok(())
+}
 
 /// The number that a value of this width is.
 #[inline(always)]
@@ -170,4 +193,34 @@ fn compare_two(w: Width, op: RelOp, operands: &mut Stack<Value>)
     let answer = compare(op, w.bits(), a, b);
     operands.pop();
     operands.set_top(Value::I32(answer as u32));
+}
+
+/// `i32.wrap_i64` on the operands.
+#[inline(always)]
+fn wrap(operands: &mut Stack<Value>)
+    requires { numeric_on Wrap operands.old ≢ Lacks }
+    ensures { numeric_on Wrap operands.old ≡ Gives operands.new }
+{
+    let a = number(Width::W64, operands.get(0));
+    operands.set_top(Value::I32(narrow(32, a) as u32));
+}
+
+/// `i64.extend_i32_s` on the operands.
+#[inline(always)]
+fn extend_signed(operands: &mut Stack<Value>)
+    requires { numeric_on ExtendS operands.old ≢ Lacks }
+    ensures { numeric_on ExtendS operands.old ≡ Gives operands.new }
+{
+    let a = number(Width::W32, operands.get(0));
+    operands.set_top(Value::I64(extend(32, 64, true, a)));
+}
+
+/// `i64.extend_i32_u` on the operands.
+#[inline(always)]
+fn extend_unsigned(operands: &mut Stack<Value>)
+    requires { numeric_on ExtendU operands.old ≢ Lacks }
+    ensures { numeric_on ExtendU operands.old ≡ Gives operands.new }
+{
+    let a = number(Width::W32, operands.get(0));
+    operands.set_top(Value::I64(a));
 }
