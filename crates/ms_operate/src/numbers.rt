@@ -1,14 +1,12 @@
-ghost use Rattle.std.specs.Prelude.{◌≡◌, ◌≢◌, ◌^◌, ◌<◌, None, Some, IfOk};
+ghost use Rattle.std.specs.Prelude.{◌≡◌, ◌≢◌, ◌^◌, ◌<◌, IfOk};
 ghost use Rattle.ms_num.specs.Integers.{IsWidth, truth};
-ghost use Rattle.ms_module.specs.Accesses.{bits};
 ghost use Rattle.ms_module.specs.declared.numeric.Numeric.TheVariants.{Eqz, Compare, Unary, Binary, Wrap, ExtendS, ExtendU};
-ghost use Rattle.ms_operate.specs.Accesses as access;
-ghost use Rattle.ms_operate.specs.Accesses.{number_of};
 ghost use Rattle.ms_operate.specs.Integers as int;
 ghost use Rattle.ms_operate.specs.Numbers as numbers;
 ghost use Rattle.ms_operate.specs.Numbers.{numeric_on};
 ghost use Rattle.ms_operate.specs.Outcomes.{Does, Gives, Lacks};
 
+use crate::access::{integer, number};
 use crate::trap::Trap;
 use ms_linear::Value;
 use ms_module::{BinOp, Numeric, RelOp, UnOp, Width};
@@ -39,32 +37,6 @@ pub fn numeric(i: Numeric, operands: &mut Stack<Value>) -> Result<(), Trap>
         Numeric::ExtendU => extend_unsigned(operands),
     }
     Ok(())
-}
-
-/// The number that a value of this width is.
-#[inline(always)]
-fn number(w: Width, value: Value) -> u64
-    requires { number_of w value ≢ None }
-    ensures value { number_of w value ≡ Some result }
-    ensures small { result < 2 ^ bits w }
-{
-    match (w, value) {
-        (Width::W32, Value::I32(n)) => u64::from(n),
-        (Width::W64, Value::I64(n)) => n,
-        _ => unreachable!(),
-    }
-}
-
-/// A number as a value of this width.
-#[inline(always)]
-fn integer(w: Width, n: u64) -> Value
-    requires { n < 2 ^ bits w }
-    ensures { result ≡ access.integer w n }
-{
-    match w {
-        Width::W32 => Value::I32(n as u32),
-        Width::W64 => Value::I64(n),
-    }
 }
 
 /// An operation on a number of so many bits.
