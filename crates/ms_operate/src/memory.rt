@@ -5,8 +5,7 @@ ghost use Rattle.ms_operate.specs.Outcomes.{DoesInMemory, Misses};
 
 use crate::access::{number, number_for, value_of};
 use crate::trap::{Fault, Trap};
-use ms_linear::Linear as LinearMemory;
-use ms_linear::Value;
+use ms_linear::{Linear as LinearMemory, Value};
 use ms_module::{Linear, LoadOp, MemArg, StoreOp, Width};
 use ms_types::Stack;
 

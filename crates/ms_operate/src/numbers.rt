@@ -11,8 +11,8 @@ use crate::trap::Trap;
 use ms_linear::Value;
 use ms_module::{BinOp, Numeric, RelOp, UnOp, Width};
 use ms_num::{
-    Arith, add, and, clz, ctz, div_s, div_u, eq, extend, ge_s, ge_u, gt_s, gt_u, le_s, le_u, lt_s, lt_u,
-    mul, narrow, ne, or, popcnt, rem_s, rem_u, rotl, rotr, shl, shr_s, shr_u, sub, xor,
+    Arith, add, and, clz, ctz, div_s, div_u, eq, extend, ge_s, ge_u, gt_s, gt_u, le_s, le_u, lt_s,
+    lt_u, mul, narrow, ne, or, popcnt, rem_s, rem_u, rotl, rotr, shl, shr_s, shr_u, sub, xor,
 };
 use ms_types::Stack;
 
@@ -196,3 +196,6 @@ fn extend_unsigned(operands: &mut Stack<Value>)
     let a = number(Width::W32, operands.get(0));
     operands.set_top(Value::I64(a));
 }
+
+#[cfg(test)]
+mod tests;
