@@ -72,3 +72,6 @@ fn width_of(op: StoreOp) -> Width
         }
     }
 }
+
+#[cfg(test)]
+pub(crate) mod tests;
