@@ -1,0 +1,77 @@
+ghost use Rattle.std.specs.Prelude.{◌≡◌, ◌≢◌, ◌^◌, ◌<◌, None, Some};
+ghost use Rattle.ms_module.specs.Accesses.{bits, load_bytes};
+ghost use Rattle.ms_operate.specs.Accesses as access;
+ghost use Rattle.ms_operate.specs.Accesses.{number_of};
+
+use ms_linear::Value;
+use ms_module::{LoadOp, StoreOp, Width};
+use ms_num::extend;
+
+/// The number that a value of this width is.
+#[inline(always)]
+pub(crate) fn number(w: Width, value: Value) -> u64
+    requires { number_of w value ≢ None }
+    ensures value { number_of w value ≡ Some result }
+    ensures small { result < 2 ^ bits w }
+{
+    match (w, value) {
+        (Width::W32, Value::I32(n)) => u64::from(n),
+        (Width::W64, Value::I64(n)) => n,
+        _ => unreachable!(),
+    }
+}
+
+/// A number as a value of this width.
+#[inline(always)]
+pub(crate) fn integer(w: Width, n: u64) -> Value
+    requires { n < 2 ^ bits w }
+    ensures { result ≡ access.integer w n }
+{
+    match w {
+        Width::W32 => Value::I32(n as u32),
+        Width::W64 => Value::I64(n),
+    }
+}
+
+/// The value of the number that a load has read.
+#[inline]
+pub fn value_of(op: LoadOp, number: u64) -> Value
+    requires { number < 256 ^ load_bytes op }
+    ensures { result ≡ access.value_of op number }
+{
+    match op {
+        LoadOp::I32Load | LoadOp::I32Load8U | LoadOp::I32Load16U => Value::I32(number as u32),
+        LoadOp::I32Load8S => Value::I32(extend(8, 32, true, number) as u32),
+        LoadOp::I32Load16S => Value::I32(extend(16, 32, true, number) as u32),
+        LoadOp::I64Load | LoadOp::I64Load8U | LoadOp::I64Load16U | LoadOp::I64Load32U => {
+            Value::I64(number)
+        }
+        LoadOp::I64Load8S => Value::I64(extend(8, 64, true, number)),
+        LoadOp::I64Load16S => Value::I64(extend(16, 64, true, number)),
+        LoadOp::I64Load32S => Value::I64(extend(32, 64, true, number)),
+    }
+}
+
+/// The number that a store writes, of a value of its type.
+#[inline]
+pub fn number_for(op: StoreOp, value: Value) -> u64
+    requires { number_of (access.width_of op) value ≢ None }
+    ensures { number_of (access.width_of op) value ≡ Some result }
+{
+    number(width_of(op), value)
+}
+
+/// The width of the value that a store takes.
+fn width_of(op: StoreOp) -> Width
+    ensures { result ≡ access.width_of op }
+{
+    match op {
+        StoreOp::I32Store | StoreOp::I32Store8 | StoreOp::I32Store16 => Width::W32,
+        StoreOp::I64Store | StoreOp::I64Store8 | StoreOp::I64Store16 | StoreOp::I64Store32 => {
+            Width::W64
+        }
+    }
+}
+
+#[cfg(test)]
+pub(crate) mod tests;

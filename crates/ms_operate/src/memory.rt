@@ -1,0 +1,102 @@
+ghost use Rattle.std.specs.Prelude.{◌≡◌, ◌≢◌};
+ghost use Rattle.ms_module.specs.declared.access.Linear.TheVariants.{Load, Store, Size, Grow};
+ghost use Rattle.ms_operate.specs.Memories.{linear_on};
+ghost use Rattle.ms_operate.specs.Outcomes.{DoesInMemory, Misses};
+
+use crate::access::{number, number_for, value_of};
+use crate::trap::{Fault, Trap};
+use ms_linear::{Linear as LinearMemory, Value};
+use ms_module::{Linear, LoadOp, MemArg, StoreOp, Width};
+use ms_types::Stack;
+
+/// Carries out an instruction on the linear memory. Where it stops the program, or memory runs out, nothing has changed.
+pub fn linear(
+    i: Linear,
+    memory: &mut LinearMemory,
+    operands: &mut Stack<Value>,
+) -> Result<(), Fault>
+    requires { linear_on i memory.old operands.old ≢ Misses }
+    ensures { DoesInMemory (linear_on i memory.old operands.old) operands.old operands.new memory.old memory.new result }
+{
+    match i {
+        Linear::Load(op, arg) => load(op, arg, memory, operands),
+        Linear::Store(op, arg) => store(op, arg, memory, operands),
+        Linear::Size => size(memory, operands),
+        Linear::Grow => grow(memory, operands),
+    }
+}
+
+/// A load from the address that is the topmost operand.
+fn load(
+    op: LoadOp,
+    arg: MemArg,
+    memory: &LinearMemory,
+    operands: &mut Stack<Value>,
+) -> Result<(), Fault>
+    requires { linear_on (Load op arg) memory.now operands.old ≢ Misses }
+    ensures { DoesInMemory (linear_on (Load op arg) memory.now operands.old) operands.old operands.new memory.now memory.now result }
+{
+    let base = number(Width::W32, operands.get(0));
+    match memory.load(base + u64::from(arg.offset), op.bytes()) {
+        Ok(n) => {
+            operands.set_top(value_of(op, n));
+            Ok(())
+        }
+        Err(_) => Err(Fault::Trap(Trap::Linear)),
+    }
+}
+
+/// A store of the topmost operand to the address that is below it.
+fn store(
+    op: StoreOp,
+    arg: MemArg,
+    memory: &mut LinearMemory,
+    operands: &mut Stack<Value>,
+) -> Result<(), Fault>
+    requires { linear_on (Store op arg) memory.old operands.old ≢ Misses }
+    ensures { DoesInMemory (linear_on (Store op arg) memory.old operands.old) operands.old operands.new memory.old memory.new result }
+{
+    let value = number_for(op, operands.get(0));
+    let base = number(Width::W32, operands.get(1));
+    match memory.store(base + u64::from(arg.offset), op.bytes(), value) {
+        Ok(()) => {
+            operands.cut(2);
+            Ok(())
+        }
+        Err(_) => Err(Fault::Trap(Trap::Linear)),
+    }
+}
+
+/// `memory.size` on the operands.
+fn size(memory: &LinearMemory, operands: &mut Stack<Value>) -> Result<(), Fault>
+    ensures { DoesInMemory (linear_on Size memory.now operands.old) operands.old operands.new memory.now memory.now result }
+{
+    match operands.push(Value::I32(memory.len())) {
+        Ok(()) => Ok(()),
+        Err(_) => Err(Fault::Memory),
+    }
+}
+
+/// `memory.grow` on the operands.
+fn grow(memory: &mut LinearMemory, operands: &mut Stack<Value>) -> Result<(), Fault>
+    requires { linear_on Grow memory.old operands.old ≢ Misses }
+    ensures { DoesInMemory (linear_on Grow memory.old operands.old) operands.old operands.new memory.old memory.new result }
+{
+    let Value::I32(n) = operands.get(0) else {
+        unreachable!()
+    };
+    match memory.grow(n) {
+        Ok(Some(before)) => {
+            operands.set_top(Value::I32(before));
+            Ok(())
+        }
+        Ok(None) => {
+            operands.set_top(Value::I32(u32::MAX));
+            Ok(())
+        }
+        Err(_) => Err(Fault::Memory),
+    }
+}
+
+#[cfg(test)]
+mod tests;
