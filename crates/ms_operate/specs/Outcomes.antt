@@ -18,9 +18,8 @@ pub data Outcome : Type 0 where
 
 -- The code did what the definition says: the operands are those, or it stopped and they are as before.
 abbrev pub Does : Outcome → List Value → List Value → Result (Unit {0}) Trap → Type 0
-Does (Gives values) old new (Ok x) = new ≡ values
-Does (Traps trap) old new (Err e) = (e ≡ trap) × (new ≡ old)
-Does _ old new result = ⊥
+Does outcome old new (Ok x) = outcome ≡ Gives new
+Does outcome old new (Err trap) = (outcome ≡ Traps trap) × (new ≡ old)
 
 -- ---- instructions on operands and a linear memory
 
@@ -32,7 +31,6 @@ pub data Effect : Type 0 where
 
 -- The same of these. Where memory runs out nothing has changed.
 abbrev pub DoesInMemory : Effect → List Value → List Value → Memory → Memory → Result (Unit {0}) Fault → Type 0
-DoesInMemory (Leaves values m) old new old-memory new-memory (Ok x) = (new ≡ values) × (new-memory ≡ m)
-DoesInMemory (Leaves values m) old new old-memory new-memory (Err faults.Memory) = (new ≡ old) × (new-memory ≡ old-memory)
-DoesInMemory (Stops trap) old new old-memory new-memory (Err (faults.Trap e)) = (e ≡ trap) × (new ≡ old) × (new-memory ≡ old-memory)
-DoesInMemory _ old new old-memory new-memory result = ⊥
+DoesInMemory effect old new old-memory new-memory (Ok x) = effect ≡ Leaves new new-memory
+DoesInMemory effect old new old-memory new-memory (Err (faults.Trap trap)) = (effect ≡ Stops trap) × (new ≡ old) × (new-memory ≡ old-memory)
+DoesInMemory effect old new old-memory new-memory (Err faults.Memory) = (new ≡ old) × (new-memory ≡ old-memory)
