@@ -1,9 +1,15 @@
--- What the code of an instruction on segments did, against what the instruction makes of the operands and the memory.
-use Rattle.std.specs.Prelude.{◌≡◌, List, Option, Result, Ok, Err}
+-- What the code of an instruction did, against what the definition says of the instruction.
+use Rattle.std.specs.Prelude.{◌≡◌, ◌≢◌, ℕ, List, Option, Result, Ok, Err}
 use Rattle.ms_event.specs.declared.event.Event.{Event}
 use Rattle.ms_linear.specs.declared.value.Value.{Value}
+use Rattle.ms_module.specs.declared.instr.Instr.{Instr}
 use Rattle.ms_segment.specs.Memory.{Memory}
+use Rattle.ms_task.specs.declared.task.Task.{Task}
+use Rattle.ms_task.specs.Thread.{Thread}
+use Rattle.ms_task.specs.View.{at_next, thread_of}
 use Rattle.ms_machine.specs.Segments.{Effect, Leaves, Stops}
+use Rattle.ms_machine.specs.Step.{Next, Outcome, Stuck, Trap, act}
+use Rattle.ms_machine.specs.Store.{Store}
 use Rattle.ms_machine.specs.declared.fault.Fault.{Fault}
 use Rattle.ms_machine.specs.declared.fault.Fault.TheVariants as faults
 
@@ -13,3 +19,17 @@ abbrev pub DoesInSegments : Effect → List Value → List Value → Memory → 
 DoesInSegments effect old new old-memory new-memory (Ok event) = effect ≡ Leaves new new-memory event
 DoesInSegments effect old new old-memory new-memory (Err (faults.Trap kind)) = (effect ≡ Stops kind) × (new ≡ old) × (new-memory ≡ old-memory)
 DoesInSegments effect old new old-memory new-memory (Err faults.Memory) = Unit {0}
+
+-- The same of a store and a thread.
+abbrev pub Performs : Outcome → Store → Thread → Store → Thread → Result (Option Event) Fault → Type 0
+Performs outcome old old-thread new new-thread (Ok event) = outcome ≡ Next new new-thread event
+Performs outcome old old-thread new new-thread (Err (faults.Trap kind)) = (outcome ≡ Trap kind) × (new ≡ old) × (new-thread ≡ old-thread)
+Performs outcome old old-thread new new-thread (Err faults.Memory) = Unit {0}
+
+-- The instruction, behind which a task goes on at a place, finds what it takes.
+abbrev pub Can : Instr → ℕ → Store → Task → Type 0
+Can i next s task = act s i (at_next s.funcs task next) ≢ Stuck
+
+-- The code of the instruction did what the definition says.
+abbrev pub Acts : Instr → ℕ → Store → Task → Store → Task → Result (Option Event) Fault → Type 0
+Acts i next s task s' task' result = Performs (act s i (at_next s.funcs task next)) s (thread_of s.funcs task) s' (thread_of s'.funcs task') result

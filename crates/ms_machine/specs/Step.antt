@@ -74,12 +74,13 @@ abbrev pub value_in : Option GlobalInst → Option Value
 value_in None = None
 value_in (Some g) = Some g.value
 
+abbrev pub set_global_at : Store → Thread → ℕ → Option GlobalInst → Value → List Value → Outcome
+set_global_at s t a None v vs = Stuck
+set_global_at s t a (Some g) v vs = Next (with_globals s (slice_set s.globals a (record { value = v; mutable = g.mutable }))) (thread t.frame vs t.work) None
+
 abbrev pub set_global : Store → Thread → Option ℕ → Value → List Value → Outcome
 set_global s t None v vs = Stuck
-set_global s t (Some a) v vs = set_global_at s t a (slice_get s.globals a) v vs where
-  set_global_at : Store → Thread → ℕ → Option GlobalInst → Value → List Value → Outcome
-  set_global_at s t a None v vs = Stuck
-  set_global_at s t a (Some g) v vs = Next (with_globals s (slice_set s.globals a (record { value = v; mutable = g.mutable }))) (thread t.frame vs t.work) None
+set_global s t (Some a) v vs = set_global_at s t a (slice_get s.globals a) v vs
 
 -- ---- numeric instructions, and the linear memory (4.4.1 and 4.4.4)
 

@@ -4,7 +4,10 @@
 #![tactic(auto)]
 
 mod stepped;
+mod control;
 mod fault;
+mod memory;
+mod plain;
 mod segment;
 mod store;
 mod trap;

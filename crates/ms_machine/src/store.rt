@@ -1,4 +1,5 @@
-ghost use Rattle.std.specs.Prelude.{◌≡◌};
+ghost use Rattle.std.specs.Prelude.{◌≡◌, ◌≢◌, None, Some, slice_get};
+ghost use Rattle.ms_machine.specs.Store.{at, number_of_instance};
 
 use ms_linear::{GlobalInst, Linear, Table};
 use ms_live::Gaps;
@@ -48,5 +49,13 @@ impl<G: Gaps, T: Tagged> Store<G, T> {
         ensures { result.now ≡ self.now.segments }
     {
         &self.segments
+    }
+
+    /// The instance of the function of an address.
+    pub(crate) fn instance(&self, function: usize) -> &Instance
+        requires { at self.now.instances (number_of_instance (slice_get self.now.funcs function)) ≢ None }
+        ensures { at self.now.instances (number_of_instance (slice_get self.now.funcs function)) ≡ Some result.now }
+    {
+        &self.instances[self.funcs[function].instance as usize]
     }
 }

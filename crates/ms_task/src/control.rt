@@ -18,7 +18,7 @@ use ms_types::{Stack, ValType};
 use std::alloc::AllocError;
 
 /// How many calls may be open at once.
-const DEEPEST: usize = 4096;
+pub(crate) const DEEPEST: usize = 4096;
 
 /// Why a function was not called.
 #[derive(Clone, Copy, Debug, PartialEq, Eq)]

@@ -1,12 +1,12 @@
 //! A task, the start of one, and the places of instructions.
 
-ghost use Rattle.std.specs.Prelude.{◌≡◌, ◌↔◌, ℕ, List, [], ◌∷◌, Some, IfOk, IsTrue, drop, slice_get};
-ghost use Rattle.ms_task.specs.Control.{settled, started};
-ghost use Rattle.ms_task.specs.Thread.{Begins, sequence, with_first};
+ghost use Rattle.std.specs.Prelude.{◌≡◌, ◌↔◌, ℕ, List, [], ◌∷◌, Some, IfOk, IsTrue, drop, nat_lt, slice_get};
+ghost use Rattle.ms_task.specs.Control.{deepest, settled, started};
+ghost use Rattle.ms_task.specs.Thread.{Begins, depth_of, sequence, with_first};
 ghost use Rattle.ms_task.specs.View.{at_next, before, frame_of, items_of, settle_one, thread_of};
 ghost use Rattle.ms_task.specs.declared.func.FuncInst.{FuncInst};
 
-use crate::control::add_locals;
+use crate::control::{DEEPEST, add_locals};
 use crate::frames::Frames;
 use crate::func::FuncInst;
 use crate::marks::{Mark, Marks};
@@ -70,6 +70,20 @@ impl Task {
         ensures { IsTrue result ↔ ((thread_of funcs.now self.now).work ≡ []) }
     {
         self.marks.is_empty() && self.is_at_end(funcs)
+    }
+
+    /// The address of the function that is carried out.
+    pub fn function(&self) -> usize
+        ensures { result ≡ (frame_of self.now).function }
+    {
+        self.function
+    }
+
+    /// Whether one more call may be open.
+    pub fn may_call(&self) -> bool
+        ensures { (funcs : List FuncInst) (next : ℕ) → result ≡ nat_lt (depth_of (at_next funcs self.now next).work) deepest }
+    {
+        self.marks.depth() < DEEPEST
     }
 
     /// The next instruction.

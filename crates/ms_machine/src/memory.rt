@@ -1,0 +1,80 @@
+//! Numeric instructions, and those on the linear memory and on segments, on the store.
+
+ghost use Rattle.std.specs.Prelude.{◌<◌, ◌^◌};
+ghost use Rattle.ms_machine.specs.Doing.{Acts, Can};
+ghost use Rattle.ms_machine.specs.Holding.{Each, Fits};
+ghost use Rattle.ms_module.specs.declared.instr.Instr.TheVariants as instr;
+
+use crate::fault::{Fault, of_operate};
+use crate::segment;
+use crate::store::Store;
+use ms_event::Event;
+use ms_live::Gaps;
+use ms_module::{Linear, Numeric, Segment};
+use ms_operate::Fault as OperateFault;
+use ms_tagged::Tagged;
+use ms_task::Task;
+
+/// A numeric instruction.
+pub(crate) fn numeric<G: Gaps, T: Tagged>(
+    store: &Store<G, T>,
+    task: &mut Task,
+    i: Numeric,
+    next: usize,
+) -> Result<Option<Event>, Fault>
+    requires { Can (instr.Numeric i) next store.now task.old }
+    ensures { Acts (instr.Numeric i) next store.now task.old store.now task.new result }
+{
+    let _ = store;
+    match ms_operate::numeric(i, &mut task.operands) {
+        Ok(()) => {
+            task.go_to(next);
+            Ok(None)
+        }
+        Err(trap) => Err(Fault::Trap(of_operate(trap))),
+    }
+}
+
+/// An instruction on the linear memory.
+pub(crate) fn linear<G: Gaps, T: Tagged>(
+    store: &mut Store<G, T>,
+    task: &mut Task,
+    i: Linear,
+    next: usize,
+) -> Result<Option<Event>, Fault>
+    requires { Can (instr.Linear i) next store.old task.old }
+    ensures { Acts (instr.Linear i) next store.old task.old store.new task.new result }
+{
+    let Some(address) = store.instance(task.function()).memory else {
+        unreachable!()
+    };
+    match ms_operate::linear(i, &mut store.memories[address as usize], &mut task.operands) {
+        Ok(()) => {
+            task.go_to(next);
+            Ok(None)
+        }
+        Err(OperateFault::Trap(trap)) => Err(Fault::Trap(of_operate(trap))),
+        Err(OperateFault::Memory) => Err(Fault::Memory),
+    }
+}
+
+/// An instruction on handles and segments.
+pub(crate) fn segment<G: Gaps, T: Tagged>(
+    store: &mut Store<G, T>,
+    task: &mut Task,
+    i: Segment,
+    next: usize,
+) -> Result<Option<Event>, Fault>
+    requires can { Can (instr.Segment i) next store.old task.old }
+    requires few { store.old.segments.made < 2 ^ 63 }
+    requires fit { Each (Fits store.old.segments) task.old.operands }
+    ensures { Acts (instr.Segment i) next store.old task.old store.new task.new result }
+{
+    match segment::segment(i, &mut store.segments, &mut task.operands) {
+        Ok(event) => {
+            task.go_to(next);
+            Ok(event)
+        }
+        Err(fault) => Err(fault),
+    }
+}

@@ -1,0 +1,195 @@
+//! Constants, and parametric and variable instructions (WebAssembly 1.0, 4.4.1 to 4.4.3), each in a small function.
+
+ghost use Rattle.ms_machine.specs.Doing.{Acts, Can};
+ghost use Rattle.ms_module.specs.declared.instr.Instr.TheVariants as instr;
+
+use crate::fault::Fault;
+use crate::store::Store;
+use ms_event::Event;
+use ms_linear::Value;
+use ms_live::Gaps;
+use ms_tagged::Tagged;
+use ms_task::Task;
+
+/// `nop`.
+pub(crate) fn nop<G: Gaps, T: Tagged>(
+    store: &Store<G, T>,
+    task: &mut Task,
+    next: usize,
+) -> Result<Option<Event>, Fault>
+    ensures { Acts instr.Nop next store.now task.old store.now task.new result }
+{
+    let _ = store;
+    task.go_to(next);
+    Ok(None)
+}
+
+/// `i32.const`.
+pub(crate) fn i32_const<G: Gaps, T: Tagged>(
+    store: &Store<G, T>,
+    task: &mut Task,
+    n: i32,
+    next: usize,
+) -> Result<Option<Event>, Fault>
+    ensures { Acts (instr.I32Const n) next store.now task.old store.now task.new result }
+{
+    let _ = store;
+    match task.operands.push(Value::I32(n.cast_unsigned())) {
+        Ok(()) => {
+            task.go_to(next);
+            Ok(None)
+        }
+        Err(_) => Err(Fault::Memory),
+    }
+}
+
+/// `i64.const`.
+pub(crate) fn i64_const<G: Gaps, T: Tagged>(
+    store: &Store<G, T>,
+    task: &mut Task,
+    n: i64,
+    next: usize,
+) -> Result<Option<Event>, Fault>
+    ensures { Acts (instr.I64Const n) next store.now task.old store.now task.new result }
+{
+    let _ = store;
+    match task.operands.push(Value::I64(n.cast_unsigned())) {
+        Ok(()) => {
+            task.go_to(next);
+            Ok(None)
+        }
+        Err(_) => Err(Fault::Memory),
+    }
+}
+
+/// `drop`.
+pub(crate) fn discard<G: Gaps, T: Tagged>(
+    store: &Store<G, T>,
+    task: &mut Task,
+    next: usize,
+) -> Result<Option<Event>, Fault>
+    requires { Can instr.Drop next store.now task.old }
+    ensures { Acts instr.Drop next store.now task.old store.now task.new result }
+{
+    let _ = store;
+    task.operands.cut(1);
+    task.go_to(next);
+    Ok(None)
+}
+
+/// `select`.
+pub(crate) fn select<G: Gaps, T: Tagged>(
+    store: &Store<G, T>,
+    task: &mut Task,
+    next: usize,
+) -> Result<Option<Event>, Fault>
+    requires { Can instr.Select next store.now task.old }
+    ensures { Acts instr.Select next store.now task.old store.now task.new result }
+{
+    let _ = store;
+    let Value::I32(n) = task.operands.get(0) else {
+        unreachable!()
+    };
+    let other = task.operands.get(1);
+    task.operands.cut(2);
+    if n == 0 {
+        task.operands.set_top(other);
+    }
+    task.go_to(next);
+    Ok(None)
+}
+
+/// `local.get`.
+pub(crate) fn local_get<G: Gaps, T: Tagged>(
+    store: &Store<G, T>,
+    task: &mut Task,
+    x: u32,
+    next: usize,
+) -> Result<Option<Event>, Fault>
+    requires { Can (instr.LocalGet x) next store.now task.old }
+    ensures { Acts (instr.LocalGet x) next store.now task.old store.now task.new result }
+{
+    let _ = store;
+    let value = task.frames.get(x as usize);
+    match task.operands.push(value) {
+        Ok(()) => {
+            task.go_to(next);
+            Ok(None)
+        }
+        Err(_) => Err(Fault::Memory),
+    }
+}
+
+/// `local.set`.
+pub(crate) fn local_set<G: Gaps, T: Tagged>(
+    store: &Store<G, T>,
+    task: &mut Task,
+    x: u32,
+    next: usize,
+) -> Result<Option<Event>, Fault>
+    requires { Can (instr.LocalSet x) next store.now task.old }
+    ensures { Acts (instr.LocalSet x) next store.now task.old store.now task.new result }
+{
+    let _ = store;
+    let value = task.operands.get(0);
+    task.frames.set(x as usize, value);
+    task.operands.cut(1);
+    task.go_to(next);
+    Ok(None)
+}
+
+/// `local.tee`.
+pub(crate) fn local_tee<G: Gaps, T: Tagged>(
+    store: &Store<G, T>,
+    task: &mut Task,
+    x: u32,
+    next: usize,
+) -> Result<Option<Event>, Fault>
+    requires { Can (instr.LocalTee x) next store.now task.old }
+    ensures { Acts (instr.LocalTee x) next store.now task.old store.now task.new result }
+{
+    let _ = store;
+    let value = task.operands.get(0);
+    task.frames.set(x as usize, value);
+    task.go_to(next);
+    Ok(None)
+}
+
+/// `global.get`.
+pub(crate) fn global_get<G: Gaps, T: Tagged>(
+    store: &Store<G, T>,
+    task: &mut Task,
+    x: u32,
+    next: usize,
+) -> Result<Option<Event>, Fault>
+    requires { Can (instr.GlobalGet x) next store.now task.old }
+    ensures { Acts (instr.GlobalGet x) next store.now task.old store.now task.new result }
+{
+    let address = store.instance(task.function()).globals.as_slice()[x as usize];
+    let value = store.globals[address as usize].value;
+    match task.operands.push(value) {
+        Ok(()) => {
+            task.go_to(next);
+            Ok(None)
+        }
+        Err(_) => Err(Fault::Memory),
+    }
+}
+
+/// `global.set`.
+pub(crate) fn global_set<G: Gaps, T: Tagged>(
+    store: &mut Store<G, T>,
+    task: &mut Task,
+    x: u32,
+    next: usize,
+) -> Result<Option<Event>, Fault>
+    requires { Can (instr.GlobalSet x) next store.old task.old }
+    ensures { Acts (instr.GlobalSet x) next store.old task.old store.new task.new result }
+{
+    let address = store.instance(task.function()).globals.as_slice()[x as usize];
+    let value = task.operands.get(0);
+    store.globals[address as usize].value = value;
+    task.operands.cut(1);
+    task.go_to(next);
+    Ok(None)
+}
