@@ -71,6 +71,7 @@ pub(crate) fn if_else<G: Gaps, T: Tagged>(
 }
 
 /// `br`.
+#[tactic(auto, using(crate::proofs::Branches::br_can, crate::proofs::Branches::br_does))]
 pub(crate) fn br<G: Gaps, T: Tagged>(
     store: &Store<G, T>,
     task: &mut Task,
@@ -114,6 +115,7 @@ pub(crate) fn br_table<G: Gaps, T: Tagged>(
 }
 
 /// `return`.
+#[tactic(auto, using(crate::proofs::Branches::return_can, crate::proofs::Branches::return_does))]
 pub(crate) fn return_<G: Gaps, T: Tagged>(
     store: &Store<G, T>,
     task: &mut Task,

@@ -48,14 +48,14 @@ pub(crate) fn linear<G: Gaps, T: Tagged>(
     let Some(address) = store.instance(task.function()).memory else {
         unreachable!()
     };
-    match ms_operate::linear(i, &mut store.memories[address as usize], &mut task.operands) {
-        Ok(()) => {
-            task.go_to(next);
-            Ok(None)
-        }
-        Err(OperateFault::Trap(trap)) => Err(Fault::Trap(of_operate(trap))),
-        Err(OperateFault::Memory) => Err(Fault::Memory),
+    let memory = &mut store.memories[address as usize];
+    match ms_operate::linear(i, memory, &mut task.operands) {
+        Ok(()) => {}
+        Err(OperateFault::Trap(trap)) => return Err(Fault::Trap(of_operate(trap))),
+        Err(OperateFault::Memory) => return Err(Fault::Memory),
     }
+    task.go_to(next);
+    Ok(None)
 }
 
 /// An instruction on handles and segments.

@@ -1,0 +1,11 @@
+pub mod Branches
+pub mod SoundValues
+pub mod SoundWork
+pub mod SoundBlocks
+pub mod SoundCalls
+pub mod SoundNumbers
+pub mod SoundSegments
+pub mod SoundStores
+pub mod SoundPlain
+pub mod SoundActs
+pub mod Sound
