@@ -1,4 +1,5 @@
 pub mod Branches
+pub mod Memories
 pub mod SoundValues
 pub mod SoundWork
 pub mod SoundBlocks

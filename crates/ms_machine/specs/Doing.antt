@@ -4,14 +4,20 @@ use Rattle.ms_event.specs.declared.event.Event.{Event}
 use Rattle.ms_linear.specs.declared.value.Value.{Value}
 use Rattle.ms_module.specs.declared.instr.Instr.{Instr}
 use Rattle.ms_segment.specs.Memory.{Memory}
+use Rattle.ms_operate.specs.declared.trap.Fault.{Fault as OperateFault}
+use Rattle.ms_operate.specs.declared.trap.Fault.TheVariants as operate
 use Rattle.ms_task.specs.declared.task.Task.{Task}
 use Rattle.ms_task.specs.Thread.{Thread}
 use Rattle.ms_task.specs.View.{at_next, thread_of}
 use Rattle.ms_machine.specs.Segments.{Effect, Leaves, Stops}
-use Rattle.ms_machine.specs.Step.{Next, Outcome, Stuck, Trap, act}
+use Rattle.ms_machine.specs.Step.{Next, Outcome, Stuck, Trap, act, trap_of}
 use Rattle.ms_machine.specs.Store.{Store}
 use Rattle.ms_machine.specs.declared.fault.Fault.{Fault}
 use Rattle.ms_machine.specs.declared.fault.Fault.TheVariants as faults
+
+abbrev pub fault_of : OperateFault → Fault
+fault_of (operate.Trap trap) = faults.Trap (trap_of trap)
+fault_of operate.Memory = faults.Memory
 
 -- The operands, the memory and the event are those; or it stopped, and all is as before. Where memory ran out nothing is
 -- said: such a task isn't run again.

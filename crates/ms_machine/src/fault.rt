@@ -1,11 +1,12 @@
+ghost use Rattle.std.specs.Prelude.{◌≡◌};
+ghost use Rattle.ms_machine.specs.Doing.{fault_of};
+ghost use Rattle.ms_machine.specs.Segments.{trap_of as segment_trap_of};
+ghost use Rattle.ms_machine.specs.Step.{trap_of};
+
 use crate::trap::TrapKind;
 use ms_operate::{Fault as OperateFault, Trap};
 use ms_segment::SegTrap;
 use std::alloc::AllocError;
-
-ghost use Rattle.std.specs.Prelude.{◌≡◌};
-ghost use Rattle.ms_machine.specs.Segments.{trap_of as segment_trap_of};
-ghost use Rattle.ms_machine.specs.Step.{trap_of};
 
 /// Why an instruction was not carried out.
 #[derive(Clone, Copy, Debug, PartialEq, Eq)]
@@ -17,6 +18,10 @@ pub(crate) enum Fault {
 }
 
 impl From<AllocError> for Fault {
+    ghost use Rattle.ms_machine.specs.declared.fault.Fault.TheVariants.{Memory};
+
+    ghost from_gives = { λ _ f. f ≡ Memory };
+
     fn from(_: AllocError) -> Self {
         Fault::Memory
     }
@@ -30,6 +35,16 @@ pub(crate) fn of_operate(trap: Trap) -> TrapKind
         Trap::Zero => TrapKind::Zero,
         Trap::Overflow => TrapKind::Overflow,
         Trap::Linear => TrapKind::Linear,
+    }
+}
+
+/// The fault of an instruction on the linear memory.
+pub(crate) fn of_fault(fault: OperateFault) -> Fault
+    ensures { result ≡ fault_of fault }
+{
+    match fault {
+        OperateFault::Trap(trap) => Fault::Trap(of_operate(trap)),
+        OperateFault::Memory => Fault::Memory,
     }
 }
 

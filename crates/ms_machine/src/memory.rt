@@ -5,13 +5,12 @@ ghost use Rattle.ms_machine.specs.Doing.{Acts, Can};
 ghost use Rattle.ms_machine.specs.Holding.{Each, Fits};
 ghost use Rattle.ms_module.specs.declared.instr.Instr.TheVariants as instr;
 
-use crate::fault::{Fault, of_operate};
+use crate::fault::{Fault, of_fault, of_operate};
 use crate::segment;
 use crate::store::Store;
 use ms_event::Event;
 use ms_live::Gaps;
 use ms_module::{Linear, Numeric, Segment};
-use ms_operate::Fault as OperateFault;
 use ms_tagged::Tagged;
 use ms_task::Task;
 
@@ -51,8 +50,7 @@ pub(crate) fn linear<G: Gaps, T: Tagged>(
     let memory = &mut store.memories[address as usize];
     match ms_operate::linear(i, memory, &mut task.operands) {
         Ok(()) => {}
-        Err(OperateFault::Trap(trap)) => return Err(Fault::Trap(of_operate(trap))),
-        Err(OperateFault::Memory) => return Err(Fault::Memory),
+        Err(fault) => return Err(of_fault(fault)),
     }
     task.go_to(next);
     Ok(None)
