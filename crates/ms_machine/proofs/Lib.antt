@@ -1,5 +1,6 @@
 pub mod Branches
 pub mod Memories
+pub mod Performing
 pub mod SoundValues
 pub mod SoundWork
 pub mod SoundBlocks

@@ -1,5 +1,5 @@
 -- What the code of an instruction did, against what the definition says of the instruction.
-use Rattle.std.specs.Prelude.{◌≡◌, ◌≢◌, ℕ, List, Option, Result, Ok, Err}
+use Rattle.std.specs.Prelude.{◌≡◌, ◌≢◌, ℕ, Bool, List, Option, Result, Ok, Err}
 use Rattle.ms_event.specs.declared.event.Event.{Event}
 use Rattle.ms_linear.specs.declared.value.Value.{Value}
 use Rattle.ms_module.specs.declared.instr.Instr.{Instr}
@@ -39,3 +39,14 @@ Can i next s task = act s i (at_next s.funcs task next) ≢ Stuck
 -- The code of the instruction did what the definition says.
 abbrev pub Acts : Instr → ℕ → Store → Task → Store → Task → Result (Option Event) Fault → Type 0
 Acts i next s task s' task' result = Performs (act s i (at_next s.funcs task next)) s (thread_of s.funcs task) s' (thread_of s'.funcs task') result
+
+-- ---- the same with a word on what follows
+
+abbrev pub with_more : Result (Option Event) Fault → Bool → Result (Option Event × Bool) Fault
+with_more (Ok event) more = Ok (event, more)
+with_more (Err fault) more = Err fault
+
+abbrev pub PerformsFirst : Outcome → Store → Thread → Store → Thread → Result (Option Event × Bool) Fault → Type 0
+PerformsFirst outcome old old-thread new new-thread (Ok x) = outcome ≡ Next new new-thread x.0
+PerformsFirst outcome old old-thread new new-thread (Err (faults.Trap kind)) = (outcome ≡ Trap kind) × (new ≡ old) × (new-thread ≡ old-thread)
+PerformsFirst outcome old old-thread new new-thread (Err faults.Memory) = Unit {0}

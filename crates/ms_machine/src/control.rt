@@ -12,7 +12,6 @@ use crate::trap::TrapKind;
 use ms_event::Event;
 use ms_linear::{CallTrap, Value, target};
 use ms_live::Gaps;
-use ms_module::BrTable;
 use ms_tagged::Tagged;
 use ms_task::{CallFault, Task};
 use ms_types::ValType;
@@ -97,20 +96,6 @@ pub(crate) fn br_if<G: Gaps, T: Tagged>(
     ensures { Acts (instr.BrIf label) next store.now task.old store.now task.new result }
 {
     task.branch_if(&store.funcs, label, next);
-    Ok(None)
-}
-
-/// `br_table`.
-pub(crate) fn br_table<G: Gaps, T: Tagged>(
-    store: &Store<G, T>,
-    task: &mut Task,
-    table: &BrTable,
-    next: usize,
-) -> Result<Option<Event>, Fault>
-    requires { Can (instr.BrTable table.now) next store.now task.old }
-    ensures { Acts (instr.BrTable table.now) next store.now task.old store.now task.new result }
-{
-    task.branch_by_table(&store.funcs, table, next);
     Ok(None)
 }
 

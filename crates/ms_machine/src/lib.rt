@@ -3,6 +3,7 @@
 //! `specs/Step.antt` says what a step does, on lists; `specs/Typing.antt` what a well-typed task is.
 #![tactic(auto)]
 
+mod step;
 mod stepped;
 mod control;
 mod fault;

@@ -1,0 +1,102 @@
+//! One step of a task.
+
+ghost use Rattle.std.specs.Prelude.{◌≡◌, ◌≢◌, ◌<◌, ◌^◌, IfOk, IsTrue};
+ghost use Rattle.ms_machine.specs.Doing.{PerformsFirst, with_more};
+ghost use Rattle.ms_machine.specs.Holding.{Each, Fits};
+ghost use Rattle.ms_machine.specs.Step.{Stuck, begin, step_of};
+ghost use Rattle.ms_machine.specs.Stepped.{Carries};
+ghost use Rattle.ms_task.specs.Thread.{Begins};
+ghost use Rattle.ms_task.specs.View.{thread_of};
+
+use crate::control;
+use crate::fault::Fault;
+use crate::memory;
+use crate::plain;
+use crate::stepped::Stepped;
+use crate::store::Store;
+use crate::trap::TrapKind;
+use ms_event::Event;
+use ms_live::Gaps;
+use ms_module::Instr;
+use ms_tagged::Tagged;
+use ms_task::Task;
+
+/// The same with a word on what follows.
+fn told(outcome: Result<Option<Event>, Fault>, more: bool) -> Result<(Option<Event>, bool), Fault>
+    ensures { result ≡ with_more outcome more }
+{
+    match outcome {
+        Ok(event) => Ok((event, more)),
+        Err(fault) => Err(fault),
+    }
+}
+
+/// Carries out the first instruction. It says `true` only where another instruction is then the first thing left to do.
+fn perform<G: Gaps, T: Tagged>(
+    store: &mut Store<G, T>,
+    task: &mut Task,
+) -> Result<(Option<Event>, bool), Fault>
+    requires begins { Begins (thread_of store.old.funcs task.old).work }
+    requires can { begin store.old (thread_of store.old.funcs task.old) ≢ Stuck }
+    requires few { store.old.segments.made < 2 ^ 63 }
+    requires fit { Each (Fits store.old.segments) task.old.operands }
+    ensures done { PerformsFirst (begin store.old (thread_of store.old.funcs task.old)) store.old (thread_of store.old.funcs task.old) store.new (thread_of store.new.funcs task.new) result }
+    ensures more { IfOk result (λ x. IsTrue x.1 → Begins (thread_of store.new.funcs task.new).work) }
+{
+    let fetched = task.fetch(&store.funcs);
+    let next = fetched.next;
+    let more = fetched.more;
+    match *fetched.instr {
+        Instr::Unreachable => Err(Fault::Trap(TrapKind::Unreachable)),
+        Instr::Nop => told(plain::nop(store, task, next), more),
+        Instr::Block { ty, body } => told(control::block(store, task, ty, body, next), false),
+        Instr::Loop { ty, body } => told(control::begin_loop(store, task, ty, body, next), false),
+        Instr::If { ty, then, other } => {
+            told(control::if_else(store, task, ty, then, other, next), false)
+        }
+        Instr::Br(label) => told(control::br(store, task, label, next), false),
+        Instr::BrIf(label) => told(control::br_if(store, task, label, next), false),
+        Instr::BrTable(ref table) => {
+            task.branch_by_table(&store.funcs, table, next);
+            Ok((None, false))
+        }
+        Instr::Return => told(control::return_(store, task, next), false),
+        Instr::Call(x) => told(control::call(store, task, x, next), false),
+        Instr::CallIndirect(x) => told(control::call_indirect(store, task, x, next), false),
+        Instr::Drop => told(plain::discard(store, task, next), more),
+        Instr::Select => told(plain::select(store, task, next), more),
+        Instr::LocalGet(x) => told(plain::local_get(store, task, x, next), more),
+        Instr::LocalSet(x) => told(plain::local_set(store, task, x, next), more),
+        Instr::LocalTee(x) => told(plain::local_tee(store, task, x, next), more),
+        Instr::GlobalGet(x) => told(plain::global_get(store, task, x, next), more),
+        Instr::GlobalSet(x) => told(plain::global_set(store, task, x, next), more),
+        Instr::I32Const(n) => told(plain::i32_const(store, task, n, next), more),
+        Instr::I64Const(n) => told(plain::i64_const(store, task, n, next), more),
+        Instr::Numeric(i) => told(memory::numeric(store, task, i, next), more),
+        Instr::Linear(i) => told(memory::linear(store, task, i, next), more),
+        Instr::Segment(i) => told(memory::segment(store, task, i, next), more),
+    }
+}
+
+/// One step of a task that is not stuck.
+fn advance<G: Gaps, T: Tagged>(store: &mut Store<G, T>, task: &mut Task) -> Stepped
+    requires begins { Begins (thread_of store.old.funcs task.old).work }
+    requires can { begin store.old (thread_of store.old.funcs task.old) ≢ Stuck }
+    requires few { store.old.segments.made < 2 ^ 63 }
+    requires fit { Each (Fits store.old.segments) task.old.operands }
+    ensures { Carries result (step_of store.old (thread_of store.old.funcs task.old)) store.old (thread_of store.old.funcs task.old) store.new (thread_of store.new.funcs task.new) }
+{
+    match perform(store, task) {
+        Ok((event, more)) => {
+            if more {
+                return Stepped::On(event);
+            }
+            if task.settle(&store.funcs) {
+                return Stepped::Ended(task.operands.last(), event);
+            }
+            Stepped::On(event)
+        }
+        Err(Fault::Trap(kind)) => Stepped::Trap(kind),
+        Err(Fault::Memory) => Stepped::Memory,
+    }
+}
