@@ -1,7 +1,7 @@
 ghost use Rattle.std.specs.Prelude.{◌≡◌, ◌<◌, ◌≤◌, ◌↔◌, IfOk, IsTrue, length, None, replicate, slice_set, Some};
 ghost use Rattle.ms_linear.specs.Table.{IsTarget, target_of, with_entry};
 
-use ms_types::{FuncType, Limits, ValType};
+use ms_types::{FuncType, Limits, SharedType, ValType};
 use std::alloc::{AllocError, Global};
 use std::marker::Model;
 
@@ -18,7 +18,7 @@ pub struct Entry {
     /// The function.
     pub func: FuncRef,
     /// Its type.
-    pub sig: FuncType,
+    pub sig: SharedType,
 }
 
 /// Why a call goes nowhere.
@@ -95,7 +95,7 @@ pub fn target(table: &Table, i: u32, sig: &FuncType) -> Result<FuncRef, CallTrap
     let Some(entry) = &table.entries[index] else {
         return Err(CallTrap::Empty);
     };
-    if !is_same_type(&entry.sig, sig) {
+    if !is_same_type(entry.sig.ty(), sig) {
         return Err(CallTrap::Signature);
     }
     Ok(entry.func)

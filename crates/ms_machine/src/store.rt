@@ -6,14 +6,14 @@ use ms_live::Gaps;
 use ms_segment::Segments;
 use ms_tagged::Tagged;
 use ms_task::FuncInst;
-use ms_types::{FuncType, Vector};
+use ms_types::{SharedType, Vector};
 use std::marker::Model;
 
 /// An instance of a module (WebAssembly 1.0, 4.2.5): its types, and the addresses of what its indices name.
 #[derive(Debug, Drop)]
 pub struct Instance {
     /// The function types.
-    pub types: Vector<FuncType>,
+    pub types: Vector<SharedType>,
     /// The functions, by their addresses in the store.
     pub funcs: Vector<u32>,
     /// The address of the table, if there is one.

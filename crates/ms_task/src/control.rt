@@ -233,7 +233,7 @@ impl Task {
         }
         let func = &funcs[address as usize];
         let base = self.frames.enter();
-        take_arguments(&mut self.operands, &mut self.frames, func.ty.params.len())?;
+        take_arguments(&mut self.operands, &mut self.frames, func.ty.params().len())?;
         add_locals(&mut self.frames, &func.locals)?;
         self.marks.push_call(
             func.result(),

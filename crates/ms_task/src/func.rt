@@ -2,7 +2,7 @@ ghost use Rattle.std.specs.Prelude.{◌≡◌};
 ghost use Rattle.ms_task.specs.Thread.{result_of};
 
 use ms_module::{Code, Locals};
-use ms_types::{FuncType, ValType};
+use ms_types::{SharedType, ValType};
 
 /// A function of the store (WebAssembly 1.0, 4.2.6).
 #[derive(Debug, Drop)]
@@ -10,7 +10,7 @@ pub struct FuncInst {
     /// The number of its instance.
     pub instance: u32,
     /// Its type.
-    pub ty: FuncType,
+    pub ty: SharedType,
     /// The types of the locals that it declares, its parameters not among them.
     pub locals: Locals,
     /// Its body.
@@ -22,6 +22,6 @@ impl FuncInst {
     pub fn result(&self) -> Option<ValType>
         ensures { result ≡ result_of self.now }
     {
-        self.ty.results.as_slice().first().copied()
+        self.ty.results().first().copied()
     }
 }

@@ -53,6 +53,13 @@ impl<T> Vector<T> {
         self.items.as_slice()
     }
 
+    /// The items as a `Vec`. Takes no memory.
+    pub fn into_vec(self) -> Vec<T>
+        ensures { result.items ≡ self }
+    {
+        self.items
+    }
+
     /// Adds an item at the end. After an error, which gives the item back, nothing has changed.
     pub fn push(&mut self, item: T) -> Result<(), AllocFailed<T>>
         ensures items { self.new ≡ (if is_ok result then self.old ++ item ∷ [] else self.old) }

@@ -30,7 +30,7 @@ fn table(rt: &impl Abort, alloc: Global) -> Result<Table, AllocError> {
     for (i, address, sig) in [(1, 9, PAIR), (1, 10, NOTHING), (3, 11, PAIR)] {
         let entry = Entry {
             func: FuncRef { address },
-            sig: sig_of(alloc, sig)?,
+            sig: SharedType::new(alloc, sig_of(alloc, sig)?)?,
         };
         assert!(rt; i < table.len());
         table.set(i, entry);
