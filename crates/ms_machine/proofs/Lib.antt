@@ -14,3 +14,4 @@ pub mod HeldControl
 pub mod HeldPlain
 pub mod HeldSegments
 pub mod HeldActs
+pub mod HeldWork
