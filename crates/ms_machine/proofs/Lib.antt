@@ -15,3 +15,5 @@ pub mod HeldPlain
 pub mod HeldSegments
 pub mod HeldActs
 pub mod HeldWork
+pub mod HeldMemory
+pub mod HeldFits
