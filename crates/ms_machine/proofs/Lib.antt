@@ -11,3 +11,11 @@ pub mod SoundStores
 pub mod SoundPlain
 pub mod SoundActs
 pub mod Sound
+pub mod HeldValues
+pub mod HeldControl
+pub mod HeldPlain
+pub mod HeldSegments
+pub mod HeldActs
+pub mod HeldWork
+pub mod HeldMemory
+pub mod HeldFits
