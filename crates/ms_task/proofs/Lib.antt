@@ -1,6 +1,8 @@
-pub mod Counted
+mod Counted
 pub mod Places
 pub mod Items
 pub mod Kept
-pub mod Branches
-pub mod Calls
+mod Branches
+mod Calls
+mod Numbering
+mod Tested

@@ -90,7 +90,7 @@ pub(crate) fn add_locals(frames: &mut Frames, types: &Locals) -> Result<(), Allo
 }
 
 /// The label for an operand.
-fn label_at(table: &BrTable, operand: u32) -> u32
+pub(crate) fn label_at(table: &BrTable, operand: u32) -> u32
     ensures { result ≡ unwrap_or (slice_get table.now.labels operand) table.now.default }
 {
     let labels = table.labels();

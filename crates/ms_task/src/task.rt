@@ -162,3 +162,6 @@ impl Task {
         }
     }
 }
+
+#[cfg(test)]
+mod tests;
