@@ -149,7 +149,11 @@ pub(crate) fn call_indirect<G: Gaps, T: Tagged>(
     let Value::I32(i) = task.operands.get(0) else {
         unreachable!()
     };
-    match target(&store.tables[address as usize], i, instance.types.as_slice()[x as usize].ty()) {
+    match target(
+        &store.tables[address as usize],
+        i,
+        instance.types.as_slice()[x as usize].ty(),
+    ) {
         Ok(func) => {
             if !task.may_call() {
                 return Err(Fault::Trap(TrapKind::Depth));

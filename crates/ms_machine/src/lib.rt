@@ -3,16 +3,19 @@
 //! `specs/Step.antt` says what a step does, on lists; `specs/Typing.antt` what a well-typed task is.
 #![tactic(auto)]
 
-mod step;
-mod stepped;
 mod control;
 mod fault;
+mod machine;
 mod memory;
 mod plain;
 mod segment;
+mod starting;
+mod stepped;
 mod store;
 mod trap;
 
+pub use machine::step;
+pub use starting::{has_ended, start};
 pub use stepped::Stepped;
 pub use store::{Instance, Store};
 pub use trap::TrapKind;

@@ -131,7 +131,10 @@ fn told_slice(handle: Handle, part: Handle) -> Option<Event>
     match (handle, part) {
         (
             Handle::Good {
-                id, base, length, ..
+                id,
+                base,
+                length,
+                ..
             },
             Handle::Good {
                 base: base2,

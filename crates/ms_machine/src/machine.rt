@@ -1,23 +1,25 @@
 //! One step of a task.
 
-ghost use Rattle.std.specs.Prelude.{◌≡◌, ◌≢◌, ◌<◌, ◌^◌, IfOk, IsTrue};
+ghost use Rattle.std.specs.Prelude.{◌≡◌, ◌≢◌, ◌+◌, ◌<◌, ◌≤◌, ◌^◌, [], IfOk, IsTrue};
+ghost use Rattle.ms_handle.specs.declared.handle.Handle.{Handle};
 ghost use Rattle.ms_machine.specs.Doing.{PerformsFirst, with_more};
-ghost use Rattle.ms_machine.specs.Holding.{Each, Fits};
+ghost use Rattle.ms_machine.specs.Holding.{Each, Fits, StoreFits, ThreadFits};
 ghost use Rattle.ms_machine.specs.Step.{Stuck, begin, step_of};
 ghost use Rattle.ms_machine.specs.Stepped.{Carries};
+ghost use Rattle.ms_machine.specs.Typing.{StoreTyped, TaskTyped, outline_of};
+ghost use Rattle.ms_segment.specs.Memory.{IsFit};
 ghost use Rattle.ms_task.specs.Thread.{Begins};
 ghost use Rattle.ms_task.specs.View.{thread_of};
 
-use crate::control;
 use crate::fault::Fault;
-use crate::memory;
-use crate::plain;
 use crate::stepped::Stepped;
 use crate::store::Store;
 use crate::trap::TrapKind;
+use crate::{control, memory, plain};
 use ms_event::Event;
 use ms_live::Gaps;
 use ms_module::Instr;
+use ms_outside::{Sink, Source};
 use ms_tagged::Tagged;
 use ms_task::Task;
 
@@ -99,4 +101,37 @@ fn advance<G: Gaps, T: Tagged>(store: &mut Store<G, T>, task: &mut Task) -> Step
         Err(Fault::Trap(kind)) => Stepped::Trap(kind),
         Err(Fault::Memory) => Stepped::Memory,
     }
+}
+
+/// One step of a task that has not ended: it carries out one instruction, and leaves the blocks and calls that are then
+/// at their ends.
+///
+/// A well-typed task of a well-typed store is never stuck, and stays well typed; handles that fit go on fitting, those of
+/// other tasks too. A trap changes nothing. No instruction takes from the input or puts to the output yet.
+#[tactic(auto, using(crate::proofs::Sound::never_stuck, crate::proofs::Sound::begins_well, crate::proofs::Sound::carries_typed, crate::proofs::HeldFits::carries_fits))]
+pub fn step<G: Gaps, T: Tagged, I: Source, O: Sink>(
+    store: &mut Store<G, T>,
+    task: &mut Task,
+    input: &mut I,
+    out: &mut O,
+) -> Stepped
+    requires store { StoreTyped (outline_of store.old) }
+    requires task { TaskTyped (outline_of store.old) (thread_of store.old.funcs task.old) }
+    requires going { (thread_of store.old.funcs task.old).work ≢ [] }
+    requires few { store.old.segments.made < 2 ^ 63 }
+    requires store_fits { StoreFits store.old }
+    requires task_fits { ThreadFits store.old (thread_of store.old.funcs task.old) }
+    ensures step { Carries result (step_of store.old (thread_of store.old.funcs task.old)) store.old (thread_of store.old.funcs task.old) store.new (thread_of store.new.funcs task.new) }
+    ensures outline { result ≢ Stepped.Memory → outline_of store.new ≡ outline_of store.old }
+    ensures task { result ≢ Stepped.Memory → TaskTyped (outline_of store.new) (thread_of store.new.funcs task.new) }
+    ensures store_fits { result ≢ Stepped.Memory → StoreFits store.new }
+    ensures task_fits { result ≢ Stepped.Memory → ThreadFits store.new (thread_of store.new.funcs task.new) }
+    ensures others { result ≢ Stepped.Memory → (h : Handle) → IsFit store.old.segments h → IsFit store.new.segments h }
+    ensures made { result ≢ Stepped.Memory → store.new.segments.made ≤ store.old.segments.made + 1 }
+    ensures input { (I.left input.new ≡ I.left input.old) × (I.faults input.new ≡ I.faults input.old) }
+    ensures out { (O.held out.new ≡ O.held out.old) × (O.faults out.new ≡ O.faults out.old) }
+{
+    let _ = &input;
+    let _ = &out;
+    advance(store, task)
 }

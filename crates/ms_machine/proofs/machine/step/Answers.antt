@@ -1,0 +1,20 @@
+use Rattle.ms_machine.proofs.HeldFits.{carries_fits}
+use Rattle.ms_machine.proofs.Sound.{carries_typed, never_stuck}
+use Rattle.ms_task.specs.View.{thread_of}
+use Rattle.ms_machine.proofs.machine.step.Goals as goal
+
+pub advance-requires-clause-can : goal.advance-requires-clause-can
+advance-requires-clause-can g c =
+    never_stuck c.args.store.now (thread_of c.args.store.now.funcs c.args.task.now) c.requires.store c.requires.task c.requires.going
+
+pub returns-clause-task : goal.returns-clause-task
+returns-clause-task g c = λ able.
+    let s = c.args.store.now in
+    let s' = c.advance.new.store in
+    (carries_typed s s' (thread_of s.funcs c.args.task.now) (thread_of s'.funcs c.advance.new.task) c.advance.result c.advance.ensures able c.requires.store c.requires.task c.requires.going).1
+
+pub returns-clause-task_fits : goal.returns-clause-task_fits
+returns-clause-task_fits g c = λ able.
+    let s = c.args.store.now in
+    let s' = c.advance.new.store in
+    (carries_fits s s' (thread_of s.funcs c.args.task.now) (thread_of s'.funcs c.advance.new.task) c.advance.result c.advance.ensures able c.requires.store_fits c.requires.task_fits).1

@@ -1,0 +1,37 @@
+//! The start of a task.
+
+ghost use Rattle.std.specs.Prelude.{◌≡◌, ◌↔◌, [], IfOk, IsTrue, Some, slice_get};
+ghost use Rattle.ms_machine.specs.Holding.{ThreadFits};
+ghost use Rattle.ms_machine.specs.Typing.{StoreTyped, TaskTyped, outline_of};
+ghost use Rattle.ms_task.specs.Control.{settled, started};
+ghost use Rattle.ms_task.specs.View.{thread_of};
+ghost use Rattle.ms_task.specs.declared.func.FuncInst.{FuncInst};
+
+use crate::store::Store;
+use ms_live::Gaps;
+use ms_tagged::Tagged;
+use ms_task::Task;
+use std::alloc::{AllocError, Global};
+
+/// A task that carries out the function of an address, which has no parameters. It may have ended already, where the
+/// function's body is empty.
+pub fn start<G: Gaps, T: Tagged>(
+    alloc: Global,
+    store: &Store<G, T>,
+    address: u32,
+) -> Result<Task, AllocError>
+    requires store { StoreTyped (outline_of store.now) }
+    requires there { (g : FuncInst) × (slice_get store.now.funcs address ≡ Some g) × (g.ty.params ≡ []) }
+    ensures start { (g : FuncInst) → slice_get store.now.funcs address ≡ Some g → IfOk result (λ t. thread_of store.now.funcs t ≡ settled (started store.now.funcs address g)) }
+    ensures task { IfOk result (λ t. TaskTyped (outline_of store.now) (thread_of store.now.funcs t)) }
+    ensures fits { IfOk result (λ t. ThreadFits store.now (thread_of store.now.funcs t)) }
+{
+    Task::start(alloc, &store.funcs, address)
+}
+
+/// Whether a task of the store has nothing left to do.
+pub fn has_ended<G: Gaps, T: Tagged>(store: &Store<G, T>, task: &Task) -> bool
+    ensures { IsTrue result ↔ ((thread_of store.now.funcs task.now).work ≡ []) }
+{
+    task.has_ended(&store.funcs)
+}
