@@ -1,6 +1,5 @@
 -- A call and the start of a task, as the code makes them.
-use Rattle.std.proofs.Common.{◌≡◌, ◌≢◌, ℕ, suc, ◌+◌, ◌-◌, ◌<◌, ◌≤◌, List, [], ◌∷◌, ◌++◌, length, drop, take, slice_get, Option, Some, refl, sym, ap, ◌∙◌, arith, length-drop}
-use Rattle.std.proofs.Common.{subst, ⊎_elim, reverse, map, cond, append_assoc}
+use Rattle.std.proofs.Common.{◌≡◌, ◌≢◌, ℕ, suc, ◌+◌, ◌-◌, ◌<◌, ◌≤◌, List, [], ◌∷◌, ◌++◌, length, drop, take, slice_get, Option, Some, refl, sym, ap, ◌∙◌, arith, length-drop, subst, ⊎_elim, reverse, map, cond, append_assoc}
 use Rattle.ms_types.specs.declared.types.ValType.{ValType}
 use Rattle.ms_linear.specs.declared.value.Value.{Value}
 use Rattle.ms_linear.specs.Values.{default_of}
@@ -20,11 +19,11 @@ use Rattle.ms_task.proofs.Places.{no_function}
 
 pub depth_of-items_of : (funcs : List FuncInst) (f : ℕ) (below : List Value) (ms : List Mark) → depth_of (items_of funcs f below ms) ≡ calls_in ms
 depth_of-items_of funcs f below [] = refl
-depth_of-items_of funcs f below (marks.Label k h seq next a ∷ ms) = depth_past (drop next (sequence funcs f seq)) (items_of funcs f below ms) ∙ depth_of-items_of funcs f below ms
-depth_of-items_of funcs f below (marks.Activation k h g seq next base floor ∷ ms) = ap suc (depth_past (drop next (sequence funcs g seq)) (items_of funcs g (take base below) ms) ∙ depth_of-items_of funcs g (take base below) ms)
+depth_of-items_of funcs f below (marks.Label k h s next a ∷ ms) = depth_past (drop next (sequence funcs f s)) (items_of funcs f below ms) ∙ depth_of-items_of funcs f below ms
+depth_of-items_of funcs f below (marks.Activation k h g s next base floor ∷ ms) = ap suc (depth_past (drop next (sequence funcs g s)) (items_of funcs g (take base below) ms) ∙ depth_of-items_of funcs g (take base below) ms)
 
-pub depth_of_rest : (funcs : List FuncInst) (f seq next : ℕ) (below : List Value) (ms : List Mark) → depth_of (rest_at funcs f seq next ++ items_of funcs f below ms) ≡ calls_in ms
-depth_of_rest funcs f seq next below ms = depth_past (drop next (sequence funcs f seq)) (items_of funcs f below ms) ∙ depth_of-items_of funcs f below ms
+pub depth_of_rest : (funcs : List FuncInst) (f s next : ℕ) (below : List Value) (ms : List Mark) → depth_of (rest_at funcs f s next ++ items_of funcs f below ms) ≡ calls_in ms
+depth_of_rest funcs f s next below ms = depth_past (drop next (sequence funcs f s)) (items_of funcs f below ms) ∙ depth_of-items_of funcs f below ms
 
 pub call_deep : (funcs : List FuncInst) (f : ℕ) (t : Thread) → 4096 ≤ depth_of t.work → call_on funcs f t ≡ TooDeep
 call_deep funcs f t h = ap (λ b. cond b (enter funcs f (slice_get funcs f) t) (TooDeep)) (le-ltb _ _ h)

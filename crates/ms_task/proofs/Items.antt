@@ -8,7 +8,7 @@ use Rattle.ms_task.specs.declared.func.FuncInst.{FuncInst}
 use Rattle.ms_task.specs.declared.task.Task.{Task}
 use Rattle.ms_task.specs.Control.{again, block_on, branch, loop_on, return_on, settle}
 use Rattle.ms_task.specs.Thread.{Activation, Begins, Do, Frame, Item, Label, depth_of, dos, sequence, thread}
-use Rattle.ms_task.specs.View.{again_at, at_next, before, resume, settle_one}
+use Rattle.ms_task.specs.View.{again_at, at_next, before, outer_of, resume, settle_one}
 
 -- ---- instructions are passed over
 
@@ -23,6 +23,13 @@ return_past vs (i ∷ is) w = return_past vs is w
 pub depth_past : (is : List Instr) (w : List Item) → depth_of (dos is ++ w) ≡ depth_of w
 depth_past [] w = refl
 depth_past (i ∷ is) w = depth_past is w
+
+-- the same where a task goes on at a place
+pub branch_next : (l : ℕ) (fr : Frame) (vs : List Value) (funcs : List FuncInst) (t : Task) (next : ℕ) → branch l fr vs (at_next funcs t next).work ≡ branch l fr vs (outer_of funcs t)
+branch_next l fr vs funcs t next = branch_past l fr vs (drop next (sequence funcs t.function t.sequence)) (outer_of funcs t)
+
+pub return_next : (vs : List Value) (funcs : List FuncInst) (t : Task) (next : ℕ) → return_on vs (at_next funcs t next).work ≡ return_on vs (outer_of funcs t)
+return_next vs funcs t next = return_past vs (drop next (sequence funcs t.function t.sequence)) (outer_of funcs t)
 
 pub dos_are_nil : (is : List Instr) (w : List Item) → dos is ++ w ≡ [] → is ≡ []
 dos_are_nil [] w e = refl
