@@ -5,6 +5,7 @@
 
 mod control;
 mod fault;
+mod linking;
 mod machine;
 mod memory;
 mod plain;
@@ -14,6 +15,7 @@ mod stepped;
 mod store;
 mod trap;
 
+pub use linking::{LinkFault, Misfit};
 pub use machine::step;
 pub use starting::{has_ended, start};
 pub use stepped::Stepped;
