@@ -2,6 +2,7 @@ pub mod Branches
 pub mod Memories
 pub mod Performing
 pub mod Starts
+pub mod Runs
 pub mod SoundValues
 pub mod SoundWork
 pub mod SoundBlocks

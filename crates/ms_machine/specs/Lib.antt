@@ -3,6 +3,7 @@ pub mod Segments
 pub mod Step
 pub mod Stepped
 pub mod Linking
+pub mod Running
 pub mod Typing
 pub mod Holding
 pub mod Doing

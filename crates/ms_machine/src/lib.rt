@@ -9,6 +9,7 @@ mod linking;
 mod machine;
 mod memory;
 mod plain;
+mod running;
 mod segment;
 mod starting;
 mod stepped;
@@ -17,6 +18,7 @@ mod trap;
 
 pub use linking::{LinkFault, Misfit};
 pub use machine::step;
+pub use running::Ran;
 pub use starting::{has_ended, start};
 pub use stepped::Stepped;
 pub use store::{Instance, Store};
