@@ -1,5 +1,5 @@
 -- The globals of a module without imports: their first values have their types, and are no handle into the segment memory.
-use Rattle.std.proofs.Common.{◌≡◌, ℕ, zero, suc, List, [], ◌∷◌, All, map, slice_get, Option, Some, refl, sym, ap, ◌∙◌, subst}
+use Rattle.std.proofs.Common.{◌≡◌, zero, suc, List, [], ◌∷◌, All, map, refl, sym, ap, ◌∙◌}
 use Rattle.std.proofs.lemmas.List.Elements.{All-head, All-tail}
 use Rattle.ms_linear.specs.Values.{global_type_of, type_of}
 use Rattle.ms_module.specs.declared.access.Segment.TheVariants.{Null}
@@ -9,7 +9,6 @@ use Rattle.ms_module.specs.declared.module.Global.{Global}
 use Rattle.ms_module.specs.Numbered.{sequence_at}
 use Rattle.ms_rules.specs.Modules.{ConstantTyped, IsConstant}
 use Rattle.ms_segment.specs.Memory.{Memory}
-use Rattle.ms_types.specs.declared.types.GlobalType.{GlobalType}
 use Rattle.ms_types.specs.declared.types.ValType.{ValType}
 use Rattle.ms_machine.specs.Holding.{EachGlobal, Fits}
 use Rattle.ms_machine.specs.Linking.{constant, constant_in, constant_of, global_of}

@@ -1,9 +1,8 @@
 -- The store of a well-typed module without imports is well typed.
-use Rattle.std.proofs.Common.{◌≡◌, ℕ, zero, suc, ◌<◌, ◌≤◌, List, [], ◌∷◌, ◌++◌, All, get_or, length, map, slice_get, Option, Some, None, refl, sym, ap, ◌∙◌, subst, arith}
+use Rattle.std.proofs.Common.{◌≡◌, ℕ, zero, suc, ◌≤◌, [], ◌∷◌, ◌++◌, All, get_or, length, map, slice_get, Option, Some, None, refl, sym, ap, ◌∙◌, subst, arith}
 use Rattle.std.proofs.lemmas.List.{length-map}
 use Rattle.std.proofs.lemmas.Option.{get_or_from_slice_get}
 use Rattle.ms_linear.specs.Values.{global_type_of}
-use Rattle.ms_linear.specs.Table.{Table}
 use Rattle.ms_module.specs.declared.module.Func.{Func}
 use Rattle.ms_module.specs.declared.module.Module.{Module}
 use Rattle.ms_rules.specs.Context.{Context, context_of, imported_globals, imported_memories, imported_tables, inside, sigs_of_funcs}
@@ -14,7 +13,6 @@ use Rattle.ms_task.specs.declared.func.FuncInst.{FuncInst}
 use Rattle.ms_task.specs.Thread.{result_of}
 use Rattle.ms_types.specs.declared.types.FuncType.{FuncType}
 use Rattle.ms_types.specs.declared.types.ValType.{ValType}
-use Rattle.ms_machine.specs.declared.linking.Misfit.{Misfit}
 use Rattle.ms_machine.specs.declared.store.Instance.{Instance}
 use Rattle.ms_machine.specs.Linking.{empty_table, func_of, global_of, instance_for, misfit, no_type, numbers, store_of, values_of, zeroed}
 use Rattle.ms_machine.specs.Store.{at, number_of_instance}
