@@ -21,3 +21,8 @@ pub mod HeldActs
 pub mod HeldWork
 pub mod HeldMemory
 pub mod HeldFits
+pub mod LinkedIndices
+pub mod LinkedGlobals
+pub mod LinkedTables
+pub mod LinkedTypes
+pub mod LinkedStores
