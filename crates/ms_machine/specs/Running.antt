@@ -7,6 +7,7 @@ use Rattle.ms_task.specs.declared.func.FuncInst.{FuncInst}
 use Rattle.ms_task.specs.Thread.{Item, Thread, thread, Frame}
 use Rattle.ms_machine.specs.Step.{Next, Outcome, Stuck, Trap, step_of}
 use Rattle.ms_machine.specs.Store.{Store}
+use Rattle.ms_machine.specs.Typing.{Outline}
 use Rattle.ms_machine.specs.declared.running.Ran.{Ran}
 use Rattle.ms_machine.specs.declared.running.Ran.TheVariants as answers
 use Rattle.ms_machine.specs.declared.trap.TrapKind.{TrapKind}
@@ -92,3 +93,12 @@ Leaves ran left s r = Tells ran r.end × (r.store ≡ s) × (r.left ≡ left)
 -- they end alike
 abbrev pub EndAlike : Run → Run → Type 0
 EndAlike r r' = (r.end ≡ r'.end) × (r.store ≡ r'.store) × (r.left ≡ r'.left)
+
+-- a function of the store, without parameters
+abbrev pub IsAlone : Outline → ℕ → Type 0
+IsAlone o address = (g : FuncInst) × (slice_get o.funcs address ≡ Some g) × (g.ty.params ≡ [])
+
+-- The answer of a run, and the store that it leaves.
+abbrev pub RunsTo : Ran → Store → Run → Type 0
+RunsTo answers.Memory s r = Unit {0}
+RunsTo ran s r = Tells ran r.end × (r.store ≡ s)

@@ -18,7 +18,7 @@ mod trap;
 
 pub use linking::{LinkFault, Misfit};
 pub use machine::step;
-pub use running::Ran;
+pub use running::{Ran, run};
 pub use starting::{has_ended, start};
 pub use stepped::Stepped;
 pub use store::{Instance, Store};

@@ -1,11 +1,10 @@
 //! Runs of one task within a budget of steps.
 
-ghost use Rattle.std.specs.Prelude.{◌≡◌, ◌≢◌, ◌+◌, ◌<◌, ◌≤◌, ◌^◌, ℕ, [], Option, Some, None, slice_get};
+ghost use Rattle.std.specs.Prelude.{◌≡◌, ◌≢◌, ◌+◌, ◌<◌, ◌≤◌, ◌^◌, ℕ, MatchOption, None};
 ghost use Rattle.ms_machine.specs.Holding.{StoreFits, ThreadFits};
-ghost use Rattle.ms_machine.specs.Running.{Leaves, run_thread};
+ghost use Rattle.ms_machine.specs.Running.{IsAlone, Leaves, RunsTo, run_from, run_thread};
 ghost use Rattle.ms_machine.specs.Typing.{StoreTyped, TaskTyped, outline_of};
 ghost use Rattle.ms_task.specs.View.{thread_of};
-ghost use Rattle.ms_task.specs.declared.func.FuncInst.{FuncInst};
 
 use crate::machine::step;
 use crate::starting::{has_ended, start};
@@ -17,7 +16,7 @@ use ms_live::Gaps;
 use ms_outside::{Sink, Source};
 use ms_tagged::Tagged;
 use ms_task::Task;
-use std::alloc::{AllocError, Global};
+use std::alloc::Global;
 
 /// How a run ended.
 #[derive(Clone, Copy, Debug, PartialEq, Eq)]
@@ -72,4 +71,61 @@ fn run_task<G: Gaps, T: Tagged, I: Source, O: Sink>(
         }
     }
     (Ran::Budget, 0)
+}
+
+/// A run of a function without parameters.
+fn run_main<G: Gaps, T: Tagged, I: Source, O: Sink>(
+    alloc: Global,
+    store: &mut Store<G, T>,
+    main: u32,
+    budget: u64,
+    input: &mut I,
+    out: &mut O,
+) -> Ran
+    requires store { StoreTyped (outline_of store.old) }
+    requires fits { StoreFits store.old }
+    requires few { store.old.segments.made + budget < 2 ^ 63 }
+    requires main { IsAlone (outline_of store.old) main }
+    ensures run { RunsTo result store.new (run_from budget store.old None main) }
+    ensures input { (I.left input.new ≡ I.left input.old) × (I.faults input.new ≡ I.faults input.old) }
+    ensures out { (O.held out.new ≡ O.held out.old) × (O.faults out.new ≡ O.faults out.old) }
+{
+    let Ok(mut task) = start(alloc, store, main) else {
+        return Ran::Memory;
+    };
+    run_task(store, &mut task, budget, input, out).0
+}
+
+/// A run of the function `main`, after that of the start function, if there is one: at most `budget` steps of both.
+///
+/// Neither has parameters. What is left of `main` in the store stays, and so do the segments that are live.
+pub fn run<G: Gaps, T: Tagged, I: Source, O: Sink>(
+    alloc: Global,
+    store: &mut Store<G, T>,
+    first: Option<u32>,
+    main: u32,
+    budget: u64,
+    input: &mut I,
+    out: &mut O,
+) -> Ran
+    requires store { StoreTyped (outline_of store.old) }
+    requires fits { StoreFits store.old }
+    requires few { store.old.segments.made + budget < 2 ^ 63 }
+    requires first { MatchOption first Unit (λ f. IsAlone (outline_of store.old) f) }
+    requires main { IsAlone (outline_of store.old) main }
+    ensures run { RunsTo result store.new (run_from budget store.old first main) }
+    ensures input { (I.left input.new ≡ I.left input.old) × (I.faults input.new ≡ I.faults input.old) }
+    ensures out { (O.held out.new ≡ O.held out.old) × (O.faults out.new ≡ O.faults out.old) }
+{
+    let Some(address) = first else {
+        return run_main(alloc, store, main, budget, input, out);
+    };
+    let Ok(mut task) = start(alloc, store, address) else {
+        return Ran::Memory;
+    };
+    let (ran, left) = run_task(store, &mut task, budget, input, out);
+    match ran {
+        Ran::Result(_) => run_main(alloc, store, main, left, input, out),
+        _ => ran,
+    }
 }
