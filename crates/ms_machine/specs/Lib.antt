@@ -4,6 +4,7 @@ pub mod Step
 pub mod Stepped
 pub mod Linking
 pub mod Running
+pub mod Safety
 pub mod Typing
 pub mod Holding
 pub mod Doing
