@@ -36,8 +36,8 @@ pub record IsMonitored (state : State) (m : Memory) : Type 0 where
   pub pieces : (h : Handle) (i : ℕ) → Contains m.bytes (Piece h i) → KnowsHandle state h
 
 -- After these events, which the monitor accepts, each handle of the store and of the threads is known to it.
-pub record Sound (events : List Event) (s : Store) (threads : List Thread) : Type 0 where
+pub record Sound (events : List Event) (s : Store) (ts : List Thread) : Type 0 where
   pub accepted : Accepts (length s.segments.bytes) events
   pub monitored : IsMonitored (after_all nothing_yet events) s.segments
   pub globals : EachGlobal (Knows (after_all nothing_yet events)) s.globals
-  pub threads : All (ThreadHolds (Knows (after_all nothing_yet events))) threads
+  pub threads : All (ThreadHolds (Knows (after_all nothing_yet events))) ts
