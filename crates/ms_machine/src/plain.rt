@@ -149,8 +149,8 @@ pub(crate) fn local_tee<G: Gaps, T: Tagged>(
     ensures { Acts (instr.LocalTee x) next store.now task.old store.now task.new result }
 {
     let _ = store;
-    let value = task.operands.get(0);
-    task.frames.set(x as usize, value);
+    let kept = task.operands.get(0);
+    task.frames.set(x as usize, kept);
     task.go_to(next);
     Ok(None)
 }
