@@ -20,3 +20,4 @@ pub mod HeldActs
 pub mod HeldWork
 pub mod HeldMemory
 pub mod HeldFits
+pub mod LinkingFits
