@@ -67,7 +67,8 @@ fn elements_outside(module: &Module, values: &[Value]) -> Option<Misfit>
     requires values { values.now ≡ link.values_of «module».now }
     ensures { (next : Option Misfit) → link.elements_fit «module».now 0 «module».now.elements next ≡ link.or_next result next }
 {
-    for (i, e) in module.elements.as_slice().iter().enumerate() {
+    let elements = module.elements.as_slice();
+    for (i, e) in elements.iter().enumerate() {
         let at = index_of(constant(values, &e.offset));
         let end = u64::from(min_at(module.tables.as_slice(), e.table));
         if !reaches(at, e.funcs.len(), end) {
@@ -84,7 +85,8 @@ fn fills_outside(module: &Module, values: &[Value]) -> Option<Misfit>
     ensures { result ≡ link.fills_fit «module».now (length «module».now.elements) «module».now.fills }
 {
     let before = module.elements.len();
-    for (i, f) in module.fills.as_slice().iter().enumerate() {
+    let fills = module.fills.as_slice();
+    for (i, f) in fills.iter().enumerate() {
         let at = index_of(constant(values, &f.offset));
         let end = u64::from(min_at(module.memories.as_slice(), f.memory)) * PAGE;
         if !reaches(at, f.bytes.len(), end) {

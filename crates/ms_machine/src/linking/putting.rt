@@ -53,6 +53,7 @@ fn put_entries(
     requires there { All (λ f. f < length funcs.now) indices.now }
     ensures { OnOk result (table.new ≡ link.with_entries table.old at (map (link.entry_for funcs.now) indices.now)) }
 {
+    prove!(indices.len() <= table.len() as usize);
     for (i, f) in indices.iter().enumerate() {
         let sig = funcs[*f as usize].ty.share()?;
         let func = FuncRef { address: *f };
