@@ -21,3 +21,4 @@ pub mod HeldWork
 pub mod HeldMemory
 pub mod HeldFits
 pub mod LinkingFits
+pub mod LinkingRoom

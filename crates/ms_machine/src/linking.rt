@@ -10,16 +10,16 @@ mod fitting;
 mod making;
 mod putting;
 
-use crate::store::{Instance, Store};
+use crate::store::Store;
 use constant::values_of;
 use fitting::{first_misfit, is_countable};
-use making::{first_address, functions, globals_of, memories_of, numbers, share_types, tables_of};
+use making::{functions, globals_of, instance, share_types};
+use ms_linear::Value;
 use ms_live::Gaps;
 use ms_module::Module;
 use ms_segment::Segments;
 use ms_tagged::Tagged;
-use ms_types::Vector;
-use putting::{put_elements, put_fills};
+use putting::{memories_with, tables_with};
 use std::alloc::{AllocError, Global};
 
 /// What of a module doesn't fit the limits of a store, or its own tables and memories.
@@ -84,7 +84,7 @@ pub fn instantiate<G: Gaps, T: Tagged>(
 fn store_for<G: Gaps, T: Tagged>(
     alloc: Global,
     module: Module,
-    values: &[ms_linear::Value],
+    values: &[Value],
     capacity: u32,
 ) -> Result<Store<G, T>, AllocError>
     requires typed { WellTyped «module» }
@@ -95,25 +95,17 @@ fn store_for<G: Gaps, T: Tagged>(
     requires fits { link.misfit «module» ≡ None }
     ensures { IfOk result (λ s. s ≡ store_of «module» capacity) }
 {
-    let mut tables = tables_of(alloc, module.tables.as_slice())?;
-    let mut memories = memories_of(alloc, module.memories.as_slice())?;
-    let globals = globals_of(alloc, module.globals.as_slice())?;
-    let table = first_address(module.tables.as_slice());
-    let memory = first_address(module.memories.as_slice());
-    let function_numbers = numbers(alloc, module.funcs.len() as u32)?;
-    let global_numbers = numbers(alloc, module.globals.len() as u32)?;
-    put_fills(memories.as_mut_slice(), values, module.fills.as_slice());
+    let count = module.funcs.len() as u32;
     let types = share_types(alloc, module.sigs.into_vec())?;
     let funcs = functions(alloc, types.as_slice(), module.funcs.into_vec())?;
-    put_elements(tables.as_mut_slice(), funcs.as_slice(), values, module.elements.as_slice())?;
+    let globals = globals_of(alloc, module.globals.as_slice())?;
+    let limits = module.tables.as_slice();
+    let tables = tables_with(alloc, limits, funcs.as_slice(), values, module.elements.as_slice())?;
+    let sizes = module.memories.as_slice();
+    let memories = memories_with(alloc, sizes, values, module.fills.as_slice())?;
+    let instance = instance(alloc, types, count, limits, sizes, module.globals.len() as u32)?;
     let mut instances = Vec::with_capacity(alloc, 1)?;
-    instances.push(Instance {
-        types: Vector::from_vec(types),
-        funcs: Vector::from_vec(function_numbers),
-        table,
-        memory,
-        globals: Vector::from_vec(global_numbers),
-    })?;
+    instances.push(instance)?;
     let segments = Segments::new(alloc, capacity)?;
     Ok(Store { funcs, instances, tables, memories, globals, segments })
 }

@@ -6,10 +6,11 @@ ghost use Rattle.ms_machine.specs.Linking as link;
 ghost use Rattle.ms_module.specs.declared.module.Module.{Module};
 
 use super::constant::constant;
+use crate::store::Instance;
 use ms_linear::{GlobalInst, Linear, Table};
 use ms_module::{Func, Global as ModuleGlobal};
 use ms_task::FuncInst;
-use ms_types::{FuncType, Limits, SharedType};
+use ms_types::{FuncType, Limits, SharedType, Vector};
 use std::alloc::{AllocError, Global};
 
 /// Function types that can be shared.
@@ -70,7 +71,7 @@ pub(super) fn globals_of(
 }
 
 /// The numbers from 0 on, so many.
-pub(super) fn numbers(alloc: Global, count: u32) -> Result<Vec<u32>, AllocError>
+fn numbers(alloc: Global, count: u32) -> Result<Vec<u32>, AllocError>
     ensures { IfOk result (λ v. v.items ≡ link.numbers 0 count) }
 {
     let mut all = Vec::with_capacity(alloc, count as usize)?;
@@ -80,8 +81,30 @@ pub(super) fn numbers(alloc: Global, count: u32) -> Result<Vec<u32>, AllocError>
     Ok(all)
 }
 
+/// The instance of so many functions and globals, and of tables and memories of these sizes.
+pub(super) fn instance(
+    alloc: Global,
+    types: Vec<SharedType>,
+    funcs: u32,
+    tables: &[Limits],
+    memories: &[Limits],
+    globals: u32,
+) -> Result<Instance, AllocError>
+    ensures { IfOk result (λ i. i ≡ record { types = types.items; funcs = link.numbers 0 funcs; table = link.first_address tables.now; memory = link.first_address memories.now; globals = link.numbers 0 globals }) }
+{
+    let funcs = numbers(alloc, funcs)?;
+    let globals = numbers(alloc, globals)?;
+    Ok(Instance {
+        types: Vector::from_vec(types),
+        funcs: Vector::from_vec(funcs),
+        table: first_address(tables),
+        memory: first_address(memories),
+        globals: Vector::from_vec(globals),
+    })
+}
+
 /// The address of the first one, if there is one.
-pub(super) fn first_address(limits: &[Limits]) -> Option<u32>
+fn first_address(limits: &[Limits]) -> Option<u32>
     ensures { result ≡ link.first_address limits.now }
 {
     match limits {

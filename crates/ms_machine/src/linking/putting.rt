@@ -1,16 +1,37 @@
 //! What tables and memories begin with.
 
-ghost use Rattle.std.specs.Prelude.{◌≡◌, ◌<◌, ◌≤◌, ◌+◌, All, MatchOption, OnOk, length, map, slice_get};
+ghost use Rattle.std.specs.Prelude.{◌≡◌, ◌<◌, ◌≤◌, ◌+◌, All, IfOk, MatchOption, OnOk, length, map, slice_get};
+ghost use Rattle.ms_linear.specs.Memory.{most_pages};
 ghost use Rattle.ms_machine.specs.Linking as link;
 
 use super::constant::{constant, index_of};
+use super::making::{memories_of, tables_of};
 use ms_linear::{Entry, FuncRef, Linear, Table, Value};
 use ms_module::{Element, Fill};
 use ms_task::FuncInst;
-use std::alloc::AllocError;
+use ms_types::Limits;
+use std::alloc::{AllocError, Global};
+
+/// Tables with the elements that they begin with.
+pub(super) fn tables_with(
+    alloc: Global,
+    limits: &[Limits],
+    funcs: &[FuncInst],
+    values: &[Value],
+    elements: &[Element],
+) -> Result<Vec<Table>, AllocError>
+    requires sizes { All (λ l. l.min ≤ link.most_entries) limits.now }
+    requires room { All (λ e. MatchOption (slice_get (map link.empty_table limits.now) e.table) ⊥ (λ t. link.index_of (link.constant_of values.now e.offset) + length e.funcs ≤ length t.entries)) elements.now }
+    requires there { All (λ e. All (λ f. f < length funcs.now) e.funcs) elements.now }
+    ensures { IfOk result (λ v. v.items ≡ link.with_elements funcs.now values.now (map link.empty_table limits.now) elements.now) }
+{
+    let mut tables = tables_of(alloc, limits)?;
+    put_elements(tables.as_mut_slice(), funcs, values, elements)?;
+    Ok(tables)
+}
 
 /// Puts the elements into their tables, in order.
-pub(super) fn put_elements(
+fn put_elements(
     tables: &mut [Table],
     funcs: &[FuncInst],
     values: &[Value],
@@ -62,8 +83,24 @@ fn put_entries(
     Ok(())
 }
 
+/// Linear memories with the data that they begin with.
+pub(super) fn memories_with(
+    alloc: Global,
+    limits: &[Limits],
+    values: &[Value],
+    fills: &[Fill],
+) -> Result<Vec<Linear>, AllocError>
+    requires sizes { All (λ l. l.min ≤ most_pages) limits.now }
+    requires room { All (λ f. MatchOption (slice_get (map link.zeroed limits.now) f.memory) ⊥ (λ m. link.index_of (link.constant_of values.now f.offset) + length f.bytes ≤ length m.bytes)) fills.now }
+    ensures { IfOk result (λ v. v.items ≡ link.with_fills values.now (map link.zeroed limits.now) fills.now) }
+{
+    let mut memories = memories_of(alloc, limits)?;
+    put_fills(memories.as_mut_slice(), values, fills);
+    Ok(memories)
+}
+
 /// Puts the data into the memories, in order.
-pub(super) fn put_fills(memories: &mut [Linear], values: &[Value], fills: &[Fill])
+fn put_fills(memories: &mut [Linear], values: &[Value], fills: &[Fill])
     requires { All (λ f. MatchOption (slice_get memories.old f.memory) ⊥ (λ m. link.index_of (link.constant_of values.now f.offset) + length f.bytes ≤ length m.bytes)) fills.now }
     ensures { memories.new ≡ link.with_fills values.now memories.old fills.now }
 {
