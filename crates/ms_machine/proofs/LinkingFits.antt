@@ -89,7 +89,7 @@ entries-more t t' funcs at i fs g sig within more there read typed put =
     let e : Entry = record { func = record { address = f }; sig = sig } in
     let ty : g.ty ≡ sig = ap (λ (h : FuncInst). h.ty) read ∙ sym typed in
     let is : entry_for funcs f ≡ Some e =
-        ap (entry_at funcs f) (slice_get_read funcs (length funcs) f g refl there read) ∙ ap (λ (s : FuncType). Some (record { func = record { address = f }; sig = s })) ty in
+    ap (entry_at funcs f) (slice_get_read funcs (length funcs) f g refl there read) ∙ ap (λ (s : FuncType). Some (record { func = record { address = f }; sig = s })) ty in
     let next : at + (i + 1) ≡ at + i + 1 = omega arith in
     ap (λ (u : Table). with_entries u (at + (i + 1)) rest) put
     ∙ ap (λ k. with_entries (with_entry t (at + i) e) k rest) next

@@ -1,5 +1,5 @@
 -- In a module that fits, what elements and data are put into has room for them.
-use Rattle.std.proofs.Common.{◌≡◌, ℕ, zero, suc, ◌+◌, ◌*◌, ◌<◌, ◌≤◌, Bool, true, false, nat_le, if◌then◌else◌, List, [], ◌∷◌, ◌++◌, length, map, get_or, replicate, slice_get, All, Option, Some, None, MatchOption, refl, ap, sym, subst, ◌∙◌, rules, tests, arith}
+use Rattle.std.proofs.Common.{◌≡◌, ℕ, zero, suc, ◌+◌, ◌*◌, ◌<◌, ◌≤◌, Bool, true, false, nat_le, if◌then◌else◌, List, [], ◌∷◌, ◌++◌, length, map, get_or, slice_get, All, Option, Some, None, MatchOption, refl, ap, sym, subst, rules, tests, arith}
 use Rattle.std.proofs.lemmas.List.{length-map, length-replicate}
 use Rattle.std.proofs.lemmas.List.Elements.{All-nil, All-cons}
 use Rattle.ms_linear.specs.declared.table.Entry.{Entry}
@@ -8,10 +8,9 @@ use Rattle.ms_linear.specs.Memory.{Memory as Linear, page}
 use Rattle.ms_linear.specs.Table.{Table}
 use Rattle.ms_module.specs.declared.module.Element.{Element}
 use Rattle.ms_module.specs.declared.module.Fill.{Fill}
-use Rattle.ms_module.specs.declared.module.Import.{Import}
 use Rattle.ms_module.specs.declared.module.Module.{Module}
-use Rattle.ms_rules.specs.Context.{all_memories, all_tables, imported_funcs, imported_memories, imported_tables, sigs_of_funcs}
-use Rattle.ms_rules.specs.Modules.{ElementTyped, FillTyped, WellTyped}
+use Rattle.ms_rules.specs.Context.{imported_funcs, imported_memories, imported_tables}
+use Rattle.ms_rules.specs.Modules.{WellTyped}
 use Rattle.ms_task.specs.declared.func.FuncInst.{FuncInst}
 use Rattle.ms_types.specs.declared.types.Limits.{Limits}
 use Rattle.ms_machine.specs.Linking.{constant_of, elements_fit, empty_table, fills_fit, func_of, index_of, min_at, misfit, or_next, reach, sizes_fit, most_entries, values_of, zeroed}
@@ -78,9 +77,9 @@ elements-room m values limits es typed alone fits are sized these =
     subst (λ vs. All (HasRoom vs (map empty_table limits)) es) (sym are)
     (subst (λ ls. All (HasRoom (values_of m) (map empty_table ls)) es) (sym sized)
     (subst (All (HasRoom (values_of m) (map empty_table m.tables))) (sym these) (λ k d lt.
-      let e = get_or m.elements k d in
-      let there : e.table < length m.tables = subst (λ is. e.table < length (imported_tables is ++ m.tables)) alone (typed.head.elements k d lt).0 in
-      table-room m.tables e.table (index_of (constant_of (values_of m) e.offset) + length e.funcs) there ((parts-none m fits).0 k d lt))))
+    let e = get_or m.elements k d in
+    let there : e.table < length m.tables = subst (λ is. e.table < length (imported_tables is ++ m.tables)) alone (typed.head.elements k d lt).0 in
+    table-room m.tables e.table (index_of (constant_of (values_of m) e.offset) + length e.funcs) there ((parts-none m fits).0 k d lt))))
 
 pub elements-there : (m : Module) (funcs : List FuncInst) (es : List Element) → WellTyped m → m.imports ≡ [] → funcs ≡ map (func_of m) m.funcs → es ≡ m.elements
     → All (λ e. All (λ f. f < length funcs) e.funcs) es
@@ -99,6 +98,6 @@ fills-room m values limits fs typed alone fits are sized these =
     subst (λ vs. All (HasBytes vs (map zeroed limits)) fs) (sym are)
     (subst (λ ls. All (HasBytes (values_of m) (map zeroed ls)) fs) (sym sized)
     (subst (All (HasBytes (values_of m) (map zeroed m.memories))) (sym these) (λ k d lt.
-      let f = get_or m.fills k d in
-      let there : f.memory < length m.memories = subst (λ is. f.memory < length (imported_memories is ++ m.memories)) alone (typed.head.fills k d lt).0 in
-      memory-room m.memories f.memory (index_of (constant_of (values_of m) f.offset) + length f.bytes) there ((parts-none m fits).1 k d lt))))
+    let f = get_or m.fills k d in
+    let there : f.memory < length m.memories = subst (λ is. f.memory < length (imported_memories is ++ m.memories)) alone (typed.head.fills k d lt).0 in
+    memory-room m.memories f.memory (index_of (constant_of (values_of m) f.offset) + length f.bytes) there ((parts-none m fits).1 k d lt))))

@@ -95,17 +95,23 @@ fn store_for<G: Gaps, T: Tagged>(
     requires fits { link.misfit «module» ≡ None }
     ensures { IfOk result (λ s. s ≡ store_of «module» capacity) }
 {
-    let count = module.funcs.len() as u32;
+    let func_count = module.funcs.len() as u32;
+    let global_count = module.globals.len() as u32;
     let types = share_types(alloc, module.sigs.into_vec())?;
     let funcs = functions(alloc, types.as_slice(), module.funcs.into_vec())?;
-    let globals = globals_of(alloc, module.globals.as_slice())?;
-    let limits = module.tables.as_slice();
-    let tables = tables_with(alloc, limits, funcs.as_slice(), values, module.elements.as_slice())?;
-    let sizes = module.memories.as_slice();
-    let memories = memories_with(alloc, sizes, values, module.fills.as_slice())?;
-    let instance = instance(alloc, types, count, limits, sizes, module.globals.len() as u32)?;
+    let tables = module.tables.as_slice();
+    let memories = module.memories.as_slice();
+    let elements = module.elements.as_slice();
+    let fills = module.fills.as_slice();
+    let instance = instance(alloc, types, func_count, tables, memories, global_count)?;
     let mut instances = Vec::with_capacity(alloc, 1)?;
     instances.push(instance)?;
-    let segments = Segments::new(alloc, capacity)?;
-    Ok(Store { funcs, instances, tables, memories, globals, segments })
+    Ok(Store {
+        tables: tables_with(alloc, tables, funcs.as_slice(), values, elements)?,
+        memories: memories_with(alloc, memories, values, fills)?,
+        globals: globals_of(alloc, module.globals.as_slice())?,
+        segments: Segments::new(alloc, capacity)?,
+        funcs,
+        instances,
+    })
 }

@@ -14,10 +14,7 @@ use ms_types::{FuncType, Limits, SharedType, Vector};
 use std::alloc::{AllocError, Global};
 
 /// Function types that can be shared.
-pub(super) fn share_types(
-    alloc: Global,
-    sigs: Vec<FuncType>,
-) -> Result<Vec<SharedType>, AllocError>
+pub(super) fn share_types(alloc: Global, sigs: Vec<FuncType>) -> Result<Vec<SharedType>, AllocError>
     ensures { IfOk result (λ v. v.items ≡ sigs.items) }
 {
     let mut types = Vec::with_capacity(alloc, sigs.len())?;
@@ -50,7 +47,12 @@ fn function(types: &[SharedType], func: Func) -> Result<FuncInst, AllocError>
 {
     let Func { sig, locals, body } = func;
     let ty = types[sig as usize].share()?;
-    Ok(FuncInst { instance: 0, ty, locals, body })
+    Ok(FuncInst {
+        instance: 0,
+        ty,
+        locals,
+        body,
+    })
 }
 
 /// Globals with the values that they begin with.

@@ -10,10 +10,9 @@ put_element-requires-clause-room c =
 pub loop-e-preserved : goal.loop-e-preserved
 loop-e-preserved c =
     let e = c.e-item.result in
-    let room = has-room c.args.values.now c.args.tables.now c.loop-e.tables c.args.elements.now c.loop-e.e-index e c.loop-e.invariant.1 c.requires.room c.loop-e-test.true c.e-item.is in
-    (
+    let room = has-room c.args.values.now c.args.tables.now c.loop-e.tables c.args.elements.now c.loop-e.e-index e c.loop-e.invariant.1 c.requires.room c.loop-e-test.true c.e-item.is in (
       elements-more c.args.funcs.now c.args.values.now c.loop-e.tables c.put_element.new.tables c.args.elements.now c.loop-e.e-index e c.loop-e-test.true c.e-item.is c.in_ok-put_element.ensures
-      ∙ c.loop-e.invariant.0,
+          ∙ c.loop-e.invariant.0,
       elements-sizes c.args.funcs.now c.loop-e.tables c.put_element.new.tables e.table (index_of (constant_of c.args.values.now e.offset)) e.funcs room c.in_ok-put_element.ensures
-      ∙ c.loop-e.invariant.1,
+          ∙ c.loop-e.invariant.1,
     )

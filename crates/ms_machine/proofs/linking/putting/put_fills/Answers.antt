@@ -10,10 +10,9 @@ put_fill-requires c =
 pub loop-f-preserved : goal.loop-f-preserved
 loop-f-preserved c =
     let f = c.f-item.result in
-    let room = has-bytes c.args.values.now c.args.memories.now c.loop-f.memories c.args.fills.now c.loop-f.f-index f c.loop-f.invariant.1 c.requires c.loop-f-test.true c.f-item.is in
-    (
+    let room = has-bytes c.args.values.now c.args.memories.now c.loop-f.memories c.args.fills.now c.loop-f.f-index f c.loop-f.invariant.1 c.requires c.loop-f-test.true c.f-item.is in (
       fills-more c.args.values.now c.loop-f.memories c.put_fill.new.memories c.args.fills.now c.loop-f.f-index f c.loop-f-test.true c.f-item.is c.put_fill.ensures
-      ∙ c.loop-f.invariant.0,
+          ∙ c.loop-f.invariant.0,
       fills-sizes c.loop-f.memories c.put_fill.new.memories f.memory (index_of (constant_of c.args.values.now f.offset)) f.bytes room c.put_fill.ensures
-      ∙ c.loop-f.invariant.1,
+          ∙ c.loop-f.invariant.1,
     )
