@@ -26,3 +26,9 @@ pub mod LinkedGlobals
 pub mod LinkedTables
 pub mod LinkedTypes
 pub mod LinkedStores
+pub mod SafePaints
+pub mod SafeStates
+pub mod SafeMaking
+pub mod SafeEnding
+pub mod SafeAccesses
+pub mod SafeHandles
