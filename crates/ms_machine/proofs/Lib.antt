@@ -32,3 +32,6 @@ pub mod SafeMaking
 pub mod SafeEnding
 pub mod SafeAccesses
 pub mod SafeHandles
+pub mod SafeTold
+pub mod SafeSegments
+pub mod SafeSteps
