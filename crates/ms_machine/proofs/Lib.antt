@@ -35,3 +35,4 @@ pub mod SafeHandles
 pub mod SafeTold
 pub mod SafeSegments
 pub mod SafeSteps
+pub mod SafeStarts
