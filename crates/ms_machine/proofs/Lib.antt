@@ -36,3 +36,4 @@ pub mod SafeTold
 pub mod SafeSegments
 pub mod SafeSteps
 pub mod SafeStarts
+pub mod SafeRuns
