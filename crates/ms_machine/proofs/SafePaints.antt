@@ -1,7 +1,7 @@
 -- Painted addresses: those of an allocation, and those that are left after a free.
-use Rattle.std.proofs.Common.{◌≡◌, ◌==◌, ℕ, zero, suc, ◌+◌, ◌<◌, ◌≤◌, ◌⊎◌, inl, inr, Bool, true, false, not, cond, List, [], ◌∷◌, map, refl, sym, ap, subst, ◌∙◌, arith}
+use Rattle.std.proofs.Common.{◌≡◌, ℕ, zero, suc, ◌+◌, ◌<◌, ◌≤◌, ◌⊎◌, inl, inr, Bool, true, false, cond, List, [], ◌∷◌, map, refl, sym, ap, subst, ◌∙◌, arith}
 use Rattle.std.specs.List.{All, Contains, filter}
-use Rattle.std.proofs.lemmas.Bool.{cases_eq, eqb-false, ne_eqb, not-true}
+use Rattle.std.proofs.lemmas.Bool.{cases_eq}
 use Rattle.std.proofs.lemmas.List.Elements.{All-cons, All-contains, All-contains_itself, All-filter, All-nil, Contains-append_right, filter_passes}
 use Rattle.ms_event.specs.Monitor.{Paint, coat, coat_from}
 
@@ -60,14 +60,6 @@ pub filter-map : {X Y : Type 0} (f : X → Y) (p : Y → Bool) (xs : List X) →
 filter-map f p [] = refl
 filter-map f p (x ∷ xs) =
     ap (λ ys. cond (p (f x)) (f x ∷ ys) ys) (filter-map f p xs) ∙ sym (kept-map f (p (f x)) x (filter (λ y. p (f y)) xs))
-
--- ---- numbers that differ
-
-pub other_from_test : (a b : ℕ) → not (a == b) ≡ true → a ≡ b → ⊥
-other_from_test a b passes same = eqb-false a b (not-true (a == b) passes) same
-
-pub test_from_other : (a b : ℕ) → (a ≡ b → ⊥) → not (a == b) ≡ true
-test_from_other a b other = ap not (ne_eqb a b other)
 
 -- ---- the paint of an allocation
 
