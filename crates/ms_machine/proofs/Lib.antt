@@ -28,3 +28,15 @@ pub mod LinkedTypes
 pub mod LinkedStores
 pub mod LinkingFits
 pub mod LinkingRoom
+pub mod SafePaints
+pub mod SafeStates
+pub mod SafeMaking
+pub mod SafeEnding
+pub mod SafeAccesses
+pub mod SafeHandles
+pub mod SafeTold
+pub mod SafeSegments
+pub mod SafeSteps
+pub mod SafeStarts
+pub mod SafeRuns
+pub mod SafeAnswers

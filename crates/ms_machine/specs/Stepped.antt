@@ -1,5 +1,6 @@
 -- What a step answers, against what it does.
-use Rattle.std.specs.Prelude.{◌≡◌, ◌≢◌, [], slice_get}
+use Rattle.std.specs.Prelude.{◌≡◌, ◌≢◌, [], slice_get, Option, None}
+use Rattle.ms_event.specs.declared.event.Event.{Event}
 use Rattle.ms_task.specs.Thread.{Thread}
 use Rattle.ms_machine.specs.Step.{Outcome, Next, Trap}
 use Rattle.ms_machine.specs.Store.{Store}
@@ -15,3 +16,9 @@ Carries (answers.Trap kind) o s t s' t' = (o ≡ Trap kind) × (s' ≡ s) × (t'
 Carries answers.ReadFault o s t s' t' = ⊥
 Carries answers.WriteFault o s t s' t' = ⊥
 Carries answers.Memory o s t s' t' = Unit {0}
+
+-- what an answer tells of the segment memory
+abbrev pub event_of : Stepped → Option Event
+event_of (answers.On event) = event
+event_of (answers.Ended value event) = event
+event_of _ = None

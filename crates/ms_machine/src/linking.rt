@@ -3,6 +3,9 @@
 ghost use Rattle.std.specs.Prelude.{◌≡◌, ◌+◌, ◌<◌, ◌^◌, [], None, IfOk, length};
 ghost use Rattle.ms_machine.specs.Linking as link;
 ghost use Rattle.ms_machine.specs.Linking.{Links, store_of};
+ghost use Rattle.ms_machine.specs.Holding.{StoreFits};
+ghost use Rattle.ms_machine.specs.Safety.{Sound};
+ghost use Rattle.ms_machine.specs.Typing.{StoreTyped, outline_of};
 ghost use Rattle.ms_rules.specs.Modules.{WellTyped};
 
 mod constant;
@@ -50,13 +53,8 @@ impl From<AllocError> for LinkFault {
     }
 }
 
-/// The store of a module without imports: its functions, globals, tables and linear memories with what they begin with,
-/// and an empty segment memory of so many bytes.
-///
-/// What doesn't fit is found before anything is made of it, in this order: a table that is too large, a memory that is
-/// too large, the first elements that reach past the end of their table, and the first data that reaches past the end of
-/// its memory. Memory may run out before that is found, and after.
-pub fn instantiate<G: Gaps, T: Tagged>(
+/// The store of a module, or the first thing that does not fit.
+fn store_or_misfit<G: Gaps, T: Tagged>(
     alloc: Global,
     module: Module,
     capacity: u32,
@@ -115,3 +113,24 @@ fn store_for<G: Gaps, T: Tagged>(
         instances,
     })
 }
+/// The store of a module without imports: its functions, globals, tables and linear memories with what they begin with,
+/// and an empty segment memory of so many bytes.
+///
+/// What doesn't fit is found before anything is made of it, in this order: a table that is too large, a memory that is
+/// too large, the first elements that reach past the end of their table, and the first data that reaches past the end of
+/// its memory. Memory may run out before that is found, and after.
+pub fn instantiate<G: Gaps, T: Tagged>(
+    alloc: Global,
+    module: Module,
+    capacity: u32,
+) -> Result<Store<G, T>, LinkFault>
+    requires typed { WellTyped «module» }
+    requires alone { «module».imports ≡ [] }
+    ensures link { Links «module» capacity result }
+    ensures typed { IfOk result (λ s. StoreTyped (outline_of s)) }
+    ensures fits { IfOk result StoreFits }
+    ensures sound { IfOk result (λ s. Sound [] s []) }
+{
+    store_or_misfit(alloc, module, capacity)
+}
+

@@ -1,14 +1,17 @@
 //! One step of a task.
 
-ghost use Rattle.std.specs.Prelude.{◌≡◌, ◌≢◌, ◌+◌, ◌<◌, ◌≤◌, ◌^◌, [], IfOk, IsTrue};
+ghost use Rattle.std.specs.Prelude.{◌≡◌, ◌≢◌, ◌+◌, ◌<◌, ◌≤◌, ◌^◌, ◌++◌, List, [], ◌∷◌, IfOk, IsTrue};
 ghost use Rattle.ms_handle.specs.declared.handle.Handle.{Handle};
 ghost use Rattle.ms_machine.specs.Doing.{PerformsFirst, with_more};
 ghost use Rattle.ms_machine.specs.Holding.{Each, Fits, StoreFits, ThreadFits};
 ghost use Rattle.ms_machine.specs.Step.{Stuck, begin, step_of};
-ghost use Rattle.ms_machine.specs.Stepped.{Carries};
+ghost use Rattle.ms_machine.specs.Running.{told};
+ghost use Rattle.ms_machine.specs.Safety.{Sound};
+ghost use Rattle.ms_machine.specs.Stepped.{Carries, event_of};
 ghost use Rattle.ms_machine.specs.Typing.{StoreTyped, TaskTyped, outline_of};
 ghost use Rattle.ms_segment.specs.Memory.{IsFit};
-ghost use Rattle.ms_task.specs.Thread.{Begins};
+ghost use Rattle.ms_event.specs.declared.event.Event.{Event};
+ghost use Rattle.ms_task.specs.Thread.{Begins, Thread};
 ghost use Rattle.ms_task.specs.View.{thread_of};
 
 use crate::fault::Fault;
@@ -107,7 +110,8 @@ fn advance<G: Gaps, T: Tagged>(store: &mut Store<G, T>, task: &mut Task) -> Step
 /// at their ends.
 ///
 /// A well-typed task of a well-typed store is never stuck, and stays well typed; handles that fit go on fitting, those of
-/// other tasks too. A trap changes nothing. No instruction takes from the input or puts to the output yet.
+/// other tasks too; and each handle that the colour monitor knows it goes on knowing, after the step's event (`sound`). A
+/// trap changes nothing. No instruction takes from the input or puts to the output yet.
 #[tactic(auto, using(crate::proofs::Sound::never_stuck, crate::proofs::Sound::begins_well, crate::proofs::Sound::carries_typed, crate::proofs::HeldFits::carries_fits))]
 pub fn step<G: Gaps, T: Tagged, I: Source, O: Sink>(
     store: &mut Store<G, T>,
@@ -127,6 +131,7 @@ pub fn step<G: Gaps, T: Tagged, I: Source, O: Sink>(
     ensures store_fits { result ≢ Stepped.Memory → StoreFits store.new }
     ensures task_fits { result ≢ Stepped.Memory → ThreadFits store.new (thread_of store.new.funcs task.new) }
     ensures others { result ≢ Stepped.Memory → (h : Handle) → IsFit store.old.segments h → IsFit store.new.segments h }
+    ensures sound { result ≢ Stepped.Memory → (events : List Event) (threads : List Thread) → Sound events store.old (thread_of store.old.funcs task.old ∷ threads) → Sound (events ++ told (event_of result) []) store.new (thread_of store.new.funcs task.new ∷ threads) }
     ensures made { result ≢ Stepped.Memory → store.new.segments.made ≤ store.old.segments.made + 1 }
     ensures input { (I.left input.new ≡ I.left input.old) × (I.faults input.new ≡ I.faults input.old) }
     ensures out { (O.held out.new ≡ O.held out.old) × (O.faults out.new ≡ O.faults out.old) }

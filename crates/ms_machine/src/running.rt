@@ -1,8 +1,10 @@
 //! Runs of one task within a budget of steps.
 
-ghost use Rattle.std.specs.Prelude.{◌≡◌, ◌≢◌, ◌+◌, ◌<◌, ◌≤◌, ◌^◌, ℕ, MatchOption, None};
+ghost use Rattle.std.specs.Prelude.{◌≡◌, ◌≢◌, ◌+◌, ◌<◌, ◌≤◌, ◌^◌, ℕ, List, [], length, MatchOption, None};
 ghost use Rattle.ms_machine.specs.Holding.{StoreFits, ThreadFits};
 ghost use Rattle.ms_machine.specs.Running.{IsAlone, Leaves, RunsTo, run_from, run_thread};
+ghost use Rattle.ms_event.specs.Monitor.{Accepts};
+ghost use Rattle.ms_machine.specs.Safety.{Sound};
 ghost use Rattle.ms_machine.specs.Typing.{StoreTyped, TaskTyped, outline_of};
 ghost use Rattle.ms_task.specs.View.{thread_of};
 
@@ -99,6 +101,7 @@ fn run_main<G: Gaps, T: Tagged, I: Source, O: Sink>(
 /// A run of the function `main`, after that of the start function, if there is one: at most `budget` steps of both.
 ///
 /// Neither has parameters. What is left of `main` in the store stays, and so do the segments that are live.
+#[tactic(auto, using(crate::proofs::SafeRuns::run_accepted))]
 pub fn run<G: Gaps, T: Tagged, I: Source, O: Sink>(
     alloc: Global,
     store: &mut Store<G, T>,
@@ -114,6 +117,8 @@ pub fn run<G: Gaps, T: Tagged, I: Source, O: Sink>(
     requires first { MatchOption first Unit (λ f. IsAlone (outline_of store.old) f) }
     requires main { IsAlone (outline_of store.old) main }
     ensures run { RunsTo result store.new (run_from budget store.old first main) }
+    // The events of the run are a trace that the colour monitor accepts.
+    ensures accepted { Sound [] store.old [] → Accepts (length store.old.segments.bytes) (run_from budget store.old first main).events }
     ensures input { (I.left input.new ≡ I.left input.old) × (I.faults input.new ≡ I.faults input.old) }
     ensures out { (O.held out.new ≡ O.held out.old) × (O.faults out.new ≡ O.faults out.old) }
 {

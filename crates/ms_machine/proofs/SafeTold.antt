@@ -1,0 +1,145 @@
+-- What a step leaves of the segment memory, with what it tells: instructions but those on segments tell nothing.
+use Rattle.std.proofs.Common.{◌≡◌, ℕ, List, [], ◌∷◌, length, nat_lt, slice_get, slice_set, Option, Some, None, Bool, true, false, cond, Result, Ok, Err, subst}
+use Rattle.ms_event.specs.declared.event.Event.{Event}
+use Rattle.ms_linear.specs.declared.global.GlobalInst.{GlobalInst}
+use Rattle.ms_linear.specs.declared.table.CallTrap.{CallTrap}
+use Rattle.ms_linear.specs.declared.table.FuncRef.{FuncRef}
+use Rattle.ms_linear.specs.Memory.{Memory as LinearMemory}
+use Rattle.ms_linear.specs.Table.{Table, target_of}
+use Rattle.ms_linear.specs.declared.value.Value.{Value}
+use Rattle.ms_linear.specs.declared.value.Value.TheVariants as values
+use Rattle.ms_module.specs.declared.access.Linear.{Linear as LinearInstr}
+use Rattle.ms_module.specs.declared.access.Segment.{Segment as SegmentInstr}
+use Rattle.ms_module.specs.declared.instr.Instr.{Instr}
+use Rattle.ms_module.specs.declared.instr.Instr.TheVariants.{Unreachable, Nop, Block, Loop, If, Br, BrIf, BrTable, Return, Call, CallIndirect, Drop, Select, LocalGet, LocalSet, LocalTee, GlobalGet, GlobalSet, I32Const, I64Const, Numeric, Linear, Segment}
+use Rattle.ms_operate.specs.Memories.{linear_on}
+use Rattle.ms_operate.specs.Numbers.{numeric_on}
+use Rattle.ms_operate.specs.Outcomes as operate
+use Rattle.ms_segment.specs.Memory.{Memory}
+use Rattle.ms_task.specs.Control.{Lost, Moved, To, TooDeep, br_if_on, br_table_on, branch, call_on, if_on, return_on}
+use Rattle.ms_task.specs.Thread.{Activation, Do, Frame, Item, Label, Thread, thread}
+use Rattle.ms_types.specs.declared.types.FuncType.{FuncType}
+use Rattle.ms_machine.specs.Segments.{Effect, Leaves, Misses, Stops, segment_on}
+use Rattle.ms_machine.specs.Step.{Next, Outcome, Stuck, Trap, act, begin, call, call_target, call_through, first, in_memory, in_segments, linear, moved, on_memory, on_top, pushed, select, set_global, set_global_at, set_local, settled, step_of, value_in, worked}
+use Rattle.ms_machine.specs.Store.{Store, at, func_address, global_address, instance_of, memory_address, table_address, type_at}
+
+-- a fact about the event and the memory
+module _ (R : Option Event → Memory → Type 0) where
+  abbrev pub ToldBy : Outcome → Type 0
+  ToldBy (Next s t event) = R event s.segments
+  ToldBy (Trap trap) = Unit {0}
+  ToldBy Stuck = Unit {0}
+
+  abbrev pub ToldIn : Effect → Type 0
+  ToldIn (Leaves vs m event) = R event m
+  ToldIn (Stops trap) = Unit {0}
+  ToldIn Misses = Unit {0}
+
+  -- ---- nothing is told
+
+  module _ (s : Store) (t : Thread) (r : R None s.segments) where
+    top_tells : (vs : List Value) (go : Value → List Value → Outcome) → ((v : Value) (rest : List Value) → ToldBy (go v rest)) → ToldBy (on_top vs go)
+    top_tells [] go x = tt
+    top_tells (v ∷ vs) go x = x v vs
+
+    pushed_tells : (o : Option Value) → ToldBy (pushed s t o)
+    pushed_tells None = tt
+    pushed_tells (Some v) = r
+
+    select_tells : (vs : List Value) → ToldBy (select s t vs)
+    select_tells (values.I32 n ∷ b ∷ a ∷ vs) = r
+    select_tells _ = tt
+
+    set_local_tells : (x : ℕ) (v : Value) (vs : List Value) → ToldBy (set_local s t x v vs)
+    set_local_tells x v vs = sets (nat_lt x (length t.frame.locals)) where
+      sets : (b : Bool) → ToldBy (cond b (Next s (thread (record { function = t.frame.function; locals = slice_set t.frame.locals x v }) vs t.work) None) Stuck)
+      sets true = r
+      sets false = tt
+
+    set_global_tells : (address : Option ℕ) (v : Value) (vs : List Value) → ToldBy (set_global s t address v vs)
+    set_global_tells None v vs = tt
+    set_global_tells (Some x) v vs = sets (slice_get s.globals x) where
+      sets : (o : Option GlobalInst) → ToldBy (set_global_at s t x o v vs)
+      sets None = tt
+      sets (Some g) = r
+
+    worked_tells : (o : operate.Outcome) → ToldBy (worked s t o)
+    worked_tells (operate.Gives vs) = r
+    worked_tells (operate.Traps trap) = tt
+    worked_tells operate.Lacks = tt
+
+    linear_tells : (i : LinearInstr) (address : Option ℕ) → ToldBy (linear s t i address)
+    linear_tells i None = tt
+    linear_tells i (Some x) = on (slice_get s.memories x) where
+      leaves : (e : operate.Effect) → ToldBy (in_memory s t x e)
+      leaves (operate.Leaves vs m) = r
+      leaves (operate.Stops trap) = tt
+      leaves operate.Misses = tt
+
+      on : (o : Option LinearMemory) → ToldBy (on_memory s t i x o)
+      on None = tt
+      on (Some m) = leaves (linear_on i m t.operands)
+
+    moved_tells : (m : Moved) → ToldBy (moved s m)
+    moved_tells (To u) = r
+    moved_tells TooDeep = tt
+    moved_tells Lost = tt
+
+    call_tells : (address : Option ℕ) → ToldBy (call s t address)
+    call_tells None = tt
+    call_tells (Some x) = moved_tells (call_on s.funcs x t)
+
+    target_tells : (vs : List Value) (f : Result FuncRef CallTrap) → ToldBy (call_target s (thread t.frame vs t.work) f)
+    target_tells vs (Ok f) = moved_tells (call_on s.funcs f.address (thread t.frame vs t.work))
+    target_tells vs (Err e) = tt
+
+    through_tells : (table : Option Table) (sig : Option FuncType) (vs : List Value) → ToldBy (call_through s t table sig vs)
+    through_tells (Some table) (Some sig) (values.I32 i ∷ vs) = target_tells vs (target_of table.entries i sig)
+    through_tells table sig vs = tt
+
+  -- ---- what instructions tell
+
+  in_segments_tells : (s : Store) (t : Thread) (e : Effect) → ToldIn e → ToldBy (in_segments s t e)
+  in_segments_tells s t (Leaves vs m event) x = x
+  in_segments_tells s t (Stops trap) x = tt
+  in_segments_tells s t Misses x = tt
+
+  act_tells : (s : Store) (i : Instr) (t : Thread) → R None s.segments → ((j : SegmentInstr) → ToldIn (segment_on j s.segments t.operands)) → ToldBy (act s i t)
+  act_tells s Unreachable t r x = tt
+  act_tells s Nop t r x = r
+  act_tells s (Block ty body) t r x = r
+  act_tells s (Loop ty body) t r x = r
+  act_tells s (If ty arm other) t r x = moved_tells s t r (if_on s.funcs arm other ty t)
+  act_tells s (Br l) t r x = moved_tells s t r (branch l t.frame t.operands t.work)
+  act_tells s (BrIf l) t r x = moved_tells s t r (br_if_on l t)
+  act_tells s (BrTable table) t r x = moved_tells s t r (br_table_on table.labels table.default t)
+  act_tells s Return t r x = moved_tells s t r (return_on t.operands t.work)
+  act_tells s (Call y) t r x = call_tells s t r (func_address (instance_of s t.frame) y)
+  act_tells s (CallIndirect y) t r x = through_tells s t r (at s.tables (table_address (instance_of s t.frame))) (type_at (instance_of s t.frame) y) t.operands
+  act_tells s Drop t r x = top_tells s t r t.operands _ (λ v rest. r)
+  act_tells s Select t r x = select_tells s t r t.operands
+  act_tells s (LocalGet l) t r x = pushed_tells s t r (slice_get t.frame.locals l)
+  act_tells s (LocalSet l) t r x = top_tells s t r t.operands _ (λ v rest. set_local_tells s t r l v rest)
+  act_tells s (LocalTee l) t r x = top_tells s t r t.operands _ (λ v rest. set_local_tells s t r l v (v ∷ rest))
+  act_tells s (GlobalGet g) t r x = pushed_tells s t r (value_in (at s.globals (global_address (instance_of s t.frame) g)))
+  act_tells s (GlobalSet g) t r x = top_tells s t r t.operands _ (λ v rest. set_global_tells s t r (global_address (instance_of s t.frame) g) v rest)
+  act_tells s (I32Const n) t r x = r
+  act_tells s (I64Const n) t r x = r
+  act_tells s (Numeric i) t r x = worked_tells s t r (numeric_on i t.operands)
+  act_tells s (Linear i) t r x = linear_tells s t r i (memory_address (instance_of s t.frame))
+  act_tells s (Segment i) t r x = in_segments_tells s t (segment_on i s.segments t.operands) (x i)
+
+  first_tells : (s : Store) (fr : Frame) (vs : List Value) (w : List Item) → R None s.segments → ((j : SegmentInstr) → ToldIn (segment_on j s.segments vs)) → ToldBy (first s fr vs w)
+  first_tells s fr vs [] r x = tt
+  first_tells s fr vs (Do i ∷ w) r x = act_tells s i (thread fr vs w) r x
+  first_tells s fr vs (Label k h i ∷ w) r x = tt
+  first_tells s fr vs (Activation k h caller ∷ w) r x = tt
+
+  settled_tells : (o : Outcome) → ToldBy o → ToldBy (settled o)
+  settled_tells (Next s t event) r = r
+  settled_tells (Trap trap) r = tt
+  settled_tells Stuck r = tt
+
+  -- what holds of the memory as it is and of no event, and of what instructions on segments leave and tell, holds after a step
+  pub step_tells : (s s' : Store) (t t' : Thread) (event : Option Event) → R None s.segments → ((j : SegmentInstr) → ToldIn (segment_on j s.segments t.operands)) → step_of s t ≡ Next s' t' event → R event s'.segments
+  step_tells s s' t t' event r x is = subst ToldBy is (settled_tells (begin s t) (first_tells s t.frame t.operands t.work r x))
