@@ -1,5 +1,5 @@
 -- The code of the first instruction of a task is the beginning of a step.
-use Rattle.std.proofs.Common.{◌≡◌, ◌≢◌, ℕ, Bool, List, Option, Result, Ok, Err, refl, ap, sym, subst, ◌∙◌}
+use Rattle.std.proofs.Common.{◌≡◌, ◌≢◌, ℕ, Bool, Option, Result, Ok, Err, ap, sym, subst, ◌∙◌}
 use Rattle.ms_event.specs.declared.event.Event.{Event}
 use Rattle.ms_module.specs.declared.instr.Instr.{Instr}
 use Rattle.ms_task.specs.declared.task.Task.{Task}

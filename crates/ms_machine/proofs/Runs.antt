@@ -1,10 +1,9 @@
 -- Runs, a step at a time.
-use Rattle.std.proofs.Common.{◌≡◌, ◌≢◌, ◌<◌, ◌-◌, ℕ, zero, suc, List, [], ◌∷◌, Option, Some, None, slice_get, refl, ap, sym, subst, ◌∙◌, arith}
+use Rattle.std.proofs.Common.{◌≡◌, ◌≢◌, ◌<◌, ◌-◌, ℕ, zero, suc, List, [], ◌∷◌, Option, slice_get, refl, ap, sym, subst, ◌∙◌, arith}
 use Rattle.ms_event.specs.declared.event.Event.{Event}
-use Rattle.ms_linear.specs.declared.value.Value.{Value}
 use Rattle.ms_task.specs.Thread.{Item, Thread}
-use Rattle.ms_machine.specs.Running.{EndAlike, End, OutOfBudget, Result, Run, Stopped, after_event, after_step, ends, if_going, run_thread}
-use Rattle.ms_machine.specs.Step.{Next, Outcome, Trap, step_of}
+use Rattle.ms_machine.specs.Running.{EndAlike, End, OutOfBudget, Result, Run, Stopped, after_step, ends, if_going, run_thread}
+use Rattle.ms_machine.specs.Step.{Next, Trap, step_of}
 use Rattle.ms_machine.specs.Store.{Store}
 use Rattle.ms_machine.specs.declared.stepped.Stepped.TheVariants as answers
 use Rattle.ms_machine.specs.declared.trap.TrapKind.{TrapKind}

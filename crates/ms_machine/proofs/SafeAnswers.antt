@@ -1,5 +1,5 @@
 -- Memory safety, as the answers of the code have it.
-use Rattle.std.proofs.Common.{◌≡◌, ◌≢◌, ℕ, List, [], ◌∷◌, ◌++◌, Option, None, Result, Ok, Err, IfOk, refl, sym, subst, append-nil}
+use Rattle.std.proofs.Common.{◌≡◌, ◌≢◌, ℕ, List, [], ◌∷◌, ◌++◌, None, Result, Ok, Err, IfOk, refl, sym, subst, append-nil}
 use Rattle.ms_event.specs.declared.event.Event.{Event}
 use Rattle.ms_module.specs.declared.module.Module.{Module}
 use Rattle.ms_task.specs.Thread.{Thread}

@@ -1,7 +1,6 @@
 -- The task that was started is well typed, and its handles fit.
-use Rattle.std.proofs.Common.{◌≡◌, ℕ, List, [], Option, Some, Result, Ok, Err, IfOk, slice_get, ap, sym, subst, ◌∙◌}
+use Rattle.std.proofs.Common.{◌≡◌, ℕ, List, [], Some, Result, Ok, Err, IfOk, slice_get, ap, sym, subst, ◌∙◌}
 use Rattle.ms_task.specs.Control.{settled, started}
-use Rattle.ms_task.specs.Thread.{Thread}
 use Rattle.ms_task.specs.View.{thread_of}
 use Rattle.ms_task.specs.declared.func.FuncInst.{FuncInst}
 use Rattle.ms_task.specs.declared.task.Task.{Task}

@@ -17,7 +17,6 @@ use Rattle.ms_module.specs.declared.module.Func.{Func}
 use Rattle.ms_module.specs.declared.module.Global.{Global}
 use Rattle.ms_module.specs.declared.module.Module.{Module}
 use Rattle.ms_module.specs.Numbered.{sequence_at}
-use Rattle.ms_segment.specs.Memory.{Memory}
 use Rattle.ms_tagged.specs.Bytes.{Data}
 use Rattle.ms_task.specs.declared.func.FuncInst.{FuncInst}
 use Rattle.ms_types.specs.declared.types.FuncType.{FuncType}

@@ -4,7 +4,7 @@ use Rattle.ms_event.specs.declared.event.Event.{Event}
 use Rattle.ms_linear.specs.declared.value.Value.{Value}
 use Rattle.ms_task.specs.Control.{settled as settled_thread, started}
 use Rattle.ms_task.specs.declared.func.FuncInst.{FuncInst}
-use Rattle.ms_task.specs.Thread.{Item, Thread, thread, Frame}
+use Rattle.ms_task.specs.Thread.{Item, Thread, thread}
 use Rattle.ms_machine.specs.Step.{Next, Outcome, Stuck, Trap, step_of}
 use Rattle.ms_machine.specs.Store.{Store}
 use Rattle.ms_machine.specs.Typing.{Outline}

@@ -133,4 +133,3 @@ pub fn instantiate<G: Gaps, T: Tagged>(
 {
     store_or_misfit(alloc, module, capacity)
 }
-

@@ -1,8 +1,6 @@
-use Rattle.std.proofs.Common.{◌≡◌, List, ap, sym, ◌∙◌, subst}
-use Rattle.ms_linear.specs.declared.value.Value.{Value}
+use Rattle.std.proofs.Common.{ap}
 use Rattle.ms_task.specs.Thread.{thread}
 use Rattle.ms_task.specs.View.{at_next, frame_of, thread_of}
-use Rattle.ms_machine.specs.Doing.{fault_of}
 use Rattle.ms_machine.proofs.Memories.{linear_does, linear_fails}
 use Rattle.ms_machine.proofs.memory.linear.Goals as goal
 

@@ -1,7 +1,5 @@
-use Rattle.std.proofs.Common.{◌≡◌, ◌-◌, refl, ap, sym, ◌∙◌, arith, subst}
+use Rattle.std.proofs.Common.{◌-◌, ap, sym, ◌∙◌, arith}
 use Rattle.ms_machine.specs.Running.{Result, Stopped, run_thread}
-use Rattle.ms_machine.specs.Stepped.{Carries}
-use Rattle.ms_machine.specs.Step.{step_of}
 use Rattle.ms_machine.proofs.Runs.{alike_end, alike_trans, on_able, run_ended, run_on, run_traps}
 use Rattle.ms_task.specs.View.{thread_of}
 use Rattle.ms_machine.proofs.running.run_task.Goals as goal
