@@ -41,6 +41,14 @@ impl Valid {
     {
         &self.module
     }
+
+    /// The module itself.
+    pub fn into_module(self) -> Module
+        ensures same { result ≡ self }
+        ensures typed { WellTyped self }
+    {
+        self.module
+    }
 }
 
 /// Takes a module that is well typed. Any other is given back, with the part that is not.
