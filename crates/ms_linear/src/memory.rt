@@ -1,4 +1,4 @@
-ghost use Rattle.std.specs.Prelude.{◌≡◌, ◌^◌, ◌<◌, ◌≤◌, ◌*◌, ◌++◌, ◌↔◌, IfOk, IsTrue, MatchOption, MatchResult, OnErr, length, replicate};
+ghost use Rattle.std.specs.Prelude.{◌≡◌, ◌^◌, ◌<◌, ◌≤◌, ◌+◌, ◌*◌, ◌++◌, ◌↔◌, IfOk, IsTrue, MatchOption, MatchResult, OnErr, drop, length, replicate, take};
 ghost use Rattle.ms_linear.specs.Memory.{IsInside, IsWidth, MayGrow, grown, loaded, page, pages, stored};
 
 use crate::number::{read_1, read_2, read_4, read_8, write_1, write_2, write_4, write_8};
@@ -88,6 +88,14 @@ impl Linear {
             _ => write_8(&mut self.bytes, to, value),
         }
         Ok(())
+    }
+
+    /// Writes bytes from a place on.
+    pub fn write(&mut self, at: usize, bytes: &[u8])
+        requires { at + length bytes.now ≤ length self.old.bytes }
+        ensures { self.new ≡ record { bytes = take at self.old.bytes ++ bytes.now ++ drop (at + length bytes.now) self.old.bytes; max = self.old.max } }
+    {
+        self.bytes[at..at + bytes.len()].copy_from_slice(bytes);
     }
 
     /// Adds so many pages of zeros, and gives how many there were before. `None` where it may not have so many; then,

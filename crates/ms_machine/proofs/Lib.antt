@@ -26,3 +26,5 @@ pub mod LinkedGlobals
 pub mod LinkedTables
 pub mod LinkedTypes
 pub mod LinkedStores
+pub mod LinkingFits
+pub mod LinkingRoom

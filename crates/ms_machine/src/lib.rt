@@ -16,7 +16,7 @@ mod stepped;
 mod store;
 mod trap;
 
-pub use linking::{LinkFault, Misfit};
+pub use linking::{LinkFault, Misfit, instantiate};
 pub use machine::step;
 pub use running::{Ran, run};
 pub use starting::{has_ended, start};
