@@ -95,15 +95,15 @@ module _ (bytes : List ℕ) where
   of_other P m n h k p = subst P (one_module usual bytes m n h k) p
 
   one_execution : (s : Status) (t : List ℕ) (s' : Status) (t' : List ℕ) → Executes bytes s t → Executes bytes s' t' → Same s t s' t'
-  one_execution s t s' t' (unread {a} h) (unread {b} k) = (refl, ap fault_line (one_fault bytes a b h k))
-  one_execution s t s' t' (unread {a} h) (invalid {m} {part} k wrong) = absurd (never_both bytes a m h k)
-  one_execution s t s' t' (unread {a} h) (answered {m} k well as) = absurd (never_both bytes a m h k)
-  one_execution s t s' t' (invalid {m} {part} h wrong) (unread {a} k) = absurd (never_both bytes a m k h)
-  one_execution s t s' t' (invalid {m} {a} h wrong) (invalid {n} {b} k wrong') = (refl, ap part_line (one_part n a b (of_other (λ x. IsWrong x a) m n h k wrong) wrong'))
-  one_execution s t s' t' (invalid {m} {part} h wrong) (answered {n} k well as) = absurd (never_wrong n part well (of_other (λ x. IsWrong x part) m n h k wrong))
-  one_execution s t s' t' (answered {m} h well as) (unread {a} k) = absurd (never_both bytes a m k h)
-  one_execution s t s' t' (answered {m} h well as) (invalid {n} {part} k wrong) = absurd (never_wrong n part (of_other WellTyped m n h k well) wrong)
-  one_execution s t s' t' (answered {m} h well as) (answered {n} k well' as') = answers_once (execution_of n) s t s' t' (of_other (λ x. AnswersAs (execution_of x) s t) m n h k as) as'
+  one_execution s t s' t' (unread a h) (unread b k) = (refl, ap fault_line (one_fault bytes a b h k))
+  one_execution s t s' t' (unread a h) (invalid m part k wrong) = absurd (never_both bytes a m h k)
+  one_execution s t s' t' (unread a h) (answered m k well gives) = absurd (never_both bytes a m h k)
+  one_execution s t s' t' (invalid m part h wrong) (unread a k) = absurd (never_both bytes a m k h)
+  one_execution s t s' t' (invalid m a h wrong) (invalid n b k wrong') = (refl, ap part_line (one_part n a b (of_other (λ x. IsWrong x a) m n h k wrong) wrong'))
+  one_execution s t s' t' (invalid m part h wrong) (answered n k well gives) = absurd (never_wrong n part well (of_other (λ x. IsWrong x part) m n h k wrong))
+  one_execution s t s' t' (answered m h well gives) (unread a k) = absurd (never_both bytes a m k h)
+  one_execution s t s' t' (answered m h well gives) (invalid n part k wrong) = absurd (never_wrong n part (of_other WellTyped m n h k well) wrong)
+  one_execution s t s' t' (answered m h well gives) (answered n k well' gives') = answers_once (execution_of n) s t s' t' (of_other (λ x. AnswersAs (execution_of x) s t) m n h k gives) gives'
 
 one_answer : (name bytes : List ℕ) (s : Status) (t : List ℕ) (s' : Status) (t' : List ℕ) → Answers name (Contents bytes) s t → Answers name (Contents bytes) s' t' → Same s t s' t'
 one_answer name bytes s t s' t' (too_long h) (too_long k) = (refl, refl)

@@ -2,7 +2,8 @@
 use Rattle.std.proofs.Common.{◌≡◌, ℕ, List, refl, sym, ap, ◌∙◌, subst}
 use Rattle.ms_bin_read.specs.declared.fault.ReadFault.{ReadFault}
 use Rattle.ms_bin_read.specs.declared.fault.ReadFault.TheVariants as faults
-use Rattle.ms_bin_read.specs.Readers.{IsFirstFault}
+use Rattle.ms_bin_read.specs.Readers.{IsFirstFault, counted_of}
+use Rattle.ms_bytes.specs.Reading as reading
 use Rattle.ms_machine.specs.Running.{End, OutOfBudget as BudgetEnd, Result, Run, RunsTo, Stopped, Tells}
 use Rattle.ms_machine.specs.Store.{Store}
 use Rattle.ms_machine.specs.declared.running.Ran.{Ran as Ending}
@@ -19,14 +20,14 @@ use Rattle.ms_tool.specs.declared.status.Status.{Status}
 use Rattle.ms_tool.specs.declared.status.Status.TheVariants.{Refused}
 
 unread_gives : (bytes : List ℕ) (fault : ReadFault) → IsTold fault → IsFirstFault bytes fault → Executes bytes Refused (told_line fault)
-unread_gives bytes (faults.Malformed at) told first = unread first
-unread_gives bytes (faults.Float at) told first = unread first
-unread_gives bytes (faults.Limit which at) told first = unread first
+unread_gives bytes (faults.Malformed at) told first = unread (reading.Malformed at) first
+unread_gives bytes (faults.Float at) told first = unread (reading.Float at) first
+unread_gives bytes (faults.Limit which at) told first = unread (reading.Limit (counted_of which) at) first
 unread_gives bytes faults.Memory told first = absurd told
 
 ends_as : (ran : Ending) (end : End) → IsOver ran → Tells ran end → EndsAs end (status_of_run ran) (run_line ran)
 ends_as (endings.Result value) end over tells = subst (λ (e : End). EndsAs e (status_of_run (endings.Result value)) (run_line (endings.Result value))) (sym tells) (refl, refl)
-ends_as (endings.Trap kind) end over tells = subst (λ (e : End). EndsAs e (status_of_run (endings.Trap kind)) (run_line (endings.Trap kind))) (sym tells) (refl, refl)
+ends_as (endings.Trap trap) end over tells = subst (λ (e : End). EndsAs e (status_of_run (endings.Trap trap)) (run_line (endings.Trap trap))) (sym tells) (refl, refl)
 ends_as endings.Budget end over tells = subst (λ (e : End). EndsAs e (status_of_run endings.Budget) (run_line endings.Budget)) (sym tells) (refl, refl)
 ends_as endings.ReadFault end over tells = absurd over
 ends_as endings.WriteFault end over tells = absurd over
@@ -38,11 +39,11 @@ answers m e status text is answer = subst (λ (x : Execution). AnswersAs x statu
 
 pub outcome_gives : (bytes : List ℕ) (o : Outcome) → IsOutcome bytes o → Executes bytes (status_of o) (text_of o)
 outcome_gives bytes (Unread fault) h = unread_gives bytes fault h.0 h.1
-outcome_gives bytes (Invalid part) h = invalid h.1 h.2
-outcome_gives bytes Imports h = answered h.1 h.2 (answers h.0 executions.Imports Refused no_export_line h.3 (refl, refl))
-outcome_gives bytes (Misfit fault) h = answered h.1 h.2 (answers h.0 (executions.Misfits fault) Refused (misfit_line fault) h.3 (refl, refl))
-outcome_gives bytes NoTask h = answered h.1 h.2 (answers h.0 executions.NoTask Refused no_task_line h.3 (refl, refl))
-outcome_gives bytes (Ran ran) h = answered h.1 h.2 (answers h.0 (Runs h.4) (status_of_run ran) (run_line ran) h.5 (ends_as ran h.4.end h.3 h.6))
+outcome_gives bytes (Invalid part) h = invalid h.0 part h.1 h.2
+outcome_gives bytes Imports h = answered h.0 h.1 h.2.0 (answers h.0 executions.Imports Refused no_export_line h.2.1 (refl, refl))
+outcome_gives bytes (Misfit fault) h = answered h.0 h.1 h.2.0 (answers h.0 (executions.Misfits fault) Refused (misfit_line fault) h.2.1 (refl, refl))
+outcome_gives bytes NoTask h = answered h.0 h.1 h.2.0 (answers h.0 executions.NoTask Refused no_task_line h.2.1 (refl, refl))
+outcome_gives bytes (Ran ran) h = answered h.0 h.1 h.2.0 (answers h.0 (Runs h.2.1.1) (status_of_run ran) (run_line ran) h.2.1.2 (ends_as ran h.2.1.1.end h.2.1.0 h.2.1.3))
 
 pub has_line : (bytes : List ℕ) (o : Outcome) → IsOutcome bytes o → HasLine o
 has_line bytes (Unread fault) h = h.0
@@ -50,4 +51,4 @@ has_line bytes (Invalid part) h = tt
 has_line bytes Imports h = tt
 has_line bytes (Misfit fault) h = tt
 has_line bytes NoTask h = tt
-has_line bytes (Ran ran) h = h.3
+has_line bytes (Ran ran) h = h.2.1.0

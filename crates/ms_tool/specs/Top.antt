@@ -25,10 +25,10 @@ most_bytes = 4194304
 -- the bytes of a file of at most so many bytes, the status and the report
 pub data Executes (bytes : List ℕ) : Status → List ℕ → Type 0 where
   -- they spell no module: the first fault, with its place
-  unread : {fault : ReadingFault} → Stops bytes fault → Executes bytes Refused (fault_line fault)
+  unread : (fault : ReadingFault) → Stops bytes fault → Executes bytes Refused (fault_line fault)
   -- the module isn't well typed: the part
-  invalid : {m : Module} {part : Part} → SpellsWithin usual bytes m → IsWrong m part → Executes bytes Refused (part_line part)
-  answered : {m : Module} {status : Status} {report : List ℕ} → SpellsWithin usual bytes m → WellTyped m → AnswersAs (execution_of m) status report → Executes bytes status report
+  invalid : (m : Module) (part : Part) → SpellsWithin usual bytes m → IsWrong m part → Executes bytes Refused (part_line part)
+  answered : (m : Module) {status : Status} {report : List ℕ} → SpellsWithin usual bytes m → WellTyped m → AnswersAs (execution_of m) status report → Executes bytes status report
 
 -- what reading a file gave: its bytes, or a fault
 pub data Found : Type 0 where

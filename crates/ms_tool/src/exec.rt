@@ -1,8 +1,8 @@
 //! `exec`: a file is read, validated and run.
 
-ghost use Rattle.std.specs.Prelude.{◌≡◌, IfOk, MatchOption, Some};
+ghost use Rattle.std.specs.Prelude.{◌≡◌, ◌<◌, ◌^◌, IfOk};
 ghost use Rattle.ms_rules.specs.Modules.{WellTyped};
-ghost use Rattle.ms_tool.specs.Outcomes.{ComesTo, HasLine, IsOutcome, IsOutcomeOf, IsOver, run_line, status_of, status_of_run, text_of};
+ghost use Rattle.ms_tool.specs.Outcomes.{ComesTo, ComesWithin, HasLine, IsOutcome, IsOutcomeOf, IsOver, run_line, status_of, status_of_run, text_of};
 ghost use Rattle.ms_tool.specs.Reporting.{Reports, ReportsExecution, ReportsFile};
 
 use crate::lines::{fault_line, file_line, misfit_line, part_line, result_line, trap_line};
@@ -44,7 +44,42 @@ enum Outcome {
     Ran(Ran),
 }
 
-/// Runs the `main` of a well-typed module, after its start function.
+/// Runs the `main` of a well-typed module, after its start function: so many steps at most, with a segment memory of so
+/// many bytes.
+fn outcome_within<I: Source, O: Sink>(
+    alloc: Global,
+    module: Module,
+    budget: u64,
+    capacity: u32,
+    input: &mut I,
+    out: &mut O,
+) -> Result<Outcome, AllocError>
+    requires typed { WellTyped «module» }
+    requires few { budget < 2 ^ 63 }
+    ensures outcome { IfOk result (ComesWithin budget capacity «module») }
+    ensures input { (I.left input.new ≡ I.left input.old) × (I.faults input.new ≡ I.faults input.old) }
+    ensures out { (O.held out.new ≡ O.held out.old) × (O.faults out.new ≡ O.faults out.old) }
+{
+    if !module.imports.is_empty() {
+        return Ok(Outcome::Imports);
+    }
+    let first = module.start;
+    let task = task_index(&module, "main");
+    let mut store = match instantiate::<ListGaps, ByteTags>(alloc, module, capacity) {
+        Ok(store) => store,
+        Err(LinkFault::Misfit(misfit)) => return Ok(Outcome::Misfit(misfit)),
+        Err(LinkFault::Memory) => return Err(AllocError),
+    };
+    let Some(main) = task else {
+        return Ok(Outcome::NoTask);
+    };
+    match run(alloc, &mut store, first, main, budget, input, out) {
+        Ran::Memory => Err(AllocError),
+        ran => Ok(Outcome::Ran(ran)),
+    }
+}
+
+/// The same with the usual budget and size.
 fn outcome_of_typed<I: Source, O: Sink>(
     alloc: Global,
     module: Module,
@@ -56,23 +91,7 @@ fn outcome_of_typed<I: Source, O: Sink>(
     ensures input { (I.left input.new ≡ I.left input.old) × (I.faults input.new ≡ I.faults input.old) }
     ensures out { (O.held out.new ≡ O.held out.old) × (O.faults out.new ≡ O.faults out.old) }
 {
-    if !module.imports.is_empty() {
-        return Ok(Outcome::Imports);
-    }
-    let first = module.start;
-    let task = task_index(&module, "main");
-    let mut store = match instantiate::<ListGaps, ByteTags>(alloc, module, DEFAULT_CAPACITY) {
-        Ok(store) => store,
-        Err(LinkFault::Misfit(misfit)) => return Ok(Outcome::Misfit(misfit)),
-        Err(LinkFault::Memory) => return Err(AllocError),
-    };
-    let Some(main) = task else {
-        return Ok(Outcome::NoTask);
-    };
-    match run(alloc, &mut store, first, main, DEFAULT_BUDGET, input, out) {
-        Ran::Memory => Err(AllocError),
-        ran => Ok(Outcome::Ran(ran)),
-    }
+    outcome_within(alloc, module, DEFAULT_BUDGET, DEFAULT_CAPACITY, input, out)
 }
 
 fn outcome_of_module<I: Source, O: Sink>(

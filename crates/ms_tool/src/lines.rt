@@ -1,6 +1,7 @@
 //! The lines of the report that name a place, a part or a number.
 
-ghost use Rattle.std.specs.Prelude.{◌≡◌, ◌++◌, IfOk};
+ghost use Rattle.std.specs.Prelude.{◌≡◌, ◌++◌, IfOk, codes, string_bytes};
+ghost use Rattle.std.specs.Fmt.{decimal};
 ghost use Rattle.ms_bin_read.specs.Readers.{counted_of};
 ghost use Rattle.ms_num.specs.Integers.{signed};
 ghost use Rattle.ms_tool.specs.Lines.{counted_word, line, misfit_line, part_line, result_line, trap_line};
@@ -14,7 +15,7 @@ use std::alloc::{AllocError, Global};
 
 /// What happened to a file.
 pub fn file_line(alloc: Global, what: &str, file: &str) -> Result<String, AllocError>
-    ensures { IfOk result (λ t. t ≡ line (what.now ++ file.now)) }
+    ensures { IfOk result (λ t. string_bytes t ≡ line (what.now ++ file.now)) }
 {
     format!(in alloc; "{what}{file}\n")
 }
@@ -30,7 +31,7 @@ fn counted_word(which: Counted) -> &'static str
 
 /// The first fault of bytes that spell no module. Want of memory has no line.
 pub fn fault_line(alloc: Global, fault: ReadFault) -> Result<String, AllocError>
-    ensures { IfOk result (λ t. t ≡ told_line fault) }
+    ensures { IfOk result (λ t. string_bytes t ≡ told_line fault) }
 {
     match fault {
         ReadFault::Malformed { at } => format!(in alloc; "refused malformed {at}\n"),
@@ -40,13 +41,15 @@ pub fn fault_line(alloc: Global, fault: ReadFault) -> Result<String, AllocError>
     }
 }
 
-fn limit_line(alloc: Global, which: &str, at: usize) -> Result<String, AllocError> {
+fn limit_line(alloc: Global, which: &str, at: usize) -> Result<String, AllocError>
+    ensures { IfOk result (λ t. string_bytes t ≡ line (codes "refused limit " ++ which.now ++ codes " " ++ decimal at)) }
+{
     format!(in alloc; "refused limit {which} {at}\n")
 }
 
 /// The part of a module that isn't well typed.
 pub fn part_line(alloc: Global, part: Part) -> Result<String, AllocError>
-    ensures { IfOk result (λ t. t ≡ part_line part) }
+    ensures { IfOk result (λ t. string_bytes t ≡ part_line part) }
 {
     match part {
         Part::Head => format!(in alloc; "refused invalid head\n"),
@@ -56,7 +59,7 @@ pub fn part_line(alloc: Global, part: Part) -> Result<String, AllocError>
 
 /// What of a module doesn't fit.
 pub fn misfit_line(alloc: Global, misfit: Misfit) -> Result<String, AllocError>
-    ensures { IfOk result (λ t. t ≡ misfit_line misfit) }
+    ensures { IfOk result (λ t. string_bytes t ≡ misfit_line misfit) }
 {
     match misfit {
         Misfit::TooLarge(item) => format!(in alloc; "refused link 0 {item} toolarge\n"),
@@ -66,7 +69,7 @@ pub fn misfit_line(alloc: Global, misfit: Misfit) -> Result<String, AllocError>
 
 /// Why a program was stopped.
 pub fn trap_line(alloc: Global, kind: TrapKind) -> Result<String, AllocError>
-    ensures { IfOk result (λ t. t ≡ trap_line kind) }
+    ensures { IfOk result (λ t. string_bytes t ≡ trap_line kind) }
 {
     let word = kind.word();
     format!(in alloc; "trap {word}\n")
@@ -74,7 +77,7 @@ pub fn trap_line(alloc: Global, kind: TrapKind) -> Result<String, AllocError>
 
 /// What a task gives, read as signed.
 pub fn result_line(alloc: Global, value: Option<Value>) -> Result<String, AllocError>
-    ensures { IfOk result (λ t. t ≡ result_line value) }
+    ensures { IfOk result (λ t. string_bytes t ≡ result_line value) }
 {
     match value {
         Some(Value::I32(n)) => {

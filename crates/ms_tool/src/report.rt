@@ -1,6 +1,6 @@
 //! Putting an answer into the report.
 
-ghost use Rattle.std.specs.Prelude.{◌≡◌, ℕ, List, IfOk};
+ghost use Rattle.std.specs.Prelude.{◌≡◌, ℕ, List, IfOk, string_bytes};
 ghost use Rattle.ms_tool.specs.Reporting.{Reports};
 
 use crate::status::Status;
@@ -24,7 +24,7 @@ pub fn answer_line<R: Sink>(
     status: Status,
     line: Result<String, AllocError>,
 ) -> Status
-    ensures { (text : List ℕ) → IfOk line (λ t. t ≡ text) → Reports status text (record { old = R.held report.old; new = R.held report.new; before = R.faults report.old; after = R.faults report.new }) result }
+    ensures { (text : List ℕ) → IfOk line (λ t. string_bytes t ≡ text) → Reports status text (record { old = R.held report.old; new = R.held report.new; before = R.faults report.old; after = R.faults report.new }) result }
 {
     match line {
         Ok(text) => answer(report, status, text.as_bytes()),
