@@ -8,3 +8,4 @@ pub mod Safety
 pub mod Typing
 pub mod Holding
 pub mod Doing
+pub mod Words

@@ -1,3 +1,6 @@
+ghost use Rattle.std.specs.Prelude.{◌≡◌};
+ghost use Rattle.ms_machine.specs.Words.{trap_word};
+
 /// Why a program was stopped.
 #[derive(Clone, Copy, Debug, PartialEq, Eq)]
 pub enum TrapKind {
@@ -37,4 +40,32 @@ pub enum TrapKind {
     Kind,
     /// The distance of handles of different segments.
     Apart,
+}
+
+impl TrapKind {
+    /// The trap's word, as reports have it.
+    pub fn word(self) -> &'static str
+        ensures { result.now ≡ trap_word self }
+    {
+        match self {
+            TrapKind::Unreachable => "unreachable",
+            TrapKind::Zero => "zero",
+            TrapKind::Overflow => "overflow",
+            TrapKind::Linear => "linear",
+            TrapKind::Table => "table",
+            TrapKind::Element => "element",
+            TrapKind::Signature => "signature",
+            TrapKind::Depth => "depth",
+            TrapKind::Abort => "abort",
+            TrapKind::Null => "null",
+            TrapKind::Invalid => "invalid",
+            TrapKind::Freed => "freed",
+            TrapKind::Bounds => "bounds",
+            TrapKind::Misaligned => "misaligned",
+            TrapKind::Provenance => "provenance",
+            TrapKind::Whole => "whole",
+            TrapKind::Kind => "kind",
+            TrapKind::Apart => "apart",
+        }
+    }
 }

@@ -1,17 +1,26 @@
 -- The table gives one answer at most, so that what it gives for a known file is what was answered.
-use Rattle.std.proofs.Common.{◌≡◌, ℕ, ◌⊎◌, inl, inr, List, ℤ, refl, sym, ap, subst, ◌∙◌, arith}
-use Rattle.std.specs.Prelude.{⊤, MatchOption, Option, Some, None, IsSomeAnd}
+use Rattle.std.proofs.Common.{◌≡◌, ◌<◌, ◌+◌, ℕ, ◌⊎◌, inl, inr, List, [], length, Ok, Err, Result, refl, sym, ap, subst, ◌∙◌, arith}
+use Rattle.std.specs.Prelude.{⊤, MatchOption, Option, Some, None, IsSomeAnd, All, slice_get}
+use Rattle.std.proofs.lemmas.List.Elements.{All-get_or}
+use Rattle.std.proofs.lemmas.Bool.{cases_lt}
+use Rattle.std.proofs.lemmas.Option.{slice_get_cases}
+use Rattle.ms_bytes.specs.Reading.{Fault as ReadingFault}
 use Rattle.ms_outside.specs.Files.{Files, bytes_of}
 use Rattle.ms_outside.specs.Shelf.{Told}
+use Rattle.ms_machine.specs.Running.{End, Lost, OutOfBudget, Result as Ended, Stopped}
 use Rattle.ms_module.specs.declared.module.Func.{Func}
 use Rattle.ms_module.specs.declared.module.Module.{Module}
-use Rattle.ms_module.specs.Module.{usual}
+use Rattle.ms_module.specs.Module.{SpellsWithin, Stops, module_format, usual}
 use Rattle.ms_module.proofs.Spelling.{one_module}
-use Rattle.ms_tool.specs.Lines.{result_line, usage_line}
+use Rattle.ms_rules.specs.Context.{context_of, imported_funcs}
+use Rattle.ms_rules.specs.Modules.{FuncTyped, Head, IsFirstUntyped, WellTyped}
+use Rattle.ms_valid.specs.Refusals.{IsWrong}
+use Rattle.ms_valid.specs.declared.refusal.Part.{Part}
+use Rattle.ms_valid.specs.declared.refusal.Part.TheVariants as parts
+use Rattle.ms_tool.specs.Executions.{AnswersAs, EndsAs, Execution, Imports, Misfits, NoTask, Runs, execution_of}
+use Rattle.ms_tool.specs.Lines.{fault_line, part_line, usage_line}
 use Rattle.ms_tool.specs.Reporting.{Reads, Report, Reports, ReportsWords}
-use Rattle.ms_tool.specs.Run.{Results}
-use Rattle.ms_tool.specs.Tasks.{main_name, task_func}
-use Rattle.ms_tool.specs.Top.{Answers, Contents, Executes, Fault, Found, Gives, Grows, Holds, IsFaulty, IsFound, IsKnown, done, executed, no_task, read_fault, run_of, too_long, unread}
+use Rattle.ms_tool.specs.Top.{Answers, Contents, Executes, Fault, Found, Gives, Grows, IsFaulty, IsFound, IsKnown, answered, executed, invalid, read_fault, too_long, unread}
 use Rattle.ms_tool.specs.Words.{asked}
 use Rattle.ms_tool.specs.declared.status.Status.{Status}
 use Rattle.ms_tool.specs.declared.status.Status.TheVariants as statuses
@@ -19,28 +28,82 @@ use Rattle.ms_tool.specs.declared.status.Status.TheVariants as statuses
 abbrev pub Same : Status → List ℕ → Status → List ℕ → Type 0
 Same s t s' t' = (s ≡ s') × (t ≡ t')
 
--- the task of a module, and what it gives
-task_again : (bytes : List ℕ) (m n : Module) → Holds bytes m → Holds bytes n → task_func m main_name ≡ task_func n main_name
-task_again bytes m n h k = ap (λ (x : Module). task_func x main_name) (one_module usual bytes m n h.spelled k.spelled)
+-- ---- bytes that spell no module
 
-some_func : (f g : Func) → ◌≡◌ {A = Option Func} (Some f) (Some g) → f ≡ g
-some_func f g e = cc
+one_fault : (bytes : List ℕ) (a b : ReadingFault) → Stops bytes a → Stops bytes b → a ≡ b
+one_fault bytes a b h k = let both = sym h ∙ k in cc
 
-results_is : (a b : List ℤ) → Results a ≡ Results b → a ≡ b
-results_is a b e = cc
+never_both : (bytes : List ℕ) (fault : ReadingFault) (m : Module) → Stops bytes fault → SpellsWithin usual bytes m → ⊥
+never_both bytes fault m stops spelled = let both = sym ((module_format usual).again (length bytes) bytes m [] spelled) ∙ stops in cc
 
-one_execution : (bytes : List ℕ) (s : Status) (t : List ℕ) (s' : Status) (t' : List ℕ) → Executes bytes s t → Executes bytes s' t' → Same s t s' t'
-one_execution bytes s t s' t' (unread h) (unread k) = (refl, refl)
-one_execution bytes s t s' t' (unread h) (no_task m b c) = absurd (h m b)
-one_execution bytes s t s' t' (unread h) (done m f r b c d) = absurd (h m b)
-one_execution bytes s t s' t' (no_task m b c) (unread k) = absurd (k m b)
-one_execution bytes s t s' t' (no_task m b c) (no_task n b' c') = (refl, refl)
-one_execution bytes s t s' t' (no_task m b c) (done n f r b' c' d') = absurd (let p = task_again bytes m n b b' in cc)
-one_execution bytes s t s' t' (done m f r b c d) (unread k) = absurd (k m b)
-one_execution bytes s t s' t' (done m f r b c d) (no_task n b' c') = absurd (let p = task_again bytes m n b b' in cc)
-one_execution bytes s t s' t' (done m f r b c d) (done n g q b' c' d') =
-    let same : f ≡ g = some_func f g (sym c ∙ (task_again bytes m n b b' ∙ c')) in
-    (refl, ap result_line (results_is r q (sym d ∙ (ap run_of same ∙ d'))))
+-- ---- the wrong part of a module
+
+some_is : {A : Type 0} (x y : A) → ◌≡◌ {A = Option A} (Some x) (Some y) → x ≡ y
+some_is x y e = cc
+
+got : {A : Type 0} (P : A → Type 0) (xs : List A) (i : ℕ) (x : A) → slice_get xs i ≡ Some x → All P xs → P x
+got P xs i x e all =
+    elim (slice_get_cases xs i).1 [
+      | inl h ↦ let same : h.0 ≡ x = some_is h.0 x (sym h.2 ∙ e) in subst P (h.3 ∙ same) (All-get_or P xs i h.0 h.1 all)
+      | inr h ↦ absurd (let n = h.1 in cc)
+    ]
+
+not_less : (m : Module) (a b : ℕ) (x : IsFirstUntyped m a) (y : IsFirstUntyped m b) → x.number < y.number → ⊥
+not_less m a b x y lt = x.untyped (y.least x.number x.func lt x.func_is)
+
+one_first : (m : Module) (a b : ℕ) → IsFirstUntyped m a → IsFirstUntyped m b → a ≡ b
+one_first m a b x y =
+    elim (cases_lt x.number y.number) [
+      | inl lt ↦ absurd (not_less m a b x y lt)
+      | inr le ↦ elim (cases_lt y.number x.number) [
+        | inl lt ↦ absurd (not_less m b a y x lt)
+        | inr other ↦ let e = x.index_is in let f = y.index_is in omega arith
+      ]
+    ]
+
+one_part : (m : Module) (a b : Part) → IsWrong m a → IsWrong m b → a ≡ b
+one_part m parts.Head parts.Head h k = refl
+one_part m parts.Head (parts.Function n) h k = absurd (h k.0)
+one_part m (parts.Function n) parts.Head h k = absurd (k h.0)
+one_part m (parts.Function n) (parts.Function o) h k = ap parts.Function (one_first m n o h.1 k.1)
+
+never_wrong : (m : Module) (part : Part) → WellTyped m → IsWrong m part → ⊥
+never_wrong m parts.Head well wrong = wrong well.head
+never_wrong m (parts.Function n) well wrong =
+    let first = wrong.1 in
+    first.untyped (got (FuncTyped (context_of m)) m.funcs first.number first.func first.func_is well.funcs)
+
+-- ---- a run
+
+ends_once : (end : End) (s : Status) (t : List ℕ) (s' : Status) (t' : List ℕ) → EndsAs end s t → EndsAs end s' t' → Same s t s' t'
+ends_once (Ended value) s t s' t' h k = (h.0 ∙ sym k.0, h.1 ∙ sym k.1)
+ends_once (Stopped trap) s t s' t' h k = (h.0 ∙ sym k.0, h.1 ∙ sym k.1)
+ends_once OutOfBudget s t s' t' h k = (h.0 ∙ sym k.0, h.1 ∙ sym k.1)
+ends_once Lost s t s' t' h k = absurd h
+
+answers_once : (e : Execution) (s : Status) (t : List ℕ) (s' : Status) (t' : List ℕ) → AnswersAs e s t → AnswersAs e s' t' → Same s t s' t'
+answers_once Imports s t s' t' h k = (h.0 ∙ sym k.0, h.1 ∙ sym k.1)
+answers_once (Misfits fault) s t s' t' h k = (h.0 ∙ sym k.0, h.1 ∙ sym k.1)
+answers_once NoTask s t s' t' h k = (h.0 ∙ sym k.0, h.1 ∙ sym k.1)
+answers_once (Runs run) s t s' t' h k = ends_once run.end s t s' t' h k
+
+-- ---- the table
+
+module _ (bytes : List ℕ) where
+  -- what holds of one module that the bytes spell holds of the other
+  of_other : (P : Module → Type 0) (m n : Module) → SpellsWithin usual bytes m → SpellsWithin usual bytes n → P m → P n
+  of_other P m n h k p = subst P (one_module usual bytes m n h k) p
+
+  one_execution : (s : Status) (t : List ℕ) (s' : Status) (t' : List ℕ) → Executes bytes s t → Executes bytes s' t' → Same s t s' t'
+  one_execution s t s' t' (unread a h) (unread b k) = (refl, ap fault_line (one_fault bytes a b h k))
+  one_execution s t s' t' (unread a h) (invalid m part k wrong) = absurd (never_both bytes a m h k)
+  one_execution s t s' t' (unread a h) (answered m k well gives) = absurd (never_both bytes a m h k)
+  one_execution s t s' t' (invalid m part h wrong) (unread a k) = absurd (never_both bytes a m k h)
+  one_execution s t s' t' (invalid m a h wrong) (invalid n b k wrong') = (refl, ap part_line (one_part n a b (of_other (λ x. IsWrong x a) m n h k wrong) wrong'))
+  one_execution s t s' t' (invalid m part h wrong) (answered n k well gives) = absurd (never_wrong n part well (of_other (λ x. IsWrong x part) m n h k wrong))
+  one_execution s t s' t' (answered m h well gives) (unread a k) = absurd (never_both bytes a m k h)
+  one_execution s t s' t' (answered m h well gives) (invalid n part k wrong) = absurd (never_wrong n part (of_other WellTyped m n h k well) wrong)
+  one_execution s t s' t' (answered m h well gives) (answered n k well' gives') = answers_once (execution_of n) s t s' t' (of_other (λ x. AnswersAs (execution_of x) s t) m n h k gives) gives'
 
 one_answer : (name bytes : List ℕ) (s : Status) (t : List ℕ) (s' : Status) (t' : List ℕ) → Answers name (Contents bytes) s t → Answers name (Contents bytes) s' t' → Same s t s' t'
 one_answer name bytes s t s' t' (too_long h) (too_long k) = (refl, refl)

@@ -1,5 +1,4 @@
-pub mod Runs
 pub mod Outcomes
+pub mod Executed
 pub mod Files
 pub mod Complete
-pub mod Cuts

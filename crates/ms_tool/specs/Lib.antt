@@ -1,9 +1,7 @@
-pub mod FirstCut
-pub mod Run
 pub mod Tasks
-pub mod Ends
 pub mod Words
 pub mod Lines
+pub mod Executions
 pub mod Top
 pub mod Reporting
 pub mod Outcomes

@@ -1,6 +1,16 @@
 -- The lines of the report.
-use Rattle.std.specs.Prelude.{ℕ, ℤ, List, [], ◌∷◌, ◌++◌, codes}
-use Rattle.std.specs.Fmt.{signed_decimal}
+use Rattle.std.specs.Prelude.{ℕ, List, [], ◌∷◌, ◌++◌, codes, Option, Some, None}
+use Rattle.std.specs.Fmt.{decimal, signed_decimal}
+use Rattle.ms_bytes.specs.Reading.{Blocks, Counted, Fault, Float, Limit, Locals, Malformed}
+use Rattle.ms_linear.specs.declared.value.Value.{Value}
+use Rattle.ms_linear.specs.declared.value.Value.TheVariants as values
+use Rattle.ms_machine.specs.declared.linking.Misfit.{Misfit}
+use Rattle.ms_machine.specs.declared.linking.Misfit.TheVariants.{Outside, TooLarge}
+use Rattle.ms_machine.specs.declared.trap.TrapKind.{TrapKind}
+use Rattle.ms_machine.specs.Words.{trap_word}
+use Rattle.ms_num.specs.Integers.{signed}
+use Rattle.ms_valid.specs.declared.refusal.Part.{Part}
+use Rattle.ms_valid.specs.declared.refusal.Part.TheVariants.{Function, Head}
 
 -- a text and a line feed
 abbrev pub line : List ℕ → List ℕ
@@ -15,13 +25,40 @@ read_fault_line name = line (codes "read fault " ++ name)
 abbrev pub too_long_line : List ℕ → List ℕ
 too_long_line name = line (codes "too long " ++ name)
 
-abbrev pub unread_line : List ℕ
-unread_line = line (codes "refused unread")
-
 abbrev pub no_task_line : List ℕ
 no_task_line = line (codes "refused task 0")
 
--- what a task gives
-abbrev pub result_line : List ℤ → List ℕ
-result_line [] = line (codes "done")
-result_line (n ∷ ns) = line (codes "result " ++ signed_decimal n)
+abbrev pub counted_word : Counted → List ℕ
+counted_word Blocks = codes "blocks"
+counted_word Locals = codes "locals"
+
+abbrev pub fault_line : Fault → List ℕ
+fault_line (Malformed at) = line (codes "refused malformed " ++ decimal at)
+fault_line (Float at) = line (codes "refused float " ++ decimal at)
+fault_line (Limit which at) = line (codes "refused limit " ++ counted_word which ++ codes " " ++ decimal at)
+
+abbrev pub part_line : Part → List ℕ
+part_line Head = line (codes "refused invalid head")
+part_line (Function n) = line (codes "refused invalid function " ++ decimal n)
+
+-- of the module 0: what isn't there, or doesn't fit
+abbrev pub no_export_line : List ℕ
+no_export_line = line (codes "refused link 0 0 noexport")
+
+abbrev pub misfit_line : Misfit → List ℕ
+misfit_line (TooLarge item) = line (codes "refused link 0 " ++ decimal item ++ codes " toolarge")
+misfit_line (Outside item) = line (codes "refused link 0 " ++ decimal item ++ codes " fit")
+
+abbrev pub trap_line : TrapKind → List ℕ
+trap_line trap = line (codes "trap " ++ trap_word trap)
+
+abbrev pub budget_line : List ℕ
+budget_line = line (codes "out of budget")
+
+-- what a task gives: nothing, or a number, which is read as signed
+abbrev pub result_line : Option Value → List ℕ
+result_line None = line (codes "done")
+result_line (Some (values.I32 n)) = line (codes "result " ++ signed_decimal (signed 32 n))
+result_line (Some (values.I64 n)) = line (codes "result " ++ signed_decimal (signed 64 n))
+-- no task has such a type
+result_line (Some (values.Handle h)) = line (codes "done")

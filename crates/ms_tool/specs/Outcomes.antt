@@ -1,34 +1,100 @@
 -- What executing a file comes to, before it is put into words.
-use Rattle.std.specs.Prelude.{◌≡◌, ℕ, ℤ, List, None, Some}
-use Rattle.ms_module.specs.declared.module.Func.{Func}
+use Rattle.std.specs.Prelude.{◌≡◌, ◌≢◌, ℕ, List, [], Some, None}
+use Rattle.ms_bin_read.specs.Readers.{IsFirstFault, counted_of}
+use Rattle.ms_bin_read.specs.declared.fault.ReadFault.{ReadFault}
+use Rattle.ms_bin_read.specs.declared.fault.ReadFault.TheVariants as faults
+use Rattle.ms_bytes.specs.Reading as reading
+use Rattle.ms_machine.specs.Linking.{misfit, store_of}
+use Rattle.ms_machine.specs.Running.{Run, Tells, run_from}
+use Rattle.ms_machine.specs.declared.running.Ran.{Ran as Ending}
+use Rattle.ms_machine.specs.declared.running.Ran.TheVariants as endings
+use Rattle.ms_module.specs.Module.{SpellsWithin, usual}
 use Rattle.ms_module.specs.declared.module.Module.{Module}
-use Rattle.ms_tool.specs.Run as runs
-use Rattle.ms_tool.specs.Tasks.{main_name, task_func}
-use Rattle.ms_tool.specs.Top.{Holds, IsUnread, run_of}
-use Rattle.ms_tool.specs.Lines.{no_task_line, result_line, unread_line}
+use Rattle.ms_rules.specs.Modules.{WellTyped}
+use Rattle.ms_valid.specs.Refusals.{IsWrong}
+use Rattle.ms_tool.specs.Executions.{Misfits, Runs, execution_of}
+use Rattle.ms_tool.specs.Executions as executions
+use Rattle.ms_tool.specs.Lines.{budget_line, fault_line, misfit_line, no_export_line, no_task_line, part_line, result_line, trap_line}
+use Rattle.ms_tool.specs.Tasks.{main_name, task_index}
 use Rattle.ms_tool.specs.declared.status.Status.{Status}
-use Rattle.ms_tool.specs.declared.status.Status.TheVariants.{Done, Refused}
+use Rattle.ms_tool.specs.declared.status.Status.TheVariants.{Done, OutOfBudget, Refused, Trapped}
 use Rattle.ms_tool.specs.declared.exec.Outcome.{Outcome}
-use Rattle.ms_tool.specs.declared.exec.Outcome.TheVariants.{NoTask, Results, Unread}
+use Rattle.ms_tool.specs.declared.exec.Outcome.TheVariants.{Imports, Invalid, Misfit, NoTask, Ran, Unread}
 
-pub record IsResult (bytes : List ℕ) (results : List ℤ) : Type 0 where
-  pub m : Module
-  pub f : Func
-  pub held : Holds bytes m
-  pub task : task_func m main_name ≡ Some f
-  pub ended : run_of f ≡ runs.Results results
+-- ---- outcomes of bytes
+
+-- memory didn't run out
+abbrev pub IsTold : ReadFault → Type 0
+IsTold faults.Memory = ⊥
+IsTold _ = Unit {0}
+
+-- nor in a run, and nothing outside failed
+abbrev pub IsOver : Ending → Type 0
+IsOver (endings.Result value) = Unit {0}
+IsOver (endings.Trap trap) = Unit {0}
+IsOver endings.Budget = Unit {0}
+IsOver _ = ⊥
+
+-- what executing a well-typed module comes to
+abbrev pub ComesTo : Module → Outcome → Type 0
+ComesTo m (Unread fault) = ⊥
+ComesTo m (Invalid part) = ⊥
+ComesTo m Imports = execution_of m ≡ executions.Imports
+ComesTo m (Misfit fault) = execution_of m ≡ Misfits fault
+ComesTo m NoTask = execution_of m ≡ executions.NoTask
+ComesTo m (Ran ran) = IsOver ran × (run : Run) × (execution_of m ≡ Runs run) × Tells ran run.end
+
+-- the same in words of the module, within any budget, with a segment memory of any size
+abbrev pub ComesWithin : (budget capacity : ℕ) → Module → Outcome → Type 0
+ComesWithin budget capacity m (Unread fault) = ⊥
+ComesWithin budget capacity m (Invalid part) = ⊥
+ComesWithin budget capacity m Imports = m.imports ≢ []
+ComesWithin budget capacity m (Misfit fault) = (m.imports ≡ []) × (misfit m ≡ Some fault)
+ComesWithin budget capacity m NoTask = (m.imports ≡ []) × (misfit m ≡ None) × (task_index m main_name ≡ None)
+ComesWithin budget capacity m (Ran ran) =
+    IsOver ran × (m.imports ≡ []) × (misfit m ≡ None) × (main : ℕ) × (task_index m main_name ≡ Some main) × Tells ran (run_from budget (store_of m capacity) m.start main).end
+
+abbrev pub IsOutcomeOf : Module → Outcome → Type 0
+IsOutcomeOf m (Invalid part) = IsWrong m part
+IsOutcomeOf m o = WellTyped m × ComesTo m o
 
 abbrev pub IsOutcome : List ℕ → Outcome → Type 0
-IsOutcome bytes Unread = IsUnread bytes
-IsOutcome bytes NoTask = (m : Module) × Holds bytes m × (task_func m main_name ≡ None)
-IsOutcome bytes (Results v) = IsResult bytes v.items
+IsOutcome bytes (Unread fault) = IsTold fault × IsFirstFault bytes fault
+IsOutcome bytes o = (m : Module) × SpellsWithin usual bytes m × IsOutcomeOf m o
+
+-- ---- in words
+
+-- the outcome has a line
+abbrev pub HasLine : Outcome → Type 0
+HasLine (Unread fault) = IsTold fault
+HasLine (Ran ran) = IsOver ran
+HasLine _ = Unit {0}
+
+abbrev pub told_line : ReadFault → List ℕ
+told_line (faults.Malformed at) = fault_line (reading.Malformed at)
+told_line (faults.Float at) = fault_line (reading.Float at)
+told_line (faults.Limit which at) = fault_line (reading.Limit (counted_of which) at)
+told_line faults.Memory = []
+
+abbrev pub status_of_run : Ending → Status
+status_of_run (endings.Trap trap) = Trapped
+status_of_run endings.Budget = OutOfBudget
+status_of_run _ = Done
+
+abbrev pub run_line : Ending → List ℕ
+run_line (endings.Result value) = result_line value
+run_line (endings.Trap trap) = trap_line trap
+run_line endings.Budget = budget_line
+run_line _ = []
 
 abbrev pub status_of : Outcome → Status
-status_of Unread = Refused
-status_of NoTask = Refused
-status_of (Results v) = Done
+status_of (Ran ran) = status_of_run ran
+status_of _ = Refused
 
 abbrev pub text_of : Outcome → List ℕ
-text_of Unread = unread_line
+text_of (Unread fault) = told_line fault
+text_of (Invalid part) = part_line part
+text_of Imports = no_export_line
+text_of (Misfit fault) = misfit_line fault
 text_of NoTask = no_task_line
-text_of (Results v) = result_line v.items
+text_of (Ran ran) = run_line ran

@@ -1,50 +1,34 @@
 -- What the program answers: the table of its answers, each with its cause.
-use Rattle.std.specs.Prelude.{◌≡◌, ◌<◌, ◌≤◌, ◌⊎◌, ℕ, ℤ, List, [], ◌++◌, length, Option, Some, None, MatchOption, IsSomeAnd, ⊤}
+use Rattle.std.specs.Prelude.{◌≡◌, ◌<◌, ◌≤◌, ◌⊎◌, ℕ, List, [], ◌++◌, length, Option, Some, None, MatchOption, IsSomeAnd, ⊤}
 use Rattle.ms_outside.specs.Faults.{Rose}
 use Rattle.ms_outside.specs.Files.{Files, bytes_of}
 use Rattle.ms_outside.specs.Shelf.{Told}
 use Rattle.ms_outside.specs.Sink.{IsFront}
-use Rattle.ms_module.specs.declared.module.Func.{Func}
+use Rattle.ms_bytes.specs.Reading.{Fault as ReadingFault}
 use Rattle.ms_module.specs.declared.module.Module.{Module}
-use Rattle.ms_module.specs.Module.{SpellsWithin, usual}
+use Rattle.ms_module.specs.Module.{SpellsWithin, Stops, usual}
 use Rattle.ms_rules.specs.Modules.{WellTyped}
-use Rattle.ms_tool.specs.FirstCut.{IsInCut, body_of, constants_of}
-use Rattle.ms_tool.specs.Lines.{no_task_line, read_fault_line, result_line, too_long_line, unread_line, usage_line}
-use Rattle.ms_tool.specs.Run.{End, Results, run}
-use Rattle.ms_tool.specs.Tasks.{main_name, task_func}
+use Rattle.ms_valid.specs.declared.refusal.Part.{Part}
+use Rattle.ms_valid.specs.Refusals.{IsWrong}
+use Rattle.ms_tool.specs.Executions.{AnswersAs, execution_of}
+use Rattle.ms_tool.specs.Lines.{fault_line, part_line, read_fault_line, too_long_line, usage_line}
 use Rattle.ms_tool.specs.Words.{asked}
 use Rattle.ms_tool.specs.declared.status.Status.{Status}
 use Rattle.ms_tool.specs.declared.status.Status.TheVariants.{Done, OutOfMemory, ReadFault, Refused, TooLong, Usage, WriteFault}
 
--- how many bytes a file may have, and how many steps a run
+-- how many bytes a file may have
 abbrev pub most_bytes : ℕ
 most_bytes = 4194304
 
-abbrev pub default_budget : ℕ
-default_budget = 1000000
-
 -- ---- the table
-
--- These bytes spell this module, which is valid, and all of it runs today.
-pub record Holds (bytes : List ℕ) (m : Module) : Type 0 where
-  pub spelled : SpellsWithin usual bytes m
-  pub typed : WellTyped m
-  pub in_cut : IsInCut m
-
--- no such module is spelled so
-abbrev pub IsUnread : List ℕ → Type 0
-IsUnread bytes = (m : Module) → ¬ (Holds bytes m)
-
--- what running this function gives
-abbrev pub run_of : Func → End
-run_of f = run default_budget [] (constants_of (body_of f.body))
 
 -- the bytes of a file of at most so many bytes, the status and the report
 pub data Executes (bytes : List ℕ) : Status → List ℕ → Type 0 where
-  unread : IsUnread bytes → Executes bytes Refused unread_line
-  no_task : (m : Module) → Holds bytes m → task_func m main_name ≡ None → Executes bytes Refused no_task_line
-  done : (m : Module) (f : Func) (results : List ℤ) → Holds bytes m → task_func m main_name ≡ Some f
-      → run_of f ≡ Results results → Executes bytes Done (result_line results)
+  -- they spell no module: the first fault, with its place
+  unread : (fault : ReadingFault) → Stops bytes fault → Executes bytes Refused (fault_line fault)
+  -- the module isn't well typed: the part
+  invalid : (m : Module) (part : Part) → SpellsWithin usual bytes m → IsWrong m part → Executes bytes Refused (part_line part)
+  answered : (m : Module) {status : Status} {report : List ℕ} → SpellsWithin usual bytes m → WellTyped m → AnswersAs (execution_of m) status report → Executes bytes status report
 
 -- what reading a file gave: its bytes, or a fault
 pub data Found : Type 0 where

@@ -1,23 +1,21 @@
 //! `exec`: a file is read, validated and run.
 
-ghost use Rattle.std.specs.Prelude.{◌≡◌, IfOk, MatchOption, Some};
-ghost use Rattle.ms_tool.specs.Outcomes.{IsOutcome, status_of, text_of};
-ghost use Rattle.ms_tool.specs.Reporting.{Reports, ReportsExecution, ReportsFile};
+ghost use Rattle.std.specs.Prelude.{◌≡◌, ◌<◌, ◌^◌, IfOk};
 ghost use Rattle.ms_rules.specs.Modules.{WellTyped};
-ghost use Rattle.ms_tool.specs.FirstCut.{IsInCut};
-ghost use Rattle.ms_tool.specs.Run.{Results};
-ghost use Rattle.ms_tool.specs.Tasks.{main_name, task_func};
-ghost use Rattle.ms_tool.specs.Top.{Holds, IsUnread, run_of};
+ghost use Rattle.ms_tool.specs.Outcomes.{ComesTo, ComesWithin, HasLine, IsOutcome, IsOutcomeOf, IsOver, run_line, status_of, status_of_run, text_of};
+ghost use Rattle.ms_tool.specs.Reporting.{Reports, ReportsExecution, ReportsFile};
 
-use crate::first_cut::{body_of, is_in_cut};
-use crate::report::{answer, answer_of_file, answer_results};
-use crate::run::{End, run};
+use crate::lines::{fault_line, file_line, misfit_line, part_line, result_line, trap_line};
+use crate::report::{answer, answer_line};
 use crate::status::Status;
-use crate::tasks::task_func;
+use crate::tasks::task_index;
 use ms_bin_read::{ReadFault, read};
-use ms_module::{Func, Module};
-use ms_outside::{Fetched, Shelf, Sink};
-use ms_valid::{Refusal, Valid, validate};
+use ms_live::ListGaps;
+use ms_machine::{LinkFault, Misfit, Ran, instantiate, run};
+use ms_module::Module;
+use ms_outside::{Fetched, Shelf, Sink, Source};
+use ms_tagged::ByteTags;
+use ms_valid::{Part, Refusal, validate};
 use std::alloc::{AllocError, Global};
 
 /// How many bytes a file may have.
@@ -26,92 +24,179 @@ const MOST_BYTES: u32 = 4_194_304;
 /// How many steps a run may take.
 const DEFAULT_BUDGET: u64 = 1_000_000;
 
+/// How many bytes the segment memory has.
+const DEFAULT_CAPACITY: u32 = 1_048_576;
+
 /// What executing a file comes to.
-#[derive(Debug, Drop)]
+#[derive(Clone, Copy, Debug)]
 enum Outcome {
-    /// The bytes spell no valid module all of which runs today.
-    Unread,
+    /// The bytes spell no module.
+    Unread(ReadFault),
+    /// This part of the module isn't well typed.
+    Invalid(Part),
+    /// The module asks for something, and nothing is there.
+    Imports,
+    /// The module doesn't fit the limits of a store, or its own tables and memories.
+    Misfit(Misfit),
     /// The module exports no `main` that can be a task.
     NoTask,
-    /// The task has ended, with these results.
-    Results(Vec<i32>),
+    /// The module was run.
+    Ran(Ran),
 }
 
-/// Runs the task of a valid module. It ends within the budget.
-fn results_of(alloc: Global, _module: &Module, main: &Func) -> Result<Vec<i32>, AllocError>
-    requires valid { WellTyped _module.now }
-    requires in_cut { IsInCut _module.now }
-    requires task { task_func _module.now main_name ≡ Some main.now }
-    ensures { IfOk result (λ v. run_of main.now ≡ Results v.items) }
+/// Runs the `main` of a well-typed module, after its start function: so many steps at most, with a segment memory of so
+/// many bytes.
+fn outcome_within<I: Source, O: Sink>(
+    alloc: Global,
+    module: Module,
+    budget: u64,
+    capacity: u32,
+    input: &mut I,
+    out: &mut O,
+) -> Result<Outcome, AllocError>
+    requires typed { WellTyped «module» }
+    requires few { budget < 2 ^ 63 }
+    ensures outcome { IfOk result (ComesWithin budget capacity «module») }
+    ensures input { (I.left input.new ≡ I.left input.old) × (I.faults input.new ≡ I.faults input.old) }
+    ensures out { (O.held out.new ≡ O.held out.old) × (O.faults out.new ≡ O.faults out.old) }
 {
-    match run(alloc, body_of(&main.body), DEFAULT_BUDGET)? {
-        End::Results(results) => Ok(results),
-        End::OutOfBudget => unreachable!(),
+    if !module.imports.is_empty() {
+        return Ok(Outcome::Imports);
+    }
+    let first = module.start;
+    let task = task_index(&module, "main");
+    let mut store = match instantiate::<ListGaps, ByteTags>(alloc, module, capacity) {
+        Ok(store) => store,
+        Err(LinkFault::Misfit(misfit)) => return Ok(Outcome::Misfit(misfit)),
+        Err(LinkFault::Memory) => return Err(AllocError),
+    };
+    let Some(main) = task else {
+        return Ok(Outcome::NoTask);
+    };
+    match run(alloc, &mut store, first, main, budget, input, out) {
+        Ran::Memory => Err(AllocError),
+        ran => Ok(Outcome::Ran(ran)),
     }
 }
 
-/// The valid module that the bytes spell, if all of it runs today.
-fn module_of(alloc: Global, bytes: &[u8]) -> Result<Option<Valid>, AllocError>
-    ensures { IfOk result (λ o. MatchOption o (IsUnread bytes.now) (λ m. Holds bytes.now m)) }
+/// The same with the usual budget and size.
+fn outcome_of_typed<I: Source, O: Sink>(
+    alloc: Global,
+    module: Module,
+    input: &mut I,
+    out: &mut O,
+) -> Result<Outcome, AllocError>
+    requires typed { WellTyped «module» }
+    ensures outcome { IfOk result (ComesTo «module») }
+    ensures input { (I.left input.new ≡ I.left input.old) × (I.faults input.new ≡ I.faults input.old) }
+    ensures out { (O.held out.new ≡ O.held out.old) × (O.faults out.new ≡ O.faults out.old) }
 {
-    let module = match read(alloc, bytes) {
-        Ok(module) => module,
-        Err(ReadFault::Memory) => return Err(AllocError),
-        Err(_) => return Ok(None),
-    };
-    let valid = match validate(alloc, module) {
-        Ok(valid) => valid,
-        Err((_, Refusal::Memory)) => return Err(AllocError),
-        Err(_) => return Ok(None),
-    };
-    if is_in_cut(valid.module()) {
-        Ok(Some(valid))
-    } else {
-        Ok(None)
+    outcome_within(alloc, module, DEFAULT_BUDGET, DEFAULT_CAPACITY, input, out)
+}
+
+fn outcome_of_module<I: Source, O: Sink>(
+    alloc: Global,
+    module: Module,
+    input: &mut I,
+    out: &mut O,
+) -> Result<Outcome, AllocError>
+    ensures outcome { IfOk result (IsOutcomeOf «module») }
+    ensures input { (I.left input.new ≡ I.left input.old) × (I.faults input.new ≡ I.faults input.old) }
+    ensures out { (O.held out.new ≡ O.held out.old) × (O.faults out.new ≡ O.faults out.old) }
+{
+    match validate(alloc, module) {
+        Ok(valid) => outcome_of_typed(alloc, valid.into_module(), input, out),
+        Err((_, Refusal::Invalid { part })) => Ok(Outcome::Invalid(part)),
+        Err((_, Refusal::Memory)) => Err(AllocError),
     }
 }
 
-fn outcome_of(alloc: Global, bytes: &[u8]) -> Result<Outcome, AllocError>
-    ensures { IfOk result (IsOutcome bytes.now) }
+fn outcome_of<I: Source, O: Sink>(
+    alloc: Global,
+    bytes: &[u8],
+    input: &mut I,
+    out: &mut O,
+) -> Result<Outcome, AllocError>
+    ensures outcome { IfOk result (IsOutcome bytes.now) }
+    ensures input { (I.left input.new ≡ I.left input.old) × (I.faults input.new ≡ I.faults input.old) }
+    ensures out { (O.held out.new ≡ O.held out.old) × (O.faults out.new ≡ O.faults out.old) }
 {
-    let Some(valid) = module_of(alloc, bytes)? else {
-        return Ok(Outcome::Unread);
-    };
-    let module = valid.module();
-    match task_func(module, "main") {
-        Some(main) => Ok(Outcome::Results(results_of(alloc, module, main)?)),
-        None => Ok(Outcome::NoTask),
+    match read(alloc, bytes) {
+        Ok(module) => outcome_of_module(alloc, module, input, out),
+        Err(ReadFault::Memory) => Err(AllocError),
+        Err(fault) => Ok(Outcome::Unread(fault)),
     }
 }
 
-fn answer_outcome<R: Sink>(alloc: Global, outcome: &Outcome, report: &mut R) -> Status
-    ensures { Reports (status_of outcome.now) (text_of outcome.now) (record { old = R.held report.old; new = R.held report.new; before = R.faults report.old; after = R.faults report.new }) result }
+fn answer_run<R: Sink>(alloc: Global, ran: Ran, report: &mut R) -> Status
+    requires { IsOver ran }
+    ensures { Reports (status_of_run ran) (run_line ran) (record { old = R.held report.old; new = R.held report.new; before = R.faults report.old; after = R.faults report.new }) result }
+{
+    match ran {
+        Ran::Result(value) => answer_line(report, Status::Done, result_line(alloc, value)),
+        Ran::Trap(kind) => answer_line(report, Status::Trapped, trap_line(alloc, kind)),
+        Ran::Budget => answer(report, Status::OutOfBudget, b"out of budget\n"),
+        Ran::ReadFault | Ran::WriteFault | Ran::Memory => unreachable!(),
+    }
+}
+
+fn answer_outcome<R: Sink>(alloc: Global, outcome: Outcome, report: &mut R) -> Status
+    requires { HasLine outcome }
+    ensures { Reports (status_of outcome) (text_of outcome) (record { old = R.held report.old; new = R.held report.new; before = R.faults report.old; after = R.faults report.new }) result }
 {
     match outcome {
-        Outcome::Unread => answer(report, Status::Refused, b"refused unread\n"),
+        Outcome::Unread(fault) => {
+            answer_line(report, Status::Refused, fault_line(alloc, fault))
+        }
+        Outcome::Invalid(part) => answer_line(report, Status::Refused, part_line(alloc, part)),
+        Outcome::Imports => answer(report, Status::Refused, b"refused link 0 0 noexport\n"),
+        Outcome::Misfit(misfit) => {
+            answer_line(report, Status::Refused, misfit_line(alloc, misfit))
+        }
         Outcome::NoTask => answer(report, Status::Refused, b"refused task 0\n"),
-        Outcome::Results(results) => answer_results(alloc, report, results.as_slice()),
+        Outcome::Ran(ran) => answer_run(alloc, ran, report),
     }
 }
 
-fn exec_bytes<R: Sink>(alloc: Global, bytes: &[u8], report: &mut R) -> Status
-    ensures { ReportsExecution bytes.now (record { old = R.held report.old; new = R.held report.new; before = R.faults report.old; after = R.faults report.new }) result }
+fn exec_bytes<I: Source, O: Sink, R: Sink>(
+    alloc: Global,
+    bytes: &[u8],
+    input: &mut I,
+    out: &mut O,
+    report: &mut R,
+) -> Status
+    ensures report { ReportsExecution bytes.now (record { old = R.held report.old; new = R.held report.new; before = R.faults report.old; after = R.faults report.new }) result }
+    ensures input { (I.left input.new ≡ I.left input.old) × (I.faults input.new ≡ I.faults input.old) }
+    ensures out { (O.held out.new ≡ O.held out.old) × (O.faults out.new ≡ O.faults out.old) }
 {
-    match outcome_of(alloc, bytes) {
-        Ok(outcome) => answer_outcome(alloc, &outcome, report),
+    match outcome_of(alloc, bytes, input, out) {
+        Ok(outcome) => answer_outcome(alloc, outcome, report),
         Err(_) => Status::OutOfMemory,
     }
 }
 
 /// Reads, validates and runs the file, and reports what it gives.
-pub fn exec<F: Shelf, R: Sink>(alloc: Global, file: &str, shelf: &mut F, report: &mut R) -> Status
+pub fn exec<F: Shelf, I: Source, O: Sink, R: Sink>(
+    alloc: Global,
+    file: &str,
+    shelf: &mut F,
+    input: &mut I,
+    out: &mut O,
+    report: &mut R,
+) -> Status
     ensures report { ReportsFile file.now (record { files = F.files shelf.old; before = F.read_faults shelf.old; after = F.read_faults shelf.new }) (record { old = R.held report.old; new = R.held report.new; before = R.faults report.old; after = R.faults report.new }) result }
     ensures files { F.files shelf.new ≡ F.files shelf.old }
+    ensures input { (I.left input.new ≡ I.left input.old) × (I.faults input.new ≡ I.faults input.old) }
+    ensures out { (O.held out.new ≡ O.held out.old) × (O.faults out.new ≡ O.faults out.old) }
 {
     match shelf.read(alloc, file, MOST_BYTES) {
-        Fetched::Bytes(bytes) => exec_bytes(alloc, bytes.as_slice(), report),
-        Fetched::TooLong => answer_of_file(alloc, report, Status::TooLong, "too long ", file),
-        Fetched::Failed => answer_of_file(alloc, report, Status::ReadFault, "read fault ", file),
+        Fetched::Bytes(bytes) => exec_bytes(alloc, bytes.as_slice(), input, out, report),
+        Fetched::TooLong => {
+            answer_line(report, Status::TooLong, file_line(alloc, "too long ", file))
+        }
+        Fetched::Failed => {
+            answer_line(report, Status::ReadFault, file_line(alloc, "read fault ", file))
+        }
         Fetched::Memory => Status::OutOfMemory,
     }
 }

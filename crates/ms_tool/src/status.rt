@@ -7,10 +7,14 @@ ghost use Rattle.std.specs.Prelude.{◌≡◌};
 pub enum Status {
     /// All was done.
     Done = 0,
+    /// The program was stopped.
+    Trapped = 1,
     /// The words ask for nothing.
     Usage = 2,
     /// The input is refused.
     Refused = 3,
+    /// The budget of the run is used up.
+    OutOfBudget = 4,
     /// A file could not be read.
     ReadFault = 5,
     /// The report could not be put.

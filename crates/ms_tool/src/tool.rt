@@ -47,20 +47,24 @@ pub fn tool<F: Shelf, I: Source, O: Sink, R: Sink>(
     ensures input { (I.left input.new ≡ I.left input.old) × (I.faults input.new ≡ I.faults input.old) }
     ensures out { (O.held out.new ≡ O.held out.old) × (O.faults out.new ≡ O.faults out.old) }
 {
-    respond(alloc, words, shelf, report)
+    respond(alloc, words, shelf, input, out, report)
 }
 
-fn respond<F: Shelf, R: Sink>(
+fn respond<F: Shelf, I: Source, O: Sink, R: Sink>(
     alloc: Global,
     words: &[&str],
     shelf: &mut F,
+    input: &mut I,
+    out: &mut O,
     report: &mut R,
 ) -> Status
     ensures report { ReportsWords (map (λ w. w.now) words.now) (record { files = F.files shelf.old; before = F.read_faults shelf.old; after = F.read_faults shelf.new }) (record { old = R.held report.old; new = R.held report.new; before = R.faults report.old; after = R.faults report.new }) result }
     ensures files { F.files shelf.new ≡ F.files shelf.old }
+    ensures input { (I.left input.new ≡ I.left input.old) × (I.faults input.new ≡ I.faults input.old) }
+    ensures out { (O.held out.new ≡ O.held out.old) × (O.faults out.new ≡ O.faults out.old) }
 {
     match asked(words) {
-        Some(file) => exec(alloc, file, shelf, report),
+        Some(file) => exec(alloc, file, shelf, input, out, report),
         None => answer(report, Status::Usage, b"usage: mswasm exec FILE\n"),
     }
 }
