@@ -6,7 +6,7 @@ ghost use Rattle.ms_module.specs.Numbered.{AreNumbered, IsPlain};
 
 use crate::func::FuncInst;
 use ms_module::{BinOp, BrTable, Code, Instr, Locals, Numeric, Targets, Width};
-use ms_types::{FuncType, ValType, Vector};
+use ms_types::{FuncType, SharedType, ValType, Vector};
 use std::alloc::{AllocError, Global};
 use std::process::Abort;
 use std::test::Fail;
@@ -260,7 +260,7 @@ pub fn func<R: Abort>(
     };
     Ok(FuncInst {
         instance: 0,
-        ty,
+        ty: SharedType::new(alloc, ty)?,
         locals,
         body: code(rt, alloc, words)?,
     })

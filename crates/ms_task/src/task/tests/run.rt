@@ -104,7 +104,7 @@ fn can_call(task: &Task, funcs: &[FuncInst], address: u32, next: usize) -> bool
     if address as usize >= funcs.len() {
         return false;
     }
-    funcs[address as usize].ty.params.len() <= task.operands.len()
+    funcs[address as usize].ty.params().len() <= task.operands.len()
 }
 
 fn can_start(funcs: &[FuncInst], address: u32) -> bool
@@ -113,7 +113,7 @@ fn can_start(funcs: &[FuncInst], address: u32) -> bool
     if address as usize >= funcs.len() {
         return false;
     }
-    funcs[address as usize].ty.params.is_empty()
+    funcs[address as usize].ty.params().is_empty()
 }
 
 // ---- steps

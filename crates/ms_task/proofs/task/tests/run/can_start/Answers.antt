@@ -1,4 +1,4 @@
-use Rattle.std.proofs.Common.{get_or}
+use Rattle.std.proofs.Common.{◌==◌, ap, get_or, length, ◌∙◌}
 use Rattle.std.proofs.lemmas.Option.{slice_get-get_or}
 use Rattle.ms_task.proofs.Tested.{none_there}
 use Rattle.ms_task.proofs.task.tests.run.can_start.Goals as goal
@@ -8,4 +8,4 @@ returns c = λ h.
     let funcs = c.args.funcs.now in
     let func = c.index-funcs-address.result in
     let g = get_or funcs c.args.address func in
-    (g, slice_get-get_or funcs c.args.address func c.if-address-funcs.false, none_there g.ty.params c.is_empty.result c.is_empty.ensures h)
+    (g, slice_get-get_or funcs c.args.address func c.if-address-funcs.false, none_there g.ty.params c.is_empty.result (c.is_empty.ensures ∙ ap (λ types. length types == 0) c.params.ensures) h)
