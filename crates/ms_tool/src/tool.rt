@@ -2,6 +2,12 @@
 
 ghost use Rattle.std.specs.Prelude.{◌≡◌, ◌<◌, ◌≤◌, ◌⊎◌, ℕ, List, map};
 ghost use Rattle.ms_outside.specs.Faults.{Rose};
+ghost use Rattle.ms_event.specs.Monitor.{Accepts};
+ghost use Rattle.ms_machine.specs.Running.{Run};
+ghost use Rattle.ms_module.specs.declared.module.Module.{Module};
+ghost use Rattle.ms_module.specs.Module.{SpellsWithin, usual};
+ghost use Rattle.ms_rules.specs.Modules.{WellTyped};
+ghost use Rattle.ms_tool.specs.Executions.{Runs, default_capacity, execution_of};
 ghost use Rattle.ms_tool.specs.Reporting.{ReportsWords};
 ghost use Rattle.ms_tool.specs.Top.{Contents, Gives, Grows, IsAnswer, IsCutOff, IsFaulty, IsKnown, IsPutFault};
 ghost use Rattle.ms_tool.specs.declared.status.Status.{Status};
@@ -37,6 +43,10 @@ pub fn tool<F: Shelf, I: Source, O: Sink, R: Sink>(
 
     // What the table gives for a known file is the answer, unless a fault is met or memory runs out.
     ensures complete { (bytes : List ℕ) (status : Status) (text : List ℕ) → IsKnown (F.files shelf.old) (map (λ w. w.now) words.now) bytes → Gives (map (λ w. w.now) words.now) (Contents bytes) status text → ((result ≡ status) × Grows (R.held report.old) (R.held report.new) text) ⊎ IsFaulty result }
+
+    // The allocations, slices, reads, writes and frees of a run are a trace that the colour monitor accepts: for all bytes
+    // that spell a valid module which is run, `run` being the one of which the answer tells.
+    ensures safe { (bytes : List ℕ) (m : Module) (run : Run) → SpellsWithin usual bytes m → WellTyped m → execution_of m ≡ Runs run → Accepts default_capacity run.events }
 
     // A fault that was counted is never passed over.
     ensures reads { (name : List ℕ) → F.read_faults shelf.old name < F.read_faults shelf.new name → IsFaulty result }
