@@ -1,5 +1,5 @@
 -- The table gives one answer at most, so that what it gives for a known file is what was answered.
-use Rattle.std.proofs.Common.{◌≡◌, ◌<◌, ◌+◌, ℕ, ◌⊎◌, inl, inr, List, [], length, Ok, Err, Result, refl, sym, ap, subst, ◌∙◌, arith}
+use Rattle.std.proofs.Common.{◌≡◌, ◌<◌, ℕ, ◌⊎◌, inl, inr, List, [], length, refl, sym, ap, subst, ◌∙◌, arith}
 use Rattle.std.specs.Prelude.{⊤, MatchOption, Option, Some, None, IsSomeAnd, All, slice_get}
 use Rattle.std.proofs.lemmas.List.Elements.{All-get_or}
 use Rattle.std.proofs.lemmas.Bool.{cases_lt}
@@ -8,12 +8,11 @@ use Rattle.ms_bytes.specs.Reading.{Fault as ReadingFault}
 use Rattle.ms_outside.specs.Files.{Files, bytes_of}
 use Rattle.ms_outside.specs.Shelf.{Told}
 use Rattle.ms_machine.specs.Running.{End, Lost, OutOfBudget, Result as Ended, Stopped}
-use Rattle.ms_module.specs.declared.module.Func.{Func}
 use Rattle.ms_module.specs.declared.module.Module.{Module}
 use Rattle.ms_module.specs.Module.{SpellsWithin, Stops, module_format, usual}
 use Rattle.ms_module.proofs.Spelling.{one_module}
-use Rattle.ms_rules.specs.Context.{context_of, imported_funcs}
-use Rattle.ms_rules.specs.Modules.{FuncTyped, Head, IsFirstUntyped, WellTyped}
+use Rattle.ms_rules.specs.Context.{context_of}
+use Rattle.ms_rules.specs.Modules.{FuncTyped, IsFirstUntyped, WellTyped}
 use Rattle.ms_valid.specs.Refusals.{IsWrong}
 use Rattle.ms_valid.specs.declared.refusal.Part.{Part}
 use Rattle.ms_valid.specs.declared.refusal.Part.TheVariants as parts

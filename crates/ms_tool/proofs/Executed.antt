@@ -1,17 +1,14 @@
 -- What executing a well-typed module comes to, by what was found of it.
-use Rattle.std.proofs.Common.{◌≡◌, ◌≢◌, ℕ, ◌==◌, ◌&&◌, ◌+◌, ◌<◌, ◌^◌, List, [], ◌∷◌, length, Bool, true, false, refl, sym, ap, ◌∙◌, subst, cond, inl, inr, arith}
-use Rattle.std.specs.Prelude.{Option, Some, None, Result, Ok, Err, IfOk, MatchOption, option_and_then, slice_get}
+use Rattle.std.proofs.Common.{◌≡◌, ◌≢◌, ℕ, ◌==◌, ◌&&◌, List, [], ◌∷◌, length, Bool, true, false, refl, sym, ap, ◌∙◌, subst, cond, inl, inr, arith}
+use Rattle.std.specs.Prelude.{Option, Some, None, Ok, Err, MatchOption, option_and_then, slice_get}
 use Rattle.std.proofs.lemmas.Bool.{eqb-true}
 use Rattle.std.proofs.lemmas.Option.{get_or_from_slice_get}
 use Rattle.ms_bytes.specs.Leb128Laws.{chosen}
-use Rattle.ms_machine.proofs.LinkedStores.{linked_func, linked_func_typed, linked_is, links_fit, links_typed}
-use Rattle.ms_machine.specs.Holding.{StoreFits}
+use Rattle.ms_machine.proofs.LinkedStores.{linked_func, linked_func_typed, linked_is}
 use Rattle.ms_machine.specs.Linking.{func_of, linked, linked_or, misfit, no_type, store_of}
 use Rattle.ms_machine.specs.Running.{IsAlone, Run, RunsTo, Tells, run_from}
 use Rattle.ms_machine.specs.Store.{Store}
-use Rattle.ms_machine.specs.Typing.{StoreTyped, outline_of}
-use Rattle.ms_machine.specs.declared.linking.LinkFault.{LinkFault}
-use Rattle.ms_machine.specs.declared.linking.LinkFault.TheVariants as faults
+use Rattle.ms_machine.specs.Typing.{outline_of}
 use Rattle.ms_machine.specs.declared.linking.Misfit.{Misfit as Fault}
 use Rattle.ms_machine.specs.declared.running.Ran.{Ran as Ending}
 use Rattle.ms_machine.specs.declared.running.Ran.TheVariants as endings
@@ -19,17 +16,12 @@ use Rattle.ms_module.specs.declared.module.Export.{Export}
 use Rattle.ms_module.specs.declared.module.ExportDesc.{ExportDesc}
 use Rattle.ms_module.specs.declared.module.ExportDesc.TheVariants as exports
 use Rattle.ms_module.specs.declared.module.Func.{Func}
-use Rattle.ms_module.specs.declared.module.Import.{Import}
 use Rattle.ms_module.specs.declared.module.Module.{Module}
 use Rattle.ms_rules.specs.Modules.{StartTyped, WellTyped}
 use Rattle.ms_types.specs.declared.types.FuncType.{FuncType}
-use Rattle.ms_types.specs.declared.types.ValType.{ValType}
-use Rattle.ms_tool.specs.Executions.{default_budget, default_capacity, execution_of, run_of, with_fit, with_imports, with_task}
-use Rattle.ms_tool.specs.Executions as executions
-use Rattle.ms_tool.specs.Outcomes.{ComesTo, ComesWithin, IsOver}
+use Rattle.ms_tool.specs.Outcomes.{ComesWithin, IsOver}
 use Rattle.ms_tool.specs.Tasks.{exported_task, is_task_result, is_task_type, main_name, of_task_type, task_index}
-use Rattle.ms_tool.specs.declared.exec.Outcome.{Outcome}
-use Rattle.ms_tool.specs.declared.exec.Outcome.TheVariants.{Imports, Invalid, Misfit, NoTask, Ran, Unread}
+use Rattle.ms_tool.specs.declared.exec.Outcome.TheVariants.{Ran}
 
 -- ---- lists that are empty
 
@@ -58,35 +50,13 @@ run_comes m budget capacity s after main ran alone links some not runs =
     let tells = told run ran not (subst (λ (x : Store). RunsTo ran after (run_from budget x m.start main)) is.1 runs) in
     (tells.0, alone, is.0, main, some, tells.1)
   where
-  told : (run : Run) (ran : Ending) → ran ≢ endings.Memory → RunsTo ran after run → IsOver ran × Tells ran run.end
-  told run (endings.Result value) not h = (tt, h.0)
-  told run (endings.Trap trap) not h = (tt, h.0)
-  told run endings.Budget not h = (tt, h.0)
-  told run endings.ReadFault not h = absurd h.0
-  told run endings.WriteFault not h = absurd h.0
-  told run endings.Memory not h = absurd (not refl)
-
--- ---- in the order of answers
-
-imports_is : (m : Module) → m.imports ≢ [] → execution_of m ≡ executions.Imports
-imports_is m some = given m.imports some where
-  given : (is : List Import) → is ≢ [] → with_imports m is ≡ executions.Imports
-  given [] some = absurd (some refl)
-  given (i ∷ is) some = refl
-
-fits_is : (m : Module) (fit : Option Fault) → m.imports ≡ [] → misfit m ≡ fit → execution_of m ≡ with_fit m fit
-fits_is m fit alone is = ap (with_imports m) alone ∙ ap (with_fit m) is
-
-task_is : (m : Module) (task : Option ℕ) → m.imports ≡ [] → misfit m ≡ None → task_index m main_name ≡ task → execution_of m ≡ with_task m task
-task_is m task alone fits is = fits_is m None alone fits ∙ ap (with_task m) is
-
-pub comes_to : (m : Module) (o : Outcome) → ComesWithin default_budget default_capacity m o → ComesTo m o
-comes_to m (Unread fault) h = h
-comes_to m (Invalid part) h = h
-comes_to m Imports h = imports_is m h
-comes_to m (Misfit fault) h = fits_is m (Some fault) h.0 h.1
-comes_to m NoTask h = task_is m None h.0 h.1 h.2
-comes_to m (Ran ran) h = (h.0, run_of m h.3, task_is m (Some h.3) h.1 h.2 h.4, h.5)
+    told : (run : Run) (ran : Ending) → ran ≢ endings.Memory → RunsTo ran after run → IsOver ran × Tells ran run.end
+    told run (endings.Result value) not h = (tt, h.0)
+    told run (endings.Trap trap) not h = (tt, h.0)
+    told run endings.Budget not h = (tt, h.0)
+    told run endings.ReadFault not h = absurd h.0
+    told run endings.WriteFault not h = absurd h.0
+    told run endings.Memory not h = absurd (not refl)
 
 -- ---- the functions that are run have no parameters
 

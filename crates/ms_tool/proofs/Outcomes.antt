@@ -1,17 +1,16 @@
 -- What executing a file comes to is what its bytes give.
-use Rattle.std.proofs.Common.{◌≡◌, ℕ, List, refl, sym, ap, ◌∙◌, subst}
+use Rattle.std.proofs.Common.{◌≡◌, ℕ, List, refl, sym, subst}
 use Rattle.ms_bin_read.specs.declared.fault.ReadFault.{ReadFault}
 use Rattle.ms_bin_read.specs.declared.fault.ReadFault.TheVariants as faults
 use Rattle.ms_bin_read.specs.Readers.{IsFirstFault, counted_of}
 use Rattle.ms_bytes.specs.Reading as reading
-use Rattle.ms_machine.specs.Running.{End, OutOfBudget as BudgetEnd, Result, Run, RunsTo, Stopped, Tells}
-use Rattle.ms_machine.specs.Store.{Store}
+use Rattle.ms_machine.specs.Running.{End, Tells}
 use Rattle.ms_machine.specs.declared.running.Ran.{Ran as Ending}
 use Rattle.ms_machine.specs.declared.running.Ran.TheVariants as endings
 use Rattle.ms_module.specs.declared.module.Module.{Module}
 use Rattle.ms_tool.specs.Executions.{AnswersAs, EndsAs, Execution, Runs, execution_of}
 use Rattle.ms_tool.specs.Executions as executions
-use Rattle.ms_tool.specs.Lines.{fault_line, misfit_line, no_export_line, no_task_line}
+use Rattle.ms_tool.specs.Lines.{misfit_line, no_export_line, no_task_line}
 use Rattle.ms_tool.specs.Outcomes.{HasLine, IsOutcome, IsOver, IsTold, run_line, status_of, status_of_run, text_of, told_line}
 use Rattle.ms_tool.specs.Top.{Executes, answered, invalid, unread}
 use Rattle.ms_tool.specs.declared.exec.Outcome.{Outcome}

@@ -1,5 +1,5 @@
 -- What the program answers: the table of its answers, each with its cause.
-use Rattle.std.specs.Prelude.{◌≡◌, ◌<◌, ◌≤◌, ◌⊎◌, ℕ, List, [], ◌++◌, length, Option, Some, None, MatchOption, IsSomeAnd, ⊤}
+use Rattle.std.specs.Prelude.{◌≡◌, ◌<◌, ◌≤◌, ◌⊎◌, ℕ, List, ◌++◌, length, Option, Some, None, MatchOption, IsSomeAnd, ⊤}
 use Rattle.ms_outside.specs.Faults.{Rose}
 use Rattle.ms_outside.specs.Files.{Files, bytes_of}
 use Rattle.ms_outside.specs.Shelf.{Told}
@@ -14,7 +14,7 @@ use Rattle.ms_tool.specs.Executions.{AnswersAs, execution_of}
 use Rattle.ms_tool.specs.Lines.{fault_line, part_line, read_fault_line, too_long_line, usage_line}
 use Rattle.ms_tool.specs.Words.{asked}
 use Rattle.ms_tool.specs.declared.status.Status.{Status}
-use Rattle.ms_tool.specs.declared.status.Status.TheVariants.{Done, OutOfMemory, ReadFault, Refused, TooLong, Usage, WriteFault}
+use Rattle.ms_tool.specs.declared.status.Status.TheVariants.{OutOfMemory, ReadFault, Refused, TooLong, Usage, WriteFault}
 
 -- how many bytes a file may have
 abbrev pub most_bytes : ℕ

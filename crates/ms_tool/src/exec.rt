@@ -145,9 +145,7 @@ fn answer_outcome<R: Sink>(alloc: Global, outcome: Outcome, report: &mut R) -> S
     ensures { Reports (status_of outcome) (text_of outcome) (record { old = R.held report.old; new = R.held report.new; before = R.faults report.old; after = R.faults report.new }) result }
 {
     match outcome {
-        Outcome::Unread(fault) => {
-            answer_line(report, Status::Refused, fault_line(alloc, fault))
-        }
+        Outcome::Unread(fault) => { answer_line(report, Status::Refused, fault_line(alloc, fault)) }
         Outcome::Invalid(part) => answer_line(report, Status::Refused, part_line(alloc, part)),
         Outcome::Imports => answer(report, Status::Refused, b"refused link 0 0 noexport\n"),
         Outcome::Misfit(misfit) => {
@@ -195,7 +193,11 @@ pub fn exec<F: Shelf, I: Source, O: Sink, R: Sink>(
             answer_line(report, Status::TooLong, file_line(alloc, "too long ", file))
         }
         Fetched::Failed => {
-            answer_line(report, Status::ReadFault, file_line(alloc, "read fault ", file))
+            answer_line(
+                report,
+                Status::ReadFault,
+                file_line(alloc, "read fault ", file),
+            )
         }
         Fetched::Memory => Status::OutOfMemory,
     }

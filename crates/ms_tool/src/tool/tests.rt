@@ -12,12 +12,26 @@ const SEVEN: [u8; 37] = [
     0x0A, 0x06, 0x01, 0x04, 0x00, 0x41, 0x07, 0x0B, // code
 ];
 
-/// The same with a type `[] -> []` and an empty body.
-const NOTHING: [u8; 34] = [
-    0x00, 0x61, 0x73, 0x6D, 0x01, 0x00, 0x00, 0x00, 0x01, 0x04, 0x01, 0x60, 0x00, 0x00, 0x03, 0x02,
-    0x01, 0x00, 0x07, 0x08, 0x01, 0x04, 0x6D, 0x61, 0x69, 0x6E, 0x00, 0x00, 0x0A, 0x04, 0x01, 0x02,
-    0x00, 0x0B,
-];
+/// The markers with which a module begins, as pairs of hexadecimal digits.
+const MARKERS: &str = "00 61 73 6D 01 00 00 00";
+
+/// A type `[] -> [i32]`, and a function of it.
+const NUMBER: &str = "01 05 01 60 00 01 7F  03 02 01 00";
+
+/// A type `[] -> [i64]`, and a function of it.
+const WIDE: &str = "01 05 01 60 00 01 7E  03 02 01 00";
+
+/// A type `[] -> []`, and a function of it.
+const NOTHING: &str = "01 04 01 60 00 00  03 02 01 00";
+
+/// A type `[] -> [i32]` and a function of it, and a type `[] -> []` and a function of it.
+const TWO: &str = "01 08 02 60 00 01 7F 60 00 00  03 03 02 00 01";
+
+/// The export of the function 0 as `main`.
+const MAIN: &str = "07 08 01 04 6D 61 69 6E 00 00";
+
+/// A function whose body is `i32.const 7`.
+const CODE: &str = "0A 06 01 04 00 41 07 0B";
 
 /// What is outside, which call of it is to fail, and what is left of it.
 #[derive(Drop)]
@@ -78,6 +92,239 @@ fn expect_file<R: Abort + AllocGlobal>(
     Ok(())
 }
 
+/// Adds the bytes of a text.
+fn put(bytes: &mut Vec<u8>, text: &str) -> Result<(), Fail> {
+    for pair in text.split_whitespace() {
+        bytes.push(u8::from_str_radix(pair, 16)?)?;
+    }
+    Ok(())
+}
+
+/// The markers, and the bytes of these texts.
+fn module_of(alloc: Global, texts: &[&str]) -> Result<Vec<u8>, Fail> {
+    let mut bytes = Vec::new(alloc);
+    put(&mut bytes, MARKERS)?;
+    for text in texts {
+        put(&mut bytes, text)?;
+    }
+    Ok(bytes)
+}
+
+/// Runs the module of each row: types and functions, sections before the export of `main`, and those behind it.
+fn expect_mains<R: Abort + AllocGlobal>(
+    rt: &R,
+    table: &[(&str, &str, &str, Status, &str)],
+) -> Result<(), Fail> {
+    for (funcs, before, behind, status, report) in table {
+        let module = module_of(rt.alloc(), &[funcs, before, MAIN, behind])?;
+        expect_file(rt, module.as_slice(), *status, report.as_bytes())?;
+    }
+    Ok(())
+}
+
+/// Refuses the module of the sections of each row.
+fn expect_refusals<R: Abort + AllocGlobal>(rt: &R, table: &[(&str, &str)]) -> Result<(), Fail> {
+    for (sections, report) in table {
+        let module = module_of(rt.alloc(), &[sections])?;
+        expect_file(rt, module.as_slice(), Status::Refused, report.as_bytes())?;
+    }
+    Ok(())
+}
+
+#[test]
+fn runs_a_task(rt: HostRuntime) -> Result<(), Fail> {
+    expect_file(&rt, &SEVEN, Status::Done, b"result 7\n")?;
+    expect_mains(
+        &rt,
+        &[
+            (NOTHING, "", "0A 04 01 02 00 0B", Status::Done, "done\n"),
+            // the least and the greatest of 32 bits
+            (
+                NUMBER,
+                "",
+                "0A 0A 01 08 00 41 80 80 80 80 78 0B",
+                Status::Done,
+                "result -2147483648\n",
+            ),
+            (
+                NUMBER,
+                "",
+                "0A 0A 01 08 00 41 FF FF FF FF 07 0B",
+                Status::Done,
+                "result 2147483647\n",
+            ),
+            // and of 64
+            (
+                WIDE,
+                "",
+                "0A 0F 01 0D 00 42 80 80 80 80 80 80 80 80 80 7F 0B",
+                Status::Done,
+                "result -9223372036854775808\n",
+            ),
+            (
+                WIDE,
+                "",
+                "0A 06 01 04 00 42 7F 0B",
+                Status::Done,
+                "result -1\n",
+            ),
+            // a nop, a local, a block, and a sum of 1 and 2
+            (
+                NUMBER,
+                "",
+                "0A 07 01 05 00 01 41 07 0B",
+                Status::Done,
+                "result 7\n",
+            ),
+            (
+                NUMBER,
+                "",
+                "0A 08 01 06 01 01 7F 41 07 0B",
+                Status::Done,
+                "result 7\n",
+            ),
+            (
+                NUMBER,
+                "",
+                "0A 09 01 07 00 02 7F 41 07 0B 0B",
+                Status::Done,
+                "result 7\n",
+            ),
+            (
+                NUMBER,
+                "",
+                "0A 09 01 07 00 41 01 41 02 6A 0B",
+                Status::Done,
+                "result 3\n",
+            ),
+            // the remainder of the least number by -1
+            (
+                NUMBER,
+                "",
+                "0A 0D 01 0B 00 41 80 80 80 80 78 41 7F 6F 0B",
+                Status::Done,
+                "result 0\n",
+            ),
+            // memory.grow by 1 and by 2, where there is room for 1
+            (
+                NUMBER,
+                "05 04 01 01 00 01",
+                "0A 08 01 06 00 41 01 40 00 0B",
+                Status::Done,
+                "result 0\n",
+            ),
+            (
+                NUMBER,
+                "05 04 01 01 00 01",
+                "0A 08 01 06 00 41 02 40 00 0B",
+                Status::Done,
+                "result -1\n",
+            ),
+            // the i32 in a new segment of 4 bytes
+            (
+                NUMBER,
+                "",
+                "0A 0B 01 09 00 41 04 E0 01 00 E0 0A 0B",
+                Status::Done,
+                "result 0\n",
+            ),
+        ],
+    )
+}
+
+#[test]
+fn stops_a_task(rt: HostRuntime) -> Result<(), Fail> {
+    expect_mains(
+        &rt,
+        &[
+            (
+                NUMBER,
+                "",
+                "0A 05 01 03 00 00 0B",
+                Status::Trapped,
+                "trap unreachable\n",
+            ),
+            // 7 by 0, and the least number by -1
+            (
+                NUMBER,
+                "",
+                "0A 09 01 07 00 41 07 41 00 6D 0B",
+                Status::Trapped,
+                "trap zero\n",
+            ),
+            (
+                NUMBER,
+                "",
+                "0A 0D 01 0B 00 41 80 80 80 80 78 41 7F 6D 0B",
+                Status::Trapped,
+                "trap overflow\n",
+            ),
+            // the i32 in a new segment of 3 bytes
+            (
+                NUMBER,
+                "",
+                "0A 0B 01 09 00 41 03 E0 01 00 E0 0A 0B",
+                Status::Trapped,
+                "trap bounds\n",
+            ),
+            // a loop that goes on
+            (
+                NUMBER,
+                "",
+                "0A 0B 01 09 00 03 40 0C 00 0B 41 00 0B",
+                Status::OutOfBudget,
+                "out of budget\n",
+            ),
+        ],
+    )
+}
+
+#[test]
+fn runs_the_start_function_first(rt: HostRuntime) -> Result<(), Fail> {
+    expect_mains(
+        &rt,
+        &[
+            // a start function that is a nop, one that traps, and one that goes on
+            (
+                TWO,
+                "",
+                "08 01 01  0A 0A 02 04 00 41 07 0B 03 00 01 0B",
+                Status::Done,
+                "result 7\n",
+            ),
+            (
+                TWO,
+                "",
+                "08 01 01  0A 0A 02 04 00 41 07 0B 03 00 00 0B",
+                Status::Trapped,
+                "trap unreachable\n",
+            ),
+            (
+                TWO,
+                "",
+                "08 01 01  0A 0E 02 04 00 41 07 0B 07 00 03 40 0C 00 0B 0B",
+                Status::OutOfBudget,
+                "out of budget\n",
+            ),
+            // one that sets a global, which `main` gives
+            (
+                TWO,
+                "06 06 01 7F 01 41 00 0B",
+                "08 01 01  0A 0D 02 04 00 23 00 0B 06 00 41 09 24 00 0B",
+                Status::Done,
+                "result 9\n",
+            ),
+            (
+                NOTHING,
+                "",
+                "08 01 00  0A 04 01 02 00 0B",
+                Status::Done,
+                "done\n",
+            ),
+        ],
+    )
+}
+
 /// The module of `SEVEN` with other bytes from a place on.
 fn changed(alloc: Global, at: usize, bytes: &[u8]) -> Result<Vec<u8>, Fail> {
     let mut module = Vec::from_slice(alloc, &SEVEN)?;
@@ -90,135 +337,146 @@ fn changed(alloc: Global, at: usize, bytes: &[u8]) -> Result<Vec<u8>, Fail> {
 }
 
 #[test]
-fn runs_a_constant(rt: HostRuntime) -> Result<(), Fail> {
-    expect_file(&rt, &SEVEN, Status::Done, b"result 7\n")?;
-    expect_file(&rt, &NOTHING, Status::Done, b"done\n")?;
-    let minus_one = changed(rt.alloc(), 34, &[0x41, 0x7F])?;
-    expect_file(&rt, minus_one.as_slice(), Status::Done, b"result -1\n")
-}
-
-#[test]
-fn runs_the_greatest_and_the_least(rt: HostRuntime) -> Result<(), Fail> {
-    let code: [(&[u8], &[u8]); 2] = [
-        (
-            &[0x41, 0xFF, 0xFF, 0xFF, 0xFF, 0x07],
-            b"result 2147483647\n",
-        ),
-        (
-            &[0x41, 0x80, 0x80, 0x80, 0x80, 0x78],
-            b"result -2147483648\n",
-        ),
-    ];
-    for (constant, report) in code {
-        let mut module = Vec::from_slice(rt.alloc(), &SEVEN[..29])?;
-        module.extend_from_slice(&[0x0A, 0x0A, 0x01, 0x08, 0x00])?;
-        module.extend_from_slice(constant)?;
-        module.push(0x0B)?;
-        expect_file(&rt, module.as_slice(), Status::Done, report)?;
-    }
-    Ok(())
-}
-
-#[test]
 fn refuses_what_is_no_valid_module(rt: HostRuntime) -> Result<(), Fail> {
-    let alloc = rt.alloc();
-    expect_file(&rt, b"", Status::Refused, b"refused unread\n")?;
-    expect_file(&rt, &SEVEN[..7], Status::Refused, b"refused unread\n")?;
+    expect_file(&rt, b"", Status::Refused, b"refused malformed 0\n")?;
+    expect_file(&rt, &SEVEN[..7], Status::Refused, b"refused malformed 4\n")?;
     // A place, and what stands there instead.
-    let changes: [(usize, &[u8]); 10] = [
-        (34, &[0x42]), // i64.const
-        (14, &[0x7E]), // a result i64
-        (18, &[0x01]), // a type that isn't there
-        (28, &[0x01]), // an export of a function that isn't there
-        (27, &[0x03]), // an export of a global
-        (15, &[0x02]), // an import section
-        (17, &[0x02]), // more functions than are there
-        (36, &[0x41]), // a body with no end
-        (0, &[0x01]), // no marker
-        (12, &[0x01, 0x7F, 0x00]), // a parameter and no result, but a constant
+    let changes: [(usize, &[u8], &str); 12] = [
+        (0, &[0x01], "malformed 0"), // no marker
+        (14, &[0x7D], "float 14"), // a result f32
+        (15, &[0x02], "malformed 19"), // an import section with a name that is cut off
+        (17, &[0x02], "malformed 19"), // more functions than are there
+        (36, &[0x41], "malformed 37"), // a constant that is cut off
+        (18, &[0x01], "invalid head"), // a type that isn't there
+        (28, &[0x01], "invalid head"), // an export of a function that isn't there
+        (27, &[0x03], "invalid head"), // an export of a global that isn't there
+        (34, &[0x42], "invalid function 0"), // i64.const
+        (14, &[0x7E], "invalid function 0"), // a result i64
+        (12, &[0x01, 0x7F, 0x00], "invalid function 0"), // a parameter and no result, but a constant
+        (23, b"M", "task 0"), // another name
     ];
-    for (at, bytes) in changes {
-        let module = changed(alloc, at, bytes)?;
-        expect_file(&rt, module.as_slice(), Status::Refused, b"refused unread\n")?;
+    for (at, bytes, what) in changes {
+        let module = changed(rt.alloc(), at, bytes)?;
+        let report = format!(in rt.alloc(); "refused {what}\n")?;
+        expect_file(&rt, module.as_slice(), Status::Refused, report.as_bytes())?;
     }
-    let zeros = vec![in alloc; 0u8; 4_194_304]?;
-    expect_file(&rt, zeros.as_slice(), Status::Refused, b"refused unread\n")
-}
-
-/// The module of `SEVEN` with another code section, behind other sections.
-fn with_code(alloc: Global, sections: &[u8], code: &[u8]) -> Result<Vec<u8>, Fail> {
-    let mut module = Vec::from_slice(alloc, &SEVEN[..15])?;
-    module.extend_from_slice(sections)?;
-    module.extend_from_slice(&SEVEN[15..29])?;
-    module.extend_from_slice(code)?;
-    Ok(module)
-}
-
-#[test]
-fn refuses_a_valid_module_that_does_not_run_yet(rt: HostRuntime) -> Result<(), Fail> {
-    let alloc = rt.alloc();
-    let code: [&[u8]; 5] = [
-        &[0x0A, 0x07, 0x01, 0x05, 0x00, 0x01, 0x41, 0x07, 0x0B], // nop
-        &[0x0A, 0x08, 0x01, 0x06, 0x01, 0x01, 0x7F, 0x41, 0x07, 0x0B], // a local
-        &[
-            0x0A, 0x09, 0x01, 0x07, 0x00, 0x02, 0x7F, 0x41, 0x07, 0x0B, 0x0B,
-        ], // a block
-        &[0x0A, 0x05, 0x01, 0x03, 0x00, 0x00, 0x0B], // unreachable
-        &[
-            0x0A, 0x09, 0x01, 0x07, 0x00, 0x41, 0x01, 0x41, 0x02, 0x6A, 0x0B,
-        ], // i32.add
-    ];
-    for section in code {
-        let module = with_code(alloc, &[], section)?;
-        expect_file(&rt, module.as_slice(), Status::Refused, b"refused unread\n")?;
-    }
-    // An import of a function, which comes before `main` in the index space.
-    let import = [
-        0x02, 0x07, 0x01, 0x01, 0x63, 0x01, 0x66, 0x00, 0x00, // "c" "f"
-    ];
-    let imported = with_code(alloc, &import, &SEVEN[29..])?;
+    let zeros = vec![in rt.alloc(); 0u8; 4_194_304]?;
     expect_file(
         &rt,
-        imported.as_slice(),
+        zeros.as_slice(),
         Status::Refused,
-        b"refused unread\n",
-    )?;
-    // The markers and a memory of one page, or a global, or a type with a handle.
-    let sections: [&[u8]; 3] = [
-        &[0x05, 0x03, 0x01, 0x00, 0x01],
-        &[0x06, 0x06, 0x01, 0x7F, 0x00, 0x41, 0x00, 0x0B],
-        &[0x01, 0x05, 0x01, 0x60, 0x01, 0x58, 0x00],
-    ];
-    for section in sections {
-        let mut module = Vec::from_slice(alloc, &SEVEN[..8])?;
-        module.extend_from_slice(section)?;
-        expect_file(&rt, module.as_slice(), Status::Refused, b"refused unread\n")?;
-    }
-    // Sections of nothing are no part of a module.
-    let nothing = with_code(alloc, &[0x02, 0x01, 0x00], &SEVEN[29..])?;
-    expect_file(&rt, nothing.as_slice(), Status::Done, b"result 7\n")
+        b"refused malformed 0\n",
+    )
+}
+
+#[test]
+fn refuses_what_does_not_link(rt: HostRuntime) -> Result<(), Fail> {
+    expect_mains(
+        &rt,
+        &[
+            // 50,001 locals
+            (
+                NUMBER,
+                "",
+                "0A 0A 01 08 01 D1 86 03 7F 41 07 0B",
+                Status::Refused,
+                "refused limit locals 34\n",
+            ),
+            // a table of 65,537 entries, and a memory of 1,025 pages
+            (
+                NUMBER,
+                "04 06 01 70 00 81 80 04",
+                CODE,
+                Status::Refused,
+                "refused link 0 0 toolarge\n",
+            ),
+            (
+                NUMBER,
+                "05 04 01 00 81 08",
+                CODE,
+                Status::Refused,
+                "refused link 0 1 toolarge\n",
+            ),
+            // one byte at the end of a page, and two
+            (
+                NUMBER,
+                "05 03 01 00 01",
+                "0A 06 01 04 00 41 07 0B  0B 09 01 00 41 FF FF 03 0B 01 61",
+                Status::Done,
+                "result 7\n",
+            ),
+            (
+                NUMBER,
+                "05 03 01 00 01",
+                "0A 06 01 04 00 41 07 0B  0B 0A 01 00 41 FF FF 03 0B 02 61 62",
+                Status::Refused,
+                "refused link 0 0 fit\n",
+            ),
+            // an entry at the end of a table, and behind it; and then data that doesn't fit
+            (
+                NUMBER,
+                "04 04 01 70 00 01",
+                "09 07 01 00 41 00 0B 01 00  0A 06 01 04 00 41 07 0B",
+                Status::Done,
+                "result 7\n",
+            ),
+            (
+                NUMBER,
+                "04 04 01 70 00 01",
+                "09 07 01 00 41 01 0B 01 00  0A 06 01 04 00 41 07 0B",
+                Status::Refused,
+                "refused link 0 0 fit\n",
+            ),
+            (
+                NUMBER,
+                "04 04 01 70 00 01  05 03 01 00 00",
+                "09 07 01 00 41 00 0B 01 00  0A 06 01 04 00 41 07 0B  0B 07 01 00 41 00 0B 01 61",
+                Status::Refused,
+                "refused link 0 1 fit\n",
+            ),
+        ],
+    )
 }
 
 #[test]
 fn refuses_a_module_with_no_task(rt: HostRuntime) -> Result<(), Fail> {
-    expect_file(&rt, &SEVEN[..8], Status::Refused, b"refused task 0\n")?;
-    let other_name = changed(rt.alloc(), 23, b"M")?;
-    expect_file(
+    expect_refusals(
         &rt,
-        other_name.as_slice(),
-        Status::Refused,
-        b"refused task 0\n",
+        &[
+            ("", "refused task 0\n"),
+            // a memory as `main`
+            (
+                "05 03 01 00 01  07 08 01 04 6D 61 69 6E 02 00",
+                "refused task 0\n",
+            ),
+            // a memory of 1,025 pages, and no `main`
+            ("05 04 01 00 81 08", "refused link 0 1 toolarge\n"),
+            // a parameter i32, and a handle as the result
+            (
+                "01 05 01 60 01 7F 00  03 02 01 00  07 08 01 04 6D 61 69 6E 00 00  0A 04 01 02 00 0B",
+                "refused task 0\n",
+            ),
+            (
+                "01 05 01 60 00 01 58  03 02 01 00  07 08 01 04 6D 61 69 6E 00 00  0A 05 01 03 00 00 0B",
+                "refused task 0\n",
+            ),
+            // an import of a function, with no `main` and with it
+            (
+                "01 04 01 60 00 00  02 07 01 01 63 01 66 00 00",
+                "refused link 0 0 noexport\n",
+            ),
+            (
+                "01 04 01 60 00 00  02 07 01 01 63 01 66 00 00  03 02 01 00  07 08 01 04 6D 61 69 6E 00 01  0A 04 01 02 00 0B",
+                "refused link 0 0 noexport\n",
+            ),
+        ],
     )?;
-    // A type [i32] -> [], with an empty body.
-    let mut parameter = Vec::from_slice(rt.alloc(), &SEVEN[..8])?;
-    parameter.extend_from_slice(&[0x01, 0x05, 0x01, 0x60, 0x01, 0x7F, 0x00])?;
-    parameter.extend_from_slice(&NOTHING[14..])?;
-    expect_file(
-        &rt,
-        parameter.as_slice(),
-        Status::Refused,
-        b"refused task 0\n",
-    )
+    // Sections of nothing are no part of a module.
+    let nothing = module_of(
+        rt.alloc(),
+        &["01 05 01 60 00 01 7F  02 01 00  03 02 01 00", MAIN, CODE],
+    )?;
+    expect_file(&rt, nothing.as_slice(), Status::Done, b"result 7\n")
 }
 
 #[test]

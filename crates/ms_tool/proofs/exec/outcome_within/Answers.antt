@@ -1,6 +1,5 @@
-use Rattle.std.proofs.Common.{◌≡◌, ◌∙◌, Ok, arith, sym}
+use Rattle.std.proofs.Common.{◌∙◌, Ok, arith, sym}
 use Rattle.ms_machine.proofs.LinkedStores.{links_fit, links_typed}
-use Rattle.ms_machine.specs.declared.linking.LinkFault.{LinkFault}
 use Rattle.ms_tool.proofs.Executed.{empty_is, first_alone, main_alone, run_comes}
 use Rattle.ms_tool.proofs.exec.outcome_within.Goals as goal
 
