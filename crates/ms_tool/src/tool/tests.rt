@@ -3,6 +3,8 @@ use ms_outside::{MemShelf, MemSink, MemSource};
 use std::process::Abort;
 use std::test::Fail;
 
+mod machine;
+
 /// One type `[] -> [i32]`, one function of it, exported as `main`, whose body is `i32.const 7`.
 const SEVEN: [u8; 37] = [
     0x00, 0x61, 0x73, 0x6D, 0x01, 0x00, 0x00, 0x00, // the markers

@@ -1,23 +1,21 @@
 use Rattle.std.proofs.Common.{◌∙◌, Ok, arith, sym}
-use Rattle.ms_machine.proofs.LinkedStores.{links_fit, links_typed}
 use Rattle.ms_tool.proofs.Executed.{empty_is, first_alone, main_alone, run_comes}
 use Rattle.ms_tool.proofs.exec.outcome_within.Goals as goal
 
 pub run-requires-clause-store : goal.run-requires-clause-store
-run-requires-clause-store g c =
-    links_typed c.args.module c.args.capacity (Ok c.in-Ok.store) c.in-Ok.ensures c.requires.typed (empty_is c.is_empty.result c.args.module.imports c.is_empty.ensures c.if-not-is_empty.false)
+run-requires-clause-store g c = c.in-Ok.ensures.typed
 
 pub run-requires-clause-fits : goal.run-requires-clause-fits
-run-requires-clause-fits g c = links_fit c.args.module c.args.capacity (Ok c.in-Ok.store) c.in-Ok.ensures (omega arith)
+run-requires-clause-fits g c = c.in-Ok.ensures.fits
 
 pub run-requires-clause-first : goal.run-requires-clause-first
 run-requires-clause-first g c =
-    first_alone c.args.module c.args.capacity c.in-Ok.store c.requires.typed (empty_is c.is_empty.result c.args.module.imports c.is_empty.ensures c.if-not-is_empty.false) c.in-Ok.ensures
+    first_alone c.args.module c.args.capacity c.in-Ok.store c.requires.typed (empty_is c.is_empty.result c.args.module.imports c.is_empty.ensures c.if-not-is_empty.false) c.in-Ok.ensures.link
 
 pub run-requires-clause-main : goal.run-requires-clause-main
-run-requires-clause-main g c = main_alone c.args.module c.args.capacity c.in-Ok.store c.in-Some.main c.in-Ok.ensures (sym c.task_index-task.ensures ∙ c.in-Some.is)
+run-requires-clause-main g c = main_alone c.args.module c.args.capacity c.in-Ok.store c.in-Some.main c.in-Ok.ensures.link (sym c.task_index-task.ensures ∙ c.in-Some.is)
 
 pub returns-clause-outcome : goal.returns-clause-outcome
 returns-clause-outcome g c =
     run_comes c.args.module c.args.budget c.args.capacity c.in-Ok.store c.run.new.store c.in-Some.main c.run.result
-    (empty_is c.is_empty.result c.args.module.imports c.is_empty.ensures c.if-not-is_empty.false) c.in-Ok.ensures (sym c.task_index-task.ensures ∙ c.in-Some.is) c.in_default-run.not-Memory c.run.ensures.run
+    (empty_is c.is_empty.result c.args.module.imports c.is_empty.ensures c.if-not-is_empty.false) c.in-Ok.ensures.link (sym c.task_index-task.ensures ∙ c.in-Some.is) c.in_default-run.not-Memory c.run.ensures.run
