@@ -1,5 +1,5 @@
 -- The events of the run of a module are a trace that the colour monitor accepts.
-use Rattle.std.proofs.Common.{◌≡◌, ◌<◌, ℕ, List, [], ◌∷◌, length, Option, Some, None, replicate, refl, ap, sym, subst, ◌∙◌, lit<}
+use Rattle.std.proofs.Common.{◌≡◌, ℕ, List, [], ◌∷◌, Option, Some, None, subst, lit<}
 use Rattle.std.proofs.lemmas.List.{length-replicate}
 use Rattle.ms_event.specs.Monitor.{Accepts}
 use Rattle.ms_machine.specs.declared.linking.Misfit.{Misfit}
@@ -11,7 +11,7 @@ use Rattle.ms_machine.proofs.SafeStarts.{sound_linked}
 use Rattle.ms_module.specs.declared.module.Import.{Import}
 use Rattle.ms_module.specs.declared.module.Module.{Module}
 use Rattle.ms_tagged.specs.Bytes.{Byte, Data}
-use Rattle.ms_tool.specs.Executions.{Execution, Imports, Misfits, NoTask, Runs, default_budget, default_capacity, execution_of, run_of, with_fit, with_imports, with_task}
+use Rattle.ms_tool.specs.Executions.{Runs, default_budget, default_capacity, execution_of, run_of, with_fit, with_imports, with_task}
 use Rattle.ms_tool.specs.Tasks.{main_name, task_index}
 
 same_run : (r s : Run) → Runs r ≡ Runs s → r ≡ s

@@ -1,4 +1,4 @@
-use Rattle.std.proofs.Common.{◌∙◌, Ok, arith, sym}
+use Rattle.std.proofs.Common.{◌∙◌, sym}
 use Rattle.ms_tool.proofs.Executed.{empty_is, first_alone, main_alone, run_comes}
 use Rattle.ms_tool.proofs.exec.outcome_within.Goals as goal
 

@@ -200,10 +200,7 @@ fn handles_and_segments(rt: HostRuntime) -> Result<(), Fail> {
                 "trap whole",
             ),
             ("00 41 04 E0 01 00 E0 02 01 41 00 0B", "trap kind"),
-            (
-                "00 41 04 E0 01 00 41 04 E0 01 00 E0 07 A7 0B",
-                "trap apart",
-            ),
+            ("00 41 04 E0 01 00 41 04 E0 01 00 E0 07 A7 0B", "trap apart"),
         ],
         Status::Trapped,
     )
