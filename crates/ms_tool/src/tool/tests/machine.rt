@@ -27,7 +27,8 @@ fn expect_main<R: Abort + AllocGlobal>(
     let mut module = Vec::new(rt.alloc());
     put(&mut module, BEFORE)?;
     module.push(0x0A)?;
-    module.push(main.len().saturating_add(AROUND) as u8)?;
+    assert!(rt; main.len() < 96);
+    module.push((main.len() + AROUND) as u8)?;
     module.push(3)?;
     module.push(main.len() as u8)?;
     module.extend_from_slice(main.as_slice())?;
