@@ -1,3 +1,4 @@
+;; The segment has ended. A new one at the same address would not be reached through the old handle either.
 (func (export "main") (result i32)
   (local $h handle)
   i32.const 4

@@ -1,0 +1,3 @@
+;; The instruction for a place that is never to be reached.
+(func (export "main")
+  unreachable)
