@@ -1,4 +1,4 @@
--- The entry of a table that a call goes to (WebAssembly 1.0, 4.4.7).
+-- The entry of a table that a call goes to (WebAssembly 1.0, 4.4.5).
 use Rattle.std.specs.Prelude.{◌≡◌, ◌≢◌, ◌≤◌, ℕ, Bool, true, false, ◌&&◌, if◌then◌else◌, List, [], ◌∷◌, length, slice_get, slice_set, Option, Some, None, Result, Ok, Err}
 use Rattle.ms_types.specs.declared.types.ValType.{ValType}
 use Rattle.ms_types.specs.declared.types.ValType.TheVariants.{I32, I64, Handle}

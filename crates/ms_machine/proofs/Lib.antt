@@ -13,6 +13,7 @@ pub mod SoundStores
 pub mod SoundPlain
 pub mod SoundActs
 pub mod Sound
+pub mod Unstuck
 pub mod HeldValues
 pub mod HeldControl
 pub mod HeldPlain
@@ -36,6 +37,7 @@ pub mod SafeAccesses
 pub mod SafeHandles
 pub mod SafeTold
 pub mod SafeSegments
+pub mod SafeSizes
 pub mod SafeSteps
 pub mod SafeStarts
 pub mod SafeRuns

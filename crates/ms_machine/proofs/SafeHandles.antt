@@ -63,7 +63,7 @@ module _ (state : State) (m : Memory) (monitored : IsMonitored state m) where
           grows = grows;
           capacity = refl;
         },
-        (known.0, Contains-push state.shades (shade_of id (base + start) (base + start + len)), (known.2.0, grows.shades _ known.2.1, omega (arith, known.2.2))),
+        (known.0, Contains-push state.shades (shade_of id (base + start) (base + start + len))),
       )
   within_sliced id base size start len offset false near known = (follows-none state m monitored, tt)
 

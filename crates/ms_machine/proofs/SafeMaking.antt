@@ -126,7 +126,7 @@ module _ (state : State) (m : Memory) (monitored : IsMonitored state m) where
   made_known : (base size : ℕ) → KnowsHandle (made_state base size) (handles.Good (m.made + 1) 0 size (pos 0))
   made_known base size =
       let root = Contains-push state.shades (shade_of (m.made + 1) 0 size) in
-      (Contains-push state.used (m.made + 1), subst (λ n. Contains (made_state base size).shades (shade_of (m.made + 1) 0 n)) (sym (zero-add size)) root, (size, root, omega arith))
+      (Contains-push state.used (m.made + 1), subst (λ n. Contains (made_state base size).shades (shade_of (m.made + 1) 0 n)) (sym (zero-add size)) root)
 
   -- ---- none made
 

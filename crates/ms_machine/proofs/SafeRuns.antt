@@ -25,6 +25,7 @@ pub record RunsSafely (events : List Event) (s : Store) (others : List Thread) (
 without_first : (events : List Event) (s : Store) (t : Thread) (others : List Thread) → Sound events s (t ∷ others) → Sound events s others
 without_first events s t others sound = record {
   accepted = sound.accepted;
+  sizes = sound.sizes;
   monitored = sound.monitored;
   globals = sound.globals;
   threads = All-tail (ThreadHolds (Knows (after_all nothing_yet events))) t others sound.threads;

@@ -21,7 +21,7 @@ use Rattle.ms_types.specs.declared.types.ValType.{ValType}
 use Rattle.ms_types.specs.declared.types.ValType.TheVariants as types
 use Rattle.ms_machine.specs.Holding.{EachGlobal, ThreadHolds}
 use Rattle.ms_machine.specs.Linking.{constant, constant_in, global_of, store_of}
-use Rattle.ms_machine.specs.Safety.{IsMonitored, Knows, Sound}
+use Rattle.ms_machine.specs.Safety.{IsMonitored, IsWithin, Knows, Sound}
 use Rattle.ms_machine.specs.Store.{Store}
 use Rattle.ms_machine.proofs.HeldControl.{settle_holds}
 use Rattle.ms_machine.proofs.HeldValues.{each_default, kept_dos}
@@ -44,6 +44,7 @@ starts_known state funcs address g =
 pub with_thread : (events : List Event) (s : Store) (t : Thread) (others : List Thread) → Sound events s others → ThreadHolds (Knows (after_all nothing_yet events)) t → Sound events s (t ∷ others)
 with_thread events s t others sound known = record {
   accepted = sound.accepted;
+  sizes = sound.sizes;
   monitored = sound.monitored;
   globals = sound.globals;
   threads = All-cons (ThreadHolds (Knows (after_all nothing_yet events))) t others known sound.threads;
@@ -84,6 +85,7 @@ new_monitored capacity = record {
 pub sound_linked : (m : Module) (capacity : ℕ) → Sound [] (store_of m capacity) []
 sound_linked m capacity = record {
   accepted = tt;
+  sizes = All-nil (IsWithin []);
   monitored = new_monitored capacity;
   globals = globals_known nothing_yet m.globals;
   threads = All-nil (ThreadHolds (Knows nothing_yet));

@@ -24,7 +24,7 @@ pub handle_grows : (state state' : State) → Grows state state' → (h : Handle
 handle_grows state state' grows handles.Null known = tt
 handle_grows state state' grows handles.Broken known = tt
 handle_grows state state' grows (handles.Good id base size offset) known =
-    (grows.used id known.0, grows.shades (shade_of id base (base + size)) known.1, (known.2.0, grows.shades (shade_of id 0 known.2.0) known.2.1, known.2.2))
+    (grows.used id known.0, grows.shades (shade_of id base (base + size)) known.1)
 
 pub value_grows : (state state' : State) → Grows state state' → (v : Value) → Knows state v → Knows state' v
 value_grows state state' grows (values.I32 n) known = tt

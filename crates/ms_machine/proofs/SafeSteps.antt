@@ -19,6 +19,7 @@ use Rattle.ms_machine.proofs.HeldActs.{step_holds_after}
 use Rattle.ms_machine.proofs.HeldSegments.{Fresh, FreshBy}
 use Rattle.ms_machine.proofs.HeldValues.{thread_grows}
 use Rattle.ms_machine.proofs.SafeSegments.{segment_follows, segment_known}
+use Rattle.ms_machine.proofs.SafeSizes.{sizes_of}
 use Rattle.ms_machine.proofs.SafeStates.{Follows, follows-none, value_grows}
 use Rattle.ms_machine.proofs.SafeTold.{step_tells}
 
@@ -80,8 +81,10 @@ sound_step s s' t t' others events event store fits sound is =
     let theirs = All-tail (ThreadHolds (Knows state)) t others sound.threads in
     let follows = step_follows state s store.segments sound.monitored s' t t' event fits mine is in
     let known = step_known state s store.segments sound.monitored s' t t' event fits sound.globals mine is in
+    let accepted = accepts_both (length s.segments.bytes) nothing_yet events (told event []) sound.accepted follows.may in
     record {
-      accepted = subst (λ n. AcceptsFrom n nothing_yet (events ++ told event [])) (sym follows.capacity) (accepts_both (length s.segments.bytes) nothing_yet events (told event []) sound.accepted follows.may);
+      accepted = subst (λ n. AcceptsFrom n nothing_yet (events ++ told event [])) (sym follows.capacity) accepted;
+      sizes = sizes_of (length s.segments.bytes) (events ++ told event []) accepted;
       monitored = subst (λ x. IsMonitored x s'.segments) same follows.monitored;
       globals = subst (λ x. EachGlobal (Knows x) s'.globals) same known.1;
       threads = subst (λ x. All (ThreadHolds (Knows x)) (t' ∷ others)) same (All-cons (ThreadHolds (Knows state')) t' others known.0 (All-weaker (ThreadHolds (Knows state)) (ThreadHolds (Knows state')) (λ u. thread_grows (Knows state) (Knows state') (value_grows state state' follows.grows) u) others theirs));

@@ -1,7 +1,8 @@
 -- What ties every handle to the colour monitor's state: the memory safety of a store and its threads after some events.
 use Rattle.std.specs.Prelude.{◌≡◌, ◌↔◌, ◌<◌, ◌≤◌, ◌+◌, ℕ, List, length, map, All, Contains}
 use Rattle.ms_event.specs.declared.event.Event.{Event}
-use Rattle.ms_event.specs.Monitor.{Accepts, Paint, State, after_all, nothing_yet, shade_of}
+use Rattle.ms_event.specs.declared.event.Event.TheVariants.{Alloc}
+use Rattle.ms_event.specs.Monitor.{Accepts, Paint, Shade, State, after_all, nothing_yet, shade_of}
 use Rattle.ms_handle.specs.declared.handle.Handle.{Handle}
 use Rattle.ms_handle.specs.declared.handle.Handle.TheVariants as handles
 use Rattle.ms_linear.specs.declared.value.Value.{Value}
@@ -13,10 +14,9 @@ use Rattle.ms_task.specs.Thread.{Thread}
 use Rattle.ms_machine.specs.Holding.{EachGlobal, ThreadHolds}
 use Rattle.ms_machine.specs.Store.{Store}
 
--- A good handle has a used colour, its bound is a known shade of that colour, and lies within the size at its making.
+-- A good handle has a used colour, and its bound is a known shade of that colour.
 abbrev pub KnowsHandle : State → Handle → Type 0
-KnowsHandle m (handles.Good id base size offset) =
-    Contains m.used id × Contains m.shades (shade_of id base (base + size)) × ((whole : ℕ) × Contains m.shades (shade_of id 0 whole) × (base + size ≤ whole))
+KnowsHandle m (handles.Good id base size offset) = Contains m.used id × Contains m.shades (shade_of id base (base + size))
 KnowsHandle m h = Unit {0}
 
 abbrev pub Knows : State → Value → Type 0
@@ -35,9 +35,14 @@ pub record IsMonitored (state : State) (m : Memory) : Type 0 where
   pub used : (colour : ℕ) → Contains state.used colour ↔ ((1 ≤ colour) × (colour ≤ m.made))
   pub pieces : (h : Handle) (i : ℕ) → Contains m.bytes (Piece h i) → KnowsHandle state h
 
+-- the shade lies within the size at the making of its colour
+abbrev pub IsWithin : List Event → Shade → Type 0
+IsWithin events shade = (address size : ℕ) × Contains events (Alloc shade.colour address size) × (shade.hi ≤ size)
+
 -- After these events, which the monitor accepts, each handle of the store and of the threads is known to it.
 pub record Sound (events : List Event) (s : Store) (ts : List Thread) : Type 0 where
   pub accepted : Accepts (length s.segments.bytes) events
+  pub sizes : All (IsWithin events) (after_all nothing_yet events).shades
   pub monitored : IsMonitored (after_all nothing_yet events) s.segments
   pub globals : EachGlobal (Knows (after_all nothing_yet events)) s.globals
   pub threads : All (ThreadHolds (Knows (after_all nothing_yet events))) ts

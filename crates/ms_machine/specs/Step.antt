@@ -114,7 +114,7 @@ in_segments s t (segments.Leaves vs m event) = Next (with_segments s m) (thread 
 in_segments s t (segments.Stops kind) = Trap kind
 in_segments s t segments.Misses = Stuck
 
--- ---- calls (4.4.7)
+-- ---- calls (4.4.5 and 4.4.7)
 
 abbrev pub call : Store → Thread → Option ℕ → Outcome
 call s t None = Stuck

@@ -1,4 +1,4 @@
--- Well-typed stores and threads, after the standard's appendix on soundness (WebAssembly 1.0, A.3). The judgement on
+-- Well-typed stores and threads, after the standard's appendix on soundness (WebAssembly 1.0, A.5). The judgement on
 -- instructions is that of validation.
 use Rattle.std.specs.Prelude.{◌≡◌, ◌<◌, ℕ, false, List, [], ◌∷◌, ◌++◌, length, map, slice_get, Option, Some, None, All}
 use Rattle.ms_linear.specs.declared.table.Entry.{Entry}
@@ -31,7 +31,7 @@ pub record Outline : Type 0 where
 abbrev pub outline_of : Store → Outline
 outline_of s = record { funcs = s.funcs; instances = s.instances; tables = s.tables; memories = length s.memories; globals = map global_type_of s.globals }
 
--- ---- the context of an instance (A.3.2)
+-- ---- the context of an instance (A.5.2)
 
 abbrev pub func_type : Option FuncInst → Option FuncType
 func_type None = None
@@ -67,7 +67,7 @@ context_inside o i (Some f) = inside (context_in o i) (f.ty.params ++ f.locals) 
 unfoldable pub context_at : Outline → ℕ → Context
 context_at o f = context_inside o (at o.instances (number_of_instance (slice_get o.funcs f))) (slice_get o.funcs f)
 
--- ---- well-typed stores (A.3.3)
+-- ---- well-typed stores (A.5.2)
 
 abbrev pub IsBelow : ℕ → Option ℕ → Type 0
 IsBelow n None = Unit {0}
@@ -95,7 +95,7 @@ pub record StoreTyped (o : Outline) : Type 0 where
   pub instances : (number : ℕ) (i : Instance) → slice_get o.instances number ≡ Some i → InstanceTyped o i
   pub tables : (address : ℕ) (table : Table) → slice_get o.tables address ≡ Some table → All (EntryTyped o) table.entries
 
--- ---- well-typed threads (A.3.4): values and frames, and what is left to do
+-- ---- well-typed threads (A.5.3): values and frames, and what is left to do
 
 abbrev pub types_of : List Value → List ValType
 types_of = map type_of

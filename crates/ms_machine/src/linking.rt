@@ -113,6 +113,7 @@ fn store_for<G: Gaps, T: Tagged>(
         instances,
     })
 }
+
 /// The store of a module without imports: its functions, globals, tables and linear memories with what they begin with,
 /// and an empty segment memory of so many bytes.
 ///

@@ -112,7 +112,7 @@ fn advance<G: Gaps, T: Tagged>(store: &mut Store<G, T>, task: &mut Task) -> Step
 /// A well-typed task of a well-typed store is never stuck, and stays well typed; handles that fit go on fitting, those of
 /// other tasks too; and each handle that the colour monitor knows it goes on knowing, after the step's event (`sound`). A
 /// trap changes nothing. No instruction takes from the input or puts to the output yet.
-#[tactic(auto, using(crate::proofs::Sound::never_stuck, crate::proofs::Sound::begins_well, crate::proofs::Sound::carries_typed, crate::proofs::HeldFits::carries_fits))]
+#[tactic(auto, using(crate::proofs::Sound::never_stuck, crate::proofs::Unstuck::step_unstuck, crate::proofs::Sound::begins_well, crate::proofs::Sound::carries_typed, crate::proofs::HeldFits::carries_fits))]
 pub fn step<G: Gaps, T: Tagged, I: Source, O: Sink>(
     store: &mut Store<G, T>,
     task: &mut Task,
@@ -125,6 +125,7 @@ pub fn step<G: Gaps, T: Tagged, I: Source, O: Sink>(
     requires few { store.old.segments.made < 2 ^ 63 }
     requires store_fits { StoreFits store.old }
     requires task_fits { ThreadFits store.old (thread_of store.old.funcs task.old) }
+    ensures never_stuck { step_of store.old (thread_of store.old.funcs task.old) ≢ Stuck }
     ensures step { Carries result (step_of store.old (thread_of store.old.funcs task.old)) store.old (thread_of store.old.funcs task.old) store.new (thread_of store.new.funcs task.new) }
     ensures outline { result ≢ Stepped.Memory → outline_of store.new ≡ outline_of store.old }
     ensures task { result ≢ Stepped.Memory → TaskTyped (outline_of store.new) (thread_of store.new.funcs task.new) }

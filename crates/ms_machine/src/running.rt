@@ -2,7 +2,7 @@
 
 ghost use Rattle.std.specs.Prelude.{◌≡◌, ◌≢◌, ◌+◌, ◌<◌, ◌≤◌, ◌^◌, ℕ, List, [], length, MatchOption, None};
 ghost use Rattle.ms_machine.specs.Holding.{StoreFits, ThreadFits};
-ghost use Rattle.ms_machine.specs.Running.{IsAlone, Leaves, RunsTo, run_from, run_thread};
+ghost use Rattle.ms_machine.specs.Running.{IsAlone, Leaves, Lost, RunsTo, run_from, run_thread};
 ghost use Rattle.ms_event.specs.Monitor.{Accepts};
 ghost use Rattle.ms_machine.specs.Safety.{Sound};
 ghost use Rattle.ms_machine.specs.Typing.{StoreTyped, TaskTyped, outline_of};
@@ -100,8 +100,9 @@ fn run_main<G: Gaps, T: Tagged, I: Source, O: Sink>(
 
 /// A run of the function `main`, after that of the start function, if there is one: at most `budget` steps of both.
 ///
-/// Neither has parameters. What is left of `main` in the store stays, and so do the segments that are live.
-#[tactic(auto, using(crate::proofs::SafeRuns::run_accepted))]
+/// Neither has parameters. The store keeps what the run has made of it: its globals and memories, and the segments that are
+/// still live.
+#[tactic(auto, using(crate::proofs::SafeRuns::run_accepted, crate::proofs::Unstuck::never_lost))]
 pub fn run<G: Gaps, T: Tagged, I: Source, O: Sink>(
     alloc: Global,
     store: &mut Store<G, T>,
@@ -117,6 +118,7 @@ pub fn run<G: Gaps, T: Tagged, I: Source, O: Sink>(
     requires first { MatchOption first Unit (λ f. IsAlone (outline_of store.old) f) }
     requires main { IsAlone (outline_of store.old) main }
     ensures run { RunsTo result store.new (run_from budget store.old first main) }
+    ensures never_stuck { (run_from budget store.old first main).end ≢ Lost }
     // The events of the run are a trace that the colour monitor accepts.
     ensures accepted { Sound [] store.old [] → Accepts (length store.old.segments.bytes) (run_from budget store.old first main).events }
     ensures input { (I.left input.new ≡ I.left input.old) × (I.faults input.new ≡ I.faults input.old) }

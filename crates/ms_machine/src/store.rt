@@ -44,13 +44,6 @@ impl<G: Gaps, T: Tagged> Model for Store<G, T> {
 }
 
 impl<G: Gaps, T: Tagged> Store<G, T> {
-    /// The segment memory.
-    pub fn segments(&self) -> &Segments<G, T>
-        ensures { result.now ≡ self.now.segments }
-    {
-        &self.segments
-    }
-
     /// The instance of the function of an address.
     pub(crate) fn instance(&self, function: usize) -> &Instance
         requires { at self.now.instances (number_of_instance (slice_get self.now.funcs function)) ≢ None }

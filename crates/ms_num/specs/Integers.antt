@@ -8,7 +8,7 @@ use Rattle.ms_num.specs.declared.arith.Arith.TheVariants.{Overflow, ZeroDivide}
 abbrev pub IsWidth : ℕ → Type 0
 IsWidth w = (w ≡ 32) ⊎ (w ≡ 64)
 
--- ---- signed and unsigned readings (4.3.1)
+-- ---- signed and unsigned readings (4.3.2)
 
 -- the signed reading of w bits
 abbrev pub signed : ℕ → ℕ → ℤ

@@ -18,7 +18,7 @@ abbrev pub default_capacity : ℕ
 default_capacity = 1048576
 
 pub data Execution : Type 0 where
-  -- it asks for something, and nothing is there
+  -- it imports something, and there is nothing that it could be given
   Imports : Execution
   -- it doesn't fit the limits of a store, or its own tables and memories
   Misfits : Misfit → Execution

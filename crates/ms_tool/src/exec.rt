@@ -10,11 +10,11 @@ use crate::report::{answer, answer_line};
 use crate::status::Status;
 use crate::tasks::task_index;
 use ms_bin_read::{ReadFault, read};
-use ms_live::ListGaps;
-use ms_machine::{LinkFault, Misfit, Ran, instantiate, run};
+use ms_live::{Gaps, ListGaps};
+use ms_machine::{LinkFault, Misfit, Ran, Store, instantiate, run};
 use ms_module::Module;
 use ms_outside::{Fetched, Shelf, Sink, Source};
-use ms_tagged::ByteTags;
+use ms_tagged::{ByteTags, Tagged};
 use ms_valid::{Part, Refusal, validate};
 use std::alloc::{AllocError, Global};
 
@@ -34,7 +34,7 @@ enum Outcome {
     Unread(ReadFault),
     /// This part of the module isn't well typed.
     Invalid(Part),
-    /// The module asks for something, and nothing is there.
+    /// The module imports something, and there is nothing that it could be given.
     Imports,
     /// The module doesn't fit the limits of a store, or its own tables and memories.
     Misfit(Misfit),
@@ -45,8 +45,8 @@ enum Outcome {
 }
 
 /// Runs the `main` of a well-typed module, after its start function: so many steps at most, with a segment memory of so
-/// many bytes.
-fn outcome_within<I: Source, O: Sink>(
+/// many bytes, however that is kept.
+fn outcome_within<G: Gaps, T: Tagged, I: Source, O: Sink>(
     alloc: Global,
     module: Module,
     budget: u64,
@@ -65,7 +65,7 @@ fn outcome_within<I: Source, O: Sink>(
     }
     let first = module.start;
     let task = task_index(&module, "main");
-    let mut store = match instantiate::<ListGaps, ByteTags>(alloc, module, capacity) {
+    let mut store: Store<G, T> = match instantiate(alloc, module, capacity) {
         Ok(store) => store,
         Err(LinkFault::Misfit(misfit)) => return Ok(Outcome::Misfit(misfit)),
         Err(LinkFault::Memory) => return Err(AllocError),
@@ -79,7 +79,7 @@ fn outcome_within<I: Source, O: Sink>(
     }
 }
 
-/// The same with the usual budget and size.
+/// The same with the usual budget and size, segments being kept in a list and bytes one by one.
 fn outcome_of_typed<I: Source, O: Sink>(
     alloc: Global,
     module: Module,
@@ -91,7 +91,14 @@ fn outcome_of_typed<I: Source, O: Sink>(
     ensures input { (I.left input.new ≡ I.left input.old) × (I.faults input.new ≡ I.faults input.old) }
     ensures out { (O.held out.new ≡ O.held out.old) × (O.faults out.new ≡ O.faults out.old) }
 {
-    outcome_within(alloc, module, DEFAULT_BUDGET, DEFAULT_CAPACITY, input, out)
+    outcome_within::<ListGaps, ByteTags, I, O>(
+        alloc,
+        module,
+        DEFAULT_BUDGET,
+        DEFAULT_CAPACITY,
+        input,
+        out,
+    )
 }
 
 fn outcome_of_module<I: Source, O: Sink>(

@@ -1,9 +1,9 @@
 //! The program, over the objects outside.
 
-ghost use Rattle.std.specs.Prelude.{◌≡◌, ◌<◌, ◌≤◌, ◌⊎◌, ℕ, List, map};
+ghost use Rattle.std.specs.Prelude.{◌≡◌, ◌≢◌, ◌<◌, ◌≤◌, ◌⊎◌, ℕ, List, map};
 ghost use Rattle.ms_outside.specs.Faults.{Rose};
 ghost use Rattle.ms_event.specs.Monitor.{Accepts};
-ghost use Rattle.ms_machine.specs.Running.{Run};
+ghost use Rattle.ms_machine.specs.Running.{Lost, Run};
 ghost use Rattle.ms_module.specs.declared.module.Module.{Module};
 ghost use Rattle.ms_module.specs.Module.{SpellsWithin, usual};
 ghost use Rattle.ms_rules.specs.Modules.{WellTyped};
@@ -47,6 +47,9 @@ pub fn tool<F: Shelf, I: Source, O: Sink, R: Sink>(
     // The allocations, slices, reads, writes and frees of a run are a trace that the colour monitor accepts: for all bytes
     // that spell a valid module which is run, `run` being the one of which the answer tells.
     ensures safe { (bytes : List ℕ) (m : Module) (run : Run) → SpellsWithin usual bytes m → WellTyped m → execution_of m ≡ Runs run → Accepts default_capacity run.events }
+
+    // And such a run has an end that the table answers: no task of it is ever stuck.
+    ensures never_stuck { (m : Module) (run : Run) → WellTyped m → execution_of m ≡ Runs run → run.end ≢ Lost }
 
     // A fault that was counted is never passed over.
     ensures reads { (name : List ℕ) → F.read_faults shelf.old name < F.read_faults shelf.new name → IsFaulty result }

@@ -4,6 +4,7 @@ use std::process::Abort;
 use std::test::Fail;
 
 mod machine;
+mod prefixes;
 
 /// One type `[] -> [i32]`, one function of it, exported as `main`, whose body is `i32.const 7`.
 const SEVEN: [u8; 37] = [
