@@ -67,7 +67,7 @@ def module_of(bodies, main=None):
     types = [bytes.fromhex("60027f7f00")] + [bytes.fromhex("6000017f")] * (main is not None)
     functions = [b"\0"] * len(bodies) + [b"\1"] * (main is not None)
     exports = [sized(b"main") + b"\0" + unsigned(len(bodies))] * (main is not None)
-    codes = [sized(body) for body in bodies] + [sized(main)] * (main is not None)
+    codes = [sized(body) for body in bodies] + ([sized(main)] if main is not None else [])
     return (
         MARKERS
         + section(1, vector(types))

@@ -20,7 +20,7 @@ pub enum TrapKind {
     Signature,
     /// A call that would be too deep.
     Depth,
-    /// A call of the host's `abort`.
+    /// A call of the host's `abort`. There are no host functions yet, so no step answers this.
     Abort,
     /// An access through the null handle.
     Null,
@@ -34,11 +34,11 @@ pub enum TrapKind {
     Misaligned,
     /// A load of a number where a piece of a handle stands.
     Provenance,
-    /// A free through a handle to a part of a segment.
+    /// A free through a handle that is to a part of a segment, or isn't at its start.
     Whole,
     /// A free of a segment that was made as another kind.
     Kind,
-    /// The distance of handles of different segments.
+    /// The distance of handles that aren't both of one segment.
     Apart,
 }
 
