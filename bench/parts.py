@@ -166,6 +166,8 @@ def spent(command):
         return Spent(usage.ru_utime + usage.ru_stime, usage.ru_maxrss * 1024, process.returncode, report.read())
 
 
-def least(command, runs):
-    """The run that took the least time, of so many."""
-    return min((spent(command) for _ in range(runs)), key=lambda it: it.seconds)
+def least(runs, *commands):
+    """For each command the run that took the least time, of so many. The commands take turns, so that what else the
+    machine does meets all of them."""
+    rounds = [[spent(command) for command in commands] for _ in range(runs)]
+    return [min(of_one, key=lambda it: it.seconds) for of_one in zip(*rounds)]
