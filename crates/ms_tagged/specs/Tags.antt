@@ -1,5 +1,5 @@
 -- What the tags of memory say of its bytes.
-use Rattle.std.specs.Prelude.{ℕ, zero, suc, ◌+◌, List, [], ◌∷◌, map}
+use Rattle.std.specs.Prelude.{ℕ, zero, suc, ◌+◌, ◌-◌, List, [], ◌∷◌, ◌++◌, length, map, replicate}
 use Rattle.ms_handle.specs.declared.handle.Handle.{Handle}
 use Rattle.ms_tagged.specs.Bytes.{Byte, Data, Piece}
 use Rattle.ms_tagged.specs.declared.tag.Tag.{Tag}
@@ -18,3 +18,7 @@ bytes_of = map byte_of
 abbrev pub pieces_from : Handle → ℕ → ℕ → List Byte
 pieces_from handle i zero = []
 pieces_from handle i (suc n) = Piece handle i ∷ pieces_from handle (i + 1) n
+
+-- so many bytes: these, and data bytes 0 behind them
+abbrev pub filled : ℕ → List Byte → List Byte
+filled n bytes = bytes ++ replicate (n - length bytes) (Data 0)

@@ -1,6 +1,6 @@
 ghost use Rattle.std.specs.Prelude.{◌≡◌, ◌<◌, ◌≤◌, ◌^◌, ◌↔◌, IfSome, IsTrue, length, replicate};
-ghost use Rattle.ms_tagged.specs.Bytes.{Data, IsHandleAt, data_of, number_at};
-ghost use Rattle.ms_tagged.specs.Tags.{bytes_of, pieces_from};
+ghost use Rattle.ms_tagged.specs.Bytes.{Data, IsHandleAt, data_of, number_at, shown_at};
+ghost use Rattle.ms_tagged.specs.Tags.{bytes_of, filled, pieces_from};
 
 use ms_handle::Handle;
 
@@ -62,6 +62,17 @@ pub(crate) fn write_pieces(tags: &mut [Tag], handle: Handle)
     }
 }
 
+/// The first byte as data. `None` exactly where it is a piece. Where no tag is there it is a data byte 0.
+pub(crate) fn first_shown(tags: &[Tag]) -> Option<u8>
+    ensures { result ≡ shown_at (filled 1 (bytes_of tags.now)) }
+{
+    match tags {
+        [Tag::Data(byte), ..] => Some(*byte),
+        [Tag::Piece(..), ..] => None,
+        [] => Some(0),
+    }
+}
+
 /// The handle that sixteen bytes are.
 pub(crate) fn handle(tags: &[Tag]) -> Handle
     requires { length tags.now ≡ PIECES }
@@ -72,6 +83,20 @@ pub(crate) fn handle(tags: &[Tag]) -> Handle
         Tag::Data(_) if are_zeros(tags) => Handle::Null,
         _ => Handle::Broken,
     }
+}
+
+/// The handle that sixteen bytes are, of which these are the first ones. The others are data bytes 0.
+pub(crate) fn handle_in_front(tags: &[Tag]) -> Handle
+    requires { length tags.now ≤ 16 }
+    ensures { IsHandleAt (filled 16 (bytes_of tags.now)) result }
+{
+    if tags.len() == PIECES {
+        return handle(tags);
+    }
+    if are_zeros(tags) {
+        return Handle::Null;
+    }
+    Handle::Broken
 }
 
 /// Whether the bytes are the first pieces of this handle, in order.

@@ -429,3 +429,44 @@ fn pieces_belong_together(rt: HostRuntime) {
     turned[5] = Tag::Piece(good(1), 4);
     assert_eq!(rt; handle(&turned), Handle::Broken, "out of order");
 }
+
+#[test]
+fn bytes_that_were_never_written_are_zeros(rt: HostRuntime) -> Result<(), Fail> {
+    let alloc = rt.alloc();
+    scenario::<ByteTags>(
+        &rt,
+        alloc,
+        64,
+        "behind a number",
+        &[Step::Put(16, 1, 5)],
+        &[
+            Want::At(16, Handle::Broken),
+            Want::At(32, Handle::Null),
+            Want::Number(16, 8, Some(5)),
+            Want::Number(15, 4, Some(0x500)),
+            Want::Shown(17, 47, Some(0)),
+        ],
+    )?;
+    scenario::<ByteTags>(
+        &rt,
+        alloc,
+        64,
+        "behind a zero",
+        &[Step::Put(16, 1, 0)],
+        &[Want::At(16, Handle::Null), Want::Number(16, 4, Some(0))],
+    )?;
+    scenario::<ByteTags>(
+        &rt,
+        alloc,
+        64,
+        "behind a handle",
+        &[Step::PutHandle(16, good(1))],
+        &[
+            Want::At(16, good(1)),
+            Want::Number(28, 8, None),
+            Want::Number(32, 8, Some(0)),
+            Want::Shown(32, 32, Some(0)),
+        ],
+    )?;
+    Ok(())
+}

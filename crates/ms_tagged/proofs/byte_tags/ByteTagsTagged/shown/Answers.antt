@@ -1,12 +1,9 @@
-use Rattle.std.proofs.Common.{ap, sym}
+use Rattle.std.proofs.Common.{sym, ap, ◌∙◌, arith}
 use Rattle.ms_tagged.specs.Bytes.{shown_at}
-use Rattle.ms_tagged.proofs.Tags.{byte-held}
+use Rattle.ms_tagged.proofs.Filled.{range-part}
 use Rattle.ms_tagged.proofs.byte_tags.ByteTagsTagged.shown.Goals as goal
 
-pub returns-in-Data : goal.returns-in-Data
-returns-in-Data c =
-    sym (ap shown_at (byte-held c.self.inside.tags.items c.index.result.now _ c.args.self.now c.args.address c.in-Data.is c.index.ensures c.self.view_is c.requires))
-
-pub returns-in-Piece : goal.returns-in-Piece
-returns-in-Piece c =
-    sym (ap shown_at (byte-held c.self.inside.tags.items c.index.result.now _ c.args.self.now c.args.address c.in-Piece.is c.index.ensures c.self.view_is c.requires))
+pub returns : goal.returns
+returns c =
+    let is = range-part c.as_slice.result.now c.part.result.now c.self.inside.tags.items c.args.self.now c.self.inside.capacity c.args.address 1 c.part.ensures c.as_slice.ensures.value (omega arith) c.self.view_is (omega arith) in
+    c.first_shown.ensures ∙ sym (ap shown_at is)
