@@ -152,7 +152,7 @@ def patient_program(budget=1_000_000_000_000):
 
 class Spent(NamedTuple):
     seconds: float  # of the processor, in the program and for it
-    memory: int  # the greatest resident size, in bytes
+    memory: int  # the greatest resident size, in bytes; that of this script, some 15 MiB, where it is below that
     status: int
     report: bytes
 
