@@ -3,6 +3,8 @@ pub mod Memories
 pub mod Performing
 pub mod Starts
 pub mod Runs
+pub mod Budgets
+pub mod Fitting
 pub mod SoundValues
 pub mod SoundWork
 pub mod SoundBlocks

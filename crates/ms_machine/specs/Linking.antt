@@ -1,5 +1,5 @@
 -- The store of a module without imports (WebAssembly 1.0, 4.5.4), or the first fault.
-use Rattle.std.specs.Prelude.{◌≡◌, ℕ, zero, suc, ◌+◌, ◌*◌, List, [], ◌∷◌, ◌++◌, drop, get_or, if◌then◌else◌, length, map, nat_le, replicate, slice_get, slice_set, take, Option, Some, None, Result, Ok, Err}
+use Rattle.std.specs.Prelude.{◌≡◌, ◌≤◌, ℕ, zero, suc, ◌+◌, ◌*◌, All, List, [], ◌∷◌, ◌++◌, drop, get_or, if◌then◌else◌, length, map, nat_le, replicate, slice_get, slice_set, take, Option, Some, None, Result, Ok, Err}
 use Rattle.ms_num.specs.Integers.{wrapped}
 use Rattle.ms_handle.specs.declared.handle.Handle.TheVariants as handles
 use Rattle.ms_linear.specs.declared.global.GlobalInst.{GlobalInst}
@@ -179,6 +179,13 @@ fills_fit m item (f ∷ fs) =
 
 abbrev pub misfit : Module → Option Misfit
 misfit m = or_next (sizes_fit 0 most_entries m.tables) (or_next (sizes_fit 1 most_pages m.memories) (elements_fit m 0 m.elements (fills_fit m (length m.elements) m.fills)))
+
+-- the same without an order: the sizes that are declared have room, and all elements and data lie within them
+pub record IsFitting (m : Module) : Type 0 where
+  pub tables : All (λ (l : Limits). l.min ≤ most_entries) m.tables
+  pub memories : All (λ (l : Limits). l.min ≤ most_pages) m.memories
+  pub elements : All (λ (e : Element). index_of (constant_of (values_of m) e.offset) + length e.funcs ≤ min_at m.tables e.table) m.elements
+  pub fills : All (λ (f : Fill). index_of (constant_of (values_of m) f.offset) + length f.bytes ≤ min_at m.memories f.memory * page) m.fills
 
 abbrev pub linked_or : Option Misfit → Store → Result Store Misfit
 linked_or None s = Ok s

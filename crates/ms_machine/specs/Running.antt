@@ -1,5 +1,5 @@
 -- A run of one task: so many steps at most, after those of the start function.
-use Rattle.std.specs.Prelude.{◌≡◌, ℕ, zero, suc, List, [], ◌∷◌, ◌++◌, slice_get, Option, Some, None}
+use Rattle.std.specs.Prelude.{◌≡◌, ℕ, zero, suc, ◌+◌, List, [], ◌∷◌, ◌++◌, slice_get, Option, Some, None}
 use Rattle.ms_event.specs.declared.event.Event.{Event}
 use Rattle.ms_linear.specs.declared.value.Value.{Value}
 use Rattle.ms_task.specs.Control.{settled as settled_thread, started}
@@ -102,3 +102,9 @@ IsAlone o address = (g : FuncInst) × (slice_get o.funcs address ≡ Some g) × 
 abbrev pub RunsTo : Ran → Store → Run → Type 0
 RunsTo answers.Memory s r = Unit {0}
 RunsTo ran s r = Tells ran r.end × (r.store ≡ s)
+
+-- ---- for laws
+
+-- the same with so much more of the budget left
+abbrev pub with_more : ℕ → Run → Run
+with_more more r = record { end = r.end; events = r.events; store = r.store; left = r.left + more }

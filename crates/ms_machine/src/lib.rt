@@ -5,6 +5,7 @@
 
 mod control;
 mod fault;
+mod laws;
 mod linking;
 mod machine;
 mod memory;
@@ -16,6 +17,7 @@ mod stepped;
 mod store;
 mod trap;
 
+pub use laws::{budgets_agree, fitting_is_no_misfit};
 pub use linking::{LinkFault, Misfit, instantiate};
 pub use machine::step;
 pub use running::{Ran, run};
