@@ -1,3 +1,6 @@
+pub mod Blocks
+pub mod GranuleBytes
+pub mod Forgetting
 pub mod Tags
 pub mod Handles
 pub mod Numbers

@@ -1,0 +1,18 @@
+use Rattle.std.proofs.Common.{◌≡◌, ◌*◌, ◌/◌, ◌∙◌, ap, length, arith}
+use Rattle.ms_tagged.specs.Bytes.{overwritten, pieces}
+use Rattle.ms_tagged.specs.Granules.{byte_at, bytes_from}
+use Rattle.ms_tagged.proofs.GranuleBytes.{length-bytes_from, handle-overwritten}
+use Rattle.ms_tagged.proofs.granules.GranulesTagged.put_handle.Goals as goal
+
+pub reach-requires-clause-room : goal.reach-requires-clause-room
+reach-requires-clause-room c =
+    let long = length-bytes_from (byte_at c.self.inside.plain.items c.self.inside.masks.items c.self.inside.handles.items) 0 c.self.inside.capacity in
+    (omega (arith, long, ap length c.self.view_is), omega (arith, long, ap length c.self.view_is), omega (arith, long, ap length c.self.view_is))
+
+pub returns : goal.returns
+returns c =
+    let before = byte_at c.self.inside.plain.items c.self.inside.masks.items c.self.inside.handles.items in
+    let long = length-bytes_from before 0 c.self.inside.capacity in
+    let place : 16 * (c.args.address / 16) ≡ c.args.address = omega arith in
+    handle-overwritten c.reach.new.plain.items c.reach.new.masks.items c.reach.new.handles.items before c.self.inside.capacity (c.args.address / 16) c.args.handle c.reach.ensures.bytes (omega arith) (omega arith) (omega (arith, long, ap length c.self.view_is))
+    ∙ (ap (λ at. overwritten at (pieces c.args.handle) (bytes_from before 0 c.self.inside.capacity)) place ∙ ap (overwritten c.args.address (pieces c.args.handle)) c.self.view_is)
