@@ -7,8 +7,8 @@ use Rattle.std.proofs.lemmas.List.{places, get_or-set_same, get_or-set_other}
 use Rattle.std.proofs.lemmas.Nat.{and_mask, or_shifted, pow_pos, shr-shr, shr_split}
 use Rattle.std.proofs.Math.Nat.{pow-le-pow_right}
 use Rattle.std.specs.Int.Bits.{bit_and, bit_or}
-use Rattle.std.proofs.lemmas.Nat.Bits.{bit_at_above, bit_at_cat_low, bit_at_cat_high, bit_at-zero}
-use Rattle.ms_tagged.specs.Granules.{Clears, Forgets, piece_bit}
+use Rattle.std.proofs.lemmas.Nat.Bits.{bit_at_above, bit_at_cat_low, bit_at_cat_high, bit_at-zero, same_from_bits_below}
+use Rattle.ms_tagged.specs.Granules.{Clears, Forgets, HoldData, piece_bit}
 
 -- ---- one mask
 
@@ -39,6 +39,51 @@ clears-computed mask from to n is fits order within =
     let rest : mask % 2 ^ from < 2 ^ to = omega (arith, pow_pos from, pow-le-pow_right {n = 2} (lit< tt) order) in
     let both : bit_or (mask / 2 ^ to * 2 ^ to) (mask % 2 ^ from) ≡ mask / 2 ^ to * 2 ^ to + mask % 2 ^ from = or_shifted (mask / 2 ^ to) to (mask % 2 ^ from) rest in
     rw (is, wide, ones, and_mask mask from, both) (clears mask from to order)
+
+-- ---- a few bits of two masks
+
+pub bits-computed : (first second place count f s : ℕ) → f ≡ first → s ≡ second → first < 65536 → second < 65536 → count ≤ 8 → bit_and (bit_or (s * 2 ^ 16 % 4294967296) f / 2 ^ place) (1 * 2 ^ count % 4294967296 - 1) ≡ (second * 2 ^ 16 + first) / 2 ^ place % 2 ^ count
+bits-computed first second place count f s f_is s_is small also few =
+    let low : 2 ^ count ≤ 256 = pow-le-pow_right {n = 2} (lit< tt) {i = count} {j = 8} few in
+    let ones : 1 * 2 ^ count % 4294967296 ≡ 2 ^ count = omega arith in
+    let wide : second * 2 ^ 16 % 4294967296 ≡ second * 2 ^ 16 = omega arith in
+    rw (f_is, s_is, wide, ones, or_shifted second 16 first small) (and_mask ((second * 2 ^ 16 + first) / 2 ^ place) count)
+
+-- bit i of them is what the masks say of the byte there
+bits-bit : (masks : List ℕ) (from to i : ℕ) → from < to → to ≤ from + 8 → i < to - from → get_or masks (from / 16) 0 < 65536
+    → bit_at ((get_or masks ((to - 1) / 16) 0 * 2 ^ 16 + get_or masks (from / 16) 0) / 2 ^ (from % 16) % 2 ^ (to - from)) i ≡ piece_bit masks (from + i)
+bits-bit masks from to i some few inside small =
+    let first = get_or masks (from / 16) 0 in
+    let second = get_or masks ((to - 1) / 16) 0 in
+    let both = second * 2 ^ 16 + first in
+    bit_at-mod (both / 2 ^ (from % 16)) (to - from) i inside
+    ∙ (ap (λ n. n % 2) (shr-shr both (from % 16) i)
+    ∙ elim (cases_lt (from % 16 + i) 16) [
+      | inl low ↦
+          let g : from / 16 ≡ (from + i) / 16 = omega arith in
+          let j : from % 16 + i ≡ (from + i) % 16 = omega arith in
+          bit_at_cat_low second 16 first (from % 16 + i) low ∙ (ap (λ k. bit_at (get_or masks k 0) (from % 16 + i)) g ∙ ap (bit_at (get_or masks ((from + i) / 16) 0)) j)
+      | inr high ↦
+          let g : (to - 1) / 16 ≡ (from + i) / 16 = omega arith in
+          let j : from % 16 + i - 16 ≡ (from + i) % 16 = omega arith in
+          bit_at_cat_high second 16 first (from % 16 + i) small high ∙ (ap (λ k. bit_at (get_or masks k 0) (from % 16 + i - 16)) g ∙ ap (bit_at (get_or masks ((from + i) / 16) 0)) j)
+    ])
+
+-- they are 0 exactly where none of the bytes is a piece
+pub data-bits : (masks : List ℕ) (from to bits : ℕ) → from < to → to ≤ from + 8 → (to - 1) / 16 < length masks → get_or masks (from / 16) 0 < 65536
+    → bits ≡ (get_or masks ((to - 1) / 16) 0 * 2 ^ 16 + get_or masks (from / 16) 0) / 2 ^ (from % 16) % 2 ^ (to - from) → (bits ≡ 0 → HoldData masks from to) × (HoldData masks from to → bits ≡ 0)
+data-bits masks from to bits some few there small is = (
+  λ none. record {
+    there = omega arith;
+    none = λ i above below.
+        let sum : from + (i - from) ≡ i = omega arith in
+        ap (piece_bit masks) (sym sum) ∙ (sym (bits-bit masks from to (i - from) some few (omega arith) small) ∙ (ap (λ n. bit_at n (i - from)) (sym is ∙ none) ∙ bit_at-zero (i - from)));
+  },
+  λ held.
+      let below : bits < 2 ^ (to - from) = rw is (omega (arith, pow_pos (to - from))) in
+      same_from_bits_below (to - from) bits 0 below (pow_pos (to - from)) (λ i inside.
+      ap (λ n. bit_at n i) is ∙ (bits-bit masks from to i some few inside small ∙ (held.none (from + i) (omega arith) (omega arith) ∙ sym (bit_at-zero i)))),
+)
 
 -- ---- masks in a row
 

@@ -176,15 +176,11 @@ pub number_at-data : (bytes : List ℕ) → number_at (data_bytes bytes) ≡ Som
 number_at-data [] = refl
 number_at-data (byte ∷ bytes) = ap (number_with byte) (number_at-data bytes)
 
--- no byte of two granules is a piece
-pub number-read : (plain masks : List ℕ) (handles : List StoredHandle) (old : List Byte) (n at width : ℕ) → bytes_from (byte_at plain masks handles) 0 n ≡ old → at + width ≤ length old → at + width ≤ length plain → 0 < width → width ≤ 8
-    → get_or masks (at / 16) 0 ≡ 0 → get_or masks ((at + width - 1) / 16) 0 ≡ 0 → number_at (range at width old) ≡ Some (number_of (take width (drop at plain)))
-number-read plain masks handles old n at width seen within there some few first last =
+-- no byte of them is a piece
+pub number-read : (plain masks : List ℕ) (handles : List StoredHandle) (old : List Byte) (n at width : ℕ) → bytes_from (byte_at plain masks handles) 0 n ≡ old → at + width ≤ length old → at + width ≤ length plain → ((i : ℕ) → at ≤ i → i < at + width → piece_bit masks i ≡ 0)
+    → number_at (range at width old) ≡ Some (number_of (take width (drop at plain)))
+number-read plain masks handles old n at width seen within there none =
     let room : length old ≡ n = ap length (sym seen) ∙ length-bytes_from (byte_at plain masks handles) 0 n in
-    let none : (k : ℕ) → at ≤ k → k < at + width → piece_bit masks k ≡ 0 = λ k low high. elim (cases_lt (k / 16) ((at + width - 1) / 16)) [
-      | inl lower ↦ let e : k / 16 ≡ at / 16 = omega arith in ap (λ g. bit_at (get_or masks g 0) (k % 16)) e ∙ (ap (λ m. bit_at m (k % 16)) first ∙ bit_at-zero (k % 16))
-      | inr higher ↦ let e : k / 16 ≡ (at + width - 1) / 16 = omega arith in ap (λ g. bit_at (get_or masks g 0) (k % 16)) e ∙ (ap (λ m. bit_at m (k % 16)) last ∙ bit_at-zero (k % 16))
-    ] in
     ap (λ l. number_at (range at width l)) (sym seen)
     ∙ (ap number_at (range-bytes_from (byte_at plain masks handles) n at width (omega arith) ∙ bytes_from-data plain masks handles at width there none) ∙ number_at-data (take width (drop at plain)))
 

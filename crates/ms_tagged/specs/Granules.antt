@@ -1,5 +1,5 @@
 -- What granules of sixteen bytes say of the bytes of the segment memory.
-use Rattle.std.specs.Prelude.{◌≡◌, ◌≤◌, ◌<◌, ℕ, zero, suc, ◌+◌, ◌*◌, ◌/◌, ◌%◌, List, [], ◌∷◌, map, slice_index_or}
+use Rattle.std.specs.Prelude.{◌≡◌, ◌≤◌, ◌<◌, ℕ, zero, suc, ◌+◌, ◌*◌, ◌/◌, ◌%◌, List, [], ◌∷◌, length, map, slice_index_or}
 use Rattle.std.specs.Int.{bit_at}
 use Rattle.ms_handle.specs.declared.handle.Handle.{Handle}
 use Rattle.ms_handle.specs.declared.handle.Handle.TheVariants.{Null}
@@ -37,6 +37,11 @@ byte_at plain masks handles i =
 abbrev pub bytes_from : (ℕ → Byte) → ℕ → ℕ → List Byte
 bytes_from byte i zero = []
 bytes_from byte i (suc n) = byte i ∷ bytes_from byte (suc i) n
+
+-- the granules of the bytes from one up to another are there, and none of the bytes is a piece
+pub record HoldData (masks : List ℕ) (from to : ℕ) : Type 0 where
+  pub there : to ≤ 16 * length masks
+  pub none : (i : ℕ) → from ≤ i → i < to → piece_bit masks i ≡ 0
 
 -- the bytes from one up to another are no pieces any more; of all others the masks say what they said
 pub record Forgets (old new : List ℕ) (from to : ℕ) : Type 0 where

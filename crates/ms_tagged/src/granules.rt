@@ -187,10 +187,10 @@ impl Tagged for Granules {
 
     fn clear(&mut self, address: u32, size: u32) {
         let from = address as usize;
-        let end = from + size as usize;
-        reach(&mut self.plain, &mut self.masks, &mut self.handles, end);
-        forget(&mut self.masks, from, end);
-        self.plain[from..end].fill(0);
+        let to = from + size as usize;
+        reach(&mut self.plain, &mut self.masks, &mut self.handles, to);
+        forget(&mut self.masks, from, to);
+        self.plain[from..to].fill(0);
     }
 
     fn shown(&self, address: u32) -> Option<u8> {

@@ -1,5 +1,5 @@
-ghost use Rattle.std.specs.Prelude.{◌≡◌, ◌↔◌, ◌≤◌, ◌<◌, ◌+◌, ◌-◌, ◌*◌, ◌/◌, IsTrue, length, slice_index};
-ghost use Rattle.ms_tagged.specs.Granules.{Clears, Forgets, piece_bit};
+ghost use Rattle.std.specs.Prelude.{◌≡◌, ◌↔◌, ◌≤◌, ◌<◌, ◌+◌, ◌*◌, ◌/◌, ◌%◌, ◌^◌, IsTrue, length};
+ghost use Rattle.ms_tagged.specs.Granules.{Clears, Forgets, HoldData, piece_bit};
 
 use crate::lanes::wipe;
 
@@ -14,15 +14,31 @@ pub(crate) fn is_piece(masks: &[u16], at: usize) -> bool
     (masks[at / GRANULE] >> (at % GRANULE)) & 1 == 1
 }
 
-/// Whether the granules in which the bytes from one up to another lie are there and have no pieces; they are one or two.
+/// Whether the bytes from one up to another are there and none is a piece. They are eight at most, so that they lie in one
+/// granule or in two.
 #[inline(always)]
 pub(crate) fn hold_data(masks: &[u16], from: usize, to: usize) -> bool
     requires some { from < to }
     requires few { to ≤ from + 8 }
-    ensures { IsTrue result ↔ ((to ≤ 16 * length masks.now) × (slice_index masks.now (from / 16) ≡ 0) × (slice_index masks.now ((to - 1) / 16) ≡ 0)) }
+    ensures { IsTrue result ↔ HoldData masks.now from to }
 {
     let (first, last) = (from / GRANULE, (to - 1) / GRANULE);
-    last < masks.len() && masks[first] == 0 && masks[last] == 0
+    if last >= masks.len() {
+        return false;
+    }
+    let place = (from % GRANULE) as u32;
+    bits_from(masks[first], masks[last], place, (to - from) as u32) == 0
+}
+
+/// So many bits of two masks in a row, from a place in the first one on.
+#[inline(always)]
+fn bits_from(first: u16, second: u16, place: u32, count: u32) -> u32
+    requires within { place < 16 }
+    requires few { count ≤ 8 }
+    ensures { result ≡ (second * 2 ^ 16 + first) / 2 ^ place % 2 ^ count }
+{
+    let both = (u32::from(second) << 16) | u32::from(first);
+    (both >> place) & ((1 << count) - 1)
 }
 
 /// Says in the masks that the bytes from one up to another are no pieces any more.

@@ -1,8 +1,7 @@
 ghost use Rattle.std.specs.Prelude.{◌≡◌, IfOk, length};
 
-use crate::byte_tags::ByteTags;
-use crate::tag::{Tag, handle};
-use crate::tagged::Tagged;
+use crate::lanes::{any_piece, wipe};
+use crate::{ByteTags, Granules, Tagged};
 use ms_handle::Handle;
 use std::alloc::{AllocError, Global};
 use std::process::Abort;
@@ -33,14 +32,27 @@ enum Want {
 /// A number each of whose eight bytes is above 127.
 const HIGH: u64 = 0xffee_ddcc_bbaa_9988;
 
-/// A good handle into the segment with this identity.
-fn good(id: u64) -> Handle {
-    Handle::Good {
-        id,
-        base: 16,
-        length: 64,
-        offset: -3,
-    }
+/// Two good handles.
+const FIRST: Handle = Handle::Good {
+    id: 7,
+    base: 16,
+    length: 64,
+    offset: -3,
+};
+
+const SECOND: Handle = Handle::Good {
+    id: 8,
+    base: 16,
+    length: 64,
+    offset: -3,
+};
+
+/// Writes into new bytes, and the reads after them.
+struct Row {
+    name: &'static str,
+    capacity: u32,
+    steps: &'static [Step],
+    wants: &'static [Want],
 }
 
 /// Makes a write that fits.
@@ -112,361 +124,221 @@ fn written<T: Tagged>(
     Ok(memory)
 }
 
-/// Makes the writes in new bytes, and compares the reads after them.
-fn scenario<T: Tagged>(
-    rt: &impl Abort,
-    alloc: Global,
-    capacity: u32,
-    name: &str,
-    steps: &[Step],
-    wants: &[Want],
-) -> Result<(), AllocError> {
-    let memory: T = written(rt, alloc, capacity, steps)?;
-    for want in wants {
-        compare(rt, &memory, capacity, want, name);
+use Step::{Clear, Put, PutHandle};
+use Want::{At, Number, Shown};
+
+const ROWS: [Row; 13] = [
+    Row {
+        name: "new",
+        capacity: 72,
+        steps: &[],
+        wants: &[
+            Shown(0, 72, Some(0)),
+            Number(64, 8, Some(0)),
+            At(48, Handle::Null),
+        ],
+    },
+    Row {
+        name: "numbers, lowest byte first",
+        capacity: 72,
+        steps: &[
+            Put(3, 8, HIGH),
+            Put(20, 4, HIGH),
+            Put(30, 2, HIGH),
+            Put(40, 1, HIGH),
+        ],
+        wants: &[
+            Number(3, 8, Some(HIGH)),
+            Number(20, 4, Some(0xbbaa_9988)),
+            Number(30, 2, Some(0x9988)),
+            Number(40, 1, Some(0x88)),
+            Number(19, 4, Some(0xaa99_8800)),
+            Number(39, 8, Some(0x8800)),
+            Shown(3, 1, Some(0x88)),
+            Shown(10, 1, Some(0xff)),
+            Shown(11, 9, Some(0)),
+            Shown(24, 6, Some(0)),
+            Shown(41, 31, Some(0)),
+        ],
+    },
+    Row {
+        name: "a number in two granules",
+        capacity: 72,
+        steps: &[Put(12, 8, HIGH), Put(14, 2, 0x1234)],
+        wants: &[
+            Number(12, 8, Some(0xffee_ddcc_1234_9988)),
+            Number(15, 2, Some(0xcc12)),
+            At(0, Handle::Broken),
+            At(16, Handle::Broken),
+            At(32, Handle::Null),
+        ],
+    },
+    Row {
+        name: "a number at the end",
+        capacity: 24,
+        steps: &[Put(16, 8, HIGH), Clear(24, 0)],
+        wants: &[Number(16, 8, Some(HIGH)), Shown(23, 1, Some(0xff))],
+    },
+    Row {
+        name: "only zeros are null",
+        capacity: 48,
+        steps: &[Put(15, 1, 1), Put(31, 1, 1), Put(31, 1, 0)],
+        wants: &[
+            At(0, Handle::Broken),
+            At(16, Handle::Null),
+            At(32, Handle::Null),
+        ],
+    },
+    Row {
+        name: "handles",
+        capacity: 72,
+        steps: &[
+            PutHandle(16, FIRST),
+            PutHandle(32, Handle::Null),
+            PutHandle(48, Handle::Broken),
+        ],
+        wants: &[
+            At(0, Handle::Null),
+            At(16, FIRST),
+            At(32, Handle::Null),
+            At(48, Handle::Broken),
+            Shown(0, 16, Some(0)),
+            Shown(16, 48, None),
+            Number(15, 1, Some(0)),
+            Number(15, 2, None),
+            Number(16, 8, None),
+            Number(63, 2, None),
+            Number(64, 8, Some(0)),
+        ],
+    },
+    Row {
+        name: "a handle over another",
+        capacity: 32,
+        steps: &[PutHandle(16, FIRST), Put(20, 4, 5), PutHandle(16, SECOND)],
+        wants: &[At(16, SECOND), Shown(16, 16, None)],
+    },
+    Row {
+        name: "one byte of a handle",
+        capacity: 48,
+        steps: &[PutHandle(16, FIRST), Put(21, 1, HIGH)],
+        wants: &[
+            At(16, Handle::Broken),
+            Shown(16, 5, None),
+            Shown(21, 1, Some(0x88)),
+            Shown(22, 10, None),
+            Number(21, 1, Some(0x88)),
+            Number(20, 2, None),
+            Number(21, 2, None),
+        ],
+    },
+    Row {
+        name: "the ends of handles",
+        capacity: 64,
+        steps: &[
+            PutHandle(16, FIRST),
+            PutHandle(32, SECOND),
+            Put(12, 8, HIGH),
+            Put(47, 1, 0),
+        ],
+        wants: &[
+            Number(12, 8, Some(HIGH)),
+            At(16, Handle::Broken),
+            Shown(20, 27, None),
+            Shown(47, 1, Some(0)),
+            At(32, Handle::Broken),
+            At(48, Handle::Null),
+        ],
+    },
+    Row {
+        name: "a part cleared",
+        capacity: 64,
+        steps: &[
+            PutHandle(16, FIRST),
+            PutHandle(32, FIRST),
+            PutHandle(48, FIRST),
+            Clear(20, 36),
+        ],
+        wants: &[
+            At(16, Handle::Broken),
+            At(32, Handle::Null),
+            At(48, Handle::Broken),
+            Shown(16, 4, None),
+            Shown(20, 36, Some(0)),
+            Shown(56, 8, None),
+        ],
+    },
+    Row {
+        name: "a part of one handle cleared",
+        capacity: 32,
+        steps: &[PutHandle(16, FIRST), Clear(20, 4)],
+        wants: &[
+            At(16, Handle::Broken),
+            Shown(16, 4, None),
+            Shown(20, 4, Some(0)),
+            Shown(24, 8, None),
+        ],
+    },
+    Row {
+        name: "many granules cleared",
+        capacity: 400,
+        steps: &[
+            PutHandle(0, FIRST),
+            PutHandle(16, FIRST),
+            PutHandle(320, FIRST),
+            PutHandle(336, FIRST),
+            Clear(16, 320),
+        ],
+        wants: &[
+            At(0, FIRST),
+            Shown(16, 320, Some(0)),
+            At(336, FIRST),
+            Shown(352, 48, Some(0)),
+        ],
+    },
+    Row {
+        name: "nothing",
+        capacity: 0,
+        steps: &[Clear(0, 0)],
+        wants: &[],
+    },
+];
+
+/// Makes the writes of each row in new bytes, and compares the reads after them.
+fn compare_rows<T: Tagged>(rt: &impl Abort, alloc: Global) -> Result<(), AllocError> {
+    for row in &ROWS {
+        let memory: T = written(rt, alloc, row.capacity, row.steps)?;
+        for want in row.wants {
+            compare(rt, &memory, row.capacity, want, row.name);
+        }
     }
     Ok(())
 }
 
 #[test]
-fn numbers_stand_lowest_byte_first(rt: HostRuntime) -> Result<(), Fail> {
-    let alloc = rt.alloc();
-    scenario::<ByteTags>(
-        &rt,
-        alloc,
-        32,
-        "new",
-        &[],
-        &[Want::Shown(0, 32, Some(0)), Want::Number(24, 8, Some(0))],
-    )?;
-    scenario::<ByteTags>(
-        &rt,
-        alloc,
-        32,
-        "one byte",
-        &[Step::Put(3, 1, HIGH)],
-        &[
-            Want::Number(3, 1, Some(0x88)),
-            Want::Number(3, 2, Some(0x88)),
-            Want::Number(2, 2, Some(0x8800)),
-            Want::Shown(0, 3, Some(0)),
-            Want::Shown(3, 1, Some(0x88)),
-            Want::Shown(4, 28, Some(0)),
-        ],
-    )?;
-    scenario::<ByteTags>(
-        &rt,
-        alloc,
-        32,
-        "two bytes",
-        &[Step::Put(3, 2, HIGH)],
-        &[
-            Want::Number(3, 2, Some(0x9988)),
-            Want::Shown(0, 3, Some(0)),
-            Want::Shown(3, 1, Some(0x88)),
-            Want::Shown(4, 1, Some(0x99)),
-            Want::Shown(5, 27, Some(0)),
-        ],
-    )?;
-    scenario::<ByteTags>(
-        &rt,
-        alloc,
-        32,
-        "four bytes",
-        &[Step::Put(3, 4, HIGH)],
-        &[
-            Want::Number(3, 4, Some(0xbbaa_9988)),
-            Want::Shown(3, 1, Some(0x88)),
-            Want::Shown(6, 1, Some(0xbb)),
-            Want::Shown(7, 25, Some(0)),
-        ],
-    )?;
-    scenario::<ByteTags>(
-        &rt,
-        alloc,
-        32,
-        "eight bytes",
-        &[Step::Put(3, 8, HIGH)],
-        &[
-            Want::Number(3, 8, Some(HIGH)),
-            Want::Number(7, 4, Some(0xffee_ddcc)),
-            Want::Shown(2, 1, Some(0)),
-            Want::Shown(3, 1, Some(0x88)),
-            Want::Shown(10, 1, Some(0xff)),
-            Want::Shown(11, 21, Some(0)),
-        ],
-    )?;
-    scenario::<ByteTags>(
-        &rt,
-        alloc,
-        32,
-        "one over another",
-        &[Step::Put(0, 8, HIGH), Step::Put(2, 2, 0x1234)],
-        &[Want::Number(0, 8, Some(0xffee_ddcc_1234_9988))],
-    )?;
+fn byte_tags_answer_the_rows(rt: HostRuntime) -> Result<(), Fail> {
+    compare_rows::<ByteTags>(&rt, rt.alloc())?;
     Ok(())
 }
 
 #[test]
-fn handles_are_read_back(rt: HostRuntime) -> Result<(), Fail> {
-    let alloc = rt.alloc();
-    for stored in [Handle::Null, Handle::Broken, good(7)] {
-        scenario::<ByteTags>(
-            &rt,
-            alloc,
-            48,
-            "stored",
-            &[Step::PutHandle(16, stored)],
-            &[
-                Want::At(0, Handle::Null),
-                Want::At(16, stored),
-                Want::At(32, Handle::Null),
-                Want::Shown(0, 16, Some(0)),
-                Want::Shown(16, 16, None),
-                Want::Shown(32, 16, Some(0)),
-                Want::Number(15, 1, Some(0)),
-                Want::Number(15, 2, None),
-                Want::Number(16, 8, None),
-                Want::Number(31, 2, None),
-                Want::Number(32, 8, Some(0)),
-            ],
-        )?;
+fn granules_answer_the_rows(rt: HostRuntime) -> Result<(), Fail> {
+    compare_rows::<Granules>(&rt, rt.alloc())?;
+    Ok(())
+}
+
+/// From one place up to another all masks are 0, and all others are 1.
+#[test]
+fn lanes_of_every_length(rt: HostRuntime) {
+    for from in 0..20 {
+        for to in from..=20 {
+            let mut masks = [1; 20];
+            assert_eq!(rt; any_piece(&masks, from, to), from < to, "{from} to {to}");
+            wipe(&mut masks, from, to);
+            for (place, mask) in masks.iter().enumerate() {
+                let is_inside = from <= place && place < to;
+                assert_eq!(rt; *mask == 0, is_inside, "{from} to {to}, at {place}");
+            }
+            assert!(rt; !any_piece(&masks, from, to));
+        }
     }
-    scenario::<ByteTags>(
-        &rt,
-        alloc,
-        48,
-        "neighbours",
-        &[
-            Step::PutHandle(0, good(1)),
-            Step::PutHandle(16, good(2)),
-            Step::PutHandle(32, good(3)),
-        ],
-        &[
-            Want::At(0, good(1)),
-            Want::At(16, good(2)),
-            Want::At(32, good(3)),
-        ],
-    )?;
-    scenario::<ByteTags>(
-        &rt,
-        alloc,
-        32,
-        "replaced",
-        &[
-            Step::PutHandle(16, good(1)),
-            Step::PutHandle(16, Handle::Null),
-        ],
-        &[Want::At(16, Handle::Null), Want::Shown(16, 16, None)],
-    )?;
-    Ok(())
-}
-
-#[test]
-fn data_tears_a_handle(rt: HostRuntime) -> Result<(), Fail> {
-    let alloc = rt.alloc();
-    let stored = Step::PutHandle(16, good(9));
-    scenario::<ByteTags>(
-        &rt,
-        alloc,
-        32,
-        "first byte",
-        &[stored, Step::Put(16, 1, 0)],
-        &[
-            Want::At(16, Handle::Broken),
-            Want::Shown(16, 1, Some(0)),
-            Want::Shown(17, 15, None),
-            Want::Number(16, 1, Some(0)),
-            Want::Number(16, 2, None),
-        ],
-    )?;
-    scenario::<ByteTags>(
-        &rt,
-        alloc,
-        32,
-        "last byte",
-        &[stored, Step::Put(31, 1, 0x107)],
-        &[
-            Want::At(16, Handle::Broken),
-            Want::Shown(16, 15, None),
-            Want::Shown(31, 1, Some(7)),
-        ],
-    )?;
-    scenario::<ByteTags>(
-        &rt,
-        alloc,
-        48,
-        "from below",
-        &[stored, Step::Put(12, 8, HIGH)],
-        &[
-            Want::At(16, Handle::Broken),
-            Want::Number(12, 8, Some(HIGH)),
-            Want::Shown(20, 12, None),
-            Want::At(32, Handle::Null),
-        ],
-    )?;
-    scenario::<ByteTags>(
-        &rt,
-        alloc,
-        32,
-        "clear a part",
-        &[stored, Step::Clear(20, 4)],
-        &[
-            Want::At(16, Handle::Broken),
-            Want::Shown(16, 4, None),
-            Want::Shown(20, 4, Some(0)),
-            Want::Shown(24, 8, None),
-        ],
-    )?;
-    scenario::<ByteTags>(
-        &rt,
-        alloc,
-        32,
-        "all but the last",
-        &[stored, Step::Clear(16, 15)],
-        &[Want::At(16, Handle::Broken), Want::Shown(31, 1, None)],
-    )?;
-    scenario::<ByteTags>(
-        &rt,
-        alloc,
-        32,
-        "clear all",
-        &[stored, Step::Clear(16, 16)],
-        &[Want::At(16, Handle::Null), Want::Shown(16, 16, Some(0))],
-    )?;
-    let null = Step::PutHandle(16, Handle::Null);
-    scenario::<ByteTags>(
-        &rt,
-        alloc,
-        32,
-        "torn null",
-        &[null, Step::Put(24, 1, 0)],
-        &[Want::At(16, Handle::Broken)],
-    )?;
-    Ok(())
-}
-
-#[test]
-fn only_zeros_are_null(rt: HostRuntime) -> Result<(), Fail> {
-    let alloc = rt.alloc();
-    scenario::<ByteTags>(&rt, alloc, 32, "zeros", &[], &[Want::At(16, Handle::Null)])?;
-    for at in [16, 24, 31] {
-        scenario::<ByteTags>(
-            &rt,
-            alloc,
-            32,
-            "fifteen zeros",
-            &[Step::Put(at, 1, 1)],
-            &[Want::At(0, Handle::Null), Want::At(16, Handle::Broken)],
-        )?;
-    }
-    Ok(())
-}
-
-#[test]
-fn ranges_end_at_the_capacity(rt: HostRuntime) -> Result<(), Fail> {
-    let alloc = rt.alloc();
-    scenario::<ByteTags>(&rt, alloc, 0, "nothing", &[Step::Clear(0, 0)], &[])?;
-    scenario::<ByteTags>(
-        &rt,
-        alloc,
-        16,
-        "number",
-        &[Step::Put(8, 8, HIGH)],
-        &[
-            Want::Number(8, 8, Some(HIGH)),
-            Want::Number(15, 1, Some(0xff)),
-            Want::Shown(15, 1, Some(0xff)),
-            Want::At(0, Handle::Broken),
-        ],
-    )?;
-    scenario::<ByteTags>(
-        &rt,
-        alloc,
-        16,
-        "handle",
-        &[Step::PutHandle(0, good(1))],
-        &[Want::At(0, good(1)), Want::Shown(15, 1, None)],
-    )?;
-    scenario::<ByteTags>(
-        &rt,
-        alloc,
-        16,
-        "clear",
-        &[
-            Step::PutHandle(0, good(1)),
-            Step::Clear(16, 0),
-            Step::Clear(15, 1),
-        ],
-        &[
-            Want::Shown(14, 1, None),
-            Want::Shown(15, 1, Some(0)),
-            Want::At(0, Handle::Broken),
-        ],
-    )?;
-    Ok(())
-}
-
-#[test]
-fn pieces_belong_together(rt: HostRuntime) {
-    let mut tags = [Tag::Data(0); 16];
-    for number in 0..16u8 {
-        tags[usize::from(number)] = Tag::Piece(good(1), number);
-    }
-    assert_eq!(rt; handle(&tags), good(1));
-    let mut mixed = tags;
-    mixed[15] = Tag::Piece(good(2), 15);
-    assert_eq!(rt; handle(&mixed), Handle::Broken, "two handles");
-    let mut mixed = tags;
-    mixed[0] = Tag::Piece(good(2), 0);
-    assert_eq!(rt;
-        handle(&mixed),
-        Handle::Broken,
-        "two handles, from the first byte on"
-    );
-    let mut turned = tags;
-    turned[4] = Tag::Piece(good(1), 5);
-    turned[5] = Tag::Piece(good(1), 4);
-    assert_eq!(rt; handle(&turned), Handle::Broken, "out of order");
-}
-
-#[test]
-fn bytes_that_were_never_written_are_zeros(rt: HostRuntime) -> Result<(), Fail> {
-    let alloc = rt.alloc();
-    scenario::<ByteTags>(
-        &rt,
-        alloc,
-        64,
-        "behind a number",
-        &[Step::Put(16, 1, 5)],
-        &[
-            Want::At(16, Handle::Broken),
-            Want::At(32, Handle::Null),
-            Want::Number(16, 8, Some(5)),
-            Want::Number(15, 4, Some(0x500)),
-            Want::Shown(17, 47, Some(0)),
-        ],
-    )?;
-    scenario::<ByteTags>(
-        &rt,
-        alloc,
-        64,
-        "behind a zero",
-        &[Step::Put(16, 1, 0)],
-        &[Want::At(16, Handle::Null), Want::Number(16, 4, Some(0))],
-    )?;
-    scenario::<ByteTags>(
-        &rt,
-        alloc,
-        64,
-        "behind a handle",
-        &[Step::PutHandle(16, good(1))],
-        &[
-            Want::At(16, good(1)),
-            Want::Number(28, 8, None),
-            Want::Number(32, 8, Some(0)),
-            Want::Shown(32, 32, Some(0)),
-        ],
-    )?;
-    Ok(())
 }
