@@ -4,4 +4,3 @@ pub mod Sequences
 pub mod Distinct
 pub mod Heads
 pub mod Verdicts
-pub mod Numbering

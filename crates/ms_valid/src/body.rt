@@ -158,6 +158,3 @@ impl Checker {
         }
     }
 }
-
-#[cfg(test)]
-mod tests;
