@@ -6,6 +6,7 @@ pub mod Format
 pub mod Items
 pub mod PartLaws
 pub mod Parts
+pub mod Do
 pub mod Texts
 pub mod TextLaws
 pub mod Tests

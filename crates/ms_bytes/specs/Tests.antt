@@ -1,11 +1,11 @@
 -- Formats with tests: of a value, of the text of an item, of a longest run; places; and faults that stand where an item begins.
-use Rattle.std.specs.Prelude.{◌≡◌, ℕ, Bool, true, List, ◌++◌, length, take, drop, Ok}
+use Rattle.std.specs.Prelude.{◌≡◌, ℕ, Bool, true, List, [], ◌++◌, length, take, drop, Ok}
 use Rattle.std.proofs.Common.{ap}
 use Rattle.ms_bytes.specs.Reading.{blamed}
 use Rattle.ms_bytes.specs.ResultLaws.{blamed_ok}
 use Rattle.ms_bytes.specs.Format.{Format}
 use Rattle.ms_bytes.specs.Texts.{IsRun, check_at, front_at, marks_at, only_at, run_len, text_before, told_at}
-use Rattle.ms_bytes.specs.TextLaws.{append_fits, check_again, check_fits, check_takes, front_again, front_takes, left_again, left_fits, left_takes, longest_again, longest_takes, marks_again, marks_takes, only_again, only_takes, told_again, told_takes}
+use Rattle.ms_bytes.specs.TextLaws.{append_fits, check_again, check_fits, check_takes, front_again, front_takes, left_again, left_fits, left_takes, longest_again, longest_takes, marks_again, marks_takes, only_again, only_takes, rest_again, rest_fits, rest_takes, told_again, told_takes}
 
 -- an item that passes a test, which is given its value and its text, else a fault where it begins
 abbrev pub only : {E F A : Type 0} → (A → List E → Bool) → (ℕ → List E → F) → Format E F A → Format E F A
@@ -93,4 +93,15 @@ seen {E} {F} f = record {
   again = λ end s x t h. left_again {F = F} f s x t h;
   least = 0;
   fits = left_fits f;
+}
+
+-- all that is left
+abbrev pub rest : {E F : Type 0} → Format E F (List E)
+rest {E} {F} = record {
+  read = λ end s. Ok (s, []);
+  spelled = λ s x t. (x ≡ s) × (t ≡ []);
+  takes = λ end s x t e. rest_takes {F = F} s x t e;
+  again = λ end s x t h. rest_again {F = F} s x t h;
+  least = 0;
+  fits = λ s x t h. rest_fits s t h.1;
 }

@@ -135,3 +135,16 @@ left_again f s x t h = rw (h.0, h.1) refl
 
 pub left_fits : {E A : Type 0} (f : List E → A) (s : List E) (x : A) (t : List E) → (x ≡ f s) × (s ≡ t) → length t + 0 ≤ length s
 left_fits f s x t h = rw h.1 (omega arith)
+
+-- ---- all that is left
+
+pub rest_takes : {E F : Type 0} (s x t : List E) → okay {F = F} {A = List E × List E} (s, []) ≡ okay {F = F} (x, t) → (x ≡ s) × (t ≡ [])
+rest_takes {E} {F} s x t e =
+    let p = ok_is {F = F} (s, []) (x, t) e in
+    (sym (ap (λ (q : List E × List E). q.0) p), sym (ap (λ (q : List E × List E). q.1) p))
+
+pub rest_again : {E F : Type 0} (s x t : List E) → (x ≡ s) × (t ≡ []) → okay {F = F} {A = List E × List E} (s, []) ≡ okay {F = F} (x, t)
+rest_again s x t h = rw (h.0, h.1) refl
+
+pub rest_fits : {E : Type 0} (s t : List E) → t ≡ [] → length t + 0 ≤ length s
+rest_fits s t h = rw h (omega arith)
