@@ -1,4 +1,3 @@
 pub mod Loops
+pub mod StepLoop
 pub mod Modules
-pub mod Blocks
-pub mod TurnLoop

@@ -2,22 +2,19 @@
 use Rattle.std.proofs.Common.{◌≡◌, ℕ, suc, ◌-◌, ◌+◌, ◌≤◌, ◌<◌, true, false, eqb, List, [], ◌∷◌, ◌++◌, length, Result, Ok, Err, refl, sym, ap, ◌∙◌, append_assoc, arith}
 use Rattle.std.proofs.lemmas.Bool.{eqb-true}
 use Rattle.std.proofs.lemmas.List.{append-nil, nil_from_length}
-use Rattle.ms_bytes.specs.Spot.{place_of}
-use Rattle.ms_bytes.specs.Reading.{◌>>=◌, Fault}
-use Rattle.ms_bytes.specs.Reading as reading
-use Rattle.ms_bytes.specs.Format.{Format}
-use Rattle.ms_bytes.specs.Repetition.{chain_at, each, repeat, times}
-use Rattle.ms_bin_read.specs.declared.fault.ReadFault.{ReadFault}
-use Rattle.ms_bin_read.specs.declared.fault.ReadFault.TheVariants.{Float, Limit, Malformed, Memory}
+use Rattle.ms_bytes.specs.Reading.{◌>>=◌}
+use Rattle.ms_bytes.specs.Repetition.{each, repeat, times}
+use Rattle.ms_bin_grammar.specs.declared.fault.ReadFault.{ReadFault}
+use Rattle.ms_bin_grammar.specs.declared.fault.ReadFault.TheVariants.{Float, Limit, Malformed, Memory}
+use Rattle.ms_bin_grammar.specs.Faults.{Binary}
 use Rattle.ms_bin_read.specs.Readers.{Fails}
-use Rattle.ms_bin_read.specs.Parts.{at_end}
 
 -- what was read before, and what is still read
-abbrev pub with_front : {A : Type 0} → List A → Result (List A × List ℕ) Fault → Result (List A × List ℕ) Fault
+abbrev pub with_front : {A : Type 0} → List A → Result (List A × List ℕ) ReadFault → Result (List A × List ℕ) ReadFault
 with_front front (Ok x) = Ok (front ++ x.0, x.1)
 with_front front (Err e) = Err e
 
-regroup : {A : Type 0} (front : List A) (x : A) (read : Result (List A × List ℕ) Fault) → with_front front (read >>= λ y. Ok (x ∷ y.0, y.1)) ≡ with_front (front ++ x ∷ []) read
+regroup : {A : Type 0} (front : List A) (x : A) (read : Result (List A × List ℕ) ReadFault) → with_front front (read >>= λ y. Ok (x ∷ y.0, y.1)) ≡ with_front (front ++ x ∷ []) read
 regroup front x (Ok y) = ap (λ xs. Ok (xs, y.1)) (sym (append_assoc front (x ∷ []) y.0))
 regroup front x (Err f) = refl
 
@@ -25,13 +22,13 @@ nothing_more : {A : Type 0} (front : List A) (bytes : List ℕ) → with_front f
 nothing_more front bytes = ap (λ xs. Ok (xs, bytes)) (append-nil front)
 
 -- what fails in its first step fails
-pub fails_first : {A B : Type 0} (e : ReadFault) (first : Result A Fault) (next : A → Result B Fault) → Fails e first → Fails e (first >>= next)
-fails_first (Malformed at) first next h = ap (λ (r : Result _ Fault). r >>= next) h
-fails_first (Float at) first next h = ap (λ (r : Result _ Fault). r >>= next) h
-fails_first (Limit which at) first next h = ap (λ (r : Result _ Fault). r >>= next) h
+pub fails_first : {A B : Type 0} (e : ReadFault) (first : Result A ReadFault) (next : A → Result B ReadFault) → Fails e first → Fails e (first >>= next)
+fails_first (Malformed at) first next h = ap (λ (r : Result _ ReadFault). r >>= next) h
+fails_first (Float at) first next h = ap (λ (r : Result _ ReadFault). r >>= next) h
+fails_first (Limit which at) first next h = ap (λ (r : Result _ ReadFault). r >>= next) h
 fails_first Memory first next h = tt
 
-fails_after : {A : Type 0} (e : ReadFault) (front : List A) (read : Result (List A × List ℕ) Fault) → Fails e read → Fails e (with_front front read)
+fails_after : {A : Type 0} (e : ReadFault) (front : List A) (read : Result (List A × List ℕ) ReadFault) → Fails e read → Fails e (with_front front read)
 fails_after (Malformed at) front read h = ap (with_front front) h
 fails_after (Float at) front read h = ap (with_front front) h
 fails_after (Limit which at) front read h = ap (with_front front) h
@@ -39,7 +36,7 @@ fails_after Memory front read h = tt
 
 -- ---- so many items
 
-module _ {A : Type 0} (item : Format A) (front : List A) (count i end : ℕ) (bytes : List ℕ) (total : Result (List A × List ℕ) Fault) (so_far : with_front front ((times (count - i) item).read end bytes) ≡ total) where
+module _ {A : Type 0} (item : Binary A) (front : List A) (count i end : ℕ) (bytes : List ℕ) (total : Result (List A × List ℕ) ReadFault) (so_far : with_front front ((times (count - i) item).read end bytes) ≡ total) where
   pub times_fails : (e : ReadFault) → i < count → Fails e (item.read end bytes) → Fails e total
   unfolding times
   times_fails e lt h =
@@ -62,7 +59,7 @@ module _ {A : Type 0} (item : Format A) (front : List A) (count i end : ℕ) (by
 
 -- ---- an item for each of a list
 
-module _ {K A : Type 0} (item : K → Format A) (front : List A) (k : K) (ks left : List K) (end : ℕ) (bytes : List ℕ) (total : Result (List A × List ℕ) Fault) (so_far : with_front front ((each item left).read end bytes) ≡ total) where
+module _ {K A : Type 0} (item : K → Binary A) (front : List A) (k : K) (ks left : List K) (end : ℕ) (bytes : List ℕ) (total : Result (List A × List ℕ) ReadFault) (so_far : with_front front ((each item left).read end bytes) ≡ total) where
   pub each_fails : (e : ReadFault) → left ≡ k ∷ ks → Fails e ((item k).read end bytes) → Fails e total
   unfolding each
   each_fails e is h = rw (← so_far, is) (fails_after e front _ (fails_first e ((item k).read end bytes) _ h))
@@ -73,7 +70,7 @@ module _ {K A : Type 0} (item : K → Format A) (front : List A) (k : K) (ks lef
       let one : with_front front ((each item left).read end bytes) ≡ with_front (front ++ x ∷ []) ((each item ks).read end after) = rw (is, h) (regroup front x ((each item ks).read end after)) in
       sym one ∙ so_far
 
-pub each_done : {K A : Type 0} (item : K → Format A) (front : List A) (left : List K) (end : ℕ) (bytes : List ℕ) (total : Result (List A × List ℕ) Fault) → with_front front ((each item left).read end bytes) ≡ total → left ≡ [] → total ≡ Ok (front, bytes)
+pub each_done : {K A : Type 0} (item : K → Binary A) (front : List A) (left : List K) (end : ℕ) (bytes : List ℕ) (total : Result (List A × List ℕ) ReadFault) → with_front front ((each item left).read end bytes) ≡ total → left ≡ [] → total ≡ Ok (front, bytes)
 unfolding each
 each_done item front left end bytes total so_far none =
     let one : with_front front ((each item left).read end bytes) ≡ Ok (front, bytes) = rw none (nothing_more front bytes) in
@@ -81,7 +78,7 @@ each_done item front left end bytes total so_far none =
 
 -- ---- so many steps, each from the state that the one before left
 
-module _ {S : Type 0} (step : S → Format S) (count i : ℕ) (st : S) (end : ℕ) (bytes : List ℕ) (total : Result (S × List ℕ) Fault) (so_far : (repeat step (count - i) st).read end bytes ≡ total) where
+module _ {S : Type 0} (step : S → Binary S) (count i : ℕ) (st : S) (end : ℕ) (bytes : List ℕ) (total : Result (S × List ℕ) ReadFault) (so_far : (repeat step (count - i) st).read end bytes ≡ total) where
   pub repeat_fails : (e : ReadFault) → i < count → Fails e ((step st).read end bytes) → Fails e total
   unfolding repeat
   repeat_fails e lt h =
@@ -101,49 +98,3 @@ module _ {S : Type 0} (step : S → Format S) (count i : ℕ) (st : S) (end : �
       let k : count - i ≡ 0 = omega arith in
       let one : (repeat step (count - i) st).read end bytes ≡ Ok (st, bytes) = rw k refl in
       sym so_far ∙ one
-
--- ---- steps up to the end of the text
-
-none_left : (bytes : List ℕ) → eqb (length bytes) 0 ≡ true → bytes ≡ []
-none_left bytes e = nil_from_length bytes (eqb-true _ _ e)
-
-module _ {S : Type 0} (step : S → Format S) where
-  step_fails : (k : ℕ) (st : S) (end : ℕ) (bytes : List ℕ) (e : ReadFault) → eqb (length bytes) 0 ≡ false → Fails e ((step st).read end bytes) → Fails e (chain_at step (suc k) st end bytes)
-  unfolding chain_at
-  step_fails k st end [] e some h = absurd (let z : eqb 0 0 ≡ false = some in cc)
-  step_fails k st end (b ∷ bytes) e some h = fails_first e ((step st).read end (b ∷ bytes)) _ h
-
-  step_goes : (k : ℕ) (st : S) (end : ℕ) (bytes : List ℕ) (next : S) (rest : List ℕ) → eqb (length bytes) 0 ≡ false → (step st).read end bytes ≡ Ok (next, rest) → chain_at step (suc k) st end bytes ≡ chain_at step k next end rest
-  unfolding chain_at
-  step_goes k st end [] next rest some h = absurd (let z : eqb 0 0 ≡ false = some in cc)
-  step_goes k st end (b ∷ bytes) next rest some h = rw h refl
-
-  step_none : (k : ℕ) (st : S) (end : ℕ) (bytes : List ℕ) → eqb (length bytes) 0 ≡ true → chain_at step k st end bytes ≡ Ok st
-  unfolding chain_at
-  step_none k st end bytes none = rw (none_left bytes none) (nothing k) where
-    nothing : (n : ℕ) → chain_at step n st end [] ≡ Ok st
-    nothing n = refl
-
-  step_out : (st : S) (end : ℕ) (bytes : List ℕ) → eqb (length bytes) 0 ≡ false → chain_at step 0 st end bytes ≡ Err (reading.Malformed (place_of end bytes))
-  unfolding chain_at
-  step_out st end [] some = absurd (let z : eqb 0 0 ≡ false = some in cc)
-  step_out st end (b ∷ bytes) some = refl
-
-module _ {S : Type 0} (step : S → Format S) (most i : ℕ) (st : S) (end : ℕ) (bytes : List ℕ) (total : Result S Fault) (so_far : chain_at step (most - i) st end bytes ≡ total) where
-  pub chain_ends : eqb (length bytes) 0 ≡ true → at_end total ≡ Ok (st, bytes)
-  chain_ends none = rw (← so_far, step_none step (most - i) st end bytes none) (ap (λ (l : List ℕ). Ok (st, l)) (sym (none_left bytes none)))
-
-  pub chain_fails : (e : ReadFault) → i < most → eqb (length bytes) 0 ≡ false → Fails e ((step st).read end bytes) → Fails e (at_end total)
-  chain_fails e lt some h =
-      let k : most - i ≡ suc (most - (i + 1)) = omega arith in
-      rw (← so_far, k) (fails_first e _ _ (step_fails step (most - (i + 1)) st end bytes e some h))
-
-  pub chain_goes : (next : S) (rest : List ℕ) → i < most → eqb (length bytes) 0 ≡ false → (step st).read end bytes ≡ Ok (next, rest) → chain_at step (most - (i + 1)) next end rest ≡ total
-  chain_goes next rest lt some h =
-      let k : most - i ≡ suc (most - (i + 1)) = omega arith in
-      sym (ap (λ (n : ℕ). chain_at step n st end bytes) k ∙ step_goes step (most - (i + 1)) st end bytes next rest some h) ∙ so_far
-
-  pub chain_left : most ≤ i → eqb (length bytes) 0 ≡ false → at_end total ≡ Err (reading.Malformed (place_of end bytes))
-  chain_left le some =
-      let k : most - i ≡ 0 = omega arith in
-      rw (← so_far, k, step_out step st end bytes some) refl

@@ -1,15 +1,12 @@
 -- What the whole reader gives is what the grammar says of the bytes.
 use Rattle.std.proofs.Common.{◌≡◌, ℕ, ◌⊎◌, inl, inr, List, [], length, Result, Ok, Err, refl, sym, ap, subst, ◌∙◌}
-use Rattle.ms_bytes.specs.Reading.{Fault}
-use Rattle.ms_bytes.specs.Reading as reading
 use Rattle.ms_bytes.specs.Spot.{Spot, start}
-use Rattle.ms_module.specs.Module.{SpellsWithin, Stops, module_format, usual}
+use Rattle.ms_bin_grammar.specs.Bounds.{usual}
+use Rattle.ms_bin_grammar.specs.Module.{SpellsWithin, Stops, module_format}
 use Rattle.ms_module.specs.declared.module.Module.{Module}
-use Rattle.ms_bin_read.specs.declared.fault.Counted.{Counted}
-use Rattle.ms_bin_read.specs.declared.fault.Counted.TheVariants.{Blocks, Locals}
-use Rattle.ms_bin_read.specs.declared.fault.ReadFault.{ReadFault}
-use Rattle.ms_bin_read.specs.declared.fault.ReadFault.TheVariants.{Float, Limit, Malformed, Memory}
-use Rattle.ms_bin_read.specs.Readers.{Fails, IsFirstFault, counted_of, told}
+use Rattle.ms_bin_grammar.specs.declared.fault.ReadFault.{ReadFault}
+use Rattle.ms_bin_grammar.specs.declared.fault.ReadFault.TheVariants.{Float, Limit, Malformed, Memory}
+use Rattle.ms_bin_read.specs.Readers.{Fails, IsFirstFault}
 
 -- nothing follows a module
 ends : (s : List ℕ) (m : Module) (t : List ℕ) → (module_format usual).spelled s m t → t ≡ []
@@ -18,10 +15,10 @@ ends s m t h =
     let last = h.3.3 in
     sym last.3.3.1 ∙ (sym last.3.2.1 ∙ last.2.1)
 
-abbrev pub read_from : Spot → Result (Module × List ℕ) Fault
+abbrev pub read_from : Spot → Result (Module × List ℕ) ReadFault
 read_from c = (module_format usual).read c.end c.left
 
-abbrev pub whole : Module → List ℕ → Result (Module × List ℕ) Fault
+abbrev pub whole : Module → List ℕ → Result (Module × List ℕ) ReadFault
 whole m t = Ok (m, t)
 
 module _ (bytes : List ℕ) (c : Spot) (begins : c ≡ start bytes) where
@@ -34,7 +31,7 @@ module _ (bytes : List ℕ) (c : Spot) (begins : c ≡ start bytes) where
   is_read : (m : Module) → SpellsWithin usual bytes m → read_from c ≡ whole m []
   is_read m h = rw begins ((module_format usual).again (length bytes) bytes m [] h)
 
-  stops_at : (f : Fault) → Stops bytes f → read_from c ≡ Err f
+  stops_at : (f : ReadFault) → Stops bytes f → read_from c ≡ Err f
   stops_at f h = rw begins h
 
   -- there is one spelled module at most
@@ -45,7 +42,7 @@ module _ (bytes : List ℕ) (c : Spot) (begins : c ≡ start bytes) where
       ap (λ (p : Module × List ℕ). p.0) pairs
 
   -- what is read has no fault
-  pub no_fault : (m : Module) (t : List ℕ) → read_from c ≡ whole m t → (f : Fault) → Stops bytes f → ⊥
+  pub no_fault : (m : Module) (t : List ℕ) → read_from c ≡ whole m t → (f : ReadFault) → Stops bytes f → ⊥
   no_fault m t e f h = let s = stops_at f h in cc
 
   -- a fault is the first one
@@ -62,16 +59,12 @@ module _ (bytes : List ℕ) (c : Spot) (begins : c ≡ start bytes) where
   no_module (Limit which at) h n k = let r = is_read n k in absurd cc
   no_module Memory h n k = refl
 
-  fault_is : (f g : Fault) → read_from c ≡ Err f → Stops bytes g → f ≡ g
+  fault_is : (f g : ReadFault) → read_from c ≡ Err f → Stops bytes g → f ≡ g
   fault_is f g h k = let s = stops_at g k in cc
 
-  told_limit : (which : Counted) (at : ℕ) → told (reading.Limit (counted_of which) at) ≡ Limit which at
-  told_limit Blocks at = refl
-  told_limit Locals at = refl
-
   -- the first fault is told
-  pub is_told : (e : ReadFault) → Fails e (read_from c) → (f : Fault) → Stops bytes f → (e ≡ told f) ⊎ (e ≡ Memory)
-  is_told (Malformed at) h f k = inl (ap told (fault_is (reading.Malformed at) f h k))
-  is_told (Float at) h f k = inl (ap told (fault_is (reading.Float at) f h k))
-  is_told (Limit which at) h f k = inl (sym (told_limit which at) ∙ ap told (fault_is (reading.Limit (counted_of which) at) f h k))
+  pub is_told : (e : ReadFault) → Fails e (read_from c) → (f : ReadFault) → Stops bytes f → (e ≡ f) ⊎ (e ≡ Memory)
+  is_told (Malformed at) h f k = inl (fault_is (Malformed at) f h k)
+  is_told (Float at) h f k = inl (fault_is (Float at) f h k)
+  is_told (Limit which at) h f k = inl (fault_is (Limit which at) f h k)
   is_told Memory h f k = inr refl

@@ -1,66 +1,41 @@
 -- What the readers of the code give, against what reading gives.
-use Rattle.std.specs.Prelude.{◌≡◌, ℕ, Bool, List, Result, Ok, Err}
+use Rattle.std.specs.Prelude.{◌≡◌, ℕ, List, Result, Ok, Err}
 use denote.Ref.{Bor}
 use Rattle.ms_bytes.specs.Spot.{Spot}
-use Rattle.ms_bytes.specs.Reading.{Fault}
-use Rattle.ms_bytes.specs.Reading as reading
-use Rattle.ms_module.specs.Building.{State, Turn}
-use Rattle.ms_module.specs.Module.{Stops}
-use Rattle.ms_bin_read.specs.declared.fault.Counted.{Counted}
-use Rattle.ms_bin_read.specs.declared.fault.Counted.TheVariants.{Blocks, Locals}
-use Rattle.ms_bin_read.specs.declared.fault.ReadFault.{ReadFault}
-use Rattle.ms_bin_read.specs.declared.fault.ReadFault.TheVariants.{Float, Limit, Malformed, Memory}
-
-abbrev pub counted_of : Counted → reading.Counted
-counted_of Blocks = reading.Blocks
-counted_of Locals = reading.Locals
+use Rattle.ms_bin_grammar.specs.Module.{Stops}
+use Rattle.ms_bin_grammar.specs.declared.fault.ReadFault.{ReadFault}
+use Rattle.ms_bin_grammar.specs.declared.fault.ReadFault.TheVariants.{Float, Limit, Malformed, Memory}
 
 -- the reader stopped where reading does, unless memory ran out
-abbrev pub Fails : {A : Type 0} → ReadFault → Result A Fault → Type 0
-Fails (Malformed at) read = read ≡ Err (reading.Malformed at)
-Fails (Float at) read = read ≡ Err (reading.Float at)
-Fails (Limit which at) read = read ≡ Err (reading.Limit (counted_of which) at)
+abbrev pub Fails : {A : Type 0} → ReadFault → Result A ReadFault → Type 0
+Fails (Malformed at) read = read ≡ Err (Malformed at)
+Fails (Float at) read = read ≡ Err (Float at)
+Fails (Limit which at) read = read ≡ Err (Limit which at)
 Fails Memory read = Unit {0}
 
 -- the answer, and what the cursor has left, are what reading gives, unless memory ran out
-abbrev pub Reads : {A : Type 0} → Spot → Spot → Result A ReadFault → Result (A × List ℕ) Fault → Type 0
+abbrev pub Reads : {A : Type 0} → Spot → Spot → Result A ReadFault → Result (A × List ℕ) ReadFault → Type 0
 Reads old new (Ok x) read = (read ≡ Ok (x, new.left)) × (new.end ≡ old.end)
 Reads old new (Err e) read = Fails e read
 
 -- the same where the answer is what a state has become
-abbrev pub Turns : {S : Type 0} → S → Spot → Spot → Result (Unit {0}) ReadFault → Result (S × List ℕ) Fault → Type 0
+abbrev pub Turns : {S : Type 0} → S → Spot → Spot → Result (Unit {0}) ReadFault → Result (S × List ℕ) ReadFault → Type 0
 Turns after old new (Ok x) read = (read ≡ Ok (after, new.left)) × (new.end ≡ old.end)
 Turns after old new (Err e) read = Fails e read
 
 -- the same where nothing is taken
-abbrev pub Finds : {A : Type 0} → Result A ReadFault → Result A Fault → Type 0
+abbrev pub Finds : {A : Type 0} → Result A ReadFault → Result A ReadFault → Type 0
 Finds (Ok x) read = read ≡ Ok x
 Finds (Err e) read = Fails e read
 
 -- the same where the answer is a part of the bytes
-abbrev pub ReadsPart : Spot → Spot → Result (Bor (List ℕ)) ReadFault → Result (List ℕ × List ℕ) Fault → Type 0
+abbrev pub ReadsPart : Spot → Spot → Result (Bor (List ℕ)) ReadFault → Result (List ℕ × List ℕ) ReadFault → Type 0
 ReadsPart old new (Ok x) read = (read ≡ Ok (x.now, new.left)) × (new.end ≡ old.end)
 ReadsPart old new (Err e) read = Fails e read
 
--- ---- the answers of the whole reader
-
--- a fault of the grammar as the reader tells it
-abbrev pub told : Fault → ReadFault
-told (reading.Malformed at) = Malformed at
-told (reading.Float at) = Float at
-told (reading.Limit reading.Blocks at) = Limit Blocks at
-told (reading.Limit reading.Locals at) = Limit Locals at
-
 -- this is the first fault of the bytes, unless memory ran out
 abbrev pub IsFirstFault : List ℕ → ReadFault → Type 0
-IsFirstFault bytes (Malformed at) = Stops bytes (reading.Malformed at)
-IsFirstFault bytes (Float at) = Stops bytes (reading.Float at)
-IsFirstFault bytes (Limit which at) = Stops bytes (reading.Limit (counted_of which) at)
+IsFirstFault bytes (Malformed at) = Stops bytes (Malformed at)
+IsFirstFault bytes (Float at) = Stops bytes (Float at)
+IsFirstFault bytes (Limit which at) = Stops bytes (Limit which at)
 IsFirstFault bytes Memory = Unit {0}
-
--- ---- the turns of a body
-
--- whether the body has ended, and what the sequences have become
-abbrev pub Steps : State → Spot → Spot → Result Bool ReadFault → Result (Turn × List ℕ) Fault → Type 0
-Steps after old new (Ok ended) read = (read ≡ Ok ((ended, after), new.left)) × (new.end ≡ old.end)
-Steps after old new (Err e) read = Fails e read

@@ -1,15 +1,16 @@
 //! Reading the code of functions (WebAssembly 1.0, 5.5.13).
 
 ghost use Rattle.std.specs.Prelude.{◌≡◌, ◌≤◌, [], length, IfOk};
-ghost use Rattle.ms_bytes.specs.Bounded.{sized};
+ghost use Rattle.ms_bin_grammar.specs.Sizes.{sized};
 ghost use Rattle.ms_bytes.specs.Repetition.{each, repeat};
-ghost use Rattle.ms_module.specs.Module.{func, funcs, locals, more_locals, usual};
+ghost use Rattle.ms_bin_grammar.specs.Module.{func, funcs, locals, more_locals};
+ghost use Rattle.ms_bin_grammar.specs.Bounds.{usual};
 ghost use Rattle.ms_bin_read.specs.Readers.{Reads, Turns};
 
 use crate::body::body_of;
-use crate::fault::{Counted, ReadFault};
 use crate::items::{Item, bounded, ended};
 use crate::numbers::u32_of;
+use ms_bin_grammar::{Counted, ReadFault};
 use ms_bytes::Cursor;
 use ms_module::{Func, Locals};
 use ms_types::{ValType, Vector};
@@ -19,7 +20,7 @@ use std::alloc::Global;
 const MOST_LOCALS: usize = 50_000;
 
 /// Reads so many more locals of one type.
-#[tactic(auto, unfolding(ms_module::specs::Module::more_locals))]
+#[tactic(auto, unfolding(ms_bin_grammar::specs::Module::more_locals))]
 fn more_locals_of(alloc: Global, locals: &mut Locals, c: &mut Cursor) -> Result<(), ReadFault>
     requires { length locals.old ≤ 50000 }
     ensures read { Turns locals.new c.old c.new result ((more_locals usual locals.old).read c.old.end c.old.left) }
@@ -51,14 +52,14 @@ fn runs_of(alloc: Global, count: u32, c: &mut Cursor) -> Result<Locals, ReadFaul
 impl Item for Locals {
     ghost format = { locals usual };
 
-    #[tactic(auto, unfolding(ms_module::specs::Module::locals))]
+    #[tactic(auto, unfolding(ms_bin_grammar::specs::Module::locals))]
     fn read(alloc: Global, c: &mut Cursor) -> Result<Self, ReadFault> {
         let count = u32_of(c)?;
         runs_of(alloc, count, c)
     }
 }
 
-#[tactic(auto, unfolding(ms_module::specs::Module::func))]
+#[tactic(auto, unfolding(ms_bin_grammar::specs::Module::func))]
 fn func_of(alloc: Global, sig: u32, c: &mut Cursor) -> Result<Func, ReadFault>
     ensures { Reads c.old c.new result ((func usual sig).read c.old.end c.old.left) }
 {
@@ -68,7 +69,7 @@ fn func_of(alloc: Global, sig: u32, c: &mut Cursor) -> Result<Func, ReadFault>
 }
 
 /// Reads a function whose type has this index; its size stands before it.
-#[tactic(auto, unfolding(ms_bytes::specs::Bounded::sized_at))]
+#[tactic(auto, unfolding(ms_bin_grammar::specs::Inside::sized_at))]
 fn sized_func_of(alloc: Global, sig: u32, c: &mut Cursor) -> Result<Func, ReadFault>
     ensures { Reads c.old c.new result ((sized (func usual sig)).read c.old.end c.old.left) }
 {
@@ -89,7 +90,7 @@ fn each_func(alloc: Global, sigs: &[u32], c: &mut Cursor) -> Result<Vector<Func>
 }
 
 /// Reads as many functions as types.
-#[tactic(auto, unfolding(ms_module::specs::Module::funcs))]
+#[tactic(auto, unfolding(ms_bin_grammar::specs::Module::funcs))]
 pub fn funcs_of(alloc: Global, sigs: &[u32], c: &mut Cursor) -> Result<Vector<Func>, ReadFault>
     ensures { Reads c.old c.new result ((funcs usual sigs.now).read c.old.end c.old.left) }
 {

@@ -1,12 +1,11 @@
 //! The reader of binary modules (WebAssembly 1.0, chapter 5).
 //!
 //! `read` gives a module exactly where the bytes are a spelling of it. The readers below it follow the grammar of
-//! `ms_module` from left to right, each proved to give what its format gives, with the place of the first fault.
+//! `ms_bin_grammar` from left to right, each proved to give what its format gives, with the place of the first fault. Read
+//! `specs/Readers.antt` for how that is said.
 #![tactic(auto)]
 
 mod body;
-mod builder;
-mod fault;
 mod funcs;
 mod instrs;
 mod items;
@@ -15,7 +14,8 @@ mod numbers;
 mod parts;
 mod reader;
 mod sections;
+mod steps;
 mod types;
 
-pub use fault::{Counted, ReadFault};
+pub use ms_bin_grammar::{Counted, ReadFault};
 pub use reader::read;

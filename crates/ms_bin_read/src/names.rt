@@ -1,23 +1,25 @@
 //! Reading names (WebAssembly 1.0, 5.2.4).
 
-ghost use Rattle.ms_bytes.specs.Bounded.{name, name_at};
+ghost use Rattle.ms_bin_grammar.specs.Sizes.{name};
 ghost use Rattle.ms_bin_read.specs.Readers.{ReadsPart};
 
-use crate::fault::ReadFault;
 use crate::items::Item;
-use crate::numbers::u32_of;
+use ms_bin_grammar::ReadFault;
 use ms_bytes::Cursor;
+use ms_leb::read_u;
 use ms_module::Name;
 use ms_names::utf8;
 use std::alloc::Global;
 
 /// Reads a name, in place. Every fault is at its count.
 pub fn text_of<'a>(c: &mut Cursor<'a>) -> Result<&'a str, ReadFault>
-    ensures { ReadsPart c.old c.new result (name_at c.old.end c.old.left) }
+    ensures { ReadsPart c.old c.new result (name.read c.old.end c.old.left) }
 {
     let at = c.at();
-    let size = u32_of(c)? as usize;
-    let Some(bytes) = c.take_n(size) else {
+    let Ok(size) = read_u(c, 32) else {
+        return Err(ReadFault::Malformed { at });
+    };
+    let Some(bytes) = c.take_n(size as usize) else {
         return Err(ReadFault::Malformed { at });
     };
     match utf8(bytes) {

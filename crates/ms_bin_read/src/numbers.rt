@@ -1,9 +1,9 @@
 //! Reading numbers (WebAssembly 1.0, 5.2.2).
 
-ghost use Rattle.ms_bytes.specs.Format.{integer_at, number_at};
+ghost use Rattle.ms_bin_grammar.specs.Numbers.{integer_at, number_at};
 ghost use Rattle.ms_bin_read.specs.Readers.{Reads};
 
-use crate::fault::ReadFault;
+use ms_bin_grammar::ReadFault;
 use ms_bytes::Cursor;
 use ms_leb::{read_s, read_u};
 

@@ -1,15 +1,16 @@
 //! What sections hold (WebAssembly 1.0, 5.5), but for code.
 
 ghost use Rattle.std.specs.Prelude.{◌≡◌};
-ghost use Rattle.ms_bytes.specs.Bounded.{bytes};
-ghost use Rattle.ms_module.specs.Module.{element, export, export_desc, fill, global, import, import_desc, usual};
+ghost use Rattle.ms_bin_grammar.specs.Sizes.{bytes};
+ghost use Rattle.ms_bin_grammar.specs.Module.{element, export, export_desc, fill, global, import, import_desc};
+ghost use Rattle.ms_bin_grammar.specs.Bounds.{usual};
 ghost use Rattle.ms_bin_read.specs.Readers.{Reads};
 
 use crate::body::body_of;
-use crate::fault::ReadFault;
 use crate::items::{Item, byte_of};
 use crate::numbers::u32_of;
 use crate::types::table_type_of;
+use ms_bin_grammar::ReadFault;
 use ms_bytes::Cursor;
 use ms_module::{Element, Export, ExportDesc, Fill, Import, ImportDesc, Name};
 use ms_types::{GlobalType, Limits, Vector};
@@ -18,7 +19,7 @@ use std::alloc::Global;
 impl Item for ImportDesc {
     ghost format = { import_desc };
 
-    #[tactic(auto, unfolding(ms_module::specs::Module::import_desc))]
+    #[tactic(auto, unfolding(ms_bin_grammar::specs::Module::import_desc))]
     fn read(alloc: Global, c: &mut Cursor) -> Result<Self, ReadFault> {
         let at = c.at();
         match byte_of(c)? {
@@ -34,7 +35,7 @@ impl Item for ImportDesc {
 impl Item for Import {
     ghost format = { import };
 
-    #[tactic(auto, unfolding(ms_module::specs::Module::import))]
+    #[tactic(auto, unfolding(ms_bin_grammar::specs::Module::import))]
     fn read(alloc: Global, c: &mut Cursor) -> Result<Self, ReadFault> {
         let module = Name::read(alloc, c)?;
         let name = Name::read(alloc, c)?;
@@ -46,7 +47,7 @@ impl Item for Import {
 impl Item for ms_module::Global {
     ghost format = { global usual };
 
-    #[tactic(auto, unfolding(ms_module::specs::Module::global))]
+    #[tactic(auto, unfolding(ms_bin_grammar::specs::Module::global))]
     fn read(alloc: Global, c: &mut Cursor) -> Result<Self, ReadFault> {
         let ty = GlobalType::read(alloc, c)?;
         let init = body_of(alloc, c)?;
@@ -57,7 +58,7 @@ impl Item for ms_module::Global {
 impl Item for ExportDesc {
     ghost format = { export_desc };
 
-    #[tactic(auto, unfolding(ms_module::specs::Module::export_desc))]
+    #[tactic(auto, unfolding(ms_bin_grammar::specs::Module::export_desc))]
     fn read(_alloc: Global, c: &mut Cursor) -> Result<Self, ReadFault> {
         let at = c.at();
         match byte_of(c)? {
@@ -73,7 +74,7 @@ impl Item for ExportDesc {
 impl Item for Export {
     ghost format = { export };
 
-    #[tactic(auto, unfolding(ms_module::specs::Module::export))]
+    #[tactic(auto, unfolding(ms_bin_grammar::specs::Module::export))]
     fn read(alloc: Global, c: &mut Cursor) -> Result<Self, ReadFault> {
         let name = Name::read(alloc, c)?;
         let desc = ExportDesc::read(alloc, c)?;
@@ -84,7 +85,7 @@ impl Item for Export {
 impl Item for Element {
     ghost format = { element usual };
 
-    #[tactic(auto, unfolding(ms_module::specs::Module::element))]
+    #[tactic(auto, unfolding(ms_bin_grammar::specs::Module::element))]
     fn read(alloc: Global, c: &mut Cursor) -> Result<Self, ReadFault> {
         let table = u32_of(c)?;
         let offset = body_of(alloc, c)?;
@@ -111,7 +112,7 @@ fn bytes_of(alloc: Global, count: u32, c: &mut Cursor) -> Result<Vector<u8>, Rea
 impl Item for Fill {
     ghost format = { fill usual };
 
-    #[tactic(auto, unfolding(ms_module::specs::Module::fill))]
+    #[tactic(auto, unfolding(ms_bin_grammar::specs::Module::fill))]
     fn read(alloc: Global, c: &mut Cursor) -> Result<Self, ReadFault> {
         let memory = u32_of(c)?;
         let offset = body_of(alloc, c)?;

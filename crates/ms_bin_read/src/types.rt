@@ -1,46 +1,27 @@
 //! Reading types (WebAssembly 1.0, 5.3).
 
 ghost use Rattle.std.specs.Prelude.{◌≡◌};
-ghost use Rattle.ms_bytes.specs.Choice.{named};
-ghost use Rattle.ms_bytes.specs.Repetition.{times, vec};
-ghost use Rattle.ms_module.specs.Types.{block_type, func_type, global_type, is_float_type, limits, mutability, table_type, val_type, value_codes};
+ghost use Rattle.ms_bytes.specs.Repetition.{times};
+ghost use Rattle.ms_bin_grammar.specs.Numbers.{vec};
+ghost use Rattle.ms_bin_grammar.specs.Types.{block_type, func_type, global_type, limits, mutability, table_type, val_type};
 ghost use Rattle.ms_bin_read.specs.Readers.{Reads};
 
-use crate::fault::ReadFault;
 use crate::items::{Item, byte_of, marks_of};
 use crate::numbers::u32_of;
+use ms_bin_grammar::ReadFault;
 use ms_bytes::Cursor;
+use ms_module::{is_float_type, val_type_from_code};
 use ms_types::{FuncType, GlobalType, Limits, ValType, Vector};
 use std::alloc::Global;
-
-/// The value type of this code.
-#[tactic(auto, unfolding(ms_module::specs::Types::value_codes))]
-fn val_type_of(code: u8) -> Option<ValType>
-    ensures { result ≡ named value_codes code }
-{
-    match code {
-        0x7F => Some(ValType::I32),
-        0x7E => Some(ValType::I64),
-        0x58 => Some(ValType::Handle),
-        _ => None,
-    }
-}
-
-/// Whether the code is that of a floating-point type.
-fn is_float_type(code: u8) -> bool
-    ensures { result ≡ is_float_type code }
-{
-    code == 0x7D || code == 0x7C
-}
 
 impl Item for ValType {
     ghost format = { val_type };
 
-    #[tactic(auto, unfolding(ms_module::specs::Types::val_type, ms_module::specs::Types::val_types))]
+    #[tactic(auto, unfolding(ms_bin_grammar::specs::Types::val_type, ms_bin_grammar::specs::Types::val_types))]
     fn read(_alloc: Global, c: &mut Cursor) -> Result<Self, ReadFault> {
         let at = c.at();
         let code = byte_of(c)?;
-        match val_type_of(code) {
+        match val_type_from_code(code) {
             Some(ty) => Ok(ty),
             None if is_float_type(code) => Err(ReadFault::Float { at }),
             None => Err(ReadFault::Malformed { at }),
@@ -49,7 +30,7 @@ impl Item for ValType {
 }
 
 /// Reads the type of a block.
-#[tactic(auto, unfolding(ms_module::specs::Types::block_type, ms_module::specs::Types::block_types))]
+#[tactic(auto, unfolding(ms_bin_grammar::specs::Types::block_type, ms_bin_grammar::specs::Types::block_types))]
 pub fn block_type_of(c: &mut Cursor) -> Result<Option<ValType>, ReadFault>
     ensures { Reads c.old c.new result (block_type.read c.old.end c.old.left) }
 {
@@ -58,7 +39,7 @@ pub fn block_type_of(c: &mut Cursor) -> Result<Option<ValType>, ReadFault>
     if code == 0x40 {
         return Ok(None);
     }
-    match val_type_of(code) {
+    match val_type_from_code(code) {
         Some(ty) => Ok(Some(ty)),
         None if is_float_type(code) => Err(ReadFault::Float { at }),
         None => Err(ReadFault::Malformed { at }),
@@ -68,7 +49,7 @@ pub fn block_type_of(c: &mut Cursor) -> Result<Option<ValType>, ReadFault>
 impl Item for FuncType {
     ghost format = { func_type };
 
-    #[tactic(auto, unfolding(ms_module::specs::Types::func_type))]
+    #[tactic(auto, unfolding(ms_bin_grammar::specs::Types::func_type))]
     fn read(alloc: Global, c: &mut Cursor) -> Result<Self, ReadFault> {
         marks_of(&[0x60], c)?;
         let params = Item::read(alloc, c)?;
@@ -81,7 +62,7 @@ impl Item for FuncType {
 impl Item for Limits {
     ghost format = { limits };
 
-    #[tactic(auto, unfolding(ms_module::specs::Types::limits))]
+    #[tactic(auto, unfolding(ms_bin_grammar::specs::Types::limits))]
     fn read(_alloc: Global, c: &mut Cursor) -> Result<Self, ReadFault> {
         let at = c.at();
         match byte_of(c)? {
@@ -103,7 +84,7 @@ impl Item for Limits {
 }
 
 /// Reads the type of a table.
-#[tactic(auto, unfolding(ms_module::specs::Types::table_type))]
+#[tactic(auto, unfolding(ms_bin_grammar::specs::Types::table_type))]
 pub fn table_type_of(alloc: Global, c: &mut Cursor) -> Result<Limits, ReadFault>
     ensures { Reads c.old c.new result (table_type.read c.old.end c.old.left) }
 {
@@ -122,7 +103,7 @@ fn times_table(alloc: Global, count: u32, c: &mut Cursor) -> Result<Vector<Limit
 }
 
 /// Reads a vector of table types.
-#[tactic(auto, unfolding(ms_bytes::specs::Repetition::vec))]
+#[tactic(auto, unfolding(ms_bin_grammar::specs::Numbers::vec))]
 pub fn tables_of(alloc: Global, c: &mut Cursor) -> Result<Vector<Limits>, ReadFault>
     ensures { Reads c.old c.new result ((vec table_type).read c.old.end c.old.left) }
 {
@@ -131,7 +112,7 @@ pub fn tables_of(alloc: Global, c: &mut Cursor) -> Result<Vector<Limits>, ReadFa
 }
 
 /// Reads whether a global may change.
-#[tactic(auto, unfolding(ms_module::specs::Types::mutability))]
+#[tactic(auto, unfolding(ms_bin_grammar::specs::Types::mutability))]
 fn mutability_of(c: &mut Cursor) -> Result<bool, ReadFault>
     ensures { Reads c.old c.new result (mutability.read c.old.end c.old.left) }
 {
@@ -146,7 +127,7 @@ fn mutability_of(c: &mut Cursor) -> Result<bool, ReadFault>
 impl Item for GlobalType {
     ghost format = { global_type };
 
-    #[tactic(auto, unfolding(ms_module::specs::Types::global_type))]
+    #[tactic(auto, unfolding(ms_bin_grammar::specs::Types::global_type))]
     fn read(alloc: Global, c: &mut Cursor) -> Result<Self, ReadFault> {
         let ty = ValType::read(alloc, c)?;
         let mutable = mutability_of(c)?;

@@ -9,8 +9,8 @@ pub record Spot : Type 0 where
 abbrev pub start : List ℕ → Spot
 start bytes = record { end = length bytes; left = bytes }
 
--- where the next byte is
-abbrev pub place_of : ℕ → List ℕ → ℕ
+-- where the next item of a text is, by the place at which the text ends
+abbrev pub place_of : {E : Type 0} → ℕ → List E → ℕ
 place_of end left = end - length left
 
 abbrev pub place : Spot → ℕ

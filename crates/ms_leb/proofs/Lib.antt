@@ -1,2 +1,3 @@
 pub mod Powers
+pub mod Leb128Laws
 pub mod Reading

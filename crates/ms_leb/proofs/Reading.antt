@@ -3,10 +3,11 @@ use Rattle.std.proofs.Common.{◌≡◌, ℕ, suc, ◌+◌, ◌-◌, ◌/◌, �
 use Rattle.std.specs.Prelude.{IfOk}
 use Rattle.std.proofs.lemmas.Bool.Decides.{nat_tests}
 use Rattle.ms_bytes.specs.Spot.{Spot}
-use Rattle.ms_bytes.specs.Leb128.{SignedAt, UnsignedAt, signed_at, unsigned_at, with_low, with_low_z}
-use Rattle.ms_bytes.specs.Leb128Laws.{chosen, same_pair, signed_again, signed_takes, unsigned_again, unsigned_takes}
-use Rattle.ms_bytes.specs.declared.leb.Leb.{Leb}
-use Rattle.ms_bytes.specs.declared.leb.Leb.TheVariants.{Short}
+use Rattle.ms_leb.specs.Leb128.{SignedAt, UnsignedAt, signed_at, unsigned_at, with_low, with_low_z}
+use Rattle.ms_bytes.specs.ResultLaws.{chosen}
+use Rattle.ms_leb.proofs.Leb128Laws.{same_pair, signed_again, signed_takes, unsigned_again, unsigned_takes}
+use Rattle.ms_leb.specs.declared.leb.Leb.{Leb}
+use Rattle.ms_leb.specs.declared.leb.Leb.TheVariants.{Short}
 use Rattle.ms_leb.specs.Numbers.{IsShort, Reads}
 
 -- ---- unsigned

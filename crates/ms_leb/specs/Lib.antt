@@ -1,1 +1,2 @@
+pub mod Leb128
 pub mod Numbers

@@ -1,7 +1,7 @@
 -- What reading a number gives, and why there is none.
 use Rattle.std.specs.Prelude.{◌≡◌, ◌+◌, ◌/◌, ◌<◌, ◌≤◌, ℕ, List, [], ◌∷◌, drop, length, Result, Ok, Err}
 use Rattle.ms_bytes.specs.Spot.{Spot}
-use Rattle.ms_bytes.specs.declared.leb.Leb.{Leb}
+use Rattle.ms_leb.specs.declared.leb.Leb.{Leb}
 
 -- a number and how many bytes it takes are what reading gives
 abbrev pub Counts : {A : Type 0} → List ℕ → Result (A × ℕ) Leb → Result (A × List ℕ) Leb → Type 0

@@ -1,10 +1,10 @@
 //! Numbers at the front of bytes.
 
 ghost use Rattle.std.specs.Prelude.{◌≡◌, ◌≤◌, ◌<◌, ◌^◌, ◌-◌, length, IfOk, pos, ◌+ℤ◌, ◌*ℤ◌, nat_lt, nat_le, ◌+◌};
-ghost use Rattle.ms_bytes.specs.Leb128.{IsWithin, signed_at, unsigned_at};
+ghost use Rattle.ms_leb.specs.Leb128.{IsWithin, signed_at, unsigned_at};
 ghost use Rattle.ms_leb.specs.Numbers.{Counts};
 
-use ms_bytes::Leb;
+use crate::leb::Leb;
 
 /// Whether a last byte of an unsigned number keeps to the bits that are left.
 fn is_last(byte: u8, bits: u32) -> bool

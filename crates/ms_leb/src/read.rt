@@ -1,9 +1,10 @@
 ghost use Rattle.std.specs.Prelude.{◌≡◌, ◌≤◌, ◌<◌, ◌^◌, ◌-◌, ◌↔◌, ℕ, ℤ, List, Ok, Err, IfOk, OnErr};
-ghost use Rattle.ms_bytes.specs.Leb128.{IsWithin, SignedAt, UnsignedAt, signed_at, unsigned_at};
+ghost use Rattle.ms_leb.specs.Leb128.{IsWithin, SignedAt, UnsignedAt, signed_at, unsigned_at};
 ghost use Rattle.ms_leb.specs.Numbers.{IsShort, Reads};
 
 use crate::numbers::{signed, unsigned};
-use ms_bytes::{Cursor, Leb};
+use crate::leb::Leb;
+use ms_bytes::Cursor;
 
 fn unsigned_of(c: &mut Cursor, bits: u32) -> Result<u64, Leb>
     requires { bits ≤ 64 }

@@ -1,37 +1,23 @@
--- Reading a body from left to right: the blocks that are open, the sequences so far, and what one instruction, opening,
--- `else` or `end` makes of them.
-use Rattle.std.specs.Prelude.{◌==◌, ℕ, zero, suc, Bool, true, false, List, [], ◌∷◌, ◌++◌, length, drop, Option, Some, None, Result, Ok, Err, nat_lt, if◌then◌else◌}
-use Rattle.ms_bytes.specs.Spot.{first_is, place_of}
-use Rattle.ms_bytes.specs.Reading.{◌>>=◌, Blocks, Fault, Limit, Malformed, Reader, malformed}
-use Rattle.ms_bytes.specs.Choice.{byte_at}
+-- A body while it is built, from left to right: what an instruction, the opening of a block, its `else` and its end make
+-- of the sequences so far. Sequences are numbered from 0 in the order in which they begin (WebAssembly 1.0, 2.4.5 and
+-- 5.4.1).
+use Rattle.std.specs.Prelude.{◌≡◌, ◌<◌, ℕ, zero, suc, Bool, true, false, List, [], ◌∷◌, ◌++◌, length, Option, Some, None, if◌then◌else◌}
 use Rattle.ms_types.specs.declared.types.ValType.{ValType}
 use Rattle.ms_module.specs.declared.instr.Instr.{Instr}
-use Rattle.ms_module.specs.declared.instr.Instr.TheVariants.{If}
-use Rattle.ms_module.specs.Types.{block_type}
-use Rattle.ms_module.specs.Code.{plain}
-use Rattle.ms_module.specs.Numbered.{Opening, block, loop, if_alone, one_sequence}
+use Rattle.ms_module.specs.declared.instr.Instr.TheVariants as instr
+use Rattle.ms_module.specs.declared.builder.Opening.{Opening}
+use Rattle.ms_module.specs.declared.builder.Opening.TheVariants.{Block, Loop, If}
+use Rattle.ms_module.specs.declared.builder.Arm.{Arm}
+use Rattle.ms_module.specs.declared.builder.Arm.TheVariants.{First, Turned, Second}
+use Rattle.ms_module.specs.declared.builder.Open.{Open}
+use Rattle.ms_module.specs.Numbered.{IsPlain}
 
--- the sequence of an open block: its first one, or the else arm of an if, whose first arm has this number
-pub data Arm : Type 0 where
-  first_arm : Opening → Arm
-  else_arm : ℕ → Arm
-
--- an open block, by the number of its sequence
-pub record Open : Type 0 where
-  pub arm : Arm
-  pub ty : Option ValType
-  pub seq : ℕ
-
--- what a block is once it has ended
-abbrev pub whole_of : Arm → Option ValType → ℕ → Instr
-whole_of (first_arm o) ty n = one_sequence o ty n
-whole_of (else_arm before) ty n = If ty before (Some n)
-
--- the open blocks, the innermost first, and all sequences so far
+-- the open blocks, the innermost first, and the sequences that have begun, by their numbers
 pub record State : Type 0 where
   pub blocks : List Open
   pub seqs : List (List Instr)
 
+-- no block, and the body's own sequence, in which nothing stands
 abbrev pub first_state : State
 first_state = record { blocks = []; seqs = [] ∷ [] }
 
@@ -40,93 +26,98 @@ abbrev pub current : List Open → ℕ
 current [] = 0
 current (o ∷ os) = o.seq
 
-abbrev pub innermost : List Open → Option Open
-innermost [] = None
-innermost (o ∷ os) = Some o
-
-abbrev pub outer : List Open → List Open
-outer [] = []
-outer (o ∷ os) = os
-
--- the sequences, where that of number k has these instructions, too, at its end
-abbrev pub puts : List (List Instr) → ℕ → List Instr → List (List Instr)
-puts [] k is = []
-puts (s ∷ ss) zero is = (s ++ is) ∷ ss
-puts (s ∷ ss) (suc k) is = s ∷ puts ss k is
-
+-- the sequences, where that of number k has this instruction, too, at its end
 abbrev pub put : List (List Instr) → ℕ → Instr → List (List Instr)
-put ss k i = puts ss k (i ∷ [])
+put [] k i = []
+put (s ∷ ss) zero i = (s ++ i ∷ []) ∷ ss
+put (s ∷ ss) (suc k) i = s ∷ put ss k i
 
+-- ---- the second sequence of an `if`
+
+abbrev pub is_turned_in : Arm → Bool
+is_turned_in (First opening) = false
+is_turned_in Turned = true
+is_turned_in (Second before) = false
+
+-- whether the innermost block stands behind an `else`, before the first instruction there
+abbrev pub is_turned : List Open → Bool
+is_turned [] = false
+is_turned (o ∷ os) = is_turned_in o.arm
+
+-- the innermost block in its second sequence, which has the number n
+abbrev pub in_second : ℕ → List Open → List Open
+in_second n [] = []
+in_second n (o ∷ os) = record { arm = Second o.seq; ty = o.ty; seq = n } ∷ os
+
+-- before an instruction behind an `else`: the second sequence begins
+abbrev pub started : State → State
+started st = if is_turned st.blocks then record { blocks = in_second (length st.seqs) st.blocks; seqs = st.seqs ++ [] ∷ [] } else st
+
+-- ---- what is added
+
+-- an instruction at the end of the current sequence
+abbrev pub placed_in : State → Instr → State
+placed_in st i = record { blocks = st.blocks; seqs = put st.seqs (current st.blocks) i }
+
+-- a block, whose first sequence is the current one
+abbrev pub begun_in : State → Opening → Option ValType → State
+begun_in st opening ty = record { blocks = record { arm = First opening; ty = ty; seq = length st.seqs } ∷ st.blocks; seqs = st.seqs ++ [] ∷ [] }
+
+-- an instruction that is no block
 abbrev pub placed : State → Instr → State
-placed st i = record { blocks = st.blocks; seqs = put st.seqs (current st.blocks) i }
+placed st i = placed_in (started st) i
 
-abbrev pub begun : State → Arm → Option ValType → State
-begun st arm ty = record { blocks = record { arm = arm; ty = ty; seq = length st.seqs } ∷ st.blocks; seqs = st.seqs ++ [] ∷ [] }
+-- the opening of a block
+abbrev pub begun : State → Opening → Option ValType → State
+begun st opening ty = begun_in (started st) opening ty
 
-abbrev pub left_behind : State → State
-left_behind st = record { blocks = outer st.blocks; seqs = st.seqs }
+-- whether an `else` may come: in the first sequence of an `if`
+abbrev pub may_turn_in : Arm → Bool
+may_turn_in (First Block) = false
+may_turn_in (First Loop) = false
+may_turn_in (First If) = true
+may_turn_in Turned = false
+may_turn_in (Second before) = false
 
--- ---- one turn
+abbrev pub may_turn : List Open → Bool
+may_turn [] = false
+may_turn (o ∷ os) = may_turn_in o.arm
 
--- whether the body has ended, and the state
-abbrev pub Turn : Type 0
-Turn = Bool × State
+-- an `else`
+abbrev pub turned_blocks : List Open → List Open
+turned_blocks [] = []
+turned_blocks (o ∷ os) = record { arm = Turned; ty = o.ty; seq = o.seq } ∷ os
 
-abbrev pub going : State → List ℕ → Result (Turn × List ℕ) Fault
-going st left = Ok ((false, st), left)
+abbrev pub turned : State → State
+turned st = record { blocks = turned_blocks st.blocks; seqs = st.seqs }
 
--- a fault at the opcode
-abbrev pub malformed_at : {A : Type 0} → ℕ → Result A Fault
-malformed_at at = Err (Malformed at)
+-- The block of an arm, once it has ended: n is the number of its latest sequence. An `else` with no instruction behind it
+-- is none.
+abbrev pub whole : Arm → Option ValType → ℕ → Instr
+whole (First Block) ty n = instr.Block ty n
+whole (First Loop) ty n = instr.Loop ty n
+whole (First If) ty n = instr.If ty n None
+whole Turned ty n = instr.If ty n None
+whole (Second before) ty n = instr.If ty before (Some n)
 
--- behind the opcode of a block: there may be one more
-unfoldable pub opening_at : ℕ → State → ℕ → Opening → Reader Turn
-opening_at most st at o end bytes =
-    if nat_lt (length st.blocks) most then (block_type.read end bytes >>= λ ty. going (begun st (first_arm o) ty.0) ty.1) else Err (Limit Blocks at)
+abbrev pub closed_in : List Open → List (List Instr) → State
+closed_in [] ss = record { blocks = []; seqs = ss }
+closed_in (o ∷ os) ss = placed_in (record { blocks = os; seqs = ss }) (whole o.arm o.ty o.seq)
 
--- behind the `else` of an if; an arm of no instruction is none
-abbrev pub other_arm : State → Option ValType → ℕ → List ℕ → Result (Turn × List ℕ) Fault
-other_arm outside ty n bytes = if first_is 0x0B bytes then going (placed outside (If ty n None)) (drop 1 bytes) else going (begun outside (else_arm n) ty) bytes
+-- the end of the innermost block, which stands where it was opened
+abbrev pub closed : State → State
+closed st = closed_in st.blocks st.seqs
 
-abbrev pub else_of : Arm → Option ValType → ℕ → State → ℕ → List ℕ → Result (Turn × List ℕ) Fault
-else_of (first_arm if_alone) ty n outside at bytes = other_arm outside ty n bytes
-else_of (first_arm block) ty n outside at bytes = malformed_at at
-else_of (first_arm loop) ty n outside at bytes = malformed_at at
-else_of (else_arm before) ty n outside at bytes = malformed_at at
+-- ---- bodies
 
--- behind an `else`, which stands in the first arm of an if and nowhere else
-unfoldable pub else_at : List Open → List (List Instr) → ℕ → List ℕ → Result (Turn × List ℕ) Fault
-else_at [] ss at bytes = malformed_at at
-else_at (o ∷ os) ss at bytes = else_of o.arm o.ty o.seq (record { blocks = os; seqs = ss }) at bytes
+-- what is built from left to right
+pub data Builds : State → Type 0 where
+  begins : Builds first_state
+  places : {st : State} (i : Instr) → IsPlain i → Builds st → Builds (placed st i)
+  opens : {st : State} (opening : Opening) (ty : Option ValType) → Builds st → Builds (begun st opening ty)
+  turns : {st : State} → may_turn st.blocks ≡ true → Builds st → Builds (turned st)
+  closes : {st : State} → 0 < length st.blocks → Builds st → Builds (closed st)
 
--- behind an `end`
-unfoldable pub end_turn : List Open → List (List Instr) → Turn
-end_turn [] ss = (true, record { blocks = []; seqs = ss })
-end_turn (o ∷ os) ss = (false, placed (record { blocks = os; seqs = ss }) (whole_of o.arm o.ty o.seq))
-
--- behind an opcode
-unfoldable pub turn_on : ℕ → State → ℕ → ℕ → Reader Turn
-turn_on most st at code end bytes =
-    if code == 0x02 then opening_at most st at block end bytes else
-    if code == 0x03 then opening_at most st at loop end bytes else
-    if code == 0x04 then opening_at most st at if_alone end bytes else
-    if code == 0x05 then else_at st.blocks st.seqs at bytes else
-    if code == 0x0B then Ok (end_turn st.blocks st.seqs, bytes) else (plain.read at code end bytes >>= λ i. going (placed st i.0) i.1)
-
-unfoldable pub turn_at : ℕ → State → Reader Turn
-turn_at most st end bytes = byte_at end bytes >>= λ code. turn_on most st (place_of end bytes) code.0 end code.1
-
--- ---- the turns of a body
-
--- the body's sequences where it has ended, and else what comes next
-abbrev pub after_turn : (State → List ℕ → Result (List (List Instr) × List ℕ) Fault) → Turn × List ℕ → Result (List (List Instr) × List ℕ) Fault
-after_turn next t = if t.0.0 then Ok (t.0.1.seqs, t.1) else next t.0.1 t.1
-
--- at most so many turns; each takes a byte
-unfoldable pub turns_at : ℕ → ℕ → State → Reader (List (List Instr))
-turns_at most zero st end bytes = malformed end bytes
-turns_at most (suc n) st end bytes = turn_at most st end bytes >>= after_turn (λ next left. turns_at most n next end left)
-
--- the instructions of a body up to its `end`, with at most so many blocks in one another
-unfoldable pub body_at : ℕ → Reader (List (List Instr))
-body_at most end bytes = turns_at most (length bytes) first_state end bytes
+-- these are the sequences of a body, its own one first
+abbrev pub IsNumbered : List (List Instr) → Type 0
+IsNumbered ss = Builds (record { blocks = []; seqs = ss })

@@ -1,5 +1,6 @@
 ghost use Rattle.std.specs.Prelude.{◌≡◌, ◌<◌, List, length};
-ghost use Rattle.ms_module.specs.Numbered.{AllNameWithin, IsNumbered, sequence_at};
+ghost use Rattle.ms_module.specs.Building.{IsNumbered};
+ghost use Rattle.ms_module.specs.Numbered.{AllNameWithin, sequence_at};
 
 use crate::instr::Instr;
 use ms_types::Vector;
@@ -15,7 +16,7 @@ pub struct Code {
 impl Model for Code {
     ghost use Rattle.std.specs.Prelude.{List};
     ghost use Rattle.ms_module.specs.declared.instr.Instr.{Instr};
-    ghost use Rattle.ms_module.specs.Numbered.{IsNumbered};
+    ghost use Rattle.ms_module.specs.Building.{IsNumbered};
 
     ghost Value = { List (List Instr) };
 
@@ -26,7 +27,7 @@ impl Model for Code {
 
 impl Code {
     /// The code of these sequences.
-    pub fn new(sequences: Vector<Vector<Instr>>) -> Self
+    pub(crate) fn new(sequences: Vector<Vector<Instr>>) -> Self
         requires { IsNumbered sequences }
         ensures { result ≡ sequences }
     {
@@ -36,6 +37,7 @@ impl Code {
     /// How many sequences there are.
     pub fn len(&self) -> usize
         ensures len { result ≡ length self.now }
+        ensures some { 0 < result }
         ensures numbered { IsNumbered self.now }
     {
         self.sequences.len()

@@ -2,8 +2,9 @@ use Rattle.std.proofs.Common.{◌≡◌, ◌+◌, ◌++◌, ◌∷◌, [], ◌�
 use Rattle.std.proofs.Math.ListN.{drop_of_length-le}
 use Rattle.std.proofs.lemmas.List.{drop_more}
 use Rattle.std.proofs.lemmas.Result.{err_from_is_err_and}
-use Rattle.ms_module.specs.Module.{func, usual}
-use Rattle.ms_bytes.specs.Bounded.{sized}
+use Rattle.ms_bin_grammar.specs.Bounds.{usual}
+use Rattle.ms_bin_grammar.specs.Module.{func}
+use Rattle.ms_bin_grammar.specs.Sizes.{sized}
 use Rattle.ms_bin_read.proofs.Loops.{each_done, each_fails, each_goes}
 use Rattle.ms_bin_read.proofs.funcs.each_func.Goals as goal
 

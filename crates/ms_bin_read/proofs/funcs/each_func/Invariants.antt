@@ -1,7 +1,8 @@
 use Rattle.std.proofs.Common.{◌≡◌, drop}
 use Rattle.ms_bytes.specs.Repetition.{each}
-use Rattle.ms_module.specs.Module.{func, usual}
-use Rattle.ms_bytes.specs.Bounded.{sized}
+use Rattle.ms_bin_grammar.specs.Bounds.{usual}
+use Rattle.ms_bin_grammar.specs.Module.{func}
+use Rattle.ms_bin_grammar.specs.Sizes.{sized}
 use Rattle.ms_bin_read.proofs.Loops.{with_front}
 use Rattle.ms_bin_read.proofs.funcs.each_func.Given as goal
 

@@ -1,6 +1,7 @@
 use Rattle.std.proofs.Common.{◌∙◌}
 use Rattle.std.proofs.lemmas.Result.{err_from_is_err_and}
-use Rattle.ms_module.specs.Module.{more_locals, usual}
+use Rattle.ms_bin_grammar.specs.Bounds.{usual}
+use Rattle.ms_bin_grammar.specs.Module.{more_locals}
 use Rattle.ms_bin_read.proofs.Loops.{repeat_done, repeat_fails, repeat_goes}
 use Rattle.ms_bin_read.proofs.funcs.runs_of.Goals as goal
 

@@ -1,6 +1,7 @@
 use Rattle.std.proofs.Common.{◌≡◌, ◌-◌, ◌≤◌, [], length}
 use Rattle.ms_bytes.specs.Repetition.{repeat}
-use Rattle.ms_module.specs.Module.{more_locals, usual}
+use Rattle.ms_bin_grammar.specs.Bounds.{usual}
+use Rattle.ms_bin_grammar.specs.Module.{more_locals}
 use Rattle.ms_bin_read.proofs.funcs.runs_of.Given as goal
 
 abbrev pub invariant-loop : goal.invariant-loop

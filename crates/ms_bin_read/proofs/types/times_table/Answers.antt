@@ -1,6 +1,6 @@
 use Rattle.std.proofs.Common.{◌≡◌, ◌++◌, ◌∷◌, [], ◌∙◌, arith}
 use Rattle.std.proofs.lemmas.Result.{err_from_is_err_and}
-use Rattle.ms_module.specs.Types.{table_type}
+use Rattle.ms_bin_grammar.specs.Types.{table_type}
 use Rattle.ms_bin_read.proofs.Loops.{times_fails, times_goes, times_done}
 use Rattle.ms_bin_read.proofs.types.times_table.Goals as goal
 

@@ -1,6 +1,6 @@
 use Rattle.std.proofs.Common.{◌≡◌, ◌-◌}
 use Rattle.ms_bytes.specs.Repetition.{times}
-use Rattle.ms_module.specs.Types.{table_type}
+use Rattle.ms_bin_grammar.specs.Types.{table_type}
 use Rattle.ms_bin_read.proofs.Loops.{with_front}
 use Rattle.ms_bin_read.proofs.types.times_table.Given as goal
 

@@ -1,4 +1,4 @@
-use Rattle.ms_bytes.specs.Leb128.{signed_at}
+use Rattle.ms_leb.specs.Leb128.{signed_at}
 use Rattle.ms_leb.proofs.Reading.{is_short, short_signed, signed_found, signed_only, signed_short, was_short}
 use Rattle.ms_leb.proofs.read.read_s.Goals as goal
 

@@ -1,4 +1,4 @@
-use Rattle.ms_bytes.specs.Leb128.{unsigned_at}
+use Rattle.ms_leb.specs.Leb128.{unsigned_at}
 use Rattle.ms_leb.proofs.Reading.{is_short, short_unsigned, unsigned_found, unsigned_only, unsigned_short, was_short}
 use Rattle.ms_leb.proofs.read.read_u.Goals as goal
 

@@ -1,6 +1,7 @@
 use Rattle.std.proofs.Common.{◌≡◌, List, length, get_or, sym, subst, ◌∙◌}
 use Rattle.ms_module.specs.declared.instr.Instr.{Instr}
-use Rattle.ms_module.specs.Numbered.{AllNameWithin, IsNumbered}
+use Rattle.ms_module.specs.Building.{IsNumbered}
+use Rattle.ms_module.specs.Numbered.{AllNameWithin}
 use Rattle.ms_module.proofs.Order.{names_later, sequence_is}
 use Rattle.ms_module.proofs.code.Code.sequence.Goals as goal
 

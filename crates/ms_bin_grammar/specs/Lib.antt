@@ -1,0 +1,10 @@
+pub mod Faults
+pub mod Numbers
+pub mod Bounds
+pub mod Inside
+pub mod SizeLaws
+pub mod Sizes
+pub mod Types
+pub mod Code
+pub mod Body
+pub mod Module

@@ -1,0 +1,12 @@
+//! The grammar of binary modules (WebAssembly 1.0, chapter 5).
+//!
+//! It stands on `ms_module` (the module as data), `ms_leb` and the formats of `ms_bytes`. Read `specs/Module.antt` first:
+//! `Spells bytes module` says that the bytes are a spelling of the module, and `Stops bytes fault` where bytes that spell none
+//! go wrong. The code is what a reader gives beside a module: the faults, and what the sections so far say.
+#![tactic(auto)]
+
+mod fault;
+mod sections;
+
+pub use fault::{Counted, ReadFault};
+pub use sections::Sections;
