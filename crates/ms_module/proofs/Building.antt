@@ -1,5 +1,5 @@
 -- The builder's open blocks, the innermost last, and its sequences.
-use Rattle.std.proofs.Common.{◌≡◌, ℕ, zero, suc, ◌+◌, ◌-◌, ◌<◌, ◌≤◌, Bool, true, false, List, [], ◌∷◌, ◌++◌, length, reverse, drop, take, get_or, set, slice_set, refl, sym, ap, subst, ◌∙◌, arith}
+use Rattle.std.proofs.Common.{◌≡◌, ℕ, zero, suc, ◌+◌, ◌-◌, ◌<◌, true, false, List, [], ◌∷◌, ◌++◌, length, reverse, drop, take, get_or, slice_set, refl, sym, ap, subst, ◌∙◌, arith}
 use Rattle.std.specs.Prelude.{Option}
 use Rattle.std.proofs.lemmas.List.{reverse-append, set-get_or}
 use Rattle.ms_types.proofs.Reversed.{reverse-set_last, reverse-take}
@@ -8,7 +8,7 @@ use Rattle.ms_module.specs.declared.instr.Instr.{Instr}
 use Rattle.ms_module.specs.declared.builder.Opening.{Opening}
 use Rattle.ms_module.specs.declared.builder.Arm.TheVariants.{First, Second, Turned}
 use Rattle.ms_module.specs.declared.builder.Open.{Open}
-use Rattle.ms_module.specs.Building.{Builds, State, begun, begun_in, closed, current, in_second, is_turned, may_turn, placed, put, started, turned, turned_blocks, whole}
+use Rattle.ms_module.specs.Building.{Builds, State, begun, begun_in, closed, current, in_second, is_turned, may_turn, placed, put, started, turned_blocks, whole}
 use Rattle.ms_module.proofs.Order.{Fall, current_within, in_order}
 
 -- ---- instructions at the end of a sequence

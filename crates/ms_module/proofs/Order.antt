@@ -1,5 +1,5 @@
 -- The sequences that an instruction names begin after its own.
-use Rattle.std.proofs.Common.{◌≡◌, ℕ, zero, suc, ◌+◌, ◌<◌, ◌≤◌, Bool, true, false, List, [], ◌∷◌, ◌++◌, length, get_or, refl, sym, ap, subst, ◌∙◌, arith}
+use Rattle.std.proofs.Common.{◌≡◌, ℕ, zero, suc, ◌<◌, ◌≤◌, Bool, true, false, List, [], ◌∷◌, ◌++◌, length, get_or, refl, sym, ap, subst, arith}
 use Rattle.std.specs.Prelude.{Option, Some, None}
 use Rattle.std.proofs.lemmas.List.{length-append}
 use Rattle.ms_module.specs.declared.instr.Instr.{Instr}
@@ -10,8 +10,8 @@ use Rattle.ms_module.specs.declared.builder.Arm.{Arm}
 use Rattle.ms_module.specs.declared.builder.Arm.TheVariants.{First, Second, Turned}
 use Rattle.ms_module.specs.declared.builder.Open.{Open}
 use Rattle.ms_types.specs.declared.types.ValType.{ValType}
-use Rattle.ms_module.specs.Building.{Builds, IsNumbered, State, begins, begun, begun_in, closed, closed_in, closes, current, in_second, is_turned, is_turned_in, may_turn, may_turn_in, opens, placed, placed_in, places, put, started, turned, turned_blocks, turns, whole}
-use Rattle.ms_module.specs.Numbered.{AllNameWithin, ElseWithin, IsPlain, NamesWithin, sequence_at}
+use Rattle.ms_module.specs.Building.{Builds, IsNumbered, State, begins, begun_in, closed_in, closes, current, in_second, is_turned, is_turned_in, may_turn, may_turn_in, opens, placed_in, places, put, started, turned_blocks, turns, whole}
+use Rattle.ms_module.specs.Numbered.{AllNameWithin, IsPlain, NamesWithin, sequence_at}
 
 -- ---- sequences that grow
 

@@ -1,12 +1,12 @@
 -- Laws of the runs of locals.
-use Rattle.std.proofs.Common.{◌≡◌, ℕ, zero, suc, ◌+◌, ◌-◌, ◌≤◌, ◌<◌, leb, true, false, List, [], ◌∷◌, ◌++◌, length, get_or, set, replicate, Some, refl, sym, ap, ◌∙◌, arith, append_assoc}
-use Rattle.std.specs.Prelude.{option_map, slice_get}
+use Rattle.std.proofs.Common.{◌≡◌, ℕ, zero, suc, ◌+◌, ◌-◌, ◌≤◌, ◌<◌, leb, true, false, List, [], ◌∷◌, ◌++◌, length, get_or, set, replicate, Some, refl, sym, ap, subst, ◌∙◌, arith, append_assoc}
+use Rattle.std.specs.Prelude.{◌≢◌, option_map, slice_get}
 use Rattle.std.specs.List.Sorted.{IsPartitionPoint, IsPartitionedBy}
 use Rattle.std.proofs.lemmas.Bool.{leb-true, leb-false, le-leb}
 use Rattle.std.proofs.lemmas.List.{append-nil, length-append, length-replicate, replicate-append-replicate}
 use Rattle.ms_types.specs.declared.types.ValType.{ValType}
 use Rattle.ms_module.specs.declared.locals.Run.{Run}
-use Rattle.ms_module.specs.Locals.{end_of, Rise, types_of}
+use Rattle.ms_module.specs.Locals.{BeginsOther, Differ, end_of, Rise, types_of}
 
 pub length-types_of : (from : ℕ) (rs : List Run) → Rise from rs → from + length (types_of from rs) ≡ end_of from rs
 length-types_of from [] h = omega arith
@@ -103,28 +103,52 @@ types_of-set from zero (r ∷ q ∷ rs) e ty d l h lt t = absurd (omega arith)
 types_of-set from (suc n) (r ∷ q ∷ rs) e ty d l h lt t =
     ap (λ l. replicate (r.end - from) r.ty ++ l) (types_of-set r.end n (q ∷ rs) e ty d (omega arith) h.1 lt t) ∙ sym (append_assoc (replicate (r.end - from) r.ty) (types_of r.end (q ∷ rs)) (replicate (e - end_of q.end rs) ty))
 
+-- ---- neighbours
+
+-- a run is the same however it is read
+pub same_at : (rs : List Run) (k : ℕ) (r q : Run) → k < length rs → get_or rs k r ≡ r → get_or rs k q ≡ q → q ≡ r
+same_at [] k r q lt a b = absurd (omega arith)
+same_at (p ∷ rs) zero r q lt a b = sym b ∙ a
+same_at (p ∷ rs) (suc k) r q lt a b = same_at rs k r q (omega arith) a b
+
+pub Differ-push : (rs : List Run) (r : Run) → Differ rs → ((q : Run) (k : ℕ) → suc k ≡ length rs → get_or rs k q ≡ q → q.ty ≢ r.ty) → Differ (rs ++ r ∷ [])
+Differ-push [] r h other = (tt, tt)
+Differ-push (q ∷ []) r h other = (other q 0 refl refl, (tt, tt))
+Differ-push (q ∷ p ∷ rs) r h other = (h.0, Differ-push (p ∷ rs) r h.1 (λ d k l e. other d (suc k) (omega arith) e))
+
+-- a run that has the same type in the place of one
+Differ-others : (ty : ValType) (rs : List Run) (k : ℕ) (r d : Run) → (get_or rs k d).ty ≡ r.ty → BeginsOther ty rs → BeginsOther ty (set rs k r)
+Differ-others ty [] k r d e h = tt
+Differ-others ty (q ∷ rs) zero r d e h = λ same. h (same ∙ sym e)
+Differ-others ty (q ∷ rs) (suc k) r d e h = h
+
+pub Differ-set : (rs : List Run) (k : ℕ) (r d : Run) → (get_or rs k d).ty ≡ r.ty → Differ rs → Differ (set rs k r)
+Differ-set [] k r d e h = tt
+Differ-set (q ∷ rs) zero r d e h = (subst (λ (t : ValType). BeginsOther t rs) e h.0, h.1)
+Differ-set (q ∷ rs) (suc k) r d e h = (Differ-others q.ty rs k r d e h.0, Differ-set rs k r d e h.1)
+
 -- ---- more locals
 
-module _ (rs : List Run) (l : List ValType) (is : types_of 0 rs ≡ l) (h : Rise 0 rs) (was count : ℕ) (ty : ValType) (end : was ≡ length l) where
-  abbrev pub longer : Run
-  longer = record { end = was + count; ty = ty }
+abbrev pub longer : ℕ → ℕ → ValType → Run
+longer was count ty = record { end = was + count; ty = ty }
 
+module _ (rs : List Run) (l : List ValType) (is : types_of 0 rs ≡ l) (h : Rise 0 rs) (was count : ℕ) (ty : ValType) (end : was ≡ length l) where
   last_end : end_of 0 rs ≡ length l
   last_end = let a = length-types_of 0 rs h in let b = ap length is in omega arith
 
-  pub Rise-more : (0 < count) → Rise 0 (rs ++ longer ∷ [])
+  pub Rise-more : (0 < count) → Rise 0 (rs ++ longer was count ty ∷ [])
   Rise-more lt = Rise-push 0 rs (was + count) ty h (let a = last_end in omega arith)
 
-  pub types_of-more : types_of 0 (rs ++ longer ∷ []) ≡ l ++ replicate count ty
+  pub types_of-more : types_of 0 (rs ++ longer was count ty ∷ []) ≡ l ++ replicate count ty
   types_of-more =
       let n : (was + count) - end_of 0 rs ≡ count = let a = last_end in omega arith in
       types_of-push 0 rs (was + count) ty ∙ rw (n, is) refl
 
   -- the last run, of index n, made longer
-  pub Rise-longer : (n : ℕ) → suc n ≡ length rs → (0 < count) → Rise 0 (set rs n longer)
+  pub Rise-longer : (n : ℕ) → suc n ≡ length rs → (0 < count) → Rise 0 (set rs n (longer was count ty))
   Rise-longer n last lt = Rise-set 0 n rs (was + count) ty last h (let a = last_end in omega arith)
 
-  pub types_of-longer : (n : ℕ) (d : Run) → suc n ≡ length rs → (0 < count) → (get_or rs n d).ty ≡ ty → types_of 0 (set rs n longer) ≡ l ++ replicate count ty
+  pub types_of-longer : (n : ℕ) (d : Run) → suc n ≡ length rs → (0 < count) → (get_or rs n d).ty ≡ ty → types_of 0 (set rs n (longer was count ty)) ≡ l ++ replicate count ty
   types_of-longer n d last lt t =
       let k : (was + count) - end_of 0 rs ≡ count = let a = last_end in omega arith in
       types_of-set 0 n rs (was + count) ty d last h (let a = last_end in omega arith) t ∙ rw (k, is) refl

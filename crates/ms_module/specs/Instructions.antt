@@ -1,6 +1,6 @@
 -- All instructions: their opcodes (WebAssembly 1.0, 5.4), their keywords in texts (6.5), and what they are. Those on
 -- handles and segments have the prefix E0 and a second byte.
-use Rattle.std.specs.Prelude.{ℕ, ℤ, ◌==◌, ◌&&◌, ◌||◌, Bool, true, false, List, [], ◌∷◌, ◌++◌, Option, Some, None, codes, map, nat_le, if◌then◌else◌}
+use Rattle.std.specs.Prelude.{ℕ, ℤ, ◌==◌, ◌&&◌, ◌||◌, Bool, false, List, [], ◌∷◌, ◌++◌, Option, Some, None, codes, map, nat_le, if◌then◌else◌}
 use Rattle.std.specs.List.{starts_with}
 use Rattle.std.specs.Str.{bytes_eq}
 use Rattle.ms_handle.specs.declared.handle.Kind.{Kind}

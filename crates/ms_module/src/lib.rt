@@ -1,6 +1,8 @@
-//! Modules as data (WebAssembly 1.0, chapter 2), and the grammar of the binary format that spells them (chapter 5).
+//! Modules as data (WebAssembly 1.0, chapter 2), on `ms_types` and the kinds of `ms_handle`.
 //!
-//! The grammar stands in `specs/`: `Spells bytes module` says that the bytes are a spelling of the module.
+//! A body is its sequences of instructions, numbered in the order in which they begin. `specs/Building.antt`, the definition
+//! to read first, says which sequences are those of a body; `Builder` makes them. `specs/Instructions.antt` is the one table
+//! of opcodes and keywords that readers and writers of both formats cite.
 #![tactic(auto)]
 
 mod access;
@@ -20,10 +22,12 @@ pub use br_table::{BrTable, Targets};
 pub use builder::{Arm, Builder, Open, Opening};
 pub use code::Code;
 pub use instr::Instr;
-pub use laws::rows_are_apart;
-pub use locals::Locals;
+pub use laws::{bodies_have_a_depth, rows_are_apart};
+pub use locals::{Locals, Run};
 pub use module::{Element, Export, ExportDesc, Fill, Func, Global, Import, ImportDesc, Module};
 pub use name::Name;
 pub use numeric::{BinOp, Numeric, RelOp, UnOp, Width};
 pub use opcode::{is_float_opcode, is_float_type, val_type_from_code};
 
+#[cfg(test)]
+mod tests;

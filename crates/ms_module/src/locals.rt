@@ -1,15 +1,17 @@
 ghost use Rattle.std.specs.Prelude.{◌≡◌, ◌==◌, ◌+◌, ◌<◌, ◌^◌, ◌++◌, List, [], length, replicate, slice_get, is_ok, nat_le, if◌then◌else◌};
+ghost use Rattle.ms_module.specs.Locals.{Differ, Rise, types_of};
 
 use ms_types::ValType;
 use std::alloc::{AllocError, Global};
 use std::marker::Model;
 
-/// So many locals of one type, up to an index.
+/// Locals of one type that follow each other, from where the run before them ends.
 #[derive(Clone, Copy, Debug, PartialEq, Eq)]
-struct Run {
+pub struct Run {
     /// The index behind the last one.
-    end: u32,
-    ty: ValType,
+    pub end: u32,
+    /// Their type.
+    pub ty: ValType,
 }
 
 /// The types of the locals that a function declares (WebAssembly 1.0, 2.5.3), at most 2^32 - 1. Contracts see them as a
@@ -22,13 +24,13 @@ pub struct Locals {
 impl Model for Locals {
     ghost use Rattle.std.specs.Prelude.{List};
     ghost use Rattle.ms_types.specs.declared.types.ValType.{ValType};
-    ghost use Rattle.ms_module.specs.Locals.{Rise, types_of};
+    ghost use Rattle.ms_module.specs.Locals.{Differ, Rise, types_of};
 
     ghost Value = { List ValType };
 
     ghost view = { λ l. types_of 0 l.runs.items };
 
-    ghost invariant = { λ l. Rise 0 l.runs.items };
+    ghost invariant = { λ l. Rise 0 l.runs.items × Differ l.runs.items };
 }
 
 impl Locals {
@@ -82,6 +84,15 @@ impl Locals {
             _ => self.runs.push(Run { end, ty })?,
         }
         Ok(())
+    }
+
+    /// The locals as the fewest runs.
+    pub fn runs(&self) -> &[Run]
+        ensures types { types_of 0 result.now ≡ self.now }
+        ensures rise { Rise 0 result.now }
+        ensures differ { Differ result.now }
+    {
+        self.runs.as_slice()
     }
 
     /// The index behind the last local.

@@ -1,6 +1,6 @@
-use Rattle.std.proofs.Common.{◌≡◌, ◌<◌, ◌∷◌, ◌++◌, [], List, reverse, length, true, false, refl, subst, ◌∙◌, ap}
+use Rattle.std.proofs.Common.{◌≡◌, ◌∷◌, ◌++◌, [], List, reverse, length, true, false, ◌∙◌, ap}
 use Rattle.ms_module.specs.declared.instr.Instr.{Instr}
-use Rattle.ms_module.specs.Building.{Builds, State, current, in_second, is_turned, placed, places, put}
+use Rattle.ms_module.specs.Building.{State, current, in_second, is_turned, placed, places, put}
 use Rattle.ms_module.proofs.Building.{current_fits, placed-same, placed-second}
 use Rattle.ms_module.proofs.builder.Builder.add.Goals as goal
 

@@ -1,9 +1,8 @@
-use Rattle.std.proofs.Common.{◌≡◌, ◌-◌, ◌+◌, ◌<◌, ◌∙◌, reverse, length, take, sym, ap, arith}
+use Rattle.std.proofs.Common.{◌≡◌, ◌-◌, ◌<◌, reverse, length, take, sym, arith}
 use Rattle.std.proofs.lemmas.List.{length-reverse}
-use Rattle.ms_module.specs.Building.{State, closed, closes, current, put, whole}
+use Rattle.ms_module.specs.Building.{State, closed, closes, current, put}
 use Rattle.ms_module.proofs.Building.{around_fits, closed-is}
 use Rattle.ms_module.proofs.builder.Builder.close.Goals as goal
-
 
 pub put_at-requires : goal.put_at-requires
 put_at-requires c =

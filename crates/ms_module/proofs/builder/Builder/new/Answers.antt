@@ -1,6 +1,4 @@
-use Rattle.std.proofs.Common.{◌≡◌, arith}
-use Rattle.ms_module.specs.Building.{begins, Builds, State, first_state}
-use Rattle.std.proofs.Common.{List, reverse, subst, sym, ap, ◌∙◌}
+use Rattle.ms_module.specs.Building.{begins}
 use Rattle.ms_module.proofs.builder.Builder.new.Goals as goal
 
 pub invariant_of-result : goal.invariant_of-result

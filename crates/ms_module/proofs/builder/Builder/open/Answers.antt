@@ -1,9 +1,8 @@
-use Rattle.std.proofs.Common.{◌≡◌, ◌+◌, ◌<◌, ◌≤◌, ◌∷◌, ◌++◌, [], ℕ, List, reverse, length, true, false, refl, sym, subst, ◌∙◌, ap, arith, length-append}
+use Rattle.std.proofs.Common.{◌≡◌, ◌+◌, ◌≤◌, ◌∷◌, ◌++◌, [], List, reverse, length, true, false, sym, ◌∙◌, arith, length-append}
 use Rattle.std.specs.Vec.{vec_capacity, vec_len}
 use Rattle.ms_module.specs.declared.instr.Instr.{Instr}
 use Rattle.ms_module.specs.declared.builder.Arm.TheVariants.{First}
-use Rattle.ms_module.specs.declared.builder.Open.{Open}
-use Rattle.ms_module.specs.Building.{Builds, State, in_second, is_turned, opens, started}
+use Rattle.ms_module.specs.Building.{State, in_second, is_turned, opens, started}
 use Rattle.ms_module.proofs.Building.{begun-is, started-same, started-second}
 use Rattle.ms_module.proofs.builder.Builder.open.Goals as goal
 use Rattle.ms_module.proofs.builder.Builder.open.Goals.{else-turned, then-turned}

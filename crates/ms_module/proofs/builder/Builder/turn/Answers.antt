@@ -1,5 +1,5 @@
-use Rattle.std.proofs.Common.{◌≡◌, ◌-◌, ◌+◌, ◌<◌, reverse, length, true, sym, subst, arith, refl}
-use Rattle.ms_module.specs.Building.{Builds, State, may_turn, turned, turns}
+use Rattle.std.proofs.Common.{◌-◌, sym, arith, refl}
+use Rattle.ms_module.specs.Building.{turns}
 use Rattle.ms_module.proofs.Building.{may_turn-some, turned-is}
 use Rattle.ms_module.proofs.builder.Builder.turn.Goals as goal
 

@@ -1,5 +1,4 @@
-use Rattle.std.proofs.Common.{◌<◌, subst, sym, length, ℕ, arith}
-use Rattle.ms_module.specs.Building.{IsNumbered}
+use Rattle.std.proofs.Common.{◌<◌, subst, sym, ℕ}
 use Rattle.ms_module.proofs.Order.{some_sequence}
 use Rattle.ms_module.proofs.code.Code.len.Goals as goal
 
