@@ -1,5 +1,5 @@
 -- How modules are spelled (WebAssembly 1.0, 5.5).
-use Rattle.std.specs.Prelude.{◌≡◌, ◌==◌, ◌+◌, ◌<◌, ◌^◌, ℕ, Bool, List, [], ◌∷◌, ◌++◌, length, replicate, nat_le, nat_lt, not, Option, Some, None, Err}
+use Rattle.std.specs.Prelude.{◌≡◌, ◌==◌, ◌+◌, ◌<◌, ◌^◌, ℕ, Bool, List, [], ◌∷◌, ◌++◌, length, replicate, nat_le, nat_lt, not, Some, None, Err}
 use Rattle.std.proofs.Common.{arith}
 use Rattle.ms_bytes.specs.Do.{◌>>=◌}
 use Rattle.ms_bytes.specs.Parts.{pure}

@@ -1,10 +1,10 @@
 -- Laws of items whose size stands before them.
-use Rattle.std.specs.Prelude.{◌≡◌, ◌==◌, ℕ, ◌+◌, ◌-◌, ◌≤◌, false, List, [], ◌++◌, length, take, drop, nat_lt, Result, Ok, Err, if◌then◌else◌, refl}
+use Rattle.std.specs.Prelude.{◌≡◌, ℕ, ◌+◌, ◌-◌, ◌≤◌, false, List, [], ◌++◌, length, take, drop, Ok, Err, refl}
 use Rattle.std.proofs.Common.{cond, eqb, ltb, inl, inr, subst, arith}
 use Rattle.std.proofs.lemmas.Bool.{eqb-true, ltb-false, le-ltb}
 use Rattle.std.proofs.lemmas.List.{take_at, drop_at, take-append-drop, length-append, length-take, nil_from_length}
 use Rattle.ms_bytes.specs.Spot.{Spot, part}
-use Rattle.ms_bytes.specs.Reading.{◌>>=◌, Reader}
+use Rattle.ms_bytes.specs.Reading.{◌>>=◌}
 use Rattle.ms_bytes.specs.ResultLaws.{bind_ok, chosen, ok_is}
 use Rattle.ms_bytes.specs.TextLaws.{append_fits}
 use Rattle.ms_leb.specs.Leb128.{UnsignedAt}

@@ -6,7 +6,9 @@
 #![tactic(auto)]
 
 mod fault;
+mod laws;
 mod sections;
 
 pub use fault::{Counted, ReadFault};
+pub use laws::one_module_is_spelled;
 pub use sections::Sections;

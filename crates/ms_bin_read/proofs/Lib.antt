@@ -1,3 +1,4 @@
 pub mod Loops
 pub mod StepLoop
+pub mod OpenBlocks
 pub mod Modules

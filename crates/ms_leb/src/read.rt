@@ -2,8 +2,8 @@ ghost use Rattle.std.specs.Prelude.{◌≡◌, ◌≤◌, ◌<◌, ◌^◌, ◌-
 ghost use Rattle.ms_leb.specs.Leb128.{IsWithin, SignedAt, UnsignedAt, signed_at, unsigned_at};
 ghost use Rattle.ms_leb.specs.Numbers.{IsShort, Reads};
 
-use crate::numbers::{signed, unsigned};
 use crate::leb::Leb;
+use crate::numbers::{signed, unsigned};
 use ms_bytes::Cursor;
 
 fn unsigned_of(c: &mut Cursor, bits: u32) -> Result<u64, Leb>

@@ -1,4 +1,4 @@
-use Rattle.std.proofs.Common.{◌≡◌, ◌∙◌, sym}
+use Rattle.std.proofs.Common.{◌∙◌, sym}
 use Rattle.std.proofs.lemmas.Result.{err_from_is_err_and}
 use Rattle.ms_bytes.specs.RunLaws.{run_ends, run_on, run_over}
 use Rattle.ms_bin_grammar.specs.Faults.{malformed}
