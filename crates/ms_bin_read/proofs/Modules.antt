@@ -1,19 +1,30 @@
 -- What the whole reader gives is what the grammar says of the bytes.
-use Rattle.std.proofs.Common.{◌≡◌, ℕ, ◌⊎◌, inl, inr, List, [], length, Result, Ok, Err, refl, sym, ap, subst, ◌∙◌}
+use Rattle.std.specs.Prelude.{not}
+use Rattle.std.proofs.lemmas.Bool.{eqb-true}
+use Rattle.std.proofs.lemmas.List.{nil_from_length}
+use Rattle.std.proofs.Common.{Bool, true, eqb, false, ◌≡◌, ℕ, ◌⊎◌, inl, inr, List, [], length, Result, Ok, Err, refl, sym, ap, subst, ◌∙◌}
 use Rattle.ms_bytes.specs.Spot.{Spot, start}
 use Rattle.ms_bin_grammar.specs.Bounds.{usual}
-use Rattle.ms_bin_grammar.specs.Module.{SpellsWithin, Stops, module_format}
+use Rattle.ms_bytes.specs.RunLaws.{run_last}
+use Rattle.ms_bin_grammar.specs.Module.{SpellsWithin, Stops, has_more, module_format, section}
 use Rattle.ms_module.specs.declared.module.Module.{Module}
 use Rattle.ms_bin_grammar.specs.declared.fault.ReadFault.{ReadFault}
 use Rattle.ms_bin_grammar.specs.declared.fault.ReadFault.TheVariants.{Float, Limit, Malformed, Memory}
 use Rattle.ms_bin_read.specs.Readers.{Fails, IsFirstFault}
 
 -- nothing follows a module
+is_true : (b : Bool) → not b ≡ false → b ≡ true
+is_true true e = refl
+is_true false e = absurd cc
+
+none_left : (s : List ℕ) → not (eqb (length s) 0) ≡ false → s ≡ []
+none_left s e = nil_from_length s (eqb-true (length s) 0 (is_true (eqb (length s) 0) e))
+
 ends : (s : List ℕ) (m : Module) (t : List ℕ) → (module_format usual).spelled s m t → t ≡ []
 unfolding module_format
 ends s m t h =
     let last = h.3.3 in
-    sym last.3.3.1 ∙ (sym last.3.2.1 ∙ last.2.1)
+    sym last.3.3.1 ∙ (sym last.3.2.1 ∙ none_left last.1 (run_last has_more (section usual) last.2))
 
 abbrev pub read_from : Spot → Result (Module × List ℕ) ReadFault
 read_from c = (module_format usual).read c.end c.left

@@ -1,8 +1,7 @@
 -- Taking steps as a loop does.
-use Rattle.std.proofs.Common.{◌≡◌, ℕ, ◌-◌, ◌+◌, ◌≤◌, ◌<◌, Bool, true, false, List, Result, Ok, Err, sym, ap, ◌∙◌}
-use Rattle.ms_bytes.specs.Reading.{◌>>=◌}
+use Rattle.std.proofs.Common.{◌≡◌, ℕ, ◌-◌, ◌<◌, Bool, true, List, Result}
 use Rattle.ms_bytes.specs.Runs.{run_at}
-use Rattle.ms_bytes.specs.RunLaws.{run_ends, run_fails, run_is_step, run_on, run_over}
+use Rattle.ms_bytes.specs.RunLaws.{run_fails}
 use Rattle.ms_bin_grammar.specs.declared.fault.ReadFault.{ReadFault}
 use Rattle.ms_bin_grammar.specs.declared.fault.ReadFault.TheVariants.{Float, Limit, Malformed, Memory}
 use Rattle.ms_bin_grammar.specs.Faults.{Binary, malformed}
