@@ -4,13 +4,14 @@ use Rattle.std.specs.Prelude.{⊤, MatchOption, Option, Some, None, IsSomeAnd, A
 use Rattle.std.proofs.lemmas.List.Elements.{All-get_or}
 use Rattle.std.proofs.lemmas.Bool.{cases_lt}
 use Rattle.std.proofs.lemmas.Option.{slice_get_cases}
-use Rattle.ms_bytes.specs.Reading.{Fault as ReadingFault}
+use Rattle.ms_bin_grammar.specs.declared.fault.ReadFault.{ReadFault as ReadingFault}
 use Rattle.ms_outside.specs.Files.{Files, bytes_of}
 use Rattle.ms_outside.specs.Shelf.{Told}
 use Rattle.ms_machine.specs.Running.{End, Lost, OutOfBudget, Result as Ended, Stopped}
 use Rattle.ms_module.specs.declared.module.Module.{Module}
-use Rattle.ms_module.specs.Module.{SpellsWithin, Stops, module_format, usual}
-use Rattle.ms_module.proofs.Spelling.{one_module}
+use Rattle.ms_bin_grammar.specs.Bounds.{usual}
+use Rattle.ms_bin_grammar.specs.Module.{SpellsWithin, Stops, module_format}
+use Rattle.ms_bin_grammar.proofs.Spelling.{one_module}
 use Rattle.ms_rules.specs.Context.{context_of}
 use Rattle.ms_rules.specs.Modules.{FuncTyped, IsFirstUntyped, WellTyped}
 use Rattle.ms_valid.specs.Refusals.{IsWrong}

@@ -3,7 +3,7 @@ use Rattle.std.proofs.Common.{◌≡◌, ◌≢◌, ℕ, ◌==◌, ◌&&◌, Lis
 use Rattle.std.specs.Prelude.{Option, Some, None, Ok, Err, MatchOption, option_and_then, slice_get}
 use Rattle.std.proofs.lemmas.Bool.{eqb-true}
 use Rattle.std.proofs.lemmas.Option.{get_or_from_slice_get}
-use Rattle.ms_bytes.specs.Leb128Laws.{chosen}
+use Rattle.ms_bytes.specs.ResultLaws.{chosen}
 use Rattle.ms_machine.proofs.LinkedStores.{linked_func, linked_func_typed, linked_is}
 use Rattle.ms_machine.specs.Linking.{func_of, linked, linked_or, misfit, no_type, store_of}
 use Rattle.ms_machine.specs.Running.{IsAlone, Run, RunsTo, Tells, run_from}

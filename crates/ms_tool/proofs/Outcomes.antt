@@ -1,27 +1,26 @@
 -- What executing a file comes to is what its bytes give.
 use Rattle.std.proofs.Common.{◌≡◌, ℕ, List, refl, sym, subst}
-use Rattle.ms_bin_read.specs.declared.fault.ReadFault.{ReadFault}
-use Rattle.ms_bin_read.specs.declared.fault.ReadFault.TheVariants as faults
-use Rattle.ms_bin_read.specs.Readers.{IsFirstFault, counted_of}
-use Rattle.ms_bytes.specs.Reading as reading
+use Rattle.ms_bin_grammar.specs.declared.fault.ReadFault.{ReadFault}
+use Rattle.ms_bin_grammar.specs.declared.fault.ReadFault.TheVariants as faults
+use Rattle.ms_bin_read.specs.Readers.{IsFirstFault}
 use Rattle.ms_machine.specs.Running.{End, Tells}
 use Rattle.ms_machine.specs.declared.running.Ran.{Ran as Ending}
 use Rattle.ms_machine.specs.declared.running.Ran.TheVariants as endings
 use Rattle.ms_module.specs.declared.module.Module.{Module}
 use Rattle.ms_tool.specs.Executions.{AnswersAs, EndsAs, Execution, Runs, execution_of}
 use Rattle.ms_tool.specs.Executions as executions
-use Rattle.ms_tool.specs.Lines.{misfit_line, no_export_line, no_task_line}
-use Rattle.ms_tool.specs.Outcomes.{HasLine, IsOutcome, IsOver, IsTold, run_line, status_of, status_of_run, text_of, told_line}
+use Rattle.ms_tool.specs.Lines.{fault_line, misfit_line, no_export_line, no_task_line}
+use Rattle.ms_tool.specs.Outcomes.{HasLine, IsOutcome, IsOver, IsTold, run_line, status_of, status_of_run, text_of}
 use Rattle.ms_tool.specs.Top.{Executes, answered, invalid, unread}
 use Rattle.ms_tool.specs.declared.exec.Outcome.{Outcome}
 use Rattle.ms_tool.specs.declared.exec.Outcome.TheVariants.{Imports, Invalid, Misfit, NoTask, Ran, Unread}
 use Rattle.ms_tool.specs.declared.status.Status.{Status}
 use Rattle.ms_tool.specs.declared.status.Status.TheVariants.{Refused}
 
-unread_gives : (bytes : List ℕ) (fault : ReadFault) → IsTold fault → IsFirstFault bytes fault → Executes bytes Refused (told_line fault)
-unread_gives bytes (faults.Malformed at) told first = unread (reading.Malformed at) first
-unread_gives bytes (faults.Float at) told first = unread (reading.Float at) first
-unread_gives bytes (faults.Limit which at) told first = unread (reading.Limit (counted_of which) at) first
+unread_gives : (bytes : List ℕ) (fault : ReadFault) → IsTold fault → IsFirstFault bytes fault → Executes bytes Refused (fault_line fault)
+unread_gives bytes (faults.Malformed at) told first = unread (faults.Malformed at) first
+unread_gives bytes (faults.Float at) told first = unread (faults.Float at) first
+unread_gives bytes (faults.Limit which at) told first = unread (faults.Limit which at) first
 unread_gives bytes faults.Memory told first = absurd told
 
 ends_as : (ran : Ending) (end : End) → IsOver ran → Tells ran end → EndsAs end (status_of_run ran) (run_line ran)

@@ -1,7 +1,10 @@
 -- The lines of the report.
 use Rattle.std.specs.Prelude.{ℕ, List, [], ◌∷◌, ◌++◌, codes, Option, Some, None}
 use Rattle.std.specs.Fmt.{decimal, signed_decimal}
-use Rattle.ms_bytes.specs.Reading.{Blocks, Counted, Fault, Float, Limit, Locals, Malformed}
+use Rattle.ms_bin_grammar.specs.declared.fault.Counted.{Counted}
+use Rattle.ms_bin_grammar.specs.declared.fault.Counted.TheVariants.{Blocks, Locals}
+use Rattle.ms_bin_grammar.specs.declared.fault.ReadFault.{ReadFault}
+use Rattle.ms_bin_grammar.specs.declared.fault.ReadFault.TheVariants.{Float, Limit, Malformed, Memory}
 use Rattle.ms_linear.specs.declared.value.Value.{Value}
 use Rattle.ms_linear.specs.declared.value.Value.TheVariants as values
 use Rattle.ms_machine.specs.declared.linking.Misfit.{Misfit}
@@ -32,10 +35,12 @@ abbrev pub counted_word : Counted → List ℕ
 counted_word Blocks = codes "blocks"
 counted_word Locals = codes "locals"
 
-abbrev pub fault_line : Fault → List ℕ
+-- want of memory is no fault of bytes, and has no line
+abbrev pub fault_line : ReadFault → List ℕ
 fault_line (Malformed at) = line (codes "refused malformed " ++ decimal at)
 fault_line (Float at) = line (codes "refused float " ++ decimal at)
 fault_line (Limit which at) = line (codes "refused limit " ++ counted_word which ++ codes " " ++ decimal at)
+fault_line Memory = []
 
 abbrev pub part_line : Part → List ℕ
 part_line Head = line (codes "refused invalid head")

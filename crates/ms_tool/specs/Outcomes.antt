@@ -1,14 +1,14 @@
 -- What executing a file comes to, before it is put into words.
 use Rattle.std.specs.Prelude.{◌≡◌, ◌≢◌, ℕ, List, [], Some, None}
-use Rattle.ms_bin_read.specs.Readers.{IsFirstFault, counted_of}
-use Rattle.ms_bin_read.specs.declared.fault.ReadFault.{ReadFault}
-use Rattle.ms_bin_read.specs.declared.fault.ReadFault.TheVariants as faults
-use Rattle.ms_bytes.specs.Reading as reading
+use Rattle.ms_bin_read.specs.Readers.{IsFirstFault}
+use Rattle.ms_bin_grammar.specs.declared.fault.ReadFault.{ReadFault}
+use Rattle.ms_bin_grammar.specs.declared.fault.ReadFault.TheVariants as faults
 use Rattle.ms_machine.specs.Linking.{misfit, store_of}
 use Rattle.ms_machine.specs.Running.{Run, Tells, run_from}
 use Rattle.ms_machine.specs.declared.running.Ran.{Ran as Ending}
 use Rattle.ms_machine.specs.declared.running.Ran.TheVariants as endings
-use Rattle.ms_module.specs.Module.{SpellsWithin, usual}
+use Rattle.ms_bin_grammar.specs.Bounds.{usual}
+use Rattle.ms_bin_grammar.specs.Module.{SpellsWithin}
 use Rattle.ms_module.specs.declared.module.Module.{Module}
 use Rattle.ms_rules.specs.Modules.{WellTyped}
 use Rattle.ms_valid.specs.Refusals.{IsWrong}
@@ -70,12 +70,6 @@ HasLine (Unread fault) = IsTold fault
 HasLine (Ran ran) = IsOver ran
 HasLine _ = Unit {0}
 
-abbrev pub told_line : ReadFault → List ℕ
-told_line (faults.Malformed at) = fault_line (reading.Malformed at)
-told_line (faults.Float at) = fault_line (reading.Float at)
-told_line (faults.Limit which at) = fault_line (reading.Limit (counted_of which) at)
-told_line faults.Memory = []
-
 abbrev pub status_of_run : Ending → Status
 status_of_run (endings.Trap trap) = Trapped
 status_of_run endings.Budget = OutOfBudget
@@ -92,7 +86,7 @@ status_of (Ran ran) = status_of_run ran
 status_of _ = Refused
 
 abbrev pub text_of : Outcome → List ℕ
-text_of (Unread fault) = told_line fault
+text_of (Unread fault) = fault_line fault
 text_of (Invalid part) = part_line part
 text_of Imports = no_export_line
 text_of (Misfit fault) = misfit_line fault

@@ -4,9 +4,10 @@ use Rattle.ms_outside.specs.Faults.{Rose}
 use Rattle.ms_outside.specs.Files.{Files, bytes_of}
 use Rattle.ms_outside.specs.Shelf.{Told}
 use Rattle.ms_outside.specs.Sink.{IsFront}
-use Rattle.ms_bytes.specs.Reading.{Fault as ReadingFault}
+use Rattle.ms_bin_grammar.specs.declared.fault.ReadFault.{ReadFault as ReadingFault}
 use Rattle.ms_module.specs.declared.module.Module.{Module}
-use Rattle.ms_module.specs.Module.{SpellsWithin, Stops, usual}
+use Rattle.ms_bin_grammar.specs.Bounds.{usual}
+use Rattle.ms_bin_grammar.specs.Module.{SpellsWithin, Stops}
 use Rattle.ms_rules.specs.Modules.{WellTyped}
 use Rattle.ms_valid.specs.declared.refusal.Part.{Part}
 use Rattle.ms_valid.specs.Refusals.{IsWrong}

@@ -14,7 +14,7 @@ use ms_live::{Gaps, ListGaps};
 use ms_machine::{LinkFault, Misfit, Ran, Store, instantiate, run};
 use ms_module::Module;
 use ms_outside::{Fetched, Shelf, Sink, Source};
-use ms_tagged::{ByteTags, Tagged};
+use ms_tagged::{Granules, Tagged};
 use ms_valid::{Part, Refusal, validate};
 use std::alloc::{AllocError, Global};
 
@@ -79,7 +79,7 @@ fn outcome_within<G: Gaps, T: Tagged, I: Source, O: Sink>(
     }
 }
 
-/// The same with the usual budget and size, segments being kept in a list and bytes one by one.
+/// The same with the usual budget and size, segments being kept in a list and bytes in granules of sixteen.
 fn outcome_of_typed<I: Source, O: Sink>(
     alloc: Global,
     module: Module,
@@ -91,7 +91,7 @@ fn outcome_of_typed<I: Source, O: Sink>(
     ensures input { (I.left input.new ≡ I.left input.old) × (I.faults input.new ≡ I.faults input.old) }
     ensures out { (O.held out.new ≡ O.held out.old) × (O.faults out.new ≡ O.faults out.old) }
 {
-    outcome_within::<ListGaps, ByteTags, I, O>(
+    outcome_within::<ListGaps, Granules, I, O>(
         alloc,
         module,
         DEFAULT_BUDGET,

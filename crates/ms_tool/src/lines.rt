@@ -2,10 +2,8 @@
 
 ghost use Rattle.std.specs.Prelude.{◌≡◌, ◌++◌, IfOk, codes, string_bytes};
 ghost use Rattle.std.specs.Fmt.{decimal};
-ghost use Rattle.ms_bin_read.specs.Readers.{counted_of};
 ghost use Rattle.ms_num.specs.Integers.{signed};
-ghost use Rattle.ms_tool.specs.Lines.{counted_word, line, misfit_line, part_line, result_line, trap_line};
-ghost use Rattle.ms_tool.specs.Outcomes.{told_line};
+ghost use Rattle.ms_tool.specs.Lines.{counted_word, fault_line, line, misfit_line, part_line, result_line, trap_line};
 
 use ms_bin_read::{Counted, ReadFault};
 use ms_linear::Value;
@@ -21,7 +19,7 @@ pub fn file_line(alloc: Global, what: &str, file: &str) -> Result<String, AllocE
 }
 
 fn counted_word(which: Counted) -> &'static str
-    ensures { result.now ≡ counted_word (counted_of which) }
+    ensures { result.now ≡ counted_word which }
 {
     match which {
         Counted::Blocks => "blocks",
@@ -31,7 +29,7 @@ fn counted_word(which: Counted) -> &'static str
 
 /// The first fault of bytes that spell no module. Want of memory has no line.
 pub fn fault_line(alloc: Global, fault: ReadFault) -> Result<String, AllocError>
-    ensures { IfOk result (λ t. string_bytes t ≡ told_line fault) }
+    ensures { IfOk result (λ t. string_bytes t ≡ fault_line fault) }
 {
     match fault {
         ReadFault::Malformed { at } => format!(in alloc; "refused malformed {at}\n"),
