@@ -38,6 +38,3 @@ impl Value {
         }
     }
 }
-
-#[cfg(test)]
-mod tests;

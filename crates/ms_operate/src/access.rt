@@ -72,6 +72,3 @@ fn width_of(op: StoreOp) -> Width
         }
     }
 }
-
-#[cfg(test)]
-pub(crate) mod tests;

@@ -196,6 +196,3 @@ fn extend_unsigned(operands: &mut Stack<Value>)
     let a = number(Width::W32, operands.get(0));
     operands.set_top(Value::I64(a));
 }
-
-#[cfg(test)]
-mod tests;

@@ -127,15 +127,6 @@ fn shelf_in_memory(rt: HostRuntime) -> Result<(), Fail> {
 }
 
 #[test]
-fn source_of_bytes(rt: HostRuntime) {
-    let mut source = StdSource::new([5, 6].as_slice());
-    for got in [Got::Byte(5), Got::Byte(6), Got::End, Got::End] {
-        assert_eq!(rt; source.take(), got);
-        assert_eq!(rt; source.faults(), 0);
-    }
-}
-
-#[test]
 fn source_that_fails(rt: HostRuntime) {
     let ends = [
         (AtEnd::Fails, Got::Failed, 1, 2),
@@ -153,17 +144,6 @@ fn source_that_fails(rt: HostRuntime) {
         assert_eq!(rt; source.take(), got);
         assert_eq!(rt; source.faults(), twice);
     }
-}
-
-#[test]
-fn sink_over_a_vector(rt: HostRuntime) {
-    let mut held = Vec::new(rt.alloc());
-    let mut sink = StdSink::new(&mut held);
-    assert_eq!(rt; sink.put(b"ab"), Put::Done);
-    assert_eq!(rt; sink.put(b""), Put::Done);
-    assert_eq!(rt; sink.put(b"c"), Put::Done);
-    assert_eq!(rt; sink.faults(), 0);
-    assert_eq!(rt; held.as_slice(), b"abc".as_slice());
 }
 
 #[test]
@@ -223,25 +203,5 @@ fn shelf_of_files(rt: HostRuntime) -> Result<(), Fail> {
         assert_eq!(rt; shelf.faults(), faults);
     }
     fs::remove_file(&rt, path.as_str())?;
-    Ok(())
-}
-
-/// A file of more bytes than a read asks for at once.
-#[test]
-fn shelf_of_a_long_file(rt: HostRuntime) -> Result<(), Fail> {
-    let id = process::id(rt.process());
-    let name = format!(in rt.alloc(); "shelf of a long file {id}")?;
-    let path = env::temp_dir(&rt)?.join(rt.alloc(), name.as_str())?;
-    let bytes = vec![in rt.alloc(); 7u8; 20000]?;
-    fs::write(&rt, path.as_str(), bytes.as_slice())?;
-    let mut shelf = FileShelf::new(&rt);
-    let exact = shelf.read(rt.alloc(), path.as_str(), 20000);
-    let short = shelf.read(rt.alloc(), path.as_str(), 19999);
-    fs::remove_file(&rt, path.as_str())?;
-    assert!(rt;
-        matches!(&exact, crate::Fetched::Bytes(read) if read.as_slice() == bytes.as_slice())
-    );
-    assert!(rt; matches!(&short, crate::Fetched::TooLong));
-    assert_eq!(rt; shelf.faults(), 0);
     Ok(())
 }

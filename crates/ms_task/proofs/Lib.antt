@@ -4,5 +4,4 @@ pub mod Items
 pub mod Kept
 mod Branches
 mod Calls
-mod Numbering
 mod Tested

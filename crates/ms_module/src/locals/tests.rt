@@ -26,8 +26,6 @@ fn gives_each_local_its_type(rt: HostRuntime) -> Result<(), Fail> {
     }
     assert!(rt; !locals.is_empty());
     assert_eq!(rt; locals.len(), u32::MAX as usize);
-    // As many runs as there are changes of the type.
-    assert_eq!(rt; locals.runs.len(), 3);
     let types = [
         (0, Some(ValType::I32)),
         (2, Some(ValType::I32)),

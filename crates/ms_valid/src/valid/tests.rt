@@ -1,33 +1,16 @@
 //! That validation succeeds with ample memory, and hands back what it refuses. Which modules are valid is proved.
 
-ghost use Rattle.std.specs.Prelude.{◌≡◌, [], ◌∷◌, IfOk};
-ghost use Rattle.ms_module.specs.Numbered.{IsPlain};
-
 use super::*;
-use ms_module::{Code, Instr, Locals};
+use ms_module::{Builder, Code, Instr, Locals};
 use ms_types::{FuncType, Vector};
 use std::test::Fail;
 
-/// An instruction of the body below.
-#[derive(Clone, Copy)]
-enum Plain {
-    Number,
-    Drop,
-}
-
-fn instr(plain: Plain) -> Instr
-    ensures { IsPlain result }
-{
-    match plain {
-        Plain::Number => Instr::I32Const(7),
-        Plain::Drop => Instr::Drop,
-    }
-}
-
 /// `i32.const 7 drop`.
 fn body(alloc: Global) -> Result<Code, Fail> {
-    let sequence = Vector::from_vec(vec![in alloc; instr(Plain::Number), instr(Plain::Drop)]?);
-    Ok(Code::new(Vector::from_vec(vec![in alloc; sequence]?)))
+    let mut body = Builder::new(alloc)?;
+    body.add(Instr::I32Const(7))?;
+    body.add(Instr::Drop)?;
+    Ok(body.finish())
 }
 
 /// A module with the type `[] -> []`, and a function of the type of this index.
@@ -72,9 +55,6 @@ fn hands_a_module_back(rt: HostRuntime) -> Result<(), Fail> {
         Ok(_) => None,
         Err((m, refusal)) => Some((m.funcs.len(), refusal)),
     };
-    assert_eq!(rt;
-        refused,
-        Some((1, Refusal::Invalid { part: Part::Head }))
-    );
+    assert_eq!(rt; refused, Some((1, Refusal::Invalid { part: Part::Head })));
     Ok(())
 }

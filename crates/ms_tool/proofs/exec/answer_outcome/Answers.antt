@@ -1,9 +1,9 @@
 use Rattle.ms_tool.specs.Lines.{misfit_line, part_line}
-use Rattle.ms_tool.specs.Outcomes.{told_line}
+use Rattle.ms_tool.specs.Lines.{fault_line}
 use Rattle.ms_tool.proofs.exec.answer_outcome.Goals as goal
 
 pub returns-in-Unread : goal.returns-in-Unread
-returns-in-Unread g c = rw c.in-Unread.is (c.answer_line.ensures (told_line c.in-Unread.fault) c.fault_line.ensures)
+returns-in-Unread g c = rw c.in-Unread.is (c.answer_line.ensures (fault_line c.in-Unread.fault) c.fault_line.ensures)
 
 pub returns-in-Invalid : goal.returns-in-Invalid
 returns-in-Invalid g c = rw c.in-Invalid.is (c.answer_line-in-Invalid.ensures (part_line c.in-Invalid.part) c.part_line.ensures)
