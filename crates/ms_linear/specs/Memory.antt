@@ -1,4 +1,5 @@
 -- The linear memory as a plain list of bytes (WebAssembly 1.0, 4.2.8 and 4.4.4).
+use Rattle.ms_bytes.specs.Little.{bytes_of, number_of}
 use Rattle.std.specs.Prelude.{◌≡◌, ◌≤◌, ◌⊎◌, ℕ, zero, suc, ◌+◌, ◌*◌, ◌/◌, ◌%◌, List, [], ◌∷◌, ◌++◌, length, take, drop, replicate, Option, Some, None}
 
 -- its bytes, and the greatest number of pages that it may have, if one is set
@@ -15,17 +16,6 @@ most_pages = 1024
 
 abbrev pub IsWidth : ℕ → Type 0
 IsWidth width = (width ≡ 1) ⊎ ((width ≡ 2) ⊎ ((width ≡ 4) ⊎ (width ≡ 8)))
-
--- ---- numbers, the lowest byte first
-
-abbrev pub number_of : List ℕ → ℕ
-number_of [] = 0
-number_of (b ∷ bs) = b + 256 * number_of bs
-
--- the lowest bytes of a number, so many
-abbrev pub bytes_of : ℕ → ℕ → List ℕ
-bytes_of zero value = []
-bytes_of (suc width) value = value % 256 ∷ bytes_of width (value / 256)
 
 -- ---- accesses
 

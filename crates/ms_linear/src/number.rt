@@ -1,5 +1,7 @@
 ghost use Rattle.std.specs.Prelude.{◌≡◌, ◌+◌, ◌^◌, ◌<◌, ◌≤◌, ◌++◌, length, take, drop};
-ghost use Rattle.ms_linear.specs.Memory.{bytes_of, number_of};
+ghost use Rattle.ms_bytes.specs.Little.{bytes_of, number_of};
+
+use ms_bytes::{get_le, put_le};
 
 /// The byte at a place.
 pub(crate) fn read_1(bytes: &[u8], at: usize) -> u64
@@ -33,7 +35,7 @@ pub(crate) fn read_8(bytes: &[u8], at: usize) -> u64
     requires { at + 8 ≤ length bytes.now }
     ensures { result ≡ number_of (take 8 (drop at bytes.now)) }
 {
-    u64::from_le_bytes([
+    get_le(&[
         bytes[at],
         bytes[at + 1],
         bytes[at + 2],
@@ -74,5 +76,5 @@ pub(crate) fn write_8(bytes: &mut [u8], at: usize, value: u64)
     requires { at + 8 ≤ length bytes.old }
     ensures { bytes.new ≡ take at bytes.old ++ bytes_of 8 value ++ drop (at + 8) bytes.old }
 {
-    bytes[at..at + 8].copy_from_slice(&value.to_le_bytes());
+    bytes[at..at + 8].copy_from_slice(&put_le(value));
 }
