@@ -12,14 +12,7 @@ fn makes_and_frees_a_segment(rt: HostRuntime) -> Result<(), Fail> {
     let mut memory: Segments<ListGaps, ByteTags> = Segments::new(rt.alloc(), 64)?;
     let (handle, event) = memory.make(32, Kind::Heap);
     let (id, lo, hi, addr, width) = (1, 0, 32, 0, 8);
-    assert_eq!(rt;
-        event,
-        Event::Alloc {
-            id,
-            addr,
-            size: hi
-        }
-    );
+    assert_eq!(rt; event, Event::Alloc { id, addr, size: hi });
     assert_eq!(rt;
         memory.store(handle, width, 7),
         Ok(Event::Write {
