@@ -1,4 +1,7 @@
 //! Values, globals, the linear memory and tables (WebAssembly 1.0, 4.2).
+//!
+//! It stands on `ms_types`, `ms_handle` and, for numbers as bytes, `ms_bytes`. Read `specs/Memory.antt` first: the linear
+//! memory is a list of bytes, an access a part of it; `specs/Table.antt` says which function a call through a table goes to.
 #![tactic(auto)]
 
 mod global;

@@ -1,6 +1,8 @@
 //! The machine: a store, and one step of a task on it (WebAssembly 1.0, chapter 4), with the segment memory.
 //!
-//! `specs/Step.antt` says what a step does, on lists; `specs/Typing.antt` what a well-typed task is.
+//! It stands on `ms_task`, `ms_operate`, `ms_segment`, `ms_rules` and `ms_outside`. Read `specs/Step.antt` first, which says what a
+//! step does, on lists; then `specs/Running.antt` for runs, `specs/Typing.antt` for well-typed tasks, and `specs/Safety.antt` for
+//! what ties each handle to the colour monitor.
 #![tactic(auto)]
 
 mod control;

@@ -1,7 +1,8 @@
 //! The rules of validation (WebAssembly 1.0, chapter 3), with the type of handles.
 //!
-//! The rules stand in `specs/`: `WellTyped module` says that a module meets all of them. The code has the types of
-//! instructions, and the context of a module.
+//! It stands on `ms_module`. The rules stand in `specs/`: read `Typing.antt` first, the judgement on instructions, and then
+//! `Modules.antt`, where `WellTyped module` says that a module meets all rules. The code has the types of instructions, and
+//! the context of a module.
 #![tactic(auto)]
 
 mod context;

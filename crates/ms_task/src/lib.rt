@@ -1,6 +1,7 @@
 //! Tasks: frames, operands, labels and calls, and the control instructions (WebAssembly 1.0, 4.2.12 and 4.4.5).
 //!
-//! `specs/Thread.antt` and `specs/Control.antt` say what a thread is and where control instructions lead, on lists.
+//! It stands on `ms_linear` and `ms_module`. Read `specs/Thread.antt` first, what a thread is on plain lists, and then
+//! `specs/Control.antt`, where control instructions lead.
 #![tactic(auto)]
 
 mod control;

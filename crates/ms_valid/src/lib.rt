@@ -1,4 +1,8 @@
 //! The validator (WebAssembly 1.0, chapter 3, with the algorithm of its appendix in its own words).
+//!
+//! It stands on `ms_rules`: `validate` is `Ok` exactly where the module is well typed by the rules there. Read
+//! `specs/Shape.antt` first: what is known of the operands is a set of stacks, and each instruction makes the new set of the
+//! old one that its rule says, so that the validator is sound and complete at once.
 #![tactic(auto)]
 
 mod body;
