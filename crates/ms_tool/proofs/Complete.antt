@@ -19,7 +19,8 @@ use Rattle.ms_valid.specs.declared.refusal.Part.{Part}
 use Rattle.ms_valid.specs.declared.refusal.Part.TheVariants as parts
 use Rattle.ms_tool.specs.Executions.{AnswersAs, EndsAs, Execution, Imports, Misfits, NoTask, Runs, execution_of}
 use Rattle.ms_tool.specs.Lines.{fault_line, part_line, usage_line}
-use Rattle.ms_tool.specs.Reporting.{Reads, Report, Reports, ReportsWords}
+use Rattle.ms_tool.specs.Observed.{Reads, Report}
+use Rattle.ms_tool.specs.Reporting.{Reports, ReportsWords}
 use Rattle.ms_tool.specs.Top.{Answers, Contents, Executes, Fault, Found, Gives, Grows, IsFaulty, IsFound, IsKnown, answered, executed, invalid, read_fault, too_long, unread}
 use Rattle.ms_tool.specs.Words.{asked}
 use Rattle.ms_tool.specs.declared.status.Status.{Status}
@@ -120,8 +121,8 @@ known_is None name b bytes told known = absurd known
 known_is (Some f) name b bytes told known = told ∙ sym known
 
 -- an answer that is the one of the table, or a fault
-as_reported : (s : Status) (t : List ℕ) (s' : Status) (t' : List ℕ) (r : Report) (result : Status) → Same s' t' s t → Reports s' t' r result → ((result ≡ s) × Grows r.old r.new t) ⊎ IsFaulty result
-as_reported s t s' t' r result same (inl h) = inl (h.0 ∙ same.0, subst (Grows r.old r.new) same.1 h.1)
+as_reported : (s : Status) (t : List ℕ) (s' : Status) (t' : List ℕ) (r : Report) (result : Status) → Same s' t' s t → Reports s' t' r result → ((result ≡ s) × Grows r t) ⊎ IsFaulty result
+as_reported s t s' t' r result same (inl h) = inl (h.0 ∙ same.0, subst (Grows r) same.1 h.1)
 as_reported s t s' t' r result same (inr (inl h)) = inr (inr (inl h.0))
 as_reported s t s' t' r result same (inr (inr h)) = inr (inr (inr h.0))
 
@@ -131,18 +132,18 @@ as_fault s t r result is (inr (inl h)) = inr (inl h.0)
 as_fault s t r result is (inr (inr h)) = inr (inr h.0)
 
 module _ (s : Reads) (r : Report) (result status : Status) (text bytes : List ℕ) where
-  of_file : (name : List ℕ) (found : Found) (s' : Status) (t' : List ℕ) → IsFound s.files s.before s.after name found → Answers name found s' t' → Reports s' t' r result
-      → IsSomeAnd s.files (λ known. bytes ≡ bytes_of known name) → Answers name (Contents bytes) status text → ((result ≡ status) × Grows r.old r.new text) ⊎ IsFaulty result
+  of_file : (name : List ℕ) (found : Found) (s' : Status) (t' : List ℕ) → IsFound s name found → Answers name found s' t' → Reports s' t' r result
+      → IsSomeAnd s.files (λ known. bytes ≡ bytes_of known name) → Answers name (Contents bytes) status text → ((result ≡ status) × Grows r text) ⊎ IsFaulty result
   of_file name (Contents b) s' t' found answers reports known gives =
       let same = known_is s.files name b bytes found known in
       as_reported status text s' t' r result (one_answer name bytes s' t' status text (subst (λ (x : List ℕ). Answers name (Contents x) s' t') same answers) gives) reports
   of_file name Fault s' t' found answers reports known gives = inr (as_fault s' t' r result (fault_is name s' t' answers) reports)
 
-  of_words : (a : Option (List ℕ)) (found : Found) (s' : Status) (t' : List ℕ) → MatchOption a ⊤ (λ name. IsFound s.files s.before s.after name found) → MatchOption a ((s' ≡ statuses.Usage) × (t' ≡ usage_line)) (λ name. Answers name found s' t') → Reports s' t' r result
-      → MatchOption a ⊤ (λ name. IsSomeAnd s.files (λ known. bytes ≡ bytes_of known name)) → MatchOption a ((status ≡ statuses.Usage) × (text ≡ usage_line)) (λ name. Answers name (Contents bytes) status text) → ((result ≡ status) × Grows r.old r.new text) ⊎ IsFaulty result
+  of_words : (a : Option (List ℕ)) (found : Found) (s' : Status) (t' : List ℕ) → MatchOption a ⊤ (λ name. IsFound s name found) → MatchOption a ((s' ≡ statuses.Usage) × (t' ≡ usage_line)) (λ name. Answers name found s' t') → Reports s' t' r result
+      → MatchOption a ⊤ (λ name. IsSomeAnd s.files (λ known. bytes ≡ bytes_of known name)) → MatchOption a ((status ≡ statuses.Usage) × (text ≡ usage_line)) (λ name. Answers name (Contents bytes) status text) → ((result ≡ status) × Grows r text) ⊎ IsFaulty result
   of_words None found s' t' f g reports known gives = as_reported status text s' t' r result (g.0 ∙ sym gives.0, g.1 ∙ sym gives.1) reports
   of_words (Some name) found s' t' f g reports known gives = of_file name found s' t' f g reports known gives
 
-  pub is_complete : (words : List (List ℕ)) → ReportsWords words s r result → IsKnown s.files words bytes → Gives words (Contents bytes) status text → ((result ≡ status) × Grows r.old r.new text) ⊎ IsFaulty result
+  pub is_complete : (words : List (List ℕ)) → ReportsWords words s r result → IsKnown s.files words bytes → Gives words (Contents bytes) status text → ((result ≡ status) × Grows r text) ⊎ IsFaulty result
   is_complete words (inl h) known gives = of_words (asked words) h.0 h.1 h.2 h.3 h.5 h.6 known gives
   is_complete words (inr h) known gives = inr (inr (inr h.0.0))

@@ -5,7 +5,8 @@ use Rattle.std.proofs.lemmas.List.{length-replicate}
 use Rattle.ms_outside.specs.Files.{Files, bytes_of}
 use Rattle.ms_outside.specs.Shelf.{CountsReadFault, SameCounts, Told}
 use Rattle.ms_tool.specs.Lines.{read_fault_line, too_long_line}
-use Rattle.ms_tool.specs.Reporting.{Reads, Report, Reports, ReportsExecution, ReportsFile}
+use Rattle.ms_tool.specs.Observed.{Reads, Report}
+use Rattle.ms_tool.specs.Reporting.{Reports, ReportsExecution, ReportsFile}
 use Rattle.ms_tool.specs.Top.{Contents, Fault, executed, most_bytes, read_fault, too_long}
 use Rattle.ms_tool.specs.declared.status.Status.{Status}
 use Rattle.ms_tool.specs.declared.status.Status.TheVariants.{ReadFault, TooLong}

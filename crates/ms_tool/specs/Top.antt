@@ -12,6 +12,7 @@ use Rattle.ms_rules.specs.Modules.{WellTyped}
 use Rattle.ms_valid.specs.declared.refusal.Part.{Part}
 use Rattle.ms_valid.specs.Refusals.{IsWrong}
 use Rattle.ms_tool.specs.Executions.{AnswersAs, execution_of}
+use Rattle.ms_tool.specs.Observed.{Reads, Report}
 use Rattle.ms_tool.specs.Lines.{fault_line, part_line, read_fault_line, too_long_line, usage_line}
 use Rattle.ms_tool.specs.Words.{asked}
 use Rattle.ms_tool.specs.declared.status.Status.{Status}
@@ -49,30 +50,31 @@ Gives words found status report = MatchOption (asked words) ((status ≡ Usage) 
 -- ---- what the objects outside have to do with it
 
 -- what was found is the file's bytes, where the shelf tells them; a fault only where the count of its reads rose
-abbrev pub IsFound : Option Files → (List ℕ → ℕ) → (List ℕ → ℕ) → List ℕ → Found → Type 0
-IsFound files before after name (Contents bytes) = Told files name (λ known. bytes ≡ known)
-IsFound files before after name Fault = Rose (before name) (after name)
+abbrev pub IsFound : Reads → List ℕ → Found → Type 0
+IsFound s name (Contents bytes) = Told s.files name (λ known. bytes ≡ known)
+IsFound s name Fault = Rose (s.before name) (s.after name)
 
 -- the same of the file that the words name, if they name one
-abbrev pub IsFoundFor : Option Files → (List ℕ → ℕ) → (List ℕ → ℕ) → List (List ℕ) → Found → Type 0
-IsFoundFor files before after words found = MatchOption (asked words) ⊤ (λ name. IsFound files before after name found)
+abbrev pub IsFoundFor : Reads → List (List ℕ) → Found → Type 0
+IsFoundFor s words found = MatchOption (asked words) ⊤ (λ name. IsFound s name found)
 
 -- the bytes are known: those of the file that the words name, if they name one
 abbrev pub IsKnown : Option Files → List (List ℕ) → List ℕ → Type 0
 IsKnown files words bytes = MatchOption (asked words) ⊤ (λ name. IsSomeAnd files (λ known. bytes ≡ bytes_of known name))
 
--- what a sink holds has grown by this, where it tells it
-abbrev pub Grows : Option (List ℕ) → Option (List ℕ) → List ℕ → Type 0
-Grows old new piece = MatchOption old (new ≡ None) (λ held. new ≡ Some (held ++ piece))
+-- what the report holds has grown by this, where it tells it
+abbrev pub Grows : Report → List ℕ → Type 0
+Grows r piece = MatchOption r.old (r.new ≡ None) (λ held. r.new ≡ Some (held ++ piece))
 
 -- This status is the answer, and the report has grown by exactly what it says.
-abbrev pub IsAnswer : Option Files → (List ℕ → ℕ) → (List ℕ → ℕ) → List (List ℕ) → Option (List ℕ) → Option (List ℕ) → Status → Type 0
-IsAnswer files before after words old new status = (found : Found) × (report : List ℕ) × IsFoundFor files before after words found × Gives words found status report × Grows old new report
+abbrev pub IsAnswer : Reads → List (List ℕ) → Report → Status → Type 0
+IsAnswer s words r status = (found : Found) × (text : List ℕ) × IsFoundFor s words found × Gives words found status text × Grows r text
 
 -- The report could not be put: it has grown by a first part of what an answer says.
-abbrev pub IsCutOff : Option Files → (List ℕ → ℕ) → (List ℕ → ℕ) → List (List ℕ) → Option (List ℕ) → Option (List ℕ) → Type 0
-IsCutOff files before after words old new =
-    (found : Found) × (status : Status) × (report : List ℕ) × (front : List ℕ) × IsFoundFor files before after words found × Gives words found status report × IsFront front report × Grows old new front
+abbrev pub IsCutOff : Reads → List (List ℕ) → Report → Type 0
+IsCutOff s words r =
+    (found : Found) × (status : Status) × (text : List ℕ) × (front : List ℕ)
+    × IsFoundFor s words found × Gives words found status text × IsFront front text × Grows r front
 
 -- The status is a fault of the outside, or want of memory.
 abbrev pub IsPutFault : Status → Type 0

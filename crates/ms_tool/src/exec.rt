@@ -137,7 +137,14 @@ fn outcome_of<I: Source, O: Sink>(
 
 fn answer_run<R: Sink>(alloc: Global, ran: Ran, report: &mut R) -> Status
     requires { IsOver ran }
-    ensures { Reports (status_of_run ran) (run_line ran) (record { old = R.held report.old; new = R.held report.new; before = R.faults report.old; after = R.faults report.new }) result }
+    ensures { Reports (status_of_run ran) (run_line ran)
+        (record {
+          old = R.held report.old;
+          new = R.held report.new;
+          before = R.faults report.old;
+          after = R.faults report.new;
+        })
+        result }
 {
     match ran {
         Ran::Result(value) => answer_line(report, Status::Done, result_line(alloc, value)),
@@ -149,7 +156,14 @@ fn answer_run<R: Sink>(alloc: Global, ran: Ran, report: &mut R) -> Status
 
 fn answer_outcome<R: Sink>(alloc: Global, outcome: Outcome, report: &mut R) -> Status
     requires { HasLine outcome }
-    ensures { Reports (status_of outcome) (text_of outcome) (record { old = R.held report.old; new = R.held report.new; before = R.faults report.old; after = R.faults report.new }) result }
+    ensures { Reports (status_of outcome) (text_of outcome)
+        (record {
+          old = R.held report.old;
+          new = R.held report.new;
+          before = R.faults report.old;
+          after = R.faults report.new;
+        })
+        result }
 {
     match outcome {
         Outcome::Unread(fault) => { answer_line(report, Status::Refused, fault_line(alloc, fault)) }
@@ -170,7 +184,14 @@ fn exec_bytes<I: Source, O: Sink, R: Sink>(
     out: &mut O,
     report: &mut R,
 ) -> Status
-    ensures report { ReportsExecution bytes.now (record { old = R.held report.old; new = R.held report.new; before = R.faults report.old; after = R.faults report.new }) result }
+    ensures report { ReportsExecution bytes.now
+        (record {
+          old = R.held report.old;
+          new = R.held report.new;
+          before = R.faults report.old;
+          after = R.faults report.new;
+        })
+        result }
     ensures input { (I.left input.new ≡ I.left input.old) × (I.faults input.new ≡ I.faults input.old) }
     ensures out { (O.held out.new ≡ O.held out.old) × (O.faults out.new ≡ O.faults out.old) }
 {
@@ -189,7 +210,15 @@ pub fn exec<F: Shelf, I: Source, O: Sink, R: Sink>(
     out: &mut O,
     report: &mut R,
 ) -> Status
-    ensures report { ReportsFile file.now (record { files = F.files shelf.old; before = F.read_faults shelf.old; after = F.read_faults shelf.new }) (record { old = R.held report.old; new = R.held report.new; before = R.faults report.old; after = R.faults report.new }) result }
+    ensures report { ReportsFile file.now
+        (record { files = F.files shelf.old; before = F.read_faults shelf.old; after = F.read_faults shelf.new })
+        (record {
+          old = R.held report.old;
+          new = R.held report.new;
+          before = R.faults report.old;
+          after = R.faults report.new;
+        })
+        result }
     ensures files { F.files shelf.new ≡ F.files shelf.old }
     ensures input { (I.left input.new ≡ I.left input.old) × (I.faults input.new ≡ I.faults input.old) }
     ensures out { (O.held out.new ≡ O.held out.old) × (O.faults out.new ≡ O.faults out.old) }

@@ -9,7 +9,14 @@ use std::alloc::AllocError;
 
 /// Puts the text, and gives the status, or that of a fault.
 pub fn answer<R: Sink>(report: &mut R, status: Status, text: &[u8]) -> Status
-    ensures { Reports status text.now (record { old = R.held report.old; new = R.held report.new; before = R.faults report.old; after = R.faults report.new }) result }
+    ensures { Reports status text.now
+        (record {
+          old = R.held report.old;
+          new = R.held report.new;
+          before = R.faults report.old;
+          after = R.faults report.new;
+        })
+        result }
 {
     match report.put(text) {
         Put::Done => status,
@@ -24,7 +31,14 @@ pub fn answer_line<R: Sink>(
     status: Status,
     line: Result<String, AllocError>,
 ) -> Status
-    ensures { (text : List ℕ) → IfOk line (λ t. string_bytes t ≡ text) → Reports status text (record { old = R.held report.old; new = R.held report.new; before = R.faults report.old; after = R.faults report.new }) result }
+    ensures { (text : List ℕ) → IfOk line (λ t. string_bytes t ≡ text) → Reports status text
+        (record {
+          old = R.held report.old;
+          new = R.held report.new;
+          before = R.faults report.old;
+          after = R.faults report.new;
+        })
+        result }
 {
     match line {
         Ok(text) => answer(report, status, text.as_bytes()),

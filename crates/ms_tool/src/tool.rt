@@ -34,20 +34,49 @@ pub fn tool<F: Shelf, I: Source, O: Sink, R: Sink>(
 ) -> Status
     // The status is the one that the table of answers gives for the words and the file, and the report has grown by
     // exactly its line. A read fault is one only where the count of reads of that file rose.
-    ensures answer { IsPutFault result ⊎ IsAnswer (F.files shelf.old) (F.read_faults shelf.old) (F.read_faults shelf.new) (map (λ w. w.now) words.now) (R.held report.old) (R.held report.new) result }
+    ensures answer { IsPutFault result ⊎ IsAnswer
+        (record { files = F.files shelf.old; before = F.read_faults shelf.old; after = F.read_faults shelf.new })
+        (map (λ w. w.now) words.now)
+        (record {
+          old = R.held report.old;
+          new = R.held report.new;
+          before = R.faults report.old;
+          after = R.faults report.new;
+        })
+        result }
 
     // A write fault is one only where the count of the report rose. The report has then a first part of an answer's line.
-    ensures write_fault { result ≡ Status.WriteFault → Rose (R.faults report.old) (R.faults report.new) × IsCutOff (F.files shelf.old) (F.read_faults shelf.old) (F.read_faults shelf.new) (map (λ w. w.now) words.now) (R.held report.old) (R.held report.new) }
+    ensures write_fault { result ≡ Status.WriteFault → Rose (R.faults report.old) (R.faults report.new) × IsCutOff
+        (record { files = F.files shelf.old; before = F.read_faults shelf.old; after = F.read_faults shelf.new })
+        (map (λ w. w.now) words.now)
+        (record {
+          old = R.held report.old;
+          new = R.held report.new;
+          before = R.faults report.old;
+          after = R.faults report.new;
+        }) }
 
     // Where memory ran out the report is as before.
     ensures memory { result ≡ Status.OutOfMemory → R.held report.new ≡ R.held report.old }
 
     // What the table gives for a known file is the answer, unless a fault is met or memory runs out.
-    ensures complete { (bytes : List ℕ) (status : Status) (text : List ℕ) → IsKnown (F.files shelf.old) (map (λ w. w.now) words.now) bytes → Gives (map (λ w. w.now) words.now) (Contents bytes) status text → ((result ≡ status) × Grows (R.held report.old) (R.held report.new) text) ⊎ IsFaulty result }
+    ensures complete { (bytes : List ℕ) (status : Status) (text : List ℕ)
+        → IsKnown (F.files shelf.old) (map (λ w. w.now) words.now) bytes
+        → Gives (map (λ w. w.now) words.now) (Contents bytes) status text
+        → ((result ≡ status) × Grows
+        (record {
+          old = R.held report.old;
+          new = R.held report.new;
+          before = R.faults report.old;
+          after = R.faults report.new;
+        })
+        text) ⊎ IsFaulty result }
 
     // The allocations, slices, reads, writes and frees of a run are a trace that the colour monitor accepts: for all bytes
     // that spell a valid module which is run, `run` being the one of which the answer tells.
-    ensures safe { (bytes : List ℕ) (m : Module) (run : Run) → SpellsWithin usual bytes m → WellTyped m → execution_of m ≡ Runs run → Accepts default_capacity run.events }
+    ensures safe { (bytes : List ℕ) (m : Module) (run : Run)
+        → SpellsWithin usual bytes m → WellTyped m → execution_of m ≡ Runs run
+        → Accepts default_capacity run.events }
 
     // And such a run has an end that the table answers: no task of it is ever stuck.
     ensures never_stuck { (m : Module) (run : Run) → WellTyped m → execution_of m ≡ Runs run → run.end ≢ Lost }
@@ -72,7 +101,16 @@ fn respond<F: Shelf, I: Source, O: Sink, R: Sink>(
     out: &mut O,
     report: &mut R,
 ) -> Status
-    ensures report { ReportsWords (map (λ w. w.now) words.now) (record { files = F.files shelf.old; before = F.read_faults shelf.old; after = F.read_faults shelf.new }) (record { old = R.held report.old; new = R.held report.new; before = R.faults report.old; after = R.faults report.new }) result }
+    ensures report { ReportsWords
+        (map (λ w. w.now) words.now)
+        (record { files = F.files shelf.old; before = F.read_faults shelf.old; after = F.read_faults shelf.new })
+        (record {
+          old = R.held report.old;
+          new = R.held report.new;
+          before = R.faults report.old;
+          after = R.faults report.new;
+        })
+        result }
     ensures files { F.files shelf.new ≡ F.files shelf.old }
     ensures input { (I.left input.new ≡ I.left input.old) × (I.faults input.new ≡ I.faults input.old) }
     ensures out { (O.held out.new ≡ O.held out.old) × (O.faults out.new ≡ O.faults out.old) }

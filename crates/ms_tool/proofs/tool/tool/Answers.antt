@@ -1,5 +1,5 @@
 use Rattle.std.specs.Prelude.{map}
-use Rattle.ms_tool.specs.Reporting.{Reads, Report}
+use Rattle.ms_tool.specs.Observed.{Reads, Report}
 use Rattle.ms_tool.proofs.Complete.{is_complete}
 use Rattle.ms_tool.proofs.Safe.{execution_is_accepted, execution_is_never_lost}
 use Rattle.ms_tool.proofs.tool.tool.Goals as goal
