@@ -1,5 +1,5 @@
 -- What digits are worth only grows, and nothing holds 2^64.
-use Rattle.std.proofs.Common.{◌≡◌, ℕ, ◌+◌, ◌*◌, ◌≤◌, ◌^◌, Option, Some, true, false, leb, List, [], ◌∷◌, refl, arith}
+use Rattle.std.proofs.Common.{◌≡◌, ℕ, ◌+◌, ◌*◌, ◌≤◌, ◌^◌, Some, false, leb, List, [], ◌∷◌, refl, arith}
 use Rattle.std.proofs.lemmas.Bool.Decides.{nat_tests}
 use Rattle.c_token.specs.declared.word.IntegerType.{IntegerType}
 use Rattle.c_token.specs.declared.word.IntegerType.TheVariants.{Int, Long, LongLong, UnsignedInt, UnsignedLong, UnsignedLongLong}

@@ -1,5 +1,5 @@
 -- A loop that takes steps.
-use Rattle.std.proofs.Common.{◌≡◌, ℕ, ◌-◌, ◌+◌, ◌≤◌, ◌<◌, Bool, true, false, List, length, Option, Some, None, Result, Ok, Err, refl, sym, ap, ◌∙◌, arith}
+use Rattle.std.proofs.Common.{◌≡◌, ℕ, ◌-◌, ◌+◌, ◌≤◌, ◌<◌, Bool, true, false, List, Option, Some, None, Result, Ok, Err, sym, ap, ◌∙◌}
 use Rattle.ms_bytes.specs.Reading.{◌>>=◌}
 use Rattle.ms_bytes.specs.Format.{Format}
 use Rattle.ms_bytes.specs.Runs.{run_at}

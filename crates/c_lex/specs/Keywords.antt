@@ -11,7 +11,7 @@ abbrev pub by_word : {A : Type 0} → List (List ℕ × A) → List ℕ → Opti
 by_word [] word = None
 by_word (row ∷ rows) word = if bytes_eq word row.0 then Some row.1 else by_word rows word
 
--- with `_`
+-- those that begin with `_`
 unfoldable pub keywords_low : List (List ℕ × Keyword)
 keywords_low =
     (codes "_Alignas", Unused) ∷
@@ -26,6 +26,7 @@ keywords_low =
     (codes "_Thread_local", Unused) ∷
     []
 
+-- by their first letter
 unfoldable pub keywords_a_to_d : List (List ℕ × Keyword)
 keywords_a_to_d =
     (codes "auto", Unused) ∷

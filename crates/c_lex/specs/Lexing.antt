@@ -37,13 +37,11 @@ line_comment = do
   text ← longest (is_in Line)
   pure tt
 
-abbrev pub closes : List ℕ → Bool
-closes [] = false
-closes (a ∷ []) = false
-closes (a ∷ b ∷ s) = (a == 42) && (b == 47)
-
+-- up to `*/`, or up to the end
 abbrev pub comment_goes : Comment → List ℕ → Bool
-comment_goes comment s = not (closes s)
+comment_goes comment [] = false
+comment_goes comment (a ∷ []) = true
+comment_goes comment (a ∷ b ∷ s) = not ((a == 42) && (b == 47))
 
 unfoldable pub comment_step : ℕ → Comment → Format ℕ Fault Comment
 comment_step size comment = do

@@ -1,7 +1,7 @@
 -- Character constants (C11, 6.4.4.4) and string literals (6.4.5).
-use Rattle.std.specs.Prelude.{◌==◌, ◌+◌, ◌*◌, ◌-◌, ◌≤◌, not, ℕ, Bool, true, false, List, [], ◌∷◌, ◌++◌, Option, Some, None, nat_le, is_some, if◌then◌else◌}
+use Rattle.std.specs.Prelude.{◌==◌, ◌+◌, ◌*◌, ◌≤◌, not, ℕ, Bool, false, List, [], ◌∷◌, ◌++◌, Option, Some, None, nat_le, if◌then◌else◌}
 use Rattle.std.proofs.Common.{arith}
-use Rattle.ms_bytes.specs.Spot.{first_is, place_of}
+use Rattle.ms_bytes.specs.Spot.{place_of}
 use Rattle.ms_bytes.specs.Format.{Format}
 use Rattle.ms_bytes.specs.Parts.{choose, choose_least, either, item, never, pure}
 use Rattle.ms_bytes.specs.Runs.{TakesItem}
@@ -130,7 +130,8 @@ pub record Text : Type 0 where
   pub bytes : List ℕ
 
 abbrev pub string_goes : Text → List ℕ → Bool
-string_goes text s = not (first_is 34 s)
+string_goes text [] = false
+string_goes text (b ∷ s) = not (b == 34)
 
 unfoldable pub string_step : ℕ → Text → Format ℕ Fault Text
 string_step size text = do
@@ -159,7 +160,8 @@ after (One a) b = Many
 after Many b = Many
 
 abbrev pub character_goes : Character → List ℕ → Bool
-character_goes c s = not (first_is 39 s)
+character_goes c [] = false
+character_goes c (b ∷ s) = not (b == 39)
 
 unfoldable pub character_step : ℕ → Character → Format ℕ Fault Character
 character_step size c = do

@@ -1,5 +1,5 @@
 -- Integer constants (C11, 6.4.4.1).
-use Rattle.std.specs.Prelude.{◌==◌, ◌+◌, ◌-◌, ◌*◌, ◌^◌, ◌||◌, ◌&&◌, ℕ, Bool, true, false, List, [], ◌∷◌, Option, Some, None, length, take, drop, nat_le, if◌then◌else◌}
+use Rattle.std.specs.Prelude.{◌==◌, ◌+◌, ◌-◌, ◌*◌, ◌^◌, ◌||◌, ◌&&◌, ℕ, Bool, true, false, List, [], ◌∷◌, Option, Some, None, take, drop, nat_le, if◌then◌else◌}
 use Rattle.ms_bytes.specs.Texts.{run_len}
 use Rattle.c_token.specs.declared.word.IntegerType.{IntegerType}
 use Rattle.c_token.specs.declared.word.IntegerType.TheVariants.{Int, Long, LongLong, UnsignedInt, UnsignedLong, UnsignedLongLong}

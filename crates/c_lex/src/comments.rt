@@ -7,7 +7,7 @@ ghost use Rattle.ms_bytes.specs.Texts.{marks_at, run_len};
 ghost use Rattle.c_lex.specs.Classes.{is_in};
 ghost use Rattle.c_lex.specs.declared.class.Class.TheVariants.{Blank};
 ghost use Rattle.c_lex.specs.Fault.{any, char_here, directive, unclosed};
-ghost use Rattle.c_lex.specs.Lexing.{closes, comment, comment_goes, comment_inside, comment_step, ends_line, inclusion, is_header, line_comment};
+ghost use Rattle.c_lex.specs.Lexing.{comment, comment_goes, comment_inside, comment_step, ends_line, inclusion, is_header, line_comment};
 ghost use Rattle.c_lex.specs.Readers.{Reads};
 
 use crate::class::{Class, run_len};
@@ -43,11 +43,12 @@ pub struct Comment {
 
 impl Steps for Comment {
     ghost going = { comment_goes };
+
     ghost step = { comment_step };
 
     fn goes(&self, c: &Cursor) -> bool {
         match c.rest() {
-            [] => true,
+            [] => false,
             [_] => true,
             [first, second, ..] => !(*first == b'*' && *second == b'/'),
         }

@@ -105,6 +105,7 @@ fn settled(at: usize, constant: Constant, c: &mut Cursor) -> Result<Word, CLex>
 
 impl Steps for Lexer {
     ghost going = { lexing_goes };
+
     ghost step = { lexeme };
 
     fn goes(&self, c: &Cursor) -> bool {
@@ -231,3 +232,6 @@ pub fn lex(alloc: Global, bytes: &[u8]) -> Result<Vec<Token>, CLex>
         Err(fault) => Err(fault),
     }
 }
+
+#[cfg(test)]
+mod tests;

@@ -4,7 +4,7 @@ ghost use Rattle.std.specs.Prelude.{◌≡◌, ◌<◌, ◌≤◌, ◌+◌, ◌*
 ghost use Rattle.ms_bytes.specs.Items.{item_at};
 ghost use Rattle.c_lex.specs.declared.class.Base.TheVariants.{Hexadecimal, Octal};
 ghost use Rattle.c_lex.specs.Fault.{char_here, unclosed};
-ghost use Rattle.c_lex.specs.Literals.{after, broken, broken_by,  character, character_goes, character_inside, character_step, digit_of, escape, escape_of, hexadecimal_escape, in_line, in_range, more_octal, octal_escape, octal_next, only_one, piece, piece_at, simple_rows, string, string_goes, string_inside, string_step, this};
+ghost use Rattle.c_lex.specs.Literals.{after, broken, broken_by, character, character_goes, character_inside, character_step, digit_of, escape, escape_of, hexadecimal_escape, in_line, in_range, more_octal, octal_escape, octal_next, only_one, piece, piece_at, simple_rows, string, string_goes, string_inside, string_step, this};
 ghost use Rattle.c_lex.specs.Marks.{named};
 ghost use Rattle.c_lex.specs.Readers.{Reads, fault_of};
 
@@ -267,10 +267,14 @@ impl Model for Literal {
 
 impl Steps for Literal {
     ghost going = { string_goes };
+
     ghost step = { string_step };
 
     fn goes(&self, c: &Cursor) -> bool {
-        !c.next_is(b'"')
+        match c.rest() {
+            [] => false,
+            [next, ..] => !(*next == b'"'),
+        }
     }
 
     #[tactic(auto, unfolding(crate::specs::Literals::string_step))]
@@ -326,10 +330,14 @@ pub struct Character {
 
 impl Steps for Character {
     ghost going = { character_goes };
+
     ghost step = { character_step };
 
     fn goes(&self, c: &Cursor) -> bool {
-        !c.next_is(b'\'')
+        match c.rest() {
+            [] => false,
+            [next, ..] => !(*next == b'\''),
+        }
     }
 
     #[tactic(auto, unfolding(crate::specs::Literals::character_step))]

@@ -1,6 +1,6 @@
-use Rattle.std.proofs.Common.{◌≡◌, ◌∙◌}
+use Rattle.std.proofs.Common.{◌∙◌}
 use Rattle.std.proofs.lemmas.Result.{err_from_is_err_and}
-use Rattle.c_lex.specs.Readers.{FailsBy, fault_of}
+use Rattle.c_lex.specs.Readers.{fault_of}
 use Rattle.c_lex.proofs.StepLoop.{ends, fails, on, over}
 use Rattle.c_lex.proofs.steps.run.Goals as goal
 
