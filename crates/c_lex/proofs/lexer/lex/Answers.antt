@@ -1,0 +1,7 @@
+use Rattle.c_lex.proofs.Ends.{is_found}
+use Rattle.c_lex.proofs.lexer.lex.Goals as goal
+
+pub returns-in-Ok-clause-found : goal.returns-in-Ok-clause-found
+returns-in-Ok-clause-found c =
+    let e = rw c.new-c.ensures at c.in-Ok.ensures.read in
+    is_found c.args.bytes.now c.in-Ok.tokens.items c.token_list.new.c.left e
