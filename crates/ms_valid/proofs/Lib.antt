@@ -4,3 +4,4 @@ pub mod Sequences
 pub mod Distinct
 pub mod Heads
 pub mod Verdicts
+pub mod OneInstr
