@@ -185,4 +185,11 @@ impl Specifier {
     {
         &*self.node
     }
+
+    /// Its form, by value.
+    pub fn into_node(self) -> SpecifierNode
+        ensures { result ≡ self }
+    {
+        Box::into_inner(self.node)
+    }
 }
