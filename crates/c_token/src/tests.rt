@@ -1,11 +1,10 @@
 use crate::Bytes;
-use std::alloc::Global;
+use std::test::Fail;
 
 #[test]
-fn a_copy_has_the_same_bytes() {
-    let mut bytes = Vec::new(Global);
-    bytes.push(97).unwrap();
-    let name = Bytes::new(bytes);
-    let copy = name.copy(Global).unwrap();
-    assert!(copy.as_slice() == [97]);
+fn a_copy_has_the_same_bytes(rt: HostRuntime) -> Result<(), Fail> {
+    let name = Bytes::new(vec![in rt.alloc(); 97, 98]?);
+    let copy = name.copy(rt.alloc())?;
+    assert_eq!(rt; copy.as_slice(), [97, 98].as_slice());
+    Ok(())
 }

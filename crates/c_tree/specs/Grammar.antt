@@ -397,5 +397,5 @@ pub record IsExternal (text : List Word) (s : OuterSpecifier) (f : ExternalForm)
 pub data IsUnit : List Token → List External → Type 0 where
   empty_unit : IsUnit [] []
   external : (t : Token) (ts rest : List Token) (s : OuterSpecifier) (f : ExternalForm) (xs : List External)
-    → IsExternal (words_of (t ∷ ts)) s f → IsUnit rest xs
-    → IsUnit (t ∷ ts ++ rest) (record { at = t.at; specifier = s; form = f } ∷ xs)
+      → IsExternal (words_of (t ∷ ts)) s f → IsUnit rest xs
+      → IsUnit (t ∷ ts ++ rest) (record { at = t.at; specifier = s; form = f } ∷ xs)

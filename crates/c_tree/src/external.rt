@@ -5,7 +5,7 @@ ghost use Rattle.c_tree.specs.Heights.{declarator_height, tallest_of};
 use crate::initialiser::Inits;
 use crate::specifier::Specifier;
 use crate::statement::Block;
-use crate::tree::{above, Declarator};
+use crate::tree::{Declarator, above};
 use c_token::Bytes;
 use std::alloc::{AllocError, Global};
 use std::marker::Model;
@@ -236,7 +236,9 @@ impl ExternalForm {
         match self {
             ExternalForm::Alone => Ok(0),
             ExternalForm::Declaration(inits) => Ok(inits.height()),
-            ExternalForm::Function(declarator, body) => Ok(declarator.height().max(above(body.height())?)),
+            ExternalForm::Function(declarator, body) => Ok(
+                declarator.height().max(above(body.height())?),
+            ),
         }
     }
 }
@@ -271,7 +273,10 @@ impl Unit {
     pub fn with(self, external: External) -> Result<Self, AllocError>
         ensures { IfOk result (λ u. u ≡ self ++ external ∷ []) }
     {
-        let height = self.height.max(external.specifier.height()).max(external.form.height()?);
+        let height = self
+            .height
+            .max(external.specifier.height())
+            .max(external.form.height()?);
         let mut externals = self.externals;
         externals.push(external)?;
         Ok(Unit { externals, height })

@@ -31,7 +31,6 @@ pub enum ForFirstNode {
 
 impl Model for ForFirst {
     ghost use Rattle.c_tree.specs.declared.first.ForFirstNode.{ForFirstNode};
-
     ghost use Rattle.c_tree.specs.contracts.first.ForFirstNode as node_row;
 
     ghost Value = { ForFirstNode };

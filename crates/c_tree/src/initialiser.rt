@@ -3,7 +3,7 @@ ghost use Rattle.c_tree.specs.Heights.{init_height, initialiser_height, tallest_
 ghost use Rattle.c_tree.specs.InitialiserViews.{initialiser_of, initialisers_of, with_initialiser};
 ghost use Rattle.c_tree.specs.Tree.{no_initialisers};
 
-use crate::tree::{above, Declarator, Expr};
+use crate::tree::{Declarator, Expr, above};
 use std::alloc::{AllocError, Global};
 use std::marker::Model;
 
@@ -216,7 +216,9 @@ impl Inits {
     pub fn with(self, init: Init) -> Result<Self, AllocError>
         ensures { IfOk result (λ xs. xs ≡ self ++ init ∷ []) }
     {
-        let height = self.height.max(init.declarator.height().max(value_height(&init.value)));
+        let height = self
+            .height
+            .max(init.declarator.height().max(value_height(&init.value)));
         let mut items = self.items;
         items.push(init)?;
         Ok(Inits { items, height })

@@ -12,10 +12,19 @@ mod specifier;
 mod statement;
 mod tree;
 
-pub use external::{Declarators, External, ExternalForm, MemberHead, Members, OuterSpecifier, Piece, Unit};
+pub use external::{
+    Declarators, External, ExternalForm, MemberHead, Members, OuterSpecifier, Piece, Unit,
+};
+pub use first::{ForFirst, ForFirstNode, Jump};
 pub use initialiser::{Init, Initialiser, InitialiserNode, Initialisers, Inits};
 pub use operators::{Access, AssignOp, BinaryOp, Infix, StepOp, UnaryOp};
-pub use specifier::{Combination, IntegerWord, IntegerWords, Sign, Specifier, SpecifierNode, Width};
-pub use first::{ForFirst, ForFirstNode, Jump};
+pub use specifier::{
+    Combination, IntegerWord, IntegerWords, Sign, Specifier, SpecifierNode, Width,
+};
 pub use statement::{Block, Item, Statement, StatementNode};
-pub use tree::{above, Args, Core, Declarator, DeclaratorNode, Expr, ExprNode, Parameter, Parameters};
+pub use tree::{
+    Args, Core, Declarator, DeclaratorNode, Expr, ExprNode, Parameter, Parameters, above,
+};
+
+#[cfg(test)]
+mod tests;

@@ -71,11 +71,19 @@ impl Combination {
         let Combination { sign, width, int } = self;
         match word {
             IntegerWord::Signed => match sign {
-                Sign::Unsaid => Some(Combination { sign: Sign::Signed, width, int }),
+                Sign::Unsaid => Some(Combination {
+                    sign: Sign::Signed,
+                    width,
+                    int,
+                }),
                 Sign::Signed | Sign::Unsigned => None,
             },
             IntegerWord::Unsigned => match sign {
-                Sign::Unsaid => Some(Combination { sign: Sign::Unsigned, width, int }),
+                Sign::Unsaid => Some(Combination {
+                    sign: Sign::Unsigned,
+                    width,
+                    int,
+                }),
                 Sign::Signed | Sign::Unsigned => None,
             },
             IntegerWord::Char => match width {
@@ -83,17 +91,33 @@ impl Combination {
                     if int {
                         return None;
                     }
-                    Some(Combination { sign, width: Width::Char, int })
+                    Some(Combination {
+                        sign,
+                        width: Width::Char,
+                        int,
+                    })
                 }
                 Width::Char | Width::Short | Width::Long | Width::LongLong => None,
             },
             IntegerWord::Short => match width {
-                Width::Unsaid => Some(Combination { sign, width: Width::Short, int }),
+                Width::Unsaid => Some(Combination {
+                    sign,
+                    width: Width::Short,
+                    int,
+                }),
                 Width::Char | Width::Short | Width::Long | Width::LongLong => None,
             },
             IntegerWord::Long => match width {
-                Width::Unsaid => Some(Combination { sign, width: Width::Long, int }),
-                Width::Long => Some(Combination { sign, width: Width::LongLong, int }),
+                Width::Unsaid => Some(Combination {
+                    sign,
+                    width: Width::Long,
+                    int,
+                }),
+                Width::Long => Some(Combination {
+                    sign,
+                    width: Width::LongLong,
+                    int,
+                }),
                 Width::Char | Width::Short | Width::LongLong => None,
             },
             IntegerWord::Int => match width {
@@ -102,7 +126,11 @@ impl Combination {
                     if int {
                         return None;
                     }
-                    Some(Combination { sign, width, int: true })
+                    Some(Combination {
+                        sign,
+                        width,
+                        int: true,
+                    })
                 }
             },
         }

@@ -6,7 +6,7 @@ ghost use Rattle.c_tree.specs.StatementViews.{item_height, items_of, statement_o
 use crate::first::{ForFirst, Jump};
 use crate::initialiser::Inits;
 use crate::specifier::Specifier;
-use crate::tree::{above, Expr};
+use crate::tree::{Expr, above};
 use std::alloc::{AllocError, Global};
 use std::marker::Model;
 
@@ -146,7 +146,11 @@ impl Statement {
             _ => false,
         };
         let node = Box::new(alloc, node)?;
-        Ok(Statement { node, height, takes_else })
+        Ok(Statement {
+            node,
+            height,
+            takes_else,
+        })
     }
 
     /// Its form.

@@ -378,7 +378,10 @@ impl Parameters {
     {
         let height = self.height.max(declarator.height());
         let mut items = self.items;
-        items.push(Parameter { specifier, declarator })?;
+        items.push(Parameter {
+            specifier,
+            declarator,
+        })?;
         Ok(Parameters { items, height })
     }
 }
