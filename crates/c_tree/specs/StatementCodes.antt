@@ -1,5 +1,5 @@
 -- How the logic stores a statement.
-use Rattle.std.proofs.Common.{◌≡◌, ℕ, Option, refl, ap, arith}
+use Rattle.std.proofs.Common.{◌≡◌, Option, refl, ap, arith}
 use Rattle.std.specs.Coded.{Coded, coded_option}
 use base.Stored.{Gv, gnil, gnum, gcons}
 use Rattle.c_tree.specs.Tree.{Expr}

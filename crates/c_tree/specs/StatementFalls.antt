@@ -1,7 +1,6 @@
 -- Each part of a statement is smaller than the whole.
-use Rattle.std.specs.Prelude.{◌+◌, ◌≤◌, max, List, [], ◌∷◌}
+use Rattle.std.specs.Prelude.{◌≤◌, max, List, [], ◌∷◌}
 use Rattle.std.proofs.Common.{arith}
-use Rattle.c_tree.specs.Statements.{Statement}
 use denote.Param.Weighed.{most}
 use Rattle.c_tree.specs.declared.statement.StatementNode.{StatementNode}
 use Rattle.c_tree.specs.declared.statement.StatementNode.TheVariants as statements

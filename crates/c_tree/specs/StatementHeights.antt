@@ -1,5 +1,5 @@
 -- Heights of statements and externals. A declaration is none, and neither is a specifier.
-use Rattle.std.specs.Prelude.{ℕ, ◌+◌, max, Bool, true, false, List, [], ◌∷◌, Option, Some, None}
+use Rattle.std.specs.Prelude.{ℕ, ◌+◌, max, Bool, true, false, Option, Some, None}
 use Rattle.c_tree.specs.Tree.{Expr}
 use Rattle.c_tree.specs.Statements.{Statement, block, plain, empty, if_then, if_else, while_loop, for_loop, return_none, return_value, jump, Items, no_items, statement_and, declaration_and}
 use Rattle.c_tree.specs.Heights.{expr_height, tallest_of, init_height}

@@ -1,5 +1,5 @@
 -- The trees of C (C11, 6.5 to 6.9), with what was written.
-use Rattle.std.specs.Prelude.{ℕ, Bool, List, Option}
+use Rattle.std.specs.Prelude.{ℕ, Bool, List}
 use Rattle.c_token.specs.declared.word.IntegerType.{IntegerType}
 use Rattle.c_tree.specs.declared.operators.UnaryOp.{UnaryOp}
 use Rattle.c_tree.specs.declared.operators.Infix.{Infix}

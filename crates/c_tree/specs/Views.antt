@@ -1,6 +1,6 @@
 -- What the nodes of expressions, declarators and initializers stand for, and how large that is.
 use Rattle.std.specs.Prelude.{ℕ, ◌+◌, Bool, true, false, List, [], ◌∷◌}
-use Rattle.c_tree.specs.Tree.{Expr, name, integer, character, string, paren, index, call, member, after, unary, size_of_type, cast, between, choice, Exprs, no_exprs, expr_and, Declarator, named, nothing, pointer, array, sized, wrapped, function, function_void, Parameters, no_parameters, parameter_and, Initialiser, single, braces, Initialisers, no_initialisers, initialiser_and}
+use Rattle.c_tree.specs.Tree.{Expr, name, integer, character, string, paren, index, call, member, after, unary, size_of_type, cast, between, choice, Exprs, no_exprs, expr_and, Declarator, named, nothing, pointer, array, sized, wrapped, function, function_void, Parameters, no_parameters, parameter_and}
 use Rattle.c_tree.specs.declared.specifier.SpecifierNode.{SpecifierNode}
 use Rattle.c_tree.specs.declared.tree.ExprNode.{ExprNode}
 use Rattle.c_tree.specs.declared.tree.ExprNode.TheVariants as exprs
