@@ -1,11 +1,19 @@
-//! Where segments lie: the live segments of the segment memory, and the gaps between them.
+//! Where segments lie: the live segments of the segment memory, and the gaps between them. `Gaps` is the contract, over the
+//! definitions in `specs/Place.antt`, which are to be read first. `TreeGaps` keeps it with two trees, on `ms_gap_tree`:
+//! `specs/Layout.antt` says how gaps lie, and `Ordered.antt` how segments are kept by identity. `ListGaps` is the plain
+//! counterpart.
 #![tactic(auto)]
 
+mod branch;
 mod gaps;
+mod ids;
 mod least_gap;
 mod list_gaps;
+mod order;
 #[cfg(test)]
 mod tests;
+mod tree_gaps;
 
 pub use gaps::{Gaps, Live, MOST_LIVE};
 pub use list_gaps::ListGaps;
+pub use tree_gaps::TreeGaps;

@@ -1,6 +1,6 @@
 ghost use Rattle.std.specs.Prelude.{◌≤◌, All};
 
-use crate::{Gaps, ListGaps, Live, MOST_LIVE};
+use crate::{Gaps, ListGaps, Live, MOST_LIVE, TreeGaps};
 use ms_handle::Kind;
 use std::alloc::Global;
 use std::process::Abort;
@@ -195,6 +195,7 @@ fn first_fit(rt: HostRuntime) -> Result<(), Fail> {
     ];
     for (capacity, steps, live) in table {
         run::<ListGaps, HostRuntime>(&rt, rt.alloc(), capacity, steps, live)?;
+        run::<TreeGaps, HostRuntime>(&rt, rt.alloc(), capacity, steps, live)?;
     }
     Ok(())
 }
@@ -224,5 +225,49 @@ fn fill<G: Gaps, R: Abort>(rt: &R, alloc: Global) -> Result<(), Fail> {
 
 #[test]
 fn most_live(rt: HostRuntime) -> Result<(), Fail> {
-    fill::<ListGaps, HostRuntime>(&rt, rt.alloc())
+    fill::<ListGaps, HostRuntime>(&rt, rt.alloc())?;
+    fill::<TreeGaps, HostRuntime>(&rt, rt.alloc())
+}
+
+/// Makes the same calls on a list and on trees, and compares each answer.
+fn both<R: Abort>(rt: &R, alloc: Global, capacity: u32) -> Result<(), Fail> {
+    let mut list = Memory {
+        gaps: ListGaps::new(alloc, capacity)?,
+        newest: 0,
+    };
+    let mut trees = Memory {
+        gaps: TreeGaps::new(alloc, capacity)?,
+        newest: 0,
+    };
+    let mut seed = u64::from(capacity);
+    for turn in 0..300u32 {
+        seed = seed
+            .wrapping_mul(6_364_136_223_846_793_005)
+            .wrapping_add(1_442_695_040_888_963_407);
+        let draw = ((seed >> 33) % 65_536) as u32;
+        let count = list.gaps.count();
+        assert_eq!(rt; trees.gaps.count(), count, "turn {turn}");
+        if count > 0 && draw % 5 < 2 {
+            let i = draw % count;
+            assert!(rt; i < trees.gaps.count());
+            let segment = list.gaps.nth(i);
+            assert_eq!(rt; trees.gaps.nth(i), segment, "turn {turn}");
+            assert_eq!(rt; trees.gaps.find(segment.id), Some(segment));
+            list.leave(rt, segment.id);
+            trees.leave(rt, segment.id);
+            assert_eq!(rt; trees.gaps.find(segment.id), None);
+        } else {
+            let size = draw / 8 % 90;
+            assert_eq!(rt; trees.enter(rt, size), list.enter(rt, size), "turn {turn}");
+        }
+    }
+    Ok(())
+}
+
+#[test]
+fn both_alike(rt: HostRuntime) -> Result<(), Fail> {
+    for capacity in [0, 15, 333, 2000] {
+        both::<HostRuntime>(&rt, rt.alloc(), capacity)?;
+    }
+    Ok(())
 }

@@ -1,0 +1,16 @@
+pub mod Frame
+pub mod Inserted
+pub mod LastLaw
+pub mod Laws
+pub mod Levels
+pub mod LowestLaw
+pub mod Pool
+pub mod PopLaws
+pub mod PopSteps
+pub mod RemoveLaws
+pub mod RemoveSlots
+pub mod RemoveSteps
+pub mod SizeLaws
+pub mod SlotLaws
+pub mod SoundLaws
+pub mod WayDown

@@ -1,0 +1,115 @@
+ghost use Rattle.std.specs.Prelude.{◌≡◌, ◌+◌, ◌<◌, ◌≤◌, ◌^◌, ◌≢◌, ℕ, length, true, false};
+ghost use Rattle.ms_gap_tree.specs.Arena.{at, tree_of};
+ghost use Rattle.ms_gap_tree.specs.Tree.{half, has, insert, look, lower, upper, IsApart, IsWithin};
+
+use crate::node::{Item, Link, Node};
+
+/// Half of the range of a tree of one level more than these.
+pub fn half(level: u32) -> u64
+    requires { level ≤ 64 }
+    ensures { result ≡ half level }
+{
+    if level == 0 {
+        return 0;
+    }
+    1 << (level - 1)
+}
+
+/// Of two items the one with more room.
+fn upper(x: Item, y: Item) -> Item
+    ensures { result ≡ upper x y }
+{
+    if x.room < y.room { y } else { x }
+}
+
+/// The other one.
+fn lower(x: Item, y: Item) -> Item
+    ensures { result ≡ lower x y }
+{
+    if x.room < y.room { x } else { y }
+}
+
+/// The room that is kept under the key.
+pub fn find(nodes: &[Node], level: u32, low: u64, link: Option<Link>, key: u64) -> Option<u64>
+    requires levels { level ≤ 64 }
+    requires range { low + 2 ^ level ≤ 2 ^ 64 }
+    requires within { IsWithin (length nodes.now) (tree_of nodes.now level link) }
+    ensures { result ≡ look level low key (tree_of nodes.now level link) }
+{
+    if level == 0 {
+        return None;
+    }
+    let root = link?;
+    if key == root.item.key {
+        return Some(root.item.room);
+    }
+    let node = nodes[root.at as usize];
+    let middle = low + half(level - 1);
+    if key < middle {
+        find(nodes, level - 1, low, node.left, key)
+    } else {
+        find(nodes, level - 1, middle, node.right, key)
+    }
+}
+
+/// An item more, in a slot that the tree does not have. Gives the link to the tree.
+pub fn insert(
+    nodes: &mut [Node],
+    level: u32,
+    low: u64,
+    link: Option<Link>,
+    slot: u32,
+    new: Item,
+) -> Option<Link>
+    requires levels { level ≤ 64 }
+    requires range { low + 2 ^ level ≤ 2 ^ 64 }
+    requires within { IsWithin (length nodes.old) (tree_of nodes.old level link) }
+    requires apart { IsApart (tree_of nodes.old level link) }
+    requires fresh { has slot (tree_of nodes.old level link) ≡ false }
+    requires there { slot < length nodes.old }
+    ensures tree { tree_of nodes.new level result ≡ insert level low slot new (tree_of nodes.old level link) }
+    ensures others { (j : ℕ) → has j (tree_of nodes.old level link) ≡ false → j ≢ slot → at nodes.new j ≡ at nodes.old j }
+{
+    if level == 0 {
+        return link;
+    }
+    match link {
+        None => {
+            nodes[slot as usize] = Node {
+                left: None,
+                right: None,
+            };
+            Some(Link {
+                at: slot,
+                item: new,
+            })
+        }
+        Some(root) => {
+            let node = nodes[root.at as usize];
+            let top = upper(root.item, new);
+            let rest = lower(root.item, new);
+            let middle = low + half(level - 1);
+            if rest.key < middle {
+                let left = insert(nodes, level - 1, low, node.left, slot, rest);
+                nodes[root.at as usize] = Node {
+                    left,
+                    right: node.right,
+                };
+                Some(Link {
+                    at: root.at,
+                    item: top,
+                })
+            } else {
+                let right = insert(nodes, level - 1, middle, node.right, slot, rest);
+                nodes[root.at as usize] = Node {
+                    left: node.left,
+                    right,
+                };
+                Some(Link {
+                    at: root.at,
+                    item: top,
+                })
+            }
+        }
+    }
+}
