@@ -10,7 +10,7 @@ use crate::report::{answer, answer_line};
 use crate::status::Status;
 use crate::tasks::task_index;
 use ms_bin_read::{ReadFault, read};
-use ms_live::{Gaps, ListGaps};
+use ms_live::{Gaps, TreeGaps};
 use ms_machine::{LinkFault, Misfit, Ran, Store, instantiate, run};
 use ms_module::Module;
 use ms_outside::{Fetched, Shelf, Sink, Source};
@@ -79,7 +79,7 @@ fn outcome_within<G: Gaps, T: Tagged, I: Source, O: Sink>(
     }
 }
 
-/// The same with the usual budget and size, segments being kept in a list and bytes in granules of sixteen.
+/// The same with the usual budget and size, segments being kept in trees and bytes in granules of sixteen.
 fn outcome_of_typed<I: Source, O: Sink>(
     alloc: Global,
     module: Module,
@@ -91,7 +91,7 @@ fn outcome_of_typed<I: Source, O: Sink>(
     ensures input { (I.left input.new ≡ I.left input.old) × (I.faults input.new ≡ I.faults input.old) }
     ensures out { (O.held out.new ≡ O.held out.old) × (O.faults out.new ≡ O.faults out.old) }
 {
-    outcome_within::<ListGaps, Granules, I, O>(
+    outcome_within::<TreeGaps, Granules, I, O>(
         alloc,
         module,
         DEFAULT_BUDGET,
