@@ -1,79 +1,17 @@
--- The bytes that granules say, and what a write leaves of them.
-use Rattle.std.proofs.Common.{lit<, true, eqb, eq-eqb, ◌≡◌, ℕ, Vec, ◌+◌, ◌-◌, ◌*◌, ◌/◌, ◌%◌, ◌<◌, ◌≤◌, inl, inr, zero, suc, Some, None, List, [], ◌∷◌, ◌++◌, get_or, length, take, drop, replicate, refl, ap, sym, subst, ◌∙◌, zero-add, add-zero, arith}
-use Rattle.std.proofs.Math.ListN.{set}
+-- The bytes that granules say.
+use Rattle.std.proofs.Common.{lit<, true, eqb, eq-eqb, ◌≡◌, ℕ, ◌+◌, ◌-◌, ◌*◌, ◌/◌, ◌%◌, ◌<◌, ◌≤◌, inl, inr, zero, suc, Some, None, List, [], ◌∷◌, get_or, length, take, drop, replicate, refl, ap, sym, subst, ◌∙◌, arith}
 use Rattle.std.specs.Int.{bit_at}
-use Rattle.std.specs.Vec.{with_items}
 use Rattle.std.proofs.lemmas.Bool.{cases_lt, eqb-true}
-use Rattle.std.proofs.lemmas.List.{places, take-append-drop, drop-take, get_or-drop, get_or-take, get_or_default, same_lists, drop_more, drop-drop, drop_at, get_or-replicate, get_or_past, get_or-set_same, get_or-set_other, length-drop, length-map, length-take, length-take-le, take_at, with_items_is}
+use Rattle.std.proofs.lemmas.List.{take-append-drop, drop-take, get_or-drop, get_or-take, get_or_default, same_lists, drop_more, drop-drop, get_or-replicate, get_or_past, length-drop, length-take, length-take-le}
 use Rattle.std.proofs.lemmas.Nat.Bits.{bit_at-lt, bit_at-zero, bit_at_ones, same_from_bits_below}
 use Rattle.ms_handle.specs.declared.handle.Handle.{Handle}
 use Rattle.ms_handle.specs.declared.handle.Handle.TheVariants.{Broken}
-use Rattle.ms_tagged.specs.Bytes.{Byte, Data, Piece, IsHandleAt, IsWidth, whole, torn, number_at, number_with, overwritten, pieces, range, shown_at, zeros}
-use Rattle.ms_tagged.specs.Granules.{Forgets, byte_at, byte_by, bytes_from, data_bytes, number_of, piece_bit, unset}
+use Rattle.ms_tagged.specs.Bytes.{Byte, Data, Piece, IsHandleAt, IsWidth, whole, torn, number_at, number_with, range, shown_at, zeros}
+use Rattle.ms_tagged.specs.Granules.{byte_at, byte_by, bytes_from, data_bytes, number_of, piece_bit, unset}
 use Rattle.ms_tagged.proofs.Handles.{torn-with_data}
 use Rattle.ms_tagged.proofs.Numbers.{number_at-none}
 use Rattle.ms_tagged.specs.declared.granules.StoredHandle.{StoredHandle}
-
--- ---- lists by a function of the place
-
-pub length-bytes_from : (byte : ℕ → Byte) (i n : ℕ) → length (bytes_from byte i n) ≡ n
-length-bytes_from byte i zero = refl
-length-bytes_from byte i (suc n) = ap suc (length-bytes_from byte (suc i) n)
-
--- the same bytes at other places
-pub bytes_from-same : (byte other : ℕ → Byte) (i j n : ℕ) → ((k : ℕ) → k < n → byte (i + k) ≡ other (j + k)) → bytes_from byte i n ≡ bytes_from other j n
-bytes_from-same byte other i j zero same = refl
-bytes_from-same byte other i j (suc n) same =
-    let first : byte i ≡ other j = rw (← add-zero i, ← add-zero j) (same 0 (omega arith)) in
-    let rest : bytes_from byte (suc i) n ≡ bytes_from other (suc j) n =
-    bytes_from-same byte other (suc i) (suc j) n (λ k below.
-    let a : suc i + k ≡ i + suc k = omega arith in
-    let b : suc j + k ≡ j + suc k = omega arith in
-    ap byte a ∙ (same (suc k) (omega arith) ∙ ap other (sym b))) in
-    ap (λ b. b ∷ bytes_from byte (suc i) n) first ∙ ap (λ l. other j ∷ l) rest
-
-pub bytes_from-append : (byte : ℕ → Byte) (i m n : ℕ) → bytes_from byte i (m + n) ≡ bytes_from byte i m ++ bytes_from byte (i + m) n
-bytes_from-append byte i zero n = rw (zero-add n, add-zero i) refl
-bytes_from-append byte i (suc m) n =
-    let sum : suc m + n ≡ suc (m + n) = omega arith in
-    let place : suc i + m ≡ i + suc m = omega arith in
-    ap (bytes_from byte i) sum ∙ ap (λ l. byte i ∷ l) (bytes_from-append byte (suc i) m n ∙ ap (λ j. bytes_from byte (suc i) m ++ bytes_from byte j n) place)
-
-pub get_or-bytes_from : (byte : ℕ → Byte) (i n k : ℕ) (d : Byte) → k < n → get_or (bytes_from byte i n) k d ≡ byte (i + k)
-get_or-bytes_from byte i zero k d within = absurd (omega arith)
-get_or-bytes_from byte i (suc n) zero d within = ap byte (sym (add-zero i))
-get_or-bytes_from byte i (suc n) (suc k) d within =
-    get_or-bytes_from byte (suc i) n k d (omega arith) ∙ ap byte (let e : suc i + k ≡ i + suc k = omega arith in e)
-
-drop-bytes_from : (byte : ℕ → Byte) (n at : ℕ) → at ≤ n → drop at (bytes_from byte 0 n) ≡ bytes_from byte at (n - at)
-drop-bytes_from byte n at within =
-    let sum : n ≡ at + (n - at) = omega arith in
-    ap (λ m. drop at (bytes_from byte 0 m)) sum ∙ (ap (drop at) (bytes_from-append byte 0 at (n - at)) ∙ (drop_at (bytes_from byte 0 at) (bytes_from byte (0 + at) (n - at)) at (length-bytes_from byte 0 at) ∙ ap (λ j. bytes_from byte j (n - at)) (zero-add at)))
-
-pub range-bytes_from : (byte : ℕ → Byte) (n at width : ℕ) → at + width ≤ n → range at width (bytes_from byte 0 n) ≡ bytes_from byte at width
-range-bytes_from byte n at width within =
-    let sum : n - at ≡ width + (n - at - width) = omega arith in
-    ap (take width) (drop-bytes_from byte n at (omega arith) ∙ (ap (bytes_from byte at) sum ∙ bytes_from-append byte at width (n - at - width)))
-    ∙ take_at (bytes_from byte at width) (bytes_from byte (at + width) (n - at - width)) width (length-bytes_from byte at width)
-
-take-bytes_from : (byte : ℕ → Byte) (n at : ℕ) → at ≤ n → take at (bytes_from byte 0 n) ≡ bytes_from byte 0 at
-take-bytes_from byte n at within = range-bytes_from byte n 0 at (omega arith)
-
--- a write at a place
-pub bytes_from-overwritten : (byte old : ℕ → Byte) (n at : ℕ) (new : List Byte) → at + length new ≤ n
-    → ((i : ℕ) → i < at → byte i ≡ old i) → bytes_from byte at (length new) ≡ new → ((i : ℕ) → at + length new ≤ i → byte i ≡ old i)
-    → bytes_from byte 0 n ≡ overwritten at new (bytes_from old 0 n)
-bytes_from-overwritten byte old n at new within below here above =
-    let w = length new in
-    let sum : n ≡ at + w + (n - (at + w)) = omega arith in
-    let front : bytes_from byte 0 at ≡ take at (bytes_from old 0 n) =
-    bytes_from-same byte old 0 0 at (λ k low. rw (zero-add k) (below k low)) ∙ sym (take-bytes_from old n at (omega arith)) in
-    let back : bytes_from byte (at + w) (n - (at + w)) ≡ drop (at + w) (bytes_from old 0 n) =
-    bytes_from-same byte old (at + w) (at + w) (n - (at + w)) (λ k low. above (at + w + k) (omega arith)) ∙ sym (drop-bytes_from old n (at + w) within) in
-    ap (bytes_from byte 0) sum
-    ∙ (bytes_from-append byte 0 (at + w) (n - (at + w))
-    ∙ (ap (λ l. l ++ bytes_from byte (0 + (at + w)) (n - (at + w))) (bytes_from-append byte 0 at w)
-    ∙ rw (zero-add, zero-add, front, here, back) refl))
+use Rattle.ms_tagged.proofs.BytesFrom.{length-bytes_from, bytes_from-same, get_or-bytes_from, range-bytes_from}
 
 -- ---- one byte
 
@@ -98,77 +36,6 @@ bytes_from-data plain masks handles i (suc n) within none =
     let next : i + 1 ≡ suc i = omega arith in
     rw (drop_more plain i 0 (omega arith), next, byte_at-data plain masks handles i (none i (omega arith) (omega arith)))
     (ap (λ l. Data (get_or plain i 0) ∷ l) (bytes_from-data plain masks handles (suc i) n (omega arith) (λ k low high. none k (omega arith) (omega arith))))
-
--- ---- writing data
-
-written-above : (plain bytes : List ℕ) (at i : ℕ) → at + length bytes ≤ length plain → at + length bytes ≤ i → get_or (take at plain ++ (bytes ++ drop (at + length bytes) plain)) i 0 ≡ get_or plain i 0
-written-above plain bytes at i within above = grind (arith, places)
-
--- plain bytes were written, and the masks say that they are no pieces
-data-overwritten : (plain masks plain' masks' : List ℕ) (handles : List StoredHandle) (old : ℕ → Byte) (n at : ℕ) (bytes : List ℕ)
-    → ((i : ℕ) → byte_at plain masks handles i ≡ old i) → Forgets masks masks' at (at + length bytes)
-    → plain' ≡ take at plain ++ (bytes ++ drop (at + length bytes) plain) → at + length bytes ≤ length plain → at + length bytes ≤ n
-    → bytes_from (byte_at plain' masks' handles) 0 n ≡ overwritten at (data_bytes bytes) (bytes_from old 0 n)
-data-overwritten plain masks plain' masks' handles old n at bytes before forgets is there within =
-    let w = length bytes in
-    let long : length (data_bytes bytes) ≡ w = length-map bytes Data in
-    let part : take w (drop at plain') ≡ bytes =
-    ap (λ l. take w (drop at l)) is ∙ (ap (take w) (drop_at (take at plain) (bytes ++ drop (at + w) plain) at (length-take-le at plain (omega arith))) ∙ take_at bytes (drop (at + w) plain) w refl) in
-    let all : length plain' ≡ length plain = rw is (grind (arith, places)) in
-    let here : bytes_from (byte_at plain' masks' handles) at w ≡ data_bytes bytes =
-    bytes_from-data plain' masks' handles at w (omega arith) forgets.inside ∙ ap data_bytes part in
-    bytes_from-overwritten (byte_at plain' masks' handles) old n at (data_bytes bytes) (omega arith)
-    (λ i below. byte_at-same plain' masks' plain masks handles i (forgets.below i below) (rw is (grind (arith, places))) ∙ before i)
-    (rw long here)
-    (λ i above. byte_at-same plain' masks' plain masks handles i (forgets.above i (omega arith)) (rw is (written-above plain bytes at i (omega arith) (omega arith))) ∙ before i)
-
--- the same as the code writes it
-pub data-written : {Z : Type 0} (plain : Vec ℕ Z) (masks : Vec ℕ Z) (handles : List StoredHandle) (before : ℕ → Byte) (now said forgotten part : List ℕ) (written old : List Byte) (n at size k : ℕ)
-    → ((i : ℕ) → byte_at plain.items masks.items handles i ≡ before i)
-    → now ≡ plain.items → length now ≡ plain.len → said ≡ masks.items → length forgotten ≡ length said → length said ≡ masks.len
-    → Forgets said forgotten at (at + size) → at + size ≤ plain.len → bytes_from before 0 n ≡ old → at + size ≤ length old
-    → k ≡ size → length part ≡ length (take k (drop at now)) → data_bytes part ≡ written → length written ≡ size
-    → bytes_from (byte_at (with_items plain (take at now ++ (part ++ drop k (drop at now)))).items (with_items masks forgotten).items handles) 0 n ≡ overwritten at written old
-data-written plain masks handles before now said forgotten part written old n at size k same value len mask_value mask_long mask_len forgets there seen within is long part_is written_long =
-    let room : length old ≡ n = ap length (sym seen) ∙ length-bytes_from before 0 n in
-    let w : length part ≡ size = sym (length-map part Data) ∙ (ap length part_is ∙ written_long) in
-    let behind : drop k (drop at now) ≡ drop (at + length part) now = drop-drop k at now ∙ ap (λ m. drop (at + m) now) (is ∙ sym w) in
-    let all : length (take at now ++ (part ++ drop k (drop at now))) ≡ plain.len = rw behind (grind (arith, places)) in
-    let plain_is = with_items_is plain (take at now ++ (part ++ drop k (drop at now))) all in
-    let masks_are = with_items_is masks forgotten (mask_long ∙ mask_len) in
-    let forgets' : Forgets masks.items forgotten at (at + length part) = rw (← mask_value, w) forgets in
-    ap (λ l. bytes_from (byte_at l (with_items masks forgotten).items handles) 0 n) plain_is
-    ∙ (ap (λ l. bytes_from (byte_at (take at now ++ (part ++ drop k (drop at now))) l handles) 0 n) masks_are
-    ∙ (data-overwritten plain.items masks.items (take at now ++ (part ++ drop k (drop at now))) forgotten handles before n at part same forgets' (rw (behind, value) refl) (omega (arith, ap length value)) (omega arith)
-    ∙ (ap (λ l. overwritten at l (bytes_from before 0 n)) part_is ∙ ap (overwritten at written) seen)))
-
--- how long the part is that is written, at a size as the code computes it
-pub length-held : (now : List ℕ) (at size : ℕ) → at + size ≤ length now → length (take (at + size - at) (drop at now)) ≡ size
-length-held now at size within = grind (arith, places)
-
-pub zeros-data : (n : ℕ) → data_bytes (replicate n 0) ≡ replicate n (Data 0)
-zeros-data zero = refl
-zeros-data (suc n) = ap (λ l. Data 0 ∷ l) (zeros-data n)
-
--- ---- writing a handle
-
-pub handle-overwritten : (plain masks : List ℕ) (handles : List StoredHandle) (old : ℕ → Byte) (n granule : ℕ) (handle : Handle)
-    → ((i : ℕ) → byte_at plain masks handles i ≡ old i) → granule < length masks → granule < length handles → 16 * granule + 16 ≤ n
-    → bytes_from (byte_at plain (set masks granule 65535) (set handles granule (record { handle = handle }))) 0 n ≡ overwritten (16 * granule) (pieces handle) (bytes_from old 0 n)
-handle-overwritten plain masks handles old n granule handle before there stored within =
-    let masks' = set masks granule 65535 in
-    let handles' = set handles granule (record { handle = handle }) in
-    let other : (i : ℕ) → (i / 16 ≡ granule → ⊥) → byte_at plain masks' handles' i ≡ old i =
-    λ i e. rw (get_or-set_other masks granule (i / 16) 65535 0 e, get_or-set_other handles granule (i / 16) (record { handle = handle }) unset e) (before i) in
-    let here : (k : ℕ) → k < 16 → byte_at plain masks' handles' (16 * granule + k) ≡ Piece handle (0 + k) =
-    λ k small.
-    let g : (16 * granule + k) / 16 ≡ granule = omega arith in
-    let j : (16 * granule + k) % 16 ≡ 0 + k = omega arith in
-    rw (g, get_or-set_same masks granule 65535 0 there, get_or-set_same handles granule (record { handle = handle }) unset stored, j, bit_at_ones 16 (0 + k) (omega arith)) refl in
-    bytes_from-overwritten (byte_at plain masks' handles') old n (16 * granule) (pieces handle) within
-    (λ i below. other i (λ e. absurd (omega arith)))
-    (bytes_from-same (byte_at plain masks' handles') (Piece handle) (16 * granule) 0 16 here)
-    (λ i above. other i (λ e. absurd (let h : 16 * granule + 16 ≤ i = above in omega arith)))
 
 -- ---- reading data
 

@@ -1,5 +1,7 @@
 pub mod Blocks
+pub mod BytesFrom
 pub mod GranuleBytes
+pub mod GranuleWrites
 pub mod Forgetting
 pub mod Tags
 pub mod Handles

@@ -2,7 +2,7 @@ ghost use Rattle.std.specs.Prelude.{◌≡◌, ◌≤◌, ◌<◌, ◌+◌, ◌-
 ghost use Rattle.ms_tagged.specs.Bytes.{number_at, range, shown_at};
 ghost use Rattle.ms_tagged.specs.Granules.{byte_at};
 
-use crate::pieces::{GRANULE, forget, hold_data, is_piece};
+use crate::pieces::{GRANULE, forget, forget_few, hold_data, is_piece};
 use crate::tagged::Tagged;
 use crate::word::{are_zeros, read_word, write_word};
 use ms_handle::Handle;
@@ -148,7 +148,7 @@ impl Tagged for Granules {
         let from = address as usize;
         let end = from + width as usize;
         reach(&mut self.plain, &mut self.masks, &mut self.handles, end);
-        forget(&mut self.masks, from, end);
+        forget_few(&mut self.masks, from, end);
         write_word(&mut self.plain[from..end], value);
     }
 

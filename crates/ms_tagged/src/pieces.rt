@@ -57,6 +57,20 @@ pub(crate) fn forget(masks: &mut [u16], from: usize, to: usize)
     forget_in(masks, last, 0, to % GRANULE);
 }
 
+/// The same of at most eight bytes, in whose granules there are seldom any pieces.
+#[inline(always)]
+pub(crate) fn forget_few(masks: &mut [u16], from: usize, to: usize)
+    requires some { from < to }
+    requires few { to ≤ from + 8 }
+    requires within { to ≤ 16 * length masks.old }
+    ensures { Forgets masks.old masks.new from to }
+{
+    if masks[from / GRANULE] == 0 && masks[(to - 1) / GRANULE] == 0 {
+        return;
+    }
+    forget(masks, from, to);
+}
+
 /// The same of the bytes of one granule.
 fn forget_in(masks: &mut [u16], granule: usize, from: usize, to: usize)
     requires order { from ≤ to }

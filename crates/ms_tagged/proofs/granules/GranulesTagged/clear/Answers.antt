@@ -2,7 +2,8 @@ use Rattle.std.proofs.Common.{◌≡◌, ◌+◌, ◌-◌, ◌∙◌, ap, length
 use Rattle.ms_tagged.specs.Bytes.{Data}
 use Rattle.std.proofs.lemmas.List.{length-replicate}
 use Rattle.ms_tagged.specs.Granules.{byte_at, data_bytes}
-use Rattle.ms_tagged.proofs.GranuleBytes.{length-bytes_from, length-held, data-written, zeros-data}
+use Rattle.ms_tagged.proofs.BytesFrom.{length-bytes_from}
+use Rattle.ms_tagged.proofs.GranuleWrites.{length-held, data-written, zeros-data}
 use Rattle.ms_tagged.proofs.granules.GranulesTagged.clear.Goals as goal
 
 pub reach-requires-clause-room : goal.reach-requires-clause-room

@@ -2,7 +2,8 @@ use Rattle.std.proofs.Common.{◌≡◌, ◌+◌, ◌-◌, ◌∙◌, ap, length
 use Rattle.ms_tagged.specs.Bytes.{data_of}
 use Rattle.ms_tagged.proofs.Numbers.{length-data_of}
 use Rattle.ms_tagged.specs.Granules.{byte_at}
-use Rattle.ms_tagged.proofs.GranuleBytes.{length-bytes_from, length-held, data-written}
+use Rattle.ms_tagged.proofs.BytesFrom.{length-bytes_from}
+use Rattle.ms_tagged.proofs.GranuleWrites.{length-held, data-written}
 use Rattle.ms_tagged.proofs.granules.GranulesTagged.put.Goals as goal
 
 pub reach-requires-clause-room : goal.reach-requires-clause-room
@@ -14,5 +15,5 @@ pub returns : goal.returns
 returns c =
     let k : c.args.address + c.args.width - c.args.address ≡ c.args.width = omega arith in
     let held = length-held c.deref_mut-2.result.now c.args.address c.args.width (omega arith) in
-    data-written c.reach.new.plain c.reach.new.masks c.reach.new.handles.items (byte_at c.self.inside.plain.items c.self.inside.masks.items c.self.inside.handles.items) c.deref_mut-2.result.now c.deref_mut.result.now c.forget.new.masks c.write_word.new.bytes (data_of c.args.width c.args.value) c.args.self.now c.self.inside.capacity c.args.address c.args.width _
-    c.reach.ensures.bytes c.deref_mut-2.ensures.value c.deref_mut-2.ensures.len c.deref_mut.ensures.value c.forget.auto.masks c.deref_mut.ensures.len c.forget.ensures c.reach.ensures.there c.self.view_is c.requires.within k c.write_word.auto.bytes (c.write_word.ensures ∙ ap (λ n. data_of n c.args.value) held) (length-data_of c.args.width c.args.value)
+    data-written c.reach.new.plain c.reach.new.masks c.reach.new.handles.items (byte_at c.self.inside.plain.items c.self.inside.masks.items c.self.inside.handles.items) c.deref_mut-2.result.now c.deref_mut.result.now c.forget_few.new.masks c.write_word.new.bytes (data_of c.args.width c.args.value) c.args.self.now c.self.inside.capacity c.args.address c.args.width _
+    c.reach.ensures.bytes c.deref_mut-2.ensures.value c.deref_mut-2.ensures.len c.deref_mut.ensures.value c.forget_few.auto.masks c.deref_mut.ensures.len c.forget_few.ensures c.reach.ensures.there c.self.view_is c.requires.within k c.write_word.auto.bytes (c.write_word.ensures ∙ ap (λ n. data_of n c.args.value) held) (length-data_of c.args.width c.args.value)
