@@ -106,6 +106,3 @@ fn first_untyped(
     }
     Ok(None)
 }
-
-#[cfg(test)]
-mod tests;
