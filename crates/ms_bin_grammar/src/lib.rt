@@ -10,5 +10,5 @@ mod laws;
 mod sections;
 
 pub use fault::{Counted, ReadFault};
-pub use laws::one_module_is_spelled;
+pub use laws::{greater_bounds_spell_it, one_module_is_spelled};
 pub use sections::Sections;
