@@ -1,7 +1,8 @@
 //! What happens to the segment memory, as events with a text of one line each, and which traces of events are safe.
 //!
 //! The colour monitor stands in `specs/Monitor.antt`: it paints addresses with the colour of an allocation and a place in
-//! it, and knows no handle, tag or byte.
+//! it, and knows no handle, tag or byte. Read it first; `specs/Text.antt` has the text of an event. The crate stands on
+//! `ms_bytes`.
 #![tactic(auto)]
 
 mod event;

@@ -1,6 +1,7 @@
 //! The integer operations (WebAssembly 1.0, 4.3.2), of 32 and of 64 bits.
 //!
-//! An operand is the unsigned reading of its bits, below `2^w`, and so is each result.
+//! An operand is the unsigned reading of its bits, below `2^w`, and so is each result. It stands on nothing. Read
+//! `specs/Integers.antt` first: each operation on whole numbers, in the standard's words.
 #![tactic(auto)]
 
 mod arith;

@@ -6,7 +6,7 @@
 //!
 //! `MemSource`, `MemSink` and `MemShelf` are objects in memory for tests, which tell all that they hold and fail exactly
 //! at the calls that they are told to fail at. `StdSource`, `StdSink` and `FileShelf` are over a reader, a writer and the
-//! files of the standard library.
+//! files of the standard library. It stands on nothing. Read `specs/Source.antt`, `Sink.antt` and `Shelf.antt` first.
 #![tactic(auto)]
 
 mod count;

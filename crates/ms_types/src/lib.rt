@@ -1,4 +1,7 @@
 //! Types of values, functions and limits (WebAssembly 1.0, 2.3), and vectors and stacks of items.
+//!
+//! It stands on nothing. Contracts see a `Vector` as a list, a `Stack` as a list with the topmost item first, and a
+//! `SharedType` as the function type that it is; there is no definition beside these. Read `types.rt` first.
 #![tactic(auto)]
 
 mod shared;
