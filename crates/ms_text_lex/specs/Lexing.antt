@@ -16,7 +16,7 @@ use Rattle.ms_text_lex.specs.declared.token.Kind.TheVariants.{Close, Open, Text}
 use Rattle.ms_text_lex.specs.declared.token.Token.{Token}
 use Rattle.ms_text_lex.specs.Classes.{is_blank, is_idchar, is_in}
 use Rattle.ms_text_lex.specs.Comments.{block_comment, comment_text, line_comment, line_text, utf8_comment}
-use Rattle.ms_text_lex.specs.Fault.{Fault, any, char_here, ◌>>=◌}
+use Rattle.ms_text_lex.specs.Fault.{Fault, any, broken, char_here, ◌>>=◌}
 use Rattle.ms_text_lex.specs.Strings.{quoted, string, string_text}
 use Rattle.ms_text_lex.specs.Words.{kind_of}
 
@@ -95,7 +95,7 @@ unfolding lexeme
 lexeme_takes size = takes_least lexing_goes (lexeme size) (λ ts. omega arith)
 
 unfoldable pub lexemes : ℕ → Format ℕ Fault (List Token)
-lexemes size = run char_here lexing_goes (lexeme size) (lexeme_takes size) []
+lexemes size = run broken lexing_goes (lexeme size) (lexeme_takes size) []
 
 -- These bytes are a list of these tokens.
 abbrev pub Lexes : List ℕ → List Token → Type 0

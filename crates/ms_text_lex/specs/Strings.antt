@@ -1,6 +1,7 @@
 -- Strings (WebAssembly 1.0, 6.3.3).
 use Rattle.std.specs.Prelude.{◌==◌, ◌+◌, ◌*◌, ◌≤◌, ◌||◌, ◌&&◌, not, ℕ, Bool, true, false, List, [], ◌∷◌, Option, Some, None, nat_lt, if◌then◌else◌}
 use Rattle.std.proofs.Common.{arith}
+use lib.Utf8.{scalar}
 use Rattle.std.specs.Str.{is_utf8}
 use Rattle.ms_bytes.specs.Format.{Format}
 use Rattle.ms_bytes.specs.Parts.{either, item, pure}
@@ -14,7 +15,7 @@ use Rattle.ms_text_lex.specs.declared.strings.Escape.{Escape}
 use Rattle.ms_text_lex.specs.declared.strings.Escape.TheVariants.{High, Simple, Unicode}
 use Rattle.ms_text_lex.specs.declared.strings.Piece.{Piece}
 use Rattle.ms_text_lex.specs.declared.strings.Piece.TheVariants.{Byte, Scalar}
-use Rattle.ms_text_lex.specs.Classes.{hex, is_between}
+use Rattle.ms_text_lex.specs.Classes.{hex}
 use Rattle.ms_text_lex.specs.Fault.{Fault, broken, char_here, inside, this, ◌>>=◌}
 
 -- ---- escapes
@@ -67,7 +68,7 @@ code_text size = do
 
 -- no surrogate
 abbrev pub is_scalar : Digits → List ℕ → Bool
-is_scalar c text = not (is_between 55296 57343 c.value)
+is_scalar c text = scalar c.value
 
 unfoldable pub code_point : ℕ → Format ℕ Fault Piece
 code_point size = do

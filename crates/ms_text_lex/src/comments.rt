@@ -1,6 +1,6 @@
 //! Comments (WebAssembly 1.0, 6.2.4).
 
-ghost use Rattle.std.specs.Prelude.{◌≡◌, ◌+◌, ◌<◌, ◌^◌, length};
+ghost use Rattle.std.specs.Prelude.{◌≡◌, ◌+◌, ◌≤◌, ◌^◌, length};
 ghost use Rattle.ms_text_lex.specs.Comments.{block_comment, comment_goes, comment_step, comment_text, line_comment, line_text, mark_of, utf8_comment};
 ghost use Rattle.ms_text_lex.specs.Readers.{Reads};
 
@@ -45,7 +45,7 @@ impl Steps for Comment {
 
     ghost step = { comment_step };
 
-    ghost fits = { λ s left. s.depth + length left < 2 ^ 64 };
+    ghost fits = { λ s left. s.depth + length left ≤ 2 ^ 64 };
 
     fn goes(&self, _c: &Cursor) -> bool {
         self.depth != 0
@@ -79,6 +79,7 @@ fn comment_text(c: &mut Cursor) -> Result<(), LexFault>
 {
     any(c)?;
     any(c)?;
+    let _ = c.len();
     run(Comment { depth: 1 }, c)?;
     Ok(())
 }
