@@ -51,23 +51,23 @@ mark_least depth Closes = omega arith
 mark_least depth Neither = omega arith
 
 -- a mark, or a byte
-unfoldable pub comment_step : ℕ → Comment → Format ℕ Fault Comment
-comment_step size st = choose_least 1 mark_of (behind_mark st.depth) (mark_least st.depth)
+unfoldable pub comment_step : Comment → Format ℕ Fault Comment
+comment_step st = choose_least 1 mark_of (behind_mark st.depth) (mark_least st.depth)
 
 -- until all are closed
 abbrev pub comment_goes : Comment → List ℕ → Bool
 comment_goes st s = not (st.depth == 0)
 
-pub comment_takes : (size : ℕ) → TakesItem {F = Fault} comment_goes (comment_step size)
+pub comment_takes : TakesItem {F = Fault} comment_goes comment_step
 unfolding comment_step
-comment_takes size = takes_least comment_goes (comment_step size) (λ st. omega arith)
+comment_takes = takes_least comment_goes comment_step (λ st. omega arith)
 
 -- a comment with the opening mark of the outermost one first
-unfoldable pub comment_text : ℕ → Format ℕ Fault (Unit {0})
-comment_text size = do
+unfoldable pub comment_text : Format ℕ Fault (Unit {0})
+comment_text = do
   a ← item broken any
   b ← item broken any
-  inner ← run broken comment_goes (comment_step size) (comment_takes size) (record { depth = 1 })
+  inner ← run broken comment_goes comment_step comment_takes (record { depth = 1 })
   pure tt
 
 -- ---- comments are UTF-8, and what is wrong in one stands at its beginning
@@ -75,8 +75,8 @@ comment_text size = do
 unfoldable pub line_comment : Format ℕ Fault (Unit {0})
 line_comment = only (λ x text. is_utf8 text) cut line_text
 
-unfoldable pub utf8_comment : ℕ → Format ℕ Fault (Unit {0})
-utf8_comment size = only (λ x text. is_utf8 text) char_here (comment_text size)
+unfoldable pub utf8_comment : Format ℕ Fault (Unit {0})
+utf8_comment = only (λ x text. is_utf8 text) char_here comment_text
 
-unfoldable pub block_comment : ℕ → Format ℕ Fault (Unit {0})
-block_comment size = whole inside (utf8_comment size)
+unfoldable pub block_comment : Format ℕ Fault (Unit {0})
+block_comment = whole inside utf8_comment

@@ -55,14 +55,14 @@ behind size ts at leads.LineComment = do
   text ← line_comment
   pure ts
 behind size ts at leads.BlockComment = do
-  text ← block_comment size
+  text ← block_comment
   pure ts
 behind size ts at (leads.Paren kind) = do
   b ← item char_here any
   end ← here size
   pure (ts ++ token kind at end ∷ [])
 behind size ts at leads.Quote = do
-  text ← string size
+  text ← string
   end ← here size
   pure (ts ++ token Text at end ∷ [])
 behind size ts at leads.Word = do

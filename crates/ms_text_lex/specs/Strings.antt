@@ -49,20 +49,20 @@ abbrev pub code_goes : Digits → List ℕ → Bool
 code_goes st [] = true
 code_goes st (b ∷ s) = not ((b == 125) && not st.bare)
 
-unfoldable pub code_digit : ℕ → Digits → Format ℕ Fault Digits
-code_digit size st = item broken (code_step st)
+unfoldable pub code_digit : Digits → Format ℕ Fault Digits
+code_digit st = item broken (code_step st)
 
-pub code_digit_takes : (size : ℕ) → TakesItem {F = Fault} code_goes (code_digit size)
+pub code_digit_takes : TakesItem {F = Fault} code_goes code_digit
 unfolding code_digit
-code_digit_takes size = takes_least code_goes (code_digit size) (λ st. omega arith)
+code_digit_takes = takes_least code_goes code_digit (λ st. omega arith)
 
-unfoldable pub code_digits : ℕ → Format ℕ Fault Digits
-code_digits size = run broken code_goes (code_digit size) (code_digit_takes size) (record { value = 0; bare = true })
+unfoldable pub code_digits : Format ℕ Fault Digits
+code_digits = run broken code_goes code_digit code_digit_takes (record { value = 0; bare = true })
 
-unfoldable pub code_text : ℕ → Format ℕ Fault Digits
-code_text size = do
+unfoldable pub code_text : Format ℕ Fault Digits
+code_text = do
   brace ← item broken (this 123)
-  digits ← code_digits size
+  digits ← code_digits
   close ← item broken (this 125)
   pure digits
 
@@ -70,22 +70,22 @@ code_text size = do
 abbrev pub is_scalar : Digits → List ℕ → Bool
 is_scalar c text = scalar c.value
 
-unfoldable pub code_point : ℕ → Format ℕ Fault Piece
-code_point size = do
-  code ← only is_scalar char_here (code_text size)
+unfoldable pub code_point : Format ℕ Fault Piece
+code_point = do
+  code ← only is_scalar char_here code_text
   pure (Scalar code.value)
 
-unfoldable pub behind_escape : ℕ → Escape → Format ℕ Fault Piece
-behind_escape size (Simple b) = pure (Byte b)
-behind_escape size (High h) = do
+unfoldable pub behind_escape : Escape → Format ℕ Fault Piece
+behind_escape (Simple b) = pure (Byte b)
+behind_escape (High h) = do
   low ← item broken hex
   pure (Byte (h * 16 + low))
-behind_escape size Unicode = code_point size
+behind_escape Unicode = code_point
 
-unfoldable pub escape : ℕ → Format ℕ Fault Piece
-escape size = do
+unfoldable pub escape : Format ℕ Fault Piece
+escape = do
   e ← item broken escape_of
-  behind_escape size e
+  behind_escape e
 
 -- ---- elements
 
@@ -93,14 +93,14 @@ escape size = do
 abbrev pub plain_byte : ℕ → Option ℕ
 plain_byte b = if nat_lt b 32 || (b == 127) then None else Some b
 
-unfoldable pub behind_first : ℕ → ℕ → Format ℕ Fault Piece
-behind_first size b = either (b == 92) (escape size) (pure (Byte b))
+unfoldable pub behind_first : ℕ → Format ℕ Fault Piece
+behind_first b = either (b == 92) escape (pure (Byte b))
 
 -- a byte or an escape; a character of more bytes is as many of them
-unfoldable pub piece : ℕ → Format ℕ Fault Piece
-piece size = do
+unfoldable pub piece : Format ℕ Fault Piece
+piece = do
   b ← item broken plain_byte
-  behind_first size b
+  behind_first b
 
 -- up to the closing quote
 abbrev pub no_quote : List ℕ → Bool
@@ -111,29 +111,29 @@ abbrev pub string_goes : {S : Type 0} → S → List ℕ → Bool
 string_goes st s = no_quote s
 
 -- the elements of a string, of which only their being there counts
-unfoldable pub skip_piece : ℕ → Elements → Format ℕ Fault Elements
-skip_piece size st = do
-  p ← piece size
+unfoldable pub skip_piece : Elements → Format ℕ Fault Elements
+skip_piece st = do
+  p ← piece
   pure st
 
-pub skip_takes : (size : ℕ) → TakesItem {F = Fault} string_goes (skip_piece size)
+pub skip_takes : TakesItem {F = Fault} string_goes skip_piece
 unfolding skip_piece piece
-skip_takes size = takes_least string_goes (skip_piece size) (λ st. omega arith)
+skip_takes = takes_least string_goes skip_piece (λ st. omega arith)
 
-unfoldable pub skip_pieces : ℕ → Format ℕ Fault Elements
-skip_pieces size = run broken string_goes (skip_piece size) (skip_takes size) (record { })
+unfoldable pub skip_pieces : Format ℕ Fault Elements
+skip_pieces = run broken string_goes skip_piece skip_takes (record { })
 
 -- a string in its quotes
-unfoldable pub quoted : ℕ → Format ℕ Fault (Unit {0})
-quoted size = do
+unfoldable pub quoted : Format ℕ Fault (Unit {0})
+quoted = do
   begin ← item broken (this 34)
-  elements ← skip_pieces size
+  elements ← skip_pieces
   close ← item broken (this 34)
   pure tt
 
-unfoldable pub string_text : ℕ → Format ℕ Fault (Unit {0})
-string_text size = only (λ x text. is_utf8 text) char_here (quoted size)
+unfoldable pub string_text : Format ℕ Fault (Unit {0})
+string_text = only (λ x text. is_utf8 text) char_here quoted
 
 -- what is wrong in a string stands at its opening quote
-unfoldable pub string : ℕ → Format ℕ Fault (Unit {0})
-string size = whole inside (string_text size)
+unfoldable pub string : Format ℕ Fault (Unit {0})
+string = whole inside string_text

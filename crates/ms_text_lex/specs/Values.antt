@@ -19,23 +19,23 @@ bytes_of (Byte b) = b ∷ []
 bytes_of (Scalar c) = encode_utf8 c
 
 -- the bytes so far, and those of one element more
-unfoldable pub element : ℕ → List ℕ → Format ℕ Fault (List ℕ)
-element size bytes = do
-  p ← piece size
+unfoldable pub element : List ℕ → Format ℕ Fault (List ℕ)
+element bytes = do
+  p ← piece
   pure (bytes ++ bytes_of p)
 
-pub element_takes : (size : ℕ) → TakesItem {F = Fault} string_goes (element size)
+pub element_takes : TakesItem {F = Fault} string_goes element
 unfolding element piece
-element_takes size = takes_least string_goes (element size) (λ bytes. omega arith)
+element_takes = takes_least string_goes element (λ bytes. omega arith)
 
-unfoldable pub elements : ℕ → Format ℕ Fault (List ℕ)
-elements size = run broken string_goes (element size) (element_takes size) []
+unfoldable pub elements : Format ℕ Fault (List ℕ)
+elements = run broken string_goes element element_takes []
 
 -- a string in its quotes, with its bytes
-unfoldable pub string_bytes : ℕ → Format ℕ Fault (List ℕ)
-string_bytes size = do
+unfoldable pub string_bytes : Format ℕ Fault (List ℕ)
+string_bytes = do
   begin ← item broken (this 34)
-  bytes ← elements size
+  bytes ← elements
   close ← item broken (this 34)
   pure bytes
 
@@ -45,7 +45,7 @@ or_nothing (Err e) = []
 
 -- what a string stands for, or nothing for any other text
 unfoldable pub bytes_in : List ℕ → List ℕ
-bytes_in text = or_nothing ((string_bytes (length text)).read (length text) text)
+bytes_in text = or_nothing (string_bytes.read (length text) text)
 
 -- what a string token stands for
 abbrev pub value_of : List ℕ → Token → List ℕ

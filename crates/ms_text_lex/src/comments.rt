@@ -43,7 +43,7 @@ pub struct Comment {
 impl Steps for Comment {
     ghost going = { comment_goes };
 
-    ghost step = { comment_step };
+    ghost step = { λ _. comment_step };
 
     ghost fits = { λ s left. s.depth + length left ≤ 2 ^ 64 };
 
@@ -75,7 +75,7 @@ impl Steps for Comment {
 /// Goes over a comment in brackets, and those inside of it.
 #[tactic(auto, unfolding(crate::specs::Comments::comment_text))]
 fn comment_text(c: &mut Cursor) -> Result<(), LexFault>
-    ensures { Reads c.old c.new result ((comment_text c.old.end).read c.old.end c.old.left) }
+    ensures { Reads c.old c.new result (comment_text.read c.old.end c.old.left) }
 {
     any(c)?;
     any(c)?;
@@ -87,7 +87,7 @@ fn comment_text(c: &mut Cursor) -> Result<(), LexFault>
 /// Goes over a comment of UTF-8 in brackets.
 #[tactic(auto, unfolding(crate::specs::Comments::utf8_comment))]
 fn utf8_comment(c: &mut Cursor) -> Result<(), LexFault>
-    ensures { Reads c.old c.new result ((utf8_comment c.old.end).read c.old.end c.old.left) }
+    ensures { Reads c.old c.new result (utf8_comment.read c.old.end c.old.left) }
 {
     let at = c.at();
     let before = c.rest();
@@ -101,7 +101,7 @@ fn utf8_comment(c: &mut Cursor) -> Result<(), LexFault>
 /// Goes over a comment in brackets. Its faults stand at its outermost opening.
 #[tactic(auto, unfolding(crate::specs::Comments::block_comment))]
 pub fn block_comment(c: &mut Cursor) -> Result<(), LexFault>
-    ensures { Reads c.old c.new result ((block_comment c.old.end).read c.old.end c.old.left) }
+    ensures { Reads c.old c.new result (block_comment.read c.old.end c.old.left) }
 {
     let at = c.at();
     let before = c.rest();

@@ -111,7 +111,7 @@ fn with_byte(digits: Digits, byte: u8) -> Option<Digits>
 impl Steps for Digits {
     ghost going = { code_goes };
 
-    ghost step = { code_digit };
+    ghost step = { λ _. code_digit };
 
     ghost fits = { λ d _. d.value ≤ 1114111 };
 
@@ -141,7 +141,7 @@ impl Steps for Digits {
 /// Takes the digits of a character's code.
 #[tactic(auto, unfolding(crate::specs::Strings::code_digits))]
 fn code_digits(c: &mut Cursor) -> Result<Digits, LexFault>
-    ensures { Reads c.old c.new result ((code_digits c.old.end).read c.old.end c.old.left) }
+    ensures { Reads c.old c.new result (code_digits.read c.old.end c.old.left) }
 {
     run(
         Digits {
@@ -155,7 +155,7 @@ fn code_digits(c: &mut Cursor) -> Result<Digits, LexFault>
 /// Takes a code in braces.
 #[tactic(auto, unfolding(crate::specs::Strings::code_text))]
 fn code_text(c: &mut Cursor) -> Result<Digits, LexFault>
-    ensures { Reads c.old c.new result ((code_text c.old.end).read c.old.end c.old.left) }
+    ensures { Reads c.old c.new result (code_text.read c.old.end c.old.left) }
 {
     this(b'{', c)?;
     let digits = code_digits(c)?;
@@ -166,7 +166,7 @@ fn code_text(c: &mut Cursor) -> Result<Digits, LexFault>
 /// Takes a character by its code in braces.
 #[tactic(auto, unfolding(crate::specs::Strings::code_point))]
 fn code_point(c: &mut Cursor) -> Result<Piece, LexFault>
-    ensures { Reads c.old c.new result ((code_point c.old.end).read c.old.end c.old.left) }
+    ensures { Reads c.old c.new result (code_point.read c.old.end c.old.left) }
 {
     let at = c.at();
     let code = code_text(c)?;
@@ -179,7 +179,7 @@ fn code_point(c: &mut Cursor) -> Result<Piece, LexFault>
 /// Takes what stands behind a backslash.
 #[tactic(auto, unfolding(crate::specs::Strings::escape, crate::specs::Strings::behind_escape))]
 fn escaped(c: &mut Cursor) -> Result<Piece, LexFault>
-    ensures { Reads c.old c.new result ((escape c.old.end).read c.old.end c.old.left) }
+    ensures { Reads c.old c.new result (escape.read c.old.end c.old.left) }
 {
     match escape_letter(c)? {
         Escape::Simple(byte) => Ok(Piece::Byte(byte)),
@@ -210,7 +210,7 @@ fn plain_byte(c: &mut Cursor) -> Result<u8, LexFault>
 /// Takes a byte or an escape.
 #[tactic(auto, unfolding(crate::specs::Strings::piece, crate::specs::Strings::behind_first))]
 pub fn next_piece(c: &mut Cursor) -> Result<Piece, LexFault>
-    ensures { Reads c.old c.new result ((piece c.old.end).read c.old.end c.old.left) }
+    ensures { Reads c.old c.new result (piece.read c.old.end c.old.left) }
 {
     let byte = plain_byte(c)?;
     if byte == b'\\' {
@@ -236,7 +236,7 @@ pub struct Elements {}
 impl Steps for Elements {
     ghost going = { string_goes };
 
-    ghost step = { skip_piece };
+    ghost step = { λ _. skip_piece };
 
     fn goes(&self, c: &Cursor) -> bool {
         no_quote(c)
@@ -252,7 +252,7 @@ impl Steps for Elements {
 /// Goes over what stands between quotes.
 #[tactic(auto, unfolding(crate::specs::Strings::skip_pieces))]
 fn skip_pieces(c: &mut Cursor) -> Result<Elements, LexFault>
-    ensures { Reads c.old c.new result ((skip_pieces c.old.end).read c.old.end c.old.left) }
+    ensures { Reads c.old c.new result (skip_pieces.read c.old.end c.old.left) }
 {
     run(Elements {}, c)
 }
@@ -260,7 +260,7 @@ fn skip_pieces(c: &mut Cursor) -> Result<Elements, LexFault>
 /// Goes over a string in its quotes.
 #[tactic(auto, unfolding(crate::specs::Strings::quoted))]
 fn quoted(c: &mut Cursor) -> Result<(), LexFault>
-    ensures { Reads c.old c.new result ((quoted c.old.end).read c.old.end c.old.left) }
+    ensures { Reads c.old c.new result (quoted.read c.old.end c.old.left) }
 {
     this(b'"', c)?;
     skip_pieces(c)?;
@@ -271,7 +271,7 @@ fn quoted(c: &mut Cursor) -> Result<(), LexFault>
 /// Goes over a string of UTF-8 in its quotes.
 #[tactic(auto, unfolding(crate::specs::Strings::string_text))]
 fn string_text(c: &mut Cursor) -> Result<(), LexFault>
-    ensures { Reads c.old c.new result ((string_text c.old.end).read c.old.end c.old.left) }
+    ensures { Reads c.old c.new result (string_text.read c.old.end c.old.left) }
 {
     let at = c.at();
     let before = c.rest();
@@ -302,7 +302,7 @@ pub fn inside(at: usize, before: &[u8], fault: LexFault) -> LexFault
 /// Goes over a string. Its faults stand at its opening quote.
 #[tactic(auto, unfolding(crate::specs::Strings::string))]
 pub fn string(c: &mut Cursor) -> Result<(), LexFault>
-    ensures { Reads c.old c.new result ((string c.old.end).read c.old.end c.old.left) }
+    ensures { Reads c.old c.new result (string.read c.old.end c.old.left) }
 {
     let at = c.at();
     let before = c.rest();

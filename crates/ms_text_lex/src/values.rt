@@ -48,7 +48,7 @@ impl Bytes {
 impl Steps for Bytes {
     ghost going = { string_goes };
 
-    ghost step = { element };
+    ghost step = { λ _. element };
 
     fn goes(&self, c: &Cursor) -> bool {
         no_quote(c)
@@ -65,7 +65,7 @@ impl Steps for Bytes {
 /// Takes what stands between quotes.
 #[tactic(auto, unfolding(crate::specs::Values::elements))]
 fn elements(alloc: Global, c: &mut Cursor) -> Result<Bytes, LexFault>
-    ensures { Reads c.old c.new result ((elements c.old.end).read c.old.end c.old.left) }
+    ensures { Reads c.old c.new result (elements.read c.old.end c.old.left) }
 {
     run(
         Bytes {
@@ -78,7 +78,7 @@ fn elements(alloc: Global, c: &mut Cursor) -> Result<Bytes, LexFault>
 /// Takes a string in its quotes.
 #[tactic(auto, unfolding(crate::specs::Values::string_bytes))]
 fn string_bytes(alloc: Global, c: &mut Cursor) -> Result<Bytes, LexFault>
-    ensures { Reads c.old c.new result ((string_bytes c.old.end).read c.old.end c.old.left) }
+    ensures { Reads c.old c.new result (string_bytes.read c.old.end c.old.left) }
 {
     this(b'"', c)?;
     let bytes = elements(alloc, c)?;
