@@ -22,3 +22,4 @@ pub use lexer::lex;
 pub use numbers::{constant, index, is_signed};
 pub use token::{Kind, Token, text_of};
 pub use values::{append_value, string_value};
+pub use words::is_unsigned;

@@ -57,7 +57,8 @@ pub fn is_hexadecimal(text: &[u8]) -> bool
     }
 }
 
-fn is_unsigned(text: &[u8]) -> bool
+/// Whether these are digits, decimal or hexadecimal, without a sign.
+pub fn is_unsigned(text: &[u8]) -> bool
     ensures { result ≡ is_unsigned text.now }
 {
     if is_hexadecimal(text) {
