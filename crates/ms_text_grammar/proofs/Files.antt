@@ -1,0 +1,34 @@
+-- A file is all of its tokens, and these are fields in one way at most.
+use Rattle.std.specs.Prelude.{◌≡◌, ℕ, Bool, true, false, List, [], length, Ok, Result}
+use Rattle.std.proofs.Common.{sym, ◌∙◌, ap}
+use Rattle.ms_bytes.specs.Parts.{ended, pure, seq}
+use Rattle.ms_text_lex.specs.declared.token.Token.{Token}
+use Rattle.ms_text_grammar.specs.declared.fault.TextFault.{TextFault}
+use Rattle.ms_text_grammar.specs.declared.surface.Field.{Field}
+use Rattle.ms_text_grammar.specs.declared.word.Word.TheVariants as word
+use Rattle.ms_text_grammar.specs.Tokens.{begins}
+use Rattle.ms_text_grammar.specs.Faults.{bad}
+use Rattle.ms_text_grammar.specs.Bounds.{Bounds, usual}
+use Rattle.ms_text_grammar.specs.Fields.{File, file, file_by, file_within}
+
+abbrev whole : List Field → Result (List Field × List Token) TextFault
+whole fields = Ok (fields, [])
+
+module _ (source : List ℕ) where
+  all_taken : (f : File) (s : List Token) (x : List Field) (t : List Token) → (seq (ended {F = TextFault} (bad source)) (λ done. pure f.fields)).spelled s x t → t ≡ []
+  all_taken f s x t h = sym h.3.1 ∙ h.2.1
+
+  file_by_ends : (bounds : Bounds) (b : Bool) (s : List Token) (x : List Field) (t : List Token) → (file_by source bounds b).spelled s x t → t ≡ []
+  unfolding file_by
+  file_by_ends bounds true s x t h = let k = h.3.3.3 in all_taken k.0 k.3.1 x t k.3.3
+  file_by_ends bounds false s x t h = all_taken h.0 h.1 x t h.3
+
+  pub file_ends : (s : List Token) (x : List Field) (t : List Token) → (file source).spelled s x t → t ≡ []
+  unfolding file file_within
+  file_ends s x t h = file_by_ends usual (begins source word.Module s) s x t h
+
+  pub one_way : (s : List Token) (x y : List Field) → (file source).spelled s x [] → (file source).spelled s y [] → x ≡ y
+  one_way s x y h k =
+      let e : whole x ≡ whole y = sym ((file source).again (length source) s x [] h) ∙ (file source).again (length source) s y [] k in
+      let pairs : ◌≡◌ {A = List Field × List Token} (x, []) (y, []) = cc in
+      ap (λ (p : List Field × List Token). p.0) pairs

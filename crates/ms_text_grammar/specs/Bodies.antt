@@ -1,0 +1,55 @@
+-- Bodies: one turn after the other (WebAssembly 1.0, 6.5.8 and 6.6.5), where at most so many blocks may be in one another.
+use Rattle.std.specs.Prelude.{◌&&◌, ℕ, Bool, true, false, not, List, [], ◌∷◌}
+use Rattle.std.proofs.Common.{arith}
+use Rattle.ms_bytes.specs.Do.{◌>>=◌}
+use Rattle.ms_bytes.specs.Parts.{choose_least, pure}
+use Rattle.ms_bytes.specs.Runs.{TakesItem}
+use Rattle.ms_bytes.specs.RunLaws.{takes_least}
+use Rattle.ms_bytes.specs.Repetition.{run}
+use Rattle.ms_text_lex.specs.declared.token.Token.{Token}
+use Rattle.ms_text_grammar.specs.declared.fault.TextFault.{TextFault}
+use Rattle.ms_text_grammar.specs.declared.frame.Frame.{Frame}
+use Rattle.ms_text_grammar.specs.declared.surface.Body.{Body}
+use Rattle.ms_text_grammar.specs.Tokens.{closes}
+use Rattle.ms_text_grammar.specs.Faults.{Textual, bad}
+use Rattle.ms_text_grammar.specs.Turns.{State, first_state, folded, sign_of, turn_on}
+use Rattle.ms_text_grammar.specs.TurnLaws.{turn_on_least}
+
+abbrev pub no_frames : List Frame → Bool
+no_frames [] = true
+no_frames (f ∷ fs) = false
+
+abbrev pub body_of : State → Body
+body_of st = record { uses = st.uses; ops = st.ops }
+
+module _ (source : List ℕ) (most : ℕ) where
+  unfoldable pub turn : State → Textual State
+  turn st = choose_least 1 (sign_of source) (turn_on source most st st.frames) (turn_on_least source most st st.frames)
+
+  -- up to the parenthesis that closes what the body is in
+  abbrev pub body_goes : State → List Token → Bool
+  body_goes st s = not (no_frames st.frames && closes s)
+
+  pub turn_takes : TakesItem {F = TextFault} body_goes turn
+  unfolding turn
+  turn_takes = takes_least body_goes turn (λ st. omega arith)
+
+  unfoldable pub body : Textual Body
+  body = do
+    last ← run (bad source) body_goes turn turn_takes first_state
+    pure (body_of last)
+
+  -- while frames are open
+  abbrev pub inside_goes : State → List Token → Bool
+  inside_goes st s = not (no_frames st.frames)
+
+  pub inside_takes : TakesItem {F = TextFault} inside_goes turn
+  unfolding turn
+  inside_takes = takes_least inside_goes turn (λ st. omega arith)
+
+  -- one folded instruction
+  unfoldable pub folded_body : Textual Body
+  folded_body = do
+    first ← folded source most first_state
+    last ← run (bad source) inside_goes turn inside_takes first
+    pure (body_of last)

@@ -1,0 +1,17 @@
+pub mod Keywords
+pub mod Tokens
+pub mod Faults
+pub mod Parts
+pub mod Numbers
+pub mod Types
+pub mod Instructions
+pub mod Bounds
+pub mod Turns
+pub mod TurnLaws
+pub mod Bodies
+pub mod Entries
+pub mod Fields
+pub mod Shapes
+pub mod Elaborating
+pub mod Scans
+pub mod TextSpells

@@ -1,0 +1,20 @@
+//! The grammar of the text format (WebAssembly 1.0, chapter 6): from tokens to fields with identifiers, and to a module.
+//!
+//! It stands on `ms_text_lex` (tokens), `ms_module` (the module as data, and the table of keywords of instructions) and the
+//! formats of `ms_bytes`. Read `specs/TextSpells.antt` first: `TextSpells bytes module` says that a text spells a module, and
+//! `Stops bytes why` why it spells none. The code is what a reader gives on the way: fields, frames of bodies, faults.
+#![tactic(auto)]
+
+mod fault;
+mod frame;
+mod laws;
+mod surface;
+mod word;
+
+pub use fault::{Counted, TextFault};
+pub use frame::{Frame, Fresh, Sign};
+pub use laws::fields_are_spelled_in_one_way;
+pub use surface::{
+    Body, Entry, ExternKind, Field, ImportNames, Index, Item, Op, Param, Plain, TypeField, TypeUse,
+};
+pub use word::Word;

@@ -1,0 +1,3 @@
+pub mod StepLoop
+pub mod Digits
+pub mod Spans

@@ -1,0 +1,10 @@
+pub mod Classes
+pub mod Words
+pub mod Fault
+pub mod Strings
+pub mod Values
+pub mod Comments
+pub mod Lexing
+pub mod Tokens
+pub mod Numbers
+pub mod Readers
