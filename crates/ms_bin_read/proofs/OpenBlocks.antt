@@ -11,8 +11,8 @@ left_false : (a b : Bool) → (a || b) ≡ false → a ≡ false
 left_false true b e = absurd cc
 left_false false b e = cc
 
-pub none_open : (n : ℕ) (first built : State) (end : ℕ) (s t : List ℕ) → run_at malformed goes_on (turn 500) n first end s ≡ Ok (built, t) → length built.blocks ≡ 0
-none_open n first built end s t e =
-    let last : goes_on built t ≡ false = run_last goes_on (turn 500) (run_takes malformed goes_on (turn 500) n first end s built t e) in
+pub none_open : (most n : ℕ) (first built : State) (end : ℕ) (s t : List ℕ) → run_at malformed goes_on (turn most) n first end s ≡ Ok (built, t) → length built.blocks ≡ 0
+none_open most n first built end s t e =
+    let last : goes_on built t ≡ false = run_last goes_on (turn most) (run_takes malformed goes_on (turn most) n first end s built t e) in
     let few = ltb-false 0 (length built.blocks) (left_false (ltb 0 (length built.blocks)) _ last) in
     omega arith

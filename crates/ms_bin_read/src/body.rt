@@ -4,6 +4,7 @@ ghost use Rattle.std.specs.Prelude.{◌≡◌, length};
 ghost use Rattle.ms_bytes.specs.Codes.{case_at};
 ghost use Rattle.ms_module.specs.Numbered.{IsPlain};
 ghost use Rattle.ms_bin_grammar.specs.Body.{body, goes_on, opens, turn, turns};
+ghost use Rattle.ms_bin_grammar.specs.Bounds.{usual};
 ghost use Rattle.ms_bin_read.specs.Readers.{Reads, Turns};
 
 use crate::instrs::plain_of;
@@ -12,11 +13,8 @@ use crate::steps::{Steps, run};
 use crate::types::block_type_of;
 use ms_bin_grammar::{Counted, ReadFault};
 use ms_bytes::Cursor;
-use ms_module::{Builder, Code, Opening};
+use ms_module::{Builder, Code, MOST_BLOCKS, Opening};
 use std::alloc::Global;
-
-/// How many blocks may be in one another.
-const MOST_BLOCKS: usize = 500;
 
 /// The opcode of `else`.
 const ELSE: u8 = 0x05;
@@ -26,7 +24,7 @@ const END: u8 = 0x0B;
 
 /// Opens a block, behind its opcode at `at`.
 fn open(b: &mut Builder, at: usize, opening: Opening, c: &mut Cursor) -> Result<(), ReadFault>
-    ensures { Turns b.new c.old c.new result (case_at at (opens 500 b.old opening) c.old.end c.old.left) }
+    ensures { Turns b.new c.old c.new result (case_at at (opens usual.blocks b.old opening) c.old.end c.old.left) }
 {
     if b.depth() >= MOST_BLOCKS {
         return Err(ReadFault::Limit {
@@ -48,7 +46,7 @@ fn turn_on(
     code: u8,
     c: &mut Cursor,
 ) -> Result<(), ReadFault>
-    ensures { Turns b.new c.old c.new result ((turns 500 b.old).read at code c.old.end c.old.left) }
+    ensures { Turns b.new c.old c.new result ((turns usual.blocks b.old).read at code c.old.end c.old.left) }
 {
     match code {
         0x02 => open(b, at, Opening::Block, c),
@@ -79,7 +77,7 @@ fn turn_on(
 impl Steps for Builder {
     ghost going = { goes_on };
 
-    ghost step = { turn 500 };
+    ghost step = { turn usual.blocks };
 
     fn goes(&self, c: &Cursor) -> bool {
         self.depth() > 0 || !c.next_is(END)
@@ -96,7 +94,7 @@ impl Steps for Builder {
 /// Reads the instructions of a body or of a constant expression, up to its `end`.
 #[tactic(auto, unfolding(ms_bin_grammar::specs::Body::body))]
 pub fn body_of(alloc: Global, c: &mut Cursor) -> Result<Code, ReadFault>
-    ensures { Reads c.old c.new result ((body 500).read c.old.end c.old.left) }
+    ensures { Reads c.old c.new result ((body usual.blocks).read c.old.end c.old.left) }
 {
     let first = Builder::new(alloc)?;
     let built = run(alloc, first, c)?;

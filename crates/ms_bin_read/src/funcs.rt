@@ -12,19 +12,16 @@ use crate::items::{Item, bounded, ended};
 use crate::numbers::u32_of;
 use ms_bin_grammar::{Counted, ReadFault};
 use ms_bytes::Cursor;
-use ms_module::{Func, Locals};
+use ms_module::{Func, Locals, MOST_LOCALS};
 use ms_types::{ValType, Vector};
 use std::alloc::Global;
-
-/// How many locals a function may declare.
-const MOST_LOCALS: usize = 50_000;
 
 /// Reads so many more locals of one type.
 #[tactic(auto, unfolding(ms_bin_grammar::specs::Module::more_locals))]
 fn more_locals_of(alloc: Global, locals: &mut Locals, c: &mut Cursor) -> Result<(), ReadFault>
-    requires { length locals.old ≤ 50000 }
+    requires { length locals.old ≤ usual.locals }
     ensures read { Turns locals.new c.old c.new result ((more_locals usual locals.old).read c.old.end c.old.left) }
-    ensures few { IfOk result (λ _. length locals.new ≤ 50000) }
+    ensures few { IfOk result (λ _. length locals.new ≤ usual.locals) }
 {
     let at = c.at();
     let count = u32_of(c)?;

@@ -1,5 +1,6 @@
 -- The function of a call through a table is the one that the relation allows.
 use Rattle.std.proofs.Common.{◌≡◌, ◌≢◌, ℕ, Bool, true, false, ◌&&◌, cond, List, [], ◌∷◌, Option, Result, Ok, Err, refl, ap, sym, ◌∙◌}
+use Rattle.std.proofs.lemmas.Bool.{and_parts}
 use Rattle.std.proofs.lemmas.Option.{slice_get_past}
 use Rattle.ms_types.specs.declared.types.ValType.{ValType}
 use Rattle.ms_types.specs.declared.types.ValType.TheVariants.{I32, I64, Handle}
@@ -26,21 +27,14 @@ same_type-refl I32 = refl
 same_type-refl I64 = refl
 same_type-refl Handle = refl
 
-both-left : (a b : Bool) → (a && b) ≡ true → a ≡ true
-both-left true b e = refl
-both-left false b e = cc
-
-both-right : (a b : Bool) → (a && b) ≡ true → b ≡ true
-both-right true b e = e
-both-right false b e = cc
-
 same_types-is : (ts us : List ValType) → same_types ts us ≡ true → ts ≡ us
 same_types-is [] [] e = refl
 same_types-is [] (u ∷ us) e = cc
 same_types-is (t ∷ ts) [] e = cc
 same_types-is (t ∷ ts) (u ∷ us) e =
-    let head = same_type-is t u (both-left (same_type t u) (same_types ts us) e) in
-    let tail = same_types-is ts us (both-right (same_type t u) (same_types ts us) e) in
+    let parts = and_parts (same_type t u) (same_types ts us) e in
+    let head = same_type-is t u parts.0 in
+    let tail = same_types-is ts us parts.1 in
     cc
 
 same_types-refl : (ts : List ValType) → same_types ts ts ≡ true
@@ -49,8 +43,9 @@ same_types-refl (t ∷ ts) = ap (λ b. b && same_types ts ts) (same_type-refl t)
 
 pub same_sig-is : (a b : FuncType) → same_sig a b ≡ true → a ≡ b
 same_sig-is a b e =
-    let params = same_types-is a.params b.params (both-left (same_types a.params b.params) (same_types a.results b.results) e) in
-    let results = same_types-is a.results b.results (both-right (same_types a.params b.params) (same_types a.results b.results) e) in
+    let parts = and_parts (same_types a.params b.params) (same_types a.results b.results) e in
+    let params = same_types-is a.params b.params parts.0 in
+    let results = same_types-is a.results b.results parts.1 in
     ap (λ (p : List ValType). record { params = p; results = a.results }) params ∙ ap (λ (r : List ValType). record { params = b.params; results = r }) results
 
 pub same_sig-refl : (a : FuncType) → same_sig a a ≡ true

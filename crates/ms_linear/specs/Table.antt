@@ -13,6 +13,10 @@ pub record Table : Type 0 where
   pub entries : List (Option Entry)
   pub max : Option ℕ
 
+-- how many entries a table may have at most
+abbrev pub most_entries : ℕ
+most_entries = 65536
+
 -- with a function at an index, all other entries as before
 abbrev pub with_entry : Table → ℕ → Entry → Table
 with_entry t i entry = record { entries = slice_set t.entries i (Some entry); max = t.max }

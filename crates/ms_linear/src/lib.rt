@@ -11,6 +11,6 @@ mod table;
 mod value;
 
 pub use global::GlobalInst;
-pub use memory::{Linear, Outside};
-pub use table::{CallTrap, Entry, FuncRef, Table, target};
+pub use memory::{Linear, MOST_PAGES, Outside, PAGE};
+pub use table::{CallTrap, Entry, FuncRef, MOST_ENTRIES, Table, target};
 pub use value::Value;

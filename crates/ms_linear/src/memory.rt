@@ -1,16 +1,16 @@
 ghost use Rattle.std.specs.Prelude.{◌≡◌, ◌^◌, ◌<◌, ◌≤◌, ◌+◌, ◌*◌, ◌++◌, ◌↔◌, IfOk, IsTrue, MatchOption, MatchResult, OnErr, drop, length, replicate, take};
-ghost use Rattle.ms_linear.specs.Memory.{IsInside, IsWidth, MayGrow, grown, loaded, page, pages, stored};
+ghost use Rattle.ms_linear.specs.Memory.{IsInside, IsWidth, MayGrow, grown, loaded, most_pages, page, pages, stored};
 
 use crate::number::{read_1, read_2, read_4, read_8, write_1, write_2, write_4, write_8};
 use ms_types::Limits;
 use std::alloc::{AllocError, Global};
 use std::marker::Model;
 
-/// How many bytes a page has.
-const PAGE: usize = 65536;
+/// How many bytes a page of a linear memory has (WebAssembly 1.0, 4.2.8).
+pub const PAGE: usize = 65_536;
 
-/// How many pages a memory may have at most.
-const MOST_PAGES: u32 = 1024;
+/// How many pages a linear memory may have at most.
+pub const MOST_PAGES: u32 = 1_024;
 
 /// An access that lies outside the memory.
 #[derive(Clone, Copy, Debug, PartialEq, Eq)]
@@ -37,7 +37,7 @@ impl Model for Linear {
 impl Linear {
     /// So many pages of zeros.
     pub fn new(alloc: Global, limits: Limits) -> Result<Self, AllocError>
-        requires { limits.min ≤ 1024 }
+        requires { limits.min ≤ most_pages }
         ensures { IfOk result (λ m. m ≡ record { bytes = replicate (limits.min * page) 0; max = limits.max }) }
     {
         Ok(Linear {
@@ -50,7 +50,7 @@ impl Linear {
     pub fn len(&self) -> u32
         ensures pages { result ≡ pages self.now }
         ensures whole { length self.now.bytes ≡ result * page }
-        ensures few { result ≤ 1024 }
+        ensures few { result ≤ most_pages }
     {
         (self.bytes.len() / PAGE) as u32
     }

@@ -1,9 +1,12 @@
 ghost use Rattle.std.specs.Prelude.{◌≡◌, ◌<◌, ◌≤◌, ◌↔◌, IfOk, IsTrue, length, None, replicate, slice_set, Some};
-ghost use Rattle.ms_linear.specs.Table.{IsTarget, target_of, with_entry};
+ghost use Rattle.ms_linear.specs.Table.{IsTarget, most_entries, target_of, with_entry};
 
 use ms_types::{FuncType, Limits, SharedType, ValType};
 use std::alloc::{AllocError, Global};
 use std::marker::Model;
+
+/// How many entries a table may have at most.
+pub const MOST_ENTRIES: u32 = 65_536;
 
 /// A function of the store, by its address: its place in the store's functions (WebAssembly 1.0, 4.2.4).
 #[derive(Clone, Copy, Debug, PartialEq, Eq)]
@@ -41,19 +44,19 @@ pub struct Table {
 
 impl Model for Table {
     ghost use Rattle.std.specs.Prelude.{◌≤◌, length};
-    ghost use Rattle.ms_linear.specs.Table.{Table};
+    ghost use Rattle.ms_linear.specs.Table.{Table, most_entries};
 
     ghost Value = { Table };
 
     ghost view = { λ t. record { entries = t.entries.items; max = t.max } };
 
-    ghost invariant = { λ t. length t.entries.items ≤ 65536 };
+    ghost invariant = { λ t. length t.entries.items ≤ most_entries };
 }
 
 impl Table {
     /// So many empty entries.
     pub fn new(alloc: Global, limits: Limits) -> Result<Self, AllocError>
-        requires { limits.min ≤ 65536 }
+        requires { limits.min ≤ most_entries }
         ensures { IfOk result (λ t. t ≡ record { entries = replicate limits.min None; max = limits.max }) }
     {
         let mut entries = Vec::with_capacity(alloc, limits.min as usize)?;
@@ -69,7 +72,7 @@ impl Table {
     /// How many entries it has.
     pub fn len(&self) -> u32
         ensures entries { result ≡ length self.now.entries }
-        ensures few { result ≤ 65536 }
+        ensures few { result ≤ most_entries }
     {
         self.entries.len() as u32
     }

@@ -15,6 +15,7 @@ use Rattle.ms_live.specs.Kept.{filled, IsKept, Kept}
 use Rattle.ms_live.specs.Layout.{behind, Begins, Ends, IsBegun, IsLayout, IsRun}
 use Rattle.ms_live.specs.Place.{contains_id, without, IsAligned, IsFree, IsOutside, IsPlace}
 use Rattle.ms_live.specs.declared.gaps.Live.{Live}
+use Rattle.ms_live.specs.declared.gaps.TheConstants.{MOST_LIVE}
 use Rattle.ms_live.proofs.Found.{find-Some, is_some-find}
 use Rattle.ms_live.proofs.Layouts.{begins, entered, entered_empty, layout_new, left, left_empty, near, Joins, Leaves}
 
@@ -187,7 +188,7 @@ begun live capacity f s l some p =
 at_other : (capacity k : ℕ) → k ≢ 0 → cond (nat_eq k 0) (Some capacity) None ≡ None
 at_other capacity k n = cond_false (nat_eq k 0) (Some capacity) None (differ_test k 0 n)
 
-pub kept_new : (capacity : ℕ) (a : Arena) → capacity < 4294967296 → ((key : ℕ) → room_at a key ≡ cond (nat_eq key 0) (Some capacity) None) → size_of a ≡ 1 → a.levels ≡ 30 → a.most ≡ 65537 → IsKept (record { addresses = capacity; live = []; rooms = a })
+pub kept_new : (capacity : ℕ) (a : Arena) → capacity < 4294967296 → ((key : ℕ) → room_at a key ≡ cond (nat_eq key 0) (Some capacity) None) → size_of a ≡ 1 → a.levels ≡ 30 → a.most ≡ MOST_LIVE + 1 → IsKept (record { addresses = capacity; live = []; rooms = a })
 kept_new capacity a few rooms size levels most =
     record {
       layout = layout_new (Contains []) capacity (room_at a) (λ s c. let l = c.1 in omega arith) (rooms 0) (λ k n. rooms k ∙ at_other capacity k n);
@@ -199,7 +200,7 @@ kept_new capacity a few rooms size levels most =
       most = most;
     }
 
-pub kept_entered : (k : Kept) (s : Live) (a : Arena) → IsKept k → length k.live < 65536 → All (λ (other : Live). other.id < s.id) k.live → IsPlace k.live k.addresses s.size (Some s.base)
+pub kept_entered : (k : Kept) (s : Live) (a : Arena) → IsKept k → length k.live < MOST_LIVE → All (λ (other : Live). other.id < s.id) k.live → IsPlace k.live k.addresses s.size (Some s.base)
     → (0 < s.size → (key room : ℕ) → IsBegun (room_at k.rooms) s key room → Begins (room_at k.rooms) (room_at a) s key room) → (s.size ≡ 0 → a ≡ k.rooms) → size_of a ≡ cond (nat_lt 0 s.size) 1 0 + size_of k.rooms → a.levels ≡ k.rooms.levels → a.most ≡ k.rooms.most
     → IsKept (record { addresses = k.addresses; live = k.live ++ s ∷ []; rooms = a })
 kept_entered k s a kept few newest place begins same size levels most =
@@ -270,7 +271,7 @@ within_is k id s kept found some = kept.layout.within s (find-Some (λ (t : Live
 pub near_is : (k : Kept) → IsKept k → (key room : ℕ) → room_at k.rooms key ≡ Some room → 16 * key + room ≤ 4294967296
 near_is k kept key room e = near (Contains k.live) k.addresses (room_at k.rooms) kept.layout kept.addresses key room e
 
-pub few_is : (k : Kept) → IsKept k → length k.live < 65536 → size_of k.rooms < k.rooms.most
+pub few_is : (k : Kept) → IsKept k → length k.live < MOST_LIVE → size_of k.rooms < k.rooms.most
 few_is k kept few =
     let f = filled_few k.live in
     let s = kept.size in

@@ -14,6 +14,7 @@ use Rattle.ms_live.specs.Ordered.{Ordered, Empty, Fork, count, pick, pop, push, 
 use Rattle.ms_live.specs.Place.{without}
 use Rattle.ms_live.specs.declared.branch.Branch.{Branch}
 use Rattle.ms_live.specs.declared.gaps.Live.{Live}
+use Rattle.ms_live.specs.declared.gaps.TheConstants.{MOST_LIVE}
 
 -- ---- lists
 
@@ -92,17 +93,17 @@ other_zero k = grind (arith, nat_tests)
 -- ---- what the code asks of the halves
 
 pub record Few (d low counted : ℕ) (l u : Ordered) : Type 0 where
-  pub count : counted < 65537
+  pub count : counted < MOST_LIVE + 1
   pub sound_lower : IsSound d low l
   pub sound_upper : IsSound d (low + half d) u
-  pub few_lower : length (segments l) < 65536
-  pub few_upper : length (segments u) < 65536
+  pub few_lower : length (segments l) < MOST_LIVE
+  pub few_upper : length (segments u) < MOST_LIVE
 
-pub few_halves : (level d low : ℕ) (root : Branch) (l u tree : Ordered) → level ≡ suc d → tree ≡ Fork root.at root.count root.segment l u → IsSound level low tree → length (segments tree) < 65536 → Few d low root.count l u
+pub few_halves : (level d low : ℕ) (root : Branch) (l u tree : Ordered) → level ≡ suc d → tree ≡ Fork root.at root.count root.segment l u → IsSound level low tree → length (segments tree) < MOST_LIVE → Few d low root.count l u
 few_halves level d low root l u tree e t sound few =
     let whole = Fork root.at root.count root.segment l u in
     let s = subst (λ (n : ℕ). IsSound n low whole) e (subst (IsSound level low) t sound) in
-    let f : length (segments whole) < 65536 = subst (λ (x : Ordered). length (segments x) < 65536) t few in
+    let f : length (segments whole) < MOST_LIVE = subst (λ (x : Ordered). length (segments x) < MOST_LIVE) t few in
     let n : length (segments l ++ segments u) ≡ length (segments l) + length (segments u) = length-append (segments l) (segments u) in
     let c = s.2 in
     record { count = omega arith; sound_lower = s.5; sound_upper = s.6; few_lower = omega arith; few_upper = omega arith }

@@ -14,6 +14,7 @@ use Rattle.ms_live.specs.Place.{contains_id, without}
 use Rattle.ms_live.specs.declared.branch.Branch.{Branch}
 use Rattle.ms_live.specs.declared.branch.Halves.{Halves}
 use Rattle.ms_live.specs.declared.gaps.Live.{Live}
+use Rattle.ms_live.specs.declared.gaps.TheConstants.{MOST_LIVE}
 use Rattle.ms_live.proofs.Found.{is_some-find}
 use Rattle.ms_live.proofs.OrderedLaws.{count_is, length_remove, newer_below, seek_law, segments_pop, segments_push, segments_remove, sound_empty, sound_pop, sound_push, sound_remove}
 use Rattle.ms_live.proofs.OrderedSlots.{apart_push, apart_remove, beyond, has_within, within_more, within_push, within_remove, IsFreed}
@@ -73,10 +74,10 @@ stored_grown old new levels up root top free s same within apart sound slots few
 pub record IsSpare (nodes new : List Halves) (levels : ℕ) (root : Option Branch) (free : List ℕ) (slot : ℕ) : Type 0 where
   pub same : tree_of new levels root ≡ tree_of nodes levels root
   pub within : IsWithin (length new) (tree_of nodes levels root)
-  pub few : length new ≤ 65536
+  pub few : length new ≤ MOST_LIVE
   pub next : IsNext (length new) (λ j. has j (tree_of nodes levels root)) (length (segments (tree_of nodes levels root))) free slot
 
-spare_new : (nodes : List Halves) (levels : ℕ) (root : Option Branch) (free : List ℕ) → IsStored nodes levels root free → free ≡ [] → length (segments (tree_of nodes levels root)) < 65536 → IsSpare nodes (nodes ++ blank ∷ []) levels root [] (length nodes)
+spare_new : (nodes : List Halves) (levels : ℕ) (root : Option Branch) (free : List ℕ) → IsStored nodes levels root free → free ≡ [] → length (segments (tree_of nodes levels root)) < MOST_LIVE → IsSpare nodes (nodes ++ blank ∷ []) levels root [] (length nodes)
 spare_new nodes levels root free s e few =
     let t = tree_of nodes levels root in
     let c = (subst (IsPool (length nodes) (λ j. has j t) (length (segments t))) e s.pool).count in
@@ -88,7 +89,7 @@ spare_new nodes levels root free s e few =
       next = subst (λ (m : ℕ). IsNext m (λ j. has j t) (length (segments t)) [] (length nodes)) (sym n) (next_new (length nodes) (λ j. has j t) (length (segments t)) free s.pool e (beyond (length nodes) (length nodes) t s.within (omega arith)));
     }
 
-pub spare_is : (nodes new : List Halves) (levels : ℕ) (root : Option Branch) (free rest : List ℕ) (slot : ℕ) → IsStored nodes levels root free → length (segments (tree_of nodes levels root)) < 65536
+pub spare_is : (nodes new : List Halves) (levels : ℕ) (root : Option Branch) (free rest : List ℕ) (slot : ℕ) → IsStored nodes levels root free → length (segments (tree_of nodes levels root)) < MOST_LIVE
     → ((new ≡ nodes) × (free ≡ rest ++ slot ∷ [])) ⊎ ((new ≡ nodes ++ blank ∷ []) × (free ≡ []) × (rest ≡ []) × (slot ≡ length nodes)) → IsSpare nodes new levels root rest slot
 spare_is nodes new levels root free rest slot s few o =
     let t = tree_of nodes levels root in

@@ -5,6 +5,7 @@ use Rattle.ms_gap_tree.specs.Tree.{half}
 use Rattle.ms_live.specs.declared.branch.Branch.{Branch}
 use Rattle.ms_live.specs.declared.branch.Halves.{Halves}
 use Rattle.ms_live.specs.declared.gaps.Live.{Live}
+use Rattle.ms_live.specs.declared.gaps.TheConstants.{MOST_LIVE}
 
 -- the slot of the root, how many segments there are, the segment at the root, and the two halves
 pub data Ordered : Type 0 where
@@ -124,5 +125,5 @@ pub record IsStored (nodes : List Halves) (depth : ℕ) (top : Option Branch) (f
   pub apart : IsApart (tree_of nodes depth top)
   pub sound : IsSound depth 0 (tree_of nodes depth top)
   pub pool : IsPool (length nodes) (λ j. has j (tree_of nodes depth top)) (length (segments (tree_of nodes depth top))) free
-  pub few : length nodes ≤ 65536
+  pub few : length nodes ≤ MOST_LIVE
   pub levels : depth ≤ 65

@@ -41,7 +41,7 @@ pub trait Gaps: Sized + Drop {
 
     /// A segment becomes live. Its identity is the newest one, and its base the place for its size.
     fn enter(&mut self, segment: Live)
-        requires few { length (live self.old) < 65536 }
+        requires few { length (live self.old) < MOST_LIVE }
         requires newest { All (λ other. other.id < segment.id) (live self.old) }
         requires placed { IsPlace (live self.old) (addresses self.old) segment.size (Some segment.base) }
         ensures live { live self.new ≡ live self.old ++ segment ∷ [] }

@@ -26,13 +26,14 @@ pub struct Ids {
 impl Model for Ids {
     ghost use Rattle.std.specs.Prelude.{◌≤◌, List, vec_capacity};
     ghost use Rattle.ms_live.specs.declared.gaps.Live.{Live};
+    ghost use Rattle.ms_live.specs.declared.gaps.TheConstants.{MOST_LIVE};
     ghost use Rattle.ms_live.specs.Ordered.{segments, tree_of, IsStored};
 
     ghost Value = { List Live };
 
     ghost view = { λ s. segments (tree_of s.nodes.items s.levels s.root) };
 
-    ghost invariant = { λ s. IsStored s.nodes.items s.levels s.root s.free.items × (65536 ≤ vec_capacity s.nodes) × (65536 ≤ vec_capacity s.free) };
+    ghost invariant = { λ s. IsStored s.nodes.items s.levels s.root s.free.items × (MOST_LIVE ≤ vec_capacity s.nodes) × (MOST_LIVE ≤ vec_capacity s.free) };
 }
 
 /// A tree, and how many levels it has.
@@ -105,7 +106,7 @@ fn put(
     requires fresh { has slot (tree_of nodes.old.items levels root) ≡ false }
     requires there { slot < length nodes.old.items }
     requires sound { IsSound levels 0 (tree_of nodes.old.items levels root) }
-    requires few { length (segments (tree_of nodes.old.items levels root)) < 65536 }
+    requires few { length (segments (tree_of nodes.old.items levels root)) < MOST_LIVE }
     ensures tree { tree_of nodes.new.items levels result ≡ push levels 0 slot segment (tree_of nodes.old.items levels root) }
     ensures length { length nodes.new.items ≡ length nodes.old.items }
     ensures capacity { vec_capacity nodes.new ≡ vec_capacity nodes.old }
@@ -152,7 +153,7 @@ impl Ids {
 
     /// A segment more, of the newest identity.
     pub fn push(&mut self, segment: Live)
-        requires few { length self.old < 65536 }
+        requires few { length self.old < MOST_LIVE }
         requires newest { All (λ other. other.id < segment.id) self.old }
         ensures { self.new ≡ self.old ++ segment ∷ [] }
     {

@@ -1,4 +1,5 @@
 ghost use Rattle.std.specs.Prelude.{◌≤◌, vec_len, vec_capacity};
+ghost use Rattle.ms_live.specs.declared.gaps.TheConstants.{MOST_LIVE};
 
 use crate::gaps::{Gaps, Live, MOST_LIVE};
 use crate::least_gap::least_place;
@@ -9,8 +10,8 @@ use std::alloc::{AllocError, Global};
 pub struct ListGaps {
     capacity: u32,
     live: Vec<Live>,
-    ghost few: { vec_len live ≤ 65536 },
-    ghost reserved: { 65536 ≤ vec_capacity live },
+    ghost few: { vec_len live ≤ MOST_LIVE },
+    ghost reserved: { MOST_LIVE ≤ vec_capacity live },
 }
 
 impl Gaps for ListGaps {

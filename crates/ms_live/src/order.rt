@@ -1,5 +1,6 @@
 ghost use Rattle.std.specs.Prelude.{◌≡◌, ◌≢◌, ◌+◌, ◌-◌, ◌<◌, ◌≤◌, ◌^◌, ℕ, List, length, true, false, Some};
 ghost use Rattle.ms_gap_tree.specs.Tree.{half};
+ghost use Rattle.ms_live.specs.declared.gaps.TheConstants.{MOST_LIVE};
 ghost use Rattle.ms_live.specs.Ordered.{at, count, freed, has, lifted, pick, pop, push, remove, removed, seek, segments, tree_of, IsApart, IsSound, IsWithin};
 
 use crate::branch::{BLANK, Branch, Halves};
@@ -82,7 +83,7 @@ pub(crate) fn push(
     requires fresh { has slot (tree_of nodes.old level branch) ≡ false }
     requires there { slot < length nodes.old }
     requires sound { IsSound level low (tree_of nodes.old level branch) }
-    requires few { length (segments (tree_of nodes.old level branch)) < 65536 }
+    requires few { length (segments (tree_of nodes.old level branch)) < MOST_LIVE }
     ensures tree { tree_of nodes.new level result ≡ push level low slot new (tree_of nodes.old level branch) }
     ensures others { (j : ℕ) → has j (tree_of nodes.old level branch) ≡ false → j ≢ slot → at nodes.new j ≡ at nodes.old j }
 {

@@ -1,7 +1,8 @@
 -- A run that ends within its budget is the same within each greater one.
 use Rattle.std.proofs.Common.{◌≡◌, ◌≢◌, ℕ, zero, suc, ◌+◌, List, [], ◌∷◌, slice_get, Option, Some, None, refl, sym, ap, ◌∙◌, arith}
 use Rattle.ms_task.specs.Thread.{Item, Thread}
-use Rattle.ms_machine.specs.Running.{End, Lost, OutOfBudget, Result, Run, Stopped, after_event, after_start, after_step, ends, func_thread, if_going, joined, run_from, run_thread, with_more}
+use Rattle.ms_machine.specs.Running as running
+use Rattle.ms_machine.specs.Running.{End, OutOfBudget, Result, Run, after_event, after_start, after_step, ends, func_thread, if_going, joined, run_from, run_thread, with_more}
 use Rattle.ms_machine.specs.Step.{Next, Outcome, Stuck, Trap, step_of}
 use Rattle.ms_machine.specs.Store.{Store}
 
@@ -48,9 +49,9 @@ after_agrees : (more : ℕ) (go : ℕ → Store → Run) (r r' : Run) → ((left
 after_agrees more go r r' goes (Result v) e same over =
     let over_first : r.end ≢ OutOfBudget = λ is. let no : Result v ≡ OutOfBudget = sym e ∙ is in absurd cc in
     ap (λ (x : Run). after_start x.end x go) (same over_first) ∙ (ap (λ (x : End). after_start x (with_more more r) go) e ∙ ap (joined (with_more more r)) (goes r.left r.store over))
-after_agrees more go r r' goes (Stopped trap) e same over =
+after_agrees more go r r' goes (running.Trap trap) e same over =
     ap (λ (x : Run). after_start x.end x go) (same over) ∙ ap (λ (x : End). after_start x (with_more more r) go) e
-after_agrees more go r r' goes Lost e same over =
+after_agrees more go r r' goes running.Stuck e same over =
     ap (λ (x : Run). after_start x.end x go) (same over) ∙ ap (λ (x : End). after_start x (with_more more r) go) e
 after_agrees more go r r' goes OutOfBudget e same over = absurd (over e)
 

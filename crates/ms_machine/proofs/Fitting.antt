@@ -4,11 +4,12 @@ use Rattle.std.specs.List.{All}
 use Rattle.std.proofs.lemmas.Bool.{le-leb, leb-true}
 use Rattle.std.proofs.lemmas.List.Elements.{All-cons, All-head, All-nil, All-tail}
 use Rattle.ms_linear.specs.Memory.{most_pages, page}
+use Rattle.ms_linear.specs.Table.{most_entries}
 use Rattle.ms_module.specs.declared.module.Element.{Element}
 use Rattle.ms_module.specs.declared.module.Fill.{Fill}
 use Rattle.ms_module.specs.declared.module.Module.{Module}
 use Rattle.ms_types.specs.declared.types.Limits.{Limits}
-use Rattle.ms_machine.specs.Linking.{IsFitting, constant_of, elements_fit, fills_fit, index_of, min_at, misfit, most_entries, or_next, sizes_fit, values_of}
+use Rattle.ms_machine.specs.Linking.{IsFitting, constant_of, elements_fit, fills_fit, index_of, min_at, misfit, or_next, sizes_fit, values_of}
 use Rattle.ms_machine.specs.declared.linking.Misfit.{Misfit}
 
 -- ---- one thing after the other

@@ -11,16 +11,17 @@ use Rattle.ms_linear.specs.Values.{default_of}
 use Rattle.ms_module.specs.declared.instr.Instr.{Instr}
 use Rattle.ms_module.specs.declared.instr.Instr.TheVariants.{Unreachable, Nop, Block, Loop, If, Br, BrIf, BrTable, Return, Call, CallIndirect, Drop, Select, LocalGet, LocalSet, LocalTee, GlobalGet, GlobalSet, I32Const, I64Const, Numeric, Linear, Segment}
 use Rattle.ms_segment.specs.Memory.{Memory}
-use Rattle.ms_task.specs.Control.{Lost, Moved, To, TooDeep, block_on, br_if_on, br_table_on, branch, call_on, if_on, loop_on, return_on}
+use Rattle.ms_task.specs.Control as control
+use Rattle.ms_task.specs.Control.{Moved, To, TooDeep, block_on, br_if_on, br_table_on, branch, call_on, if_on, loop_on, return_on}
 use Rattle.ms_task.specs.Thread.{Activation, Do, Frame, Item, Label, Thread, thread}
 use Rattle.ms_types.specs.declared.types.FuncType.{FuncType}
 use Rattle.ms_types.specs.declared.types.ValType.{ValType}
 use Rattle.ms_types.specs.declared.types.ValType.TheVariants as types
 use Rattle.ms_machine.specs.Holding.{Each, EachGlobal, EachKept, ThreadHolds}
 use Rattle.ms_machine.specs.Segments.{segment_on}
-use Rattle.ms_machine.specs.Step.{Next, Outcome, Stuck, Trap, act, begin, call, call_target, call_through, first, moved, settled, step_of}
+use Rattle.ms_machine.specs.Step.{Next, Outcome, Stuck, Trap, act, begin, call, call_target, call_through, first, moved, exited, step_of}
 use Rattle.ms_machine.specs.Store.{Store, at, func_address, global_address, instance_of, memory_address, table_address, type_at}
-use Rattle.ms_machine.proofs.HeldControl.{MovedHolds, block_holds, br_if_holds, br_table_holds, branch_holds, call_holds, if_holds, return_holds, settle_holds}
+use Rattle.ms_machine.proofs.HeldControl.{MovedHolds, block_holds, br_if_holds, br_table_holds, branch_holds, call_holds, if_holds, return_holds, exit_holds}
 use Rattle.ms_machine.proofs.HeldPlain.{OutcomeHolds, drop_holds, global_held, global_set_holds, goes_holds, linear_outcome_holds, local_set_holds, local_tee_holds, pushed_holds, select_holds, worked_holds}
 use Rattle.ms_machine.proofs.HeldSegments.{Fresh, FreshBy, in_segments_holds, segment_holds}
 use Rattle.ms_machine.proofs.HeldValues.{each_get, global_grows, thread_grows}
@@ -36,7 +37,7 @@ module _ (P : Value → Type 0) (int32 : (n : ℕ) → P (values.I32 n)) (int64 
   moved_holds : (s : Store) (m : Moved) → EachGlobal P s.globals → MovedHolds P m → OutcomeHolds P (moved s m)
   moved_holds s (To t) g h = (g, h)
   moved_holds s TooDeep g h = tt
-  moved_holds s Lost g h = tt
+  moved_holds s control.Stuck g h = tt
 
   called_holds : (s : Store) (address : Option ℕ) (fr : Frame) (vs : List Value) (w : List Item) → EachGlobal P s.globals → Each P vs → Each P fr.locals → EachKept P w → OutcomeHolds P (call s (thread fr vs w) address)
   called_holds s None fr vs w g a b d = tt
@@ -81,13 +82,13 @@ module _ (P : Value → Type 0) (int32 : (n : ℕ) → P (values.I32 n)) (int64 
   first_holds s fr vs (Label k h i ∷ w) g a b d fresh = tt
   first_holds s fr vs (Activation k h caller ∷ w) g a b d fresh = tt
 
-  settled_holds : (o : Outcome) → OutcomeHolds P o → OutcomeHolds P (settled o)
-  settled_holds (Next s t event) h = (h.0, settle_holds P t.frame t.operands t.work h.1.operands h.1.locals h.1.kept)
-  settled_holds (Trap trap) h = tt
-  settled_holds Stuck h = tt
+  exited_holds : (o : Outcome) → OutcomeHolds P o → OutcomeHolds P (exited o)
+  exited_holds (Next s t event) h = (h.0, exit_holds P t.frame t.operands t.work h.1.operands h.1.locals h.1.kept)
+  exited_holds (Trap trap) h = tt
+  exited_holds Stuck h = tt
 
   stepped_holds : (s : Store) (t : Thread) → EachGlobal P s.globals → ThreadHolds P t → Fresh P s.segments t.operands t.work → OutcomeHolds P (step_of s t)
-  stepped_holds s t g h fresh = settled_holds (begin s t) (first_holds s t.frame t.operands t.work g h.operands h.locals h.kept fresh)
+  stepped_holds s t g h fresh = exited_holds (begin s t) (first_holds s t.frame t.operands t.work g h.operands h.locals h.kept fresh)
 
 -- ---- a fact that grows: what held before holds afterwards
 

@@ -4,7 +4,7 @@ use Rattle.ms_linear.specs.declared.value.Value.{Value}
 use Rattle.ms_linear.specs.declared.value.Value.TheVariants.{I32, I64, Handle}
 use Rattle.ms_linear.specs.Values.{default_of}
 use Rattle.ms_module.specs.declared.instr.Instr.{Instr}
-use Rattle.ms_task.specs.Control.{Moved, To, TooDeep, Lost, again, block_on, br_if_on, br_table_on, branch, call_on, deepest, else_on, enter, entered, if_on, keep, kept, on_index, on_number, over, return_on, settle}
+use Rattle.ms_task.specs.Control.{Moved, To, TooDeep, Stuck, again, block_on, br_if_on, br_table_on, branch, call_on, deepest, else_on, enter, entered, if_on, keep, kept, on_index, on_number, over, return_on, exit_ended}
 use Rattle.ms_task.specs.declared.func.FuncInst.{FuncInst}
 use Rattle.ms_task.specs.Thread.{Activation, Do, Frame, Item, Label, depth_of, result_of, sequence, thread}
 use Rattle.ms_types.specs.declared.types.ValType.{ValType}
@@ -15,7 +15,7 @@ module _ (P : Value → Type 0) where
   abbrev pub MovedHolds : Moved → Type 0
   MovedHolds (To t) = ThreadHolds P t
   MovedHolds TooDeep = Unit {0}
-  MovedHolds Lost = Unit {0}
+  MovedHolds Stuck = Unit {0}
 
   either_moved : (b : Bool) (m n : Moved) → MovedHolds m → MovedHolds n → MovedHolds (cond b m n)
   either_moved true m n x y = x
@@ -103,12 +103,12 @@ module _ (P : Value → Type 0) where
       enters : (o : Option FuncInst) → MovedHolds (enter funcs f o (thread fr vs w))
       enters None = tt
       enters (Some g) =
-          either_moved (nat_le (length g.ty.params) (length vs)) (To (entered funcs f g (thread fr vs w))) Lost (entered_holds defaults funcs f g fr vs w a b d) tt
+          either_moved (nat_le (length g.ty.params) (length vs)) (To (entered funcs f g (thread fr vs w))) Stuck (entered_holds defaults funcs f g fr vs w a b d) tt
 
   -- ---- leaving blocks and calls at their ends
 
-  pub settle_holds : (fr : Frame) (vs : List Value) (w : List Item) → Each P vs → Each P fr.locals → EachKept P w → ThreadHolds P (settle fr vs w)
-  settle_holds fr vs [] a b d = holds P fr vs [] a b d
-  settle_holds fr vs (Do i ∷ w) a b d = holds P fr vs (Do i ∷ w) a b d
-  settle_holds fr vs (Label k h g ∷ w) a b d = settle_holds fr vs w a b d
-  settle_holds fr vs (Activation k h caller ∷ w) a b d = settle_holds caller vs w a d.0 d.1
+  pub exit_holds : (fr : Frame) (vs : List Value) (w : List Item) → Each P vs → Each P fr.locals → EachKept P w → ThreadHolds P (exit_ended fr vs w)
+  exit_holds fr vs [] a b d = holds P fr vs [] a b d
+  exit_holds fr vs (Do i ∷ w) a b d = holds P fr vs (Do i ∷ w) a b d
+  exit_holds fr vs (Label k h g ∷ w) a b d = exit_holds fr vs w a b d
+  exit_holds fr vs (Activation k h caller ∷ w) a b d = exit_holds caller vs w a d.0 d.1

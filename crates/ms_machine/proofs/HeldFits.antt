@@ -8,20 +8,21 @@ use Rattle.ms_linear.specs.Values.{default_of}
 use Rattle.ms_module.specs.declared.instr.Instr.{Instr}
 use Rattle.ms_module.specs.declared.instr.Instr.TheVariants.{Segment}
 use Rattle.ms_segment.specs.Memory.{IsFit, IsSound, Memory}
-use Rattle.ms_task.specs.Control.{nobody, settled as settled_thread, started}
+use Rattle.ms_task.specs.Control.{nobody, exited as exited_thread, started}
 use Rattle.ms_task.specs.declared.func.FuncInst.{FuncInst}
 use Rattle.ms_task.specs.Thread.{Activation, Do, Frame, Item, Label, Thread, result_of, sequence, thread}
 use Rattle.ms_types.specs.declared.types.ValType.{ValType}
 use Rattle.ms_types.specs.declared.types.ValType.TheVariants as types
 use Rattle.ms_machine.specs.Holding.{Each, Fits, StoreFits, ThreadFits}
-use Rattle.ms_machine.specs.Segments.{Effect, Leaves, Misses, Stops, segment_on}
-use Rattle.ms_machine.specs.Step.{Next, first, in_segments, settled, step_of}
-use Rattle.ms_machine.specs.Stepped.{Carries}
+use Rattle.ms_machine.specs.Segments as segments
+use Rattle.ms_machine.specs.Segments.{Effect, segment_on}
+use Rattle.ms_machine.specs.Step.{Next, first, in_segments, exited, step_of}
+use Rattle.ms_machine.specs.Stepped.{DoesStep}
 use Rattle.ms_machine.specs.Store.{Store}
 use Rattle.ms_machine.specs.declared.stepped.Stepped.{Stepped}
 use Rattle.ms_machine.specs.declared.stepped.Stepped.TheVariants as answers
 use Rattle.ms_machine.proofs.HeldActs.{step_holds}
-use Rattle.ms_machine.proofs.HeldControl.{settle_holds}
+use Rattle.ms_machine.proofs.HeldControl.{exit_holds}
 use Rattle.ms_machine.proofs.HeldMemory.{Grows, segment_fresh, segment_grows, segment_sound}
 use Rattle.ms_machine.proofs.HeldSegments.{Fresh, FreshBy}
 use Rattle.ms_machine.proofs.HeldValues.{each_default, kept_dos, thread_grows}
@@ -62,20 +63,20 @@ others_fit s s' t t' u event is fits = thread_fits_grows s s' u (step_grows s s'
 -- ---- the handles that a step makes
 
 -- what an instruction on segments leaves
-effect_left : (s s' : Store) (t t' : Thread) (event : Option Event) (e : Effect) → settled (in_segments s t e) ≡ Next s' t' event → (us : List Value) × (told : Option Event) × (e ≡ Leaves us s'.segments told)
-effect_left s s' t t' event (Leaves us m told) is =
+effect_left : (s s' : Store) (t t' : Thread) (event : Option Event) (e : Effect) → exited (in_segments s t e) ≡ Next s' t' event → (us : List Value) × (happened : Option Event) × (e ≡ segments.Gives us s'.segments happened)
+effect_left s s' t t' event (segments.Gives us m happened) is =
     let after : record { funcs = s.funcs; instances = s.instances; tables = s.tables; memories = s.memories; globals = s.globals; segments = m } ≡ s' = cc in
-    (us, told, ap (λ (x : Store). Leaves us x.segments told) after)
-effect_left s s' t t' event (Stops trap) is = cc
-effect_left s s' t t' event Misses is = cc
+    (us, happened, ap (λ (x : Store). segments.Gives us x.segments happened) after)
+effect_left s s' t t' event (segments.Trap trap) is = cc
+effect_left s s' t t' event segments.Stuck is = cc
 
-fresh_by : (s s' : Store) (i : Instr) (fr : Frame) (vs : List Value) (w : List Item) (t' : Thread) (event : Option Event) → IsSound s.segments → Each (Fits s.segments) vs → ((h : H) → IsFit s.segments h → IsFit s'.segments h) → settled (first s fr vs (Do i ∷ w)) ≡ Next s' t' event → FreshBy (Fits s'.segments) i s.segments vs
+fresh_by : (s s' : Store) (i : Instr) (fr : Frame) (vs : List Value) (w : List Item) (t' : Thread) (event : Option Event) → IsSound s.segments → Each (Fits s.segments) vs → ((h : H) → IsFit s.segments h → IsFit s'.segments h) → exited (first s fr vs (Do i ∷ w)) ≡ Next s' t' event → FreshBy (Fits s'.segments) i s.segments vs
 fresh_by s s' (Segment i) fr vs w t' event sound fits keeps is =
     let left = effect_left s s' (thread fr vs w) t' event (segment_on i s.segments vs) is in
     segment_fresh i s.segments s'.segments vs left.0 left.1 sound fits keeps left.2
 fresh_by s s' i fr vs w t' event sound fits keeps is = tt
 
-fresh : (s s' : Store) (fr : Frame) (vs : List Value) (w : List Item) (t' : Thread) (event : Option Event) → IsSound s.segments → Each (Fits s.segments) vs → ((h : H) → IsFit s.segments h → IsFit s'.segments h) → settled (first s fr vs w) ≡ Next s' t' event → Fresh (Fits s'.segments) s.segments vs w
+fresh : (s s' : Store) (fr : Frame) (vs : List Value) (w : List Item) (t' : Thread) (event : Option Event) → IsSound s.segments → Each (Fits s.segments) vs → ((h : H) → IsFit s.segments h → IsFit s'.segments h) → exited (first s fr vs w) ≡ Next s' t' event → Fresh (Fits s'.segments) s.segments vs w
 fresh s s' fr vs [] t' event sound fits keeps is = tt
 fresh s s' fr vs (Do i ∷ w) t' event sound fits keeps is = fresh_by s s' i fr vs w t' event sound fits keeps is
 fresh s s' fr vs (Label k h i ∷ w) t' event sound fits keeps is = tt
@@ -91,23 +92,23 @@ step_keeps s s' t t' event store fits is =
     (record { globals = all.1; segments = step_sound s s' t t' event store.segments fits is }, all.0)
 
 -- what the code answers, but for memory that ran out
-pub carries_fits : (s s' : Store) (t t' : Thread) (r : Stepped) → Carries r (step_of s t) s t s' t' → r ≢ answers.Memory → StoreFits s → ThreadFits s t → StoreFits s' × ThreadFits s' t' × (s'.segments.made ≤ s.segments.made + 1) × ((h : H) → IsFit s.segments h → IsFit s'.segments h)
-carries_fits s s' t t' (answers.On event) carries able store fits =
+pub does_step_fits : (s s' : Store) (t t' : Thread) (r : Stepped) → DoesStep r (step_of s t) s t s' t' → r ≢ answers.Memory → StoreFits s → ThreadFits s t → StoreFits s' × ThreadFits s' t' × (s'.segments.made ≤ s.segments.made + 1) × ((h : H) → IsFit s.segments h → IsFit s'.segments h)
+does_step_fits s s' t t' (answers.On event) carries able store fits =
     let kept = step_keeps s s' t t' event store fits carries.0 in
     (kept.0, kept.1, (step_makes s s' t t' event carries.0).1, step_grows s s' t t' event carries.0)
-carries_fits s s' t t' (answers.Ended value event) carries able store fits =
+does_step_fits s s' t t' (answers.Ended value event) carries able store fits =
     let kept = step_keeps s s' t t' event store fits carries.0 in
     (kept.0, kept.1, (step_makes s s' t t' event carries.0).1, step_grows s s' t t' event carries.0)
-carries_fits s s' t t' (answers.Trap trap) carries able store fits =
+does_step_fits s s' t t' (answers.Trap trap) carries able store fits =
     let same : s ≡ s' = sym carries.1 in (
       subst StoreFits same store,
       subst (λ x. ThreadFits s' x) (sym carries.2) (subst (λ x. ThreadFits x t) same fits),
       subst (λ (x : Store). x.segments.made ≤ s.segments.made + 1) same (omega arith),
       subst (λ (x : Store). (h : H) → IsFit s.segments h → IsFit x.segments h) same (λ h fit. fit),
     )
-carries_fits s s' t t' answers.ReadFault carries able store fits = absurd carries
-carries_fits s s' t t' answers.WriteFault carries able store fits = absurd carries
-carries_fits s s' t t' answers.Memory carries able store fits = absurd (able refl)
+does_step_fits s s' t t' answers.ReadFault carries able store fits = absurd carries
+does_step_fits s s' t t' answers.WriteFault carries able store fits = absurd carries
+does_step_fits s s' t t' answers.Memory carries able store fits = absurd (able refl)
 
 -- ---- the start of a task
 
@@ -116,9 +117,9 @@ default_fits m types.I32 = tt
 default_fits m types.I64 = tt
 default_fits m types.Handle = tt
 
-pub starts_fit : (s : Store) (address : ℕ) (g : FuncInst) → ThreadFits s (settled_thread (started s.funcs address g))
+pub starts_fit : (s : Store) (address : ℕ) (g : FuncInst) → ThreadFits s (exited_thread (started s.funcs address g))
 starts_fit s address g =
     let P = Fits s.segments in
     let t = started s.funcs address g in
-    settle_holds P t.frame t.operands t.work tt (each_default P (default_fits s.segments) g.locals)
+    exit_holds P t.frame t.operands t.work tt (each_default P (default_fits s.segments) g.locals)
     (kept_dos P (sequence s.funcs address 0) (Activation (result_of g) 0 (nobody s.funcs) ∷ []) (tt, tt))

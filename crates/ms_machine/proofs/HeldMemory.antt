@@ -20,7 +20,8 @@ use Rattle.ms_segment.specs.Calls.{Change}
 use Rattle.ms_segment.specs.Memory.{IsFit, IsSound, Memory, loaded}
 use Rattle.ms_segment.specs.declared.trap.SegTrap.{SegTrap}
 use Rattle.ms_machine.specs.Holding.{Each, Fits}
-use Rattle.ms_machine.specs.Segments.{Leaves, changed, handle_read, measured, number_read, number_stored, segment_on}
+use Rattle.ms_machine.specs.Segments as segments
+use Rattle.ms_machine.specs.Segments.{changed, handle_read, measured, number_read, number_stored, segment_on}
 use Rattle.ms_machine.proofs.HeldSegments.{FreshIn, FreshRead}
 use Rattle.ms_machine.proofs.HeldWork.{MemoryLeft}
 
@@ -101,12 +102,12 @@ read_fits : (m m' : Memory) (h : H) (r : Result (H × Event) SegTrap) → IsSoun
 read_fits m m' h (Ok x) sound fit keeps is = keeps x.0 (load_handle_fits m h x.0 x.1 sound fit is)
 read_fits m m' h (Err e) sound fit keeps is = tt
 
-made_fits : (m m' : Memory) (size : ℕ) (kind : Kind) (rest us : List Value) (event : Option Event) → IsSound m → Leaves (Handle (call.make m size kind).handle ∷ rest) (call.make m size kind).memory (Some (call.make m size kind).event) ≡ Leaves us m' event → IsFit m' (call.make m size kind).handle
+made_fits : (m m' : Memory) (size : ℕ) (kind : Kind) (rest us : List Value) (event : Option Event) → IsSound m → segments.Gives (Handle (call.make m size kind).handle ∷ rest) (call.make m size kind).memory (Some (call.make m size kind).event) ≡ segments.Gives us m' event → IsFit m' (call.make m size kind).handle
 made_fits m m' size kind rest us event sound is =
     let left : (call.make m size kind).memory ≡ m' = cc in
     subst (λ (x : Memory). IsFit x (call.make m size kind).handle) left (make_fits m size kind sound)
 
-pub segment_fresh : (i : Segment) (m m' : Memory) (vs us : List Value) (event : Option Event) → IsSound m → Each (Fits m) vs → ((h : H) → IsFit m h → IsFit m' h) → segment_on i m vs ≡ Leaves us m' event → FreshIn (Fits m') i m vs
+pub segment_fresh : (i : Segment) (m m' : Memory) (vs us : List Value) (event : Option Event) → IsSound m → Each (Fits m) vs → ((h : H) → IsFit m h → IsFit m' h) → segment_on i m vs ≡ segments.Gives us m' event → FreshIn (Fits m') i m vs
 segment_fresh (New kind) m m' (I32 n ∷ rest) us event sound a keeps is = made_fits m m' n kind rest us event sound is
 segment_fresh (Add scale) m m' (I64 delta ∷ Handle h ∷ rest) us event sound a keeps is = keeps (add h (signed 64 delta) scale) (add_fits m h (signed 64 delta) scale a.1.0)
 segment_fresh Slice m m' (I32 len ∷ I32 from ∷ Handle h ∷ rest) us event sound a keeps is = keeps (slice h from len) (slice_fits m h from len a.1.1.0)

@@ -20,6 +20,7 @@ use Rattle.ms_operate.specs.Accesses.{integer, number_of, value_of, width_of}
 use Rattle.ms_operate.specs.Integers.{binary}
 use Rattle.ms_operate.specs.Memories.{grow_by, linear_on, load_at, may_grow, store_at}
 use Rattle.ms_operate.specs.Numbers.{given, numeric_on, on_one, on_two}
+use Rattle.ms_operate.specs.Effects as effects
 use Rattle.ms_operate.specs.Outcomes as operate
 use Rattle.ms_operate.specs.declared.trap.Trap.TheVariants as operate-traps
 use Rattle.ms_task.specs.Thread.{Frame, Item, thread}
@@ -115,8 +116,8 @@ module _ (P : Value → Type 0) (int32 : (n : ℕ) → P (I32 n)) (int64 : (n : 
 
   abbrev GivesHolds : operate.Outcome → Type 0
   GivesHolds (operate.Gives vs) = Each P vs
-  GivesHolds (operate.Traps trap) = Unit {0}
-  GivesHolds operate.Lacks = Unit {0}
+  GivesHolds (operate.Trap trap) = Unit {0}
+  GivesHolds operate.Stuck = Unit {0}
 
   one_holds : (f : ℕ → Value) (o : Option ℕ) (rest : List Value) → ((n : ℕ) → P (f n)) → Each P rest → GivesHolds (on_one f o rest)
   one_holds f None rest x a = tt
@@ -145,35 +146,35 @@ module _ (P : Value → Type 0) (int32 : (n : ℕ) → P (I32 n)) (int64 : (n : 
   worked_holds s i fr vs w g a b d = works (numeric_on i vs) (numeric_holds i vs a) where
     works : (r : operate.Outcome) → GivesHolds r → OutcomeHolds P (worked s (thread fr vs w) r)
     works (operate.Gives us) x = goes_holds P s fr vs us w g x b d
-    works (operate.Traps trap) x = tt
-    works operate.Lacks x = tt
+    works (operate.Trap trap) x = tt
+    works operate.Stuck x = tt
 
   -- ---- the linear memory
 
-  abbrev LeavesHolds : operate.Effect → Type 0
-  LeavesHolds (operate.Leaves vs m) = Each P vs
-  LeavesHolds (operate.Stops trap) = Unit {0}
-  LeavesHolds operate.Misses = Unit {0}
+  abbrev EffectHolds : effects.Effect → Type 0
+  EffectHolds (effects.Gives vs m) = Each P vs
+  EffectHolds (effects.Trap trap) = Unit {0}
+  EffectHolds effects.Stuck = Unit {0}
 
-  either_effect : (b : Bool) (e f : operate.Effect) → LeavesHolds e → LeavesHolds f → LeavesHolds (cond b e f)
+  either_effect : (b : Bool) (e f : effects.Effect) → EffectHolds e → EffectHolds f → EffectHolds (cond b e f)
   either_effect true e f x y = x
   either_effect false e f x y = y
 
-  load_holds : (op : LoadOp) (arg : MemArg) (m : LinearMemory) (rest : List Value) (base : Option ℕ) → Each P rest → LeavesHolds (load_at op arg m rest base)
+  load_holds : (op : LoadOp) (arg : MemArg) (m : LinearMemory) (rest : List Value) (base : Option ℕ) → Each P rest → EffectHolds (load_at op arg m rest base)
   load_holds op arg m rest None a = tt
   load_holds op arg m rest (Some base) a =
-      either_effect (nat_le (base + arg.offset + load_bytes op) (length m.bytes)) (operate.Leaves (value_of op (loaded m (base + arg.offset) (load_bytes op)) ∷ rest) m) (operate.Stops operate-traps.Linear) (value_holds op _, a) tt
+      either_effect (nat_le (base + arg.offset + load_bytes op) (length m.bytes)) (effects.Gives (value_of op (loaded m (base + arg.offset) (load_bytes op)) ∷ rest) m) (effects.Trap operate-traps.Linear) (value_holds op _, a) tt
 
-  store_holds : (op : StoreOp) (arg : MemArg) (m : LinearMemory) (rest : List Value) (base value : Option ℕ) → Each P rest → LeavesHolds (store_at op arg m rest base value)
+  store_holds : (op : StoreOp) (arg : MemArg) (m : LinearMemory) (rest : List Value) (base value : Option ℕ) → Each P rest → EffectHolds (store_at op arg m rest base value)
   store_holds op arg m rest (Some base) (Some value) a =
-      either_effect (nat_le (base + arg.offset + store_bytes op) (length m.bytes)) (operate.Leaves rest (stored m (base + arg.offset) (store_bytes op) value)) (operate.Stops operate-traps.Linear) a tt
+      either_effect (nat_le (base + arg.offset + store_bytes op) (length m.bytes)) (effects.Gives rest (stored m (base + arg.offset) (store_bytes op) value)) (effects.Trap operate-traps.Linear) a tt
   store_holds op arg m rest base value a = tt
 
-  grow_holds : (m : LinearMemory) (rest : List Value) (n : Option ℕ) → Each P rest → LeavesHolds (grow_by m rest n)
+  grow_holds : (m : LinearMemory) (rest : List Value) (n : Option ℕ) → Each P rest → EffectHolds (grow_by m rest n)
   grow_holds m rest None a = tt
-  grow_holds m rest (Some n) a = either_effect (may_grow m n) (operate.Leaves (I32 (pages m) ∷ rest) (grown m n)) (operate.Leaves (I32 (2 ^ 32 - 1) ∷ rest) m) (int32 _, a) (int32 _, a)
+  grow_holds m rest (Some n) a = either_effect (may_grow m n) (effects.Gives (I32 (pages m) ∷ rest) (grown m n)) (effects.Gives (I32 (2 ^ 32 - 1) ∷ rest) m) (int32 _, a) (int32 _, a)
 
-  linear_holds : (i : Linear) (m : LinearMemory) (vs : List Value) → Each P vs → LeavesHolds (linear_on i m vs)
+  linear_holds : (i : Linear) (m : LinearMemory) (vs : List Value) → Each P vs → EffectHolds (linear_on i m vs)
   linear_holds (Load op arg) m (v ∷ rest) a = load_holds op arg m rest (number_of W32 v) a.1
   linear_holds (Store op arg) m (v ∷ u ∷ rest) a = store_holds op arg m rest (number_of W32 u) (number_of (width_of op) v) a.1.1
   linear_holds Size m vs a = (int32 _, a)
@@ -183,10 +184,10 @@ module _ (P : Value → Type 0) (int32 : (n : ℕ) → P (I32 n)) (int64 : (n : 
   pub linear_outcome_holds : (s : stores.Store) (i : Linear) (address : Option ℕ) (fr : Frame) (vs : List Value) (w : List Item) → EachGlobal P s.globals → Each P vs → Each P fr.locals → EachKept P w → OutcomeHolds P (linear s (thread fr vs w) i address)
   linear_outcome_holds s i None fr vs w g a b d = tt
   linear_outcome_holds s i (Some x) fr vs w g a b d = on (slice_get s.memories x) where
-    leaves : (e : operate.Effect) → LeavesHolds e → OutcomeHolds P (in_memory s (thread fr vs w) x e)
-    leaves (operate.Leaves us m) h = (g, holds P fr us w h b d)
-    leaves (operate.Stops trap) h = tt
-    leaves operate.Misses h = tt
+    leaves : (e : effects.Effect) → EffectHolds e → OutcomeHolds P (in_memory s (thread fr vs w) x e)
+    leaves (effects.Gives us m) h = (g, holds P fr us w h b d)
+    leaves (effects.Trap trap) h = tt
+    leaves effects.Stuck h = tt
 
     on : (o : Option LinearMemory) → OutcomeHolds P (on_memory s (thread fr vs w) i x o)
     on None = tt

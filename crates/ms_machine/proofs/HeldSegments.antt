@@ -21,7 +21,8 @@ use Rattle.ms_segment.specs.Memory.{Memory, loaded}
 use Rattle.ms_segment.specs.declared.trap.SegTrap.{SegTrap}
 use Rattle.ms_task.specs.Thread.{Do, Frame, Item, thread}
 use Rattle.ms_machine.specs.Holding.{Each, EachGlobal, EachKept}
-use Rattle.ms_machine.specs.Segments.{Effect, Leaves, Misses, Stops, changed, handle_read, measured, number_read, number_stored, segment_on}
+use Rattle.ms_machine.specs.Segments as segments
+use Rattle.ms_machine.specs.Segments.{Effect, changed, handle_read, measured, number_read, number_stored, segment_on}
 use Rattle.ms_machine.specs.Step.{in_segments}
 use Rattle.ms_machine.specs.Store as stores
 use Rattle.ms_machine.proofs.HeldPlain.{OutcomeHolds, value_holds}
@@ -54,9 +55,9 @@ module _ (P : Value → Type 0) where
   -- ---- what they leave
 
   abbrev pub EffectHolds : Effect → Type 0
-  EffectHolds (Leaves vs m event) = Each P vs
-  EffectHolds (Stops trap) = Unit {0}
-  EffectHolds Misses = Unit {0}
+  EffectHolds (segments.Gives vs m event) = Each P vs
+  EffectHolds (segments.Trap trap) = Unit {0}
+  EffectHolds segments.Stuck = Unit {0}
 
   changed_holds : (rest : List Value) (c : Result Change SegTrap) → Each P rest → EffectHolds (changed rest c)
   changed_holds rest (Ok c) a = a
@@ -71,9 +72,9 @@ module _ (P : Value → Type 0) where
   stored_holds m rest h width (Some n) a = changed_holds rest (call.store m h width n) a
 
   pub in_segments_holds : (s : stores.Store) (fr : Frame) (vs : List Value) (w : List Item) (e : Effect) → EachGlobal P s.globals → EffectHolds e → Each P fr.locals → EachKept P w → OutcomeHolds P (in_segments s (thread fr vs w) e)
-  in_segments_holds s fr vs w (Leaves us m event) g h b d = (g, holds P fr us w h b d)
-  in_segments_holds s fr vs w (Stops trap) g h b d = tt
-  in_segments_holds s fr vs w Misses g h b d = tt
+  in_segments_holds s fr vs w (segments.Gives us m event) g h b d = (g, holds P fr us w h b d)
+  in_segments_holds s fr vs w (segments.Trap trap) g h b d = tt
+  in_segments_holds s fr vs w segments.Stuck g h b d = tt
 
 module _ (P : Value → Type 0) (int32 : (n : ℕ) → P (I32 n)) (int64 : (n : ℕ) → P (I64 n)) (null : P (Handle handles.Null)) where
   measured_holds : (m : Memory) (rest : List Value) (r : Result ℤ Apart) → Each P rest → EffectHolds P (measured m rest r)

@@ -14,13 +14,16 @@ use Rattle.ms_module.specs.declared.instr.Instr.{Instr}
 use Rattle.ms_module.specs.declared.instr.Instr.TheVariants.{Unreachable, Nop, Block, Loop, If, Br, BrIf, BrTable, Return, Call, CallIndirect, Drop, Select, LocalGet, LocalSet, LocalTee, GlobalGet, GlobalSet, I32Const, I64Const, Numeric, Linear, Segment}
 use Rattle.ms_operate.specs.Memories.{linear_on}
 use Rattle.ms_operate.specs.Numbers.{numeric_on}
+use Rattle.ms_operate.specs.Effects as effects
 use Rattle.ms_operate.specs.Outcomes as operate
 use Rattle.ms_segment.specs.Memory.{Memory}
-use Rattle.ms_task.specs.Control.{Lost, Moved, To, TooDeep, br_if_on, br_table_on, branch, call_on, if_on, return_on}
+use Rattle.ms_task.specs.Control as control
+use Rattle.ms_task.specs.Control.{Moved, To, TooDeep, br_if_on, br_table_on, branch, call_on, if_on, return_on}
 use Rattle.ms_task.specs.Thread.{Activation, Do, Frame, Item, Label, Thread, thread}
 use Rattle.ms_types.specs.declared.types.FuncType.{FuncType}
-use Rattle.ms_machine.specs.Segments.{Effect, Leaves, Misses, Stops, segment_on}
-use Rattle.ms_machine.specs.Step.{Next, Outcome, Stuck, Trap, act, begin, call, call_target, call_through, first, in_memory, in_segments, linear, moved, on_memory, on_top, pushed, select, set_global, set_global_at, set_local, settled, step_of, value_in, worked}
+use Rattle.ms_machine.specs.Segments as segments
+use Rattle.ms_machine.specs.Segments.{Effect, segment_on}
+use Rattle.ms_machine.specs.Step.{Next, Outcome, Stuck, Trap, act, begin, call, call_target, call_through, first, in_memory, in_segments, linear, moved, on_memory, on_top, pushed, select, set_global, set_global_at, set_local, exited, step_of, value_in, worked}
 use Rattle.ms_machine.specs.Store.{Store, at, func_address, global_address, instance_of, memory_address, table_address, type_at}
 
 -- it goes on behind itself
@@ -46,9 +49,9 @@ module _ (R : Memory → List Item → Type 0) where
   OutcomeOver Stuck = Unit {0}
 
   abbrev EffectOver : List Item → Effect → Type 0
-  EffectOver w (Leaves vs m event) = R m w
-  EffectOver w (Stops trap) = Unit {0}
-  EffectOver w Misses = Unit {0}
+  EffectOver w (segments.Gives vs m event) = R m w
+  EffectOver w (segments.Trap trap) = Unit {0}
+  EffectOver w segments.Stuck = Unit {0}
 
   top_over : (vs : List Value) (go : Value → List Value → Outcome) → ((v : Value) (rest : List Value) → OutcomeOver (go v rest)) → OutcomeOver (on_top vs go)
   top_over [] go x = tt
@@ -77,25 +80,25 @@ module _ (R : Memory → List Item → Type 0) where
 
   worked_over : (s : Store) (t : Thread) (r : operate.Outcome) → R s.segments t.work → OutcomeOver (worked s t r)
   worked_over s t (operate.Gives vs) r = r
-  worked_over s t (operate.Traps trap) r = tt
-  worked_over s t operate.Lacks r = tt
+  worked_over s t (operate.Trap trap) r = tt
+  worked_over s t operate.Stuck r = tt
 
   linear_over : (s : Store) (t : Thread) (i : LinearInstr) (address : Option ℕ) → R s.segments t.work → OutcomeOver (linear s t i address)
   linear_over s t i None r = tt
   linear_over s t i (Some x) r = on (slice_get s.memories x) where
-    leaves : (e : operate.Effect) → OutcomeOver (in_memory s t x e)
-    leaves (operate.Leaves vs m) = r
-    leaves (operate.Stops trap) = tt
-    leaves operate.Misses = tt
+    leaves : (e : effects.Effect) → OutcomeOver (in_memory s t x e)
+    leaves (effects.Gives vs m) = r
+    leaves (effects.Trap trap) = tt
+    leaves effects.Stuck = tt
 
     on : (o : Option LinearMemory) → OutcomeOver (on_memory s t i x o)
     on None = tt
     on (Some m) = leaves (linear_on i m t.operands)
 
   in_segments_over : (s : Store) (t : Thread) (e : Effect) → EffectOver t.work e → OutcomeOver (in_segments s t e)
-  in_segments_over s t (Leaves vs m event) x = x
-  in_segments_over s t (Stops trap) x = tt
-  in_segments_over s t Misses x = tt
+  in_segments_over s t (segments.Gives vs m event) x = x
+  in_segments_over s t (segments.Trap trap) x = tt
+  in_segments_over s t segments.Stuck x = tt
 
   plain_over : (s : Store) (i : Instr) (t : Thread) → IsPlainInstr i → R s.segments t.work → ((j : SegmentInstr) → EffectOver t.work (segment_on j s.segments t.operands)) → OutcomeOver (act s i t)
   plain_over s Nop t plain r x = r
@@ -120,9 +123,9 @@ plain_goes s s' i t t' event plain is =
     subst (OutcomeOver stays) is (plain_over stays s i t plain refl (λ j. leaves (segment_on j s.segments t.operands)))
   where
     leaves : (e : Effect) → EffectOver (λ m w. w ≡ t.work) t.work e
-    leaves (Leaves vs m event) = refl
-    leaves (Stops trap) = tt
-    leaves Misses = tt
+    leaves (segments.Gives vs m event) = refl
+    leaves (segments.Trap trap) = tt
+    leaves segments.Stuck = tt
 
 -- ---- a fact about the segment memory
 
@@ -133,14 +136,14 @@ module _ (R : Memory → Type 0) where
   MemoryAfter Stuck = Unit {0}
 
   abbrev pub MemoryLeft : Effect → Type 0
-  MemoryLeft (Leaves vs m event) = R m
-  MemoryLeft (Stops trap) = Unit {0}
-  MemoryLeft Misses = Unit {0}
+  MemoryLeft (segments.Gives vs m event) = R m
+  MemoryLeft (segments.Trap trap) = Unit {0}
+  MemoryLeft segments.Stuck = Unit {0}
 
   moved_after : (s : Store) (m : Moved) → R s.segments → MemoryAfter (moved s m)
   moved_after s (To t) r = r
   moved_after s TooDeep r = tt
-  moved_after s Lost r = tt
+  moved_after s control.Stuck r = tt
 
   call_after : (s : Store) (t : Thread) (address : Option ℕ) → R s.segments → MemoryAfter (call s t address)
   call_after s t None r = tt
@@ -157,9 +160,9 @@ module _ (R : Memory → Type 0) where
   plain_after : (s : Store) (i : Instr) (t : Thread) → IsPlainInstr i → R s.segments → ((j : SegmentInstr) → MemoryLeft (segment_on j s.segments t.operands)) → MemoryAfter (act s i t)
   plain_after s i t plain r x = after (act s i t) (plain_over (λ m w. R m) s i t plain r (λ j. left (segment_on j s.segments t.operands) (x j))) where
     left : (e : Effect) → MemoryLeft e → EffectOver (λ m w. R m) t.work e
-    left (Leaves vs m event) y = y
-    left (Stops trap) y = tt
-    left Misses y = tt
+    left (segments.Gives vs m event) y = y
+    left (segments.Trap trap) y = tt
+    left segments.Stuck y = tt
 
     after : (o : Outcome) → OutcomeOver (λ m w. R m) o → MemoryAfter o
     after (Next s t event) y = y
@@ -185,11 +188,11 @@ module _ (R : Memory → Type 0) where
   first_after s fr vs (Label k h i ∷ w) r x = tt
   first_after s fr vs (Activation k h caller ∷ w) r x = tt
 
-  settled_after : (o : Outcome) → MemoryAfter o → MemoryAfter (settled o)
-  settled_after (Next s t event) r = r
-  settled_after (Trap trap) r = tt
-  settled_after Stuck r = tt
+  exited_after : (o : Outcome) → MemoryAfter o → MemoryAfter (exited o)
+  exited_after (Next s t event) r = r
+  exited_after (Trap trap) r = tt
+  exited_after Stuck r = tt
 
   -- what holds of the memory, and of what instructions leave of it, holds after a step
   pub step_after : (s s' : Store) (t t' : Thread) (event : Option Event) → R s.segments → ((j : SegmentInstr) → MemoryLeft (segment_on j s.segments t.operands)) → step_of s t ≡ Next s' t' event → R s'.segments
-  step_after s s' t t' event r x is = subst MemoryAfter is (settled_after (begin s t) (first_after s t.frame t.operands t.work r x))
+  step_after s s' t t' event r x is = subst MemoryAfter is (exited_after (begin s t) (first_after s t.frame t.operands t.work r x))

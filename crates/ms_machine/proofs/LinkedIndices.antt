@@ -49,11 +49,3 @@ sigs_are sigs [] below = refl
 sigs_are sigs (f ∷ fs) below =
     ap (λ o. o ∷ map (λ f. Some (get_or sigs f.sig no_type)) fs) (sig_is sigs f.sig (All-head (λ f. f.sig < length sigs) f fs below))
     ∙ ap (λ l. slice_get sigs f.sig ∷ l) (sigs_are sigs fs (All-tail (λ f. f.sig < length sigs) f fs below))
-
-pub map_map : {A B C : Type 0} (g : B → C) (f : A → B) (xs : List A) → map g (map f xs) ≡ map (λ x. g (f x)) xs
-map_map g f [] = refl
-map_map g f (x ∷ xs) = ap (λ l. g (f x) ∷ l) (map_map g f xs)
-
-pub map_same : {A : Type 0} (xs : List A) → map (λ x. x) xs ≡ xs
-map_same [] = refl
-map_same (x ∷ xs) = ap (λ l. x ∷ l) (map_same xs)

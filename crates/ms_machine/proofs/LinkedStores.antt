@@ -12,12 +12,12 @@ use Rattle.ms_types.specs.declared.types.FuncType.{FuncType}
 use Rattle.ms_machine.specs.declared.linking.LinkFault.{LinkFault}
 use Rattle.ms_machine.specs.declared.linking.Misfit.{Misfit}
 use Rattle.ms_machine.specs.Holding.{StoreFits}
-use Rattle.ms_machine.specs.Linking.{Links, func_of, linked, linked_or, misfit, no_type, store_of}
+use Rattle.ms_machine.specs.Linking.{DoesLinking, func_of, linked, linked_or, misfit, no_type, store_of}
 use Rattle.ms_machine.specs.Store.{Store}
 use Rattle.ms_machine.specs.Typing.{StoreTyped, outline_of}
 use Rattle.ms_machine.proofs.LinkedGlobals.{globals_fit}
 use Rattle.ms_machine.proofs.LinkedTypes.{linked_typed}
-use Rattle.ms_machine.proofs.SoundValues.{get_mapped}
+use Rattle.ms_machine.proofs.TypedValues.{get_mapped}
 
 -- ---- handles
 
@@ -32,15 +32,15 @@ linked_is m capacity s e = given (misfit m) e where
   given None e = (refl, let same : store_of m capacity ≡ s = cc in sym same)
   given (Some fault) e = cc
 
-pub links_typed : (m : Module) (capacity : ℕ) (r : Result Store LinkFault) → Links m capacity r → WellTyped m → m.imports ≡ [] → IfOk r (λ s. StoreTyped (outline_of s))
-links_typed m capacity (Ok s) links well alone =
+pub does_linking_typed : (m : Module) (capacity : ℕ) (r : Result Store LinkFault) → DoesLinking m capacity r → WellTyped m → m.imports ≡ [] → IfOk r (λ s. StoreTyped (outline_of s))
+does_linking_typed m capacity (Ok s) links well alone =
     let is = linked_is m capacity s links in
     subst (λ (x : Store). StoreTyped (outline_of x)) (sym is.1) (linked_typed m capacity well alone is.0)
-links_typed m capacity (Err fault) links well alone = tt
+does_linking_typed m capacity (Err fault) links well alone = tt
 
-pub links_fit : (m : Module) (capacity : ℕ) (r : Result Store LinkFault) → Links m capacity r → capacity < 4294967296 → IfOk r StoreFits
-links_fit m capacity (Ok s) links below = subst StoreFits (sym (linked_is m capacity s links).1) (linked_fits m capacity below)
-links_fit m capacity (Err fault) links below = tt
+pub does_linking_fits : (m : Module) (capacity : ℕ) (r : Result Store LinkFault) → DoesLinking m capacity r → capacity < 4294967296 → IfOk r StoreFits
+does_linking_fits m capacity (Ok s) links below = subst StoreFits (sym (linked_is m capacity s links).1) (linked_fits m capacity below)
+does_linking_fits m capacity (Err fault) links below = tt
 
 -- ---- the functions of the store
 

@@ -12,7 +12,7 @@ use Rattle.ms_task.specs.declared.func.FuncInst.{FuncInst}
 use Rattle.ms_types.specs.declared.types.Limits.{Limits}
 use Rattle.ms_machine.specs.Linking.{constant_of, element_in, empty_table, entry_at, entry_for, fill_in, index_of, with_data, with_elements, with_entries, with_fills, written}
 use Rattle.ms_machine.specs.Typing.{EntryTyped, Outline}
-use Rattle.ms_machine.proofs.SoundValues.{all_at}
+use Rattle.ms_machine.proofs.TypedValues.{all_at}
 
 -- ---- how many there are
 

@@ -18,10 +18,12 @@ use Rattle.ms_machine.specs.Linking.{empty_table, func_of, global_of, instance_f
 use Rattle.ms_machine.specs.Store.{at, number_of_instance}
 use Rattle.ms_machine.specs.Typing.{FuncTyped, InstanceTyped, Outline, StoreTyped, context_at, context_in, context_inside, func_type, global_type, outline_of}
 use Rattle.ms_machine.proofs.LinkedGlobals.{globals_typed}
-use Rattle.ms_machine.proofs.LinkedIndices.{first_below, first_size, indexed, map_map, map_same, numbers_below, sigs_are}
+use Rattle.std.proofs.lemmas.List.{map-id}
+use Rattle.std.proofs.lemmas.Simd.{map-map}
+use Rattle.ms_machine.proofs.LinkedIndices.{first_below, first_size, indexed, numbers_below, sigs_are}
 use Rattle.ms_machine.proofs.LinkedTables.{TableTyped, elements_typed, empty_typed, length-elements, length-fills}
-use Rattle.ms_machine.proofs.SoundCalls.{result_is}
-use Rattle.ms_machine.proofs.SoundValues.{all_at, get_mapped}
+use Rattle.ms_machine.proofs.TypedCalls.{result_is}
+use Rattle.ms_machine.proofs.TypedValues.{all_at, get_mapped}
 
 -- what typing sees of the store of a module
 abbrev pub linked_outline : Module → ℕ → Outline
@@ -43,7 +45,7 @@ funcs_named : (m : Module) (capacity : ℕ) → (linked_context m capacity).func
 funcs_named m capacity =
     let funcs = map (func_of m) m.funcs in
     ap (λ n. map (λ a. func_type (slice_get funcs a)) (numbers 0 n)) (sym (length-map m.funcs (func_of m)))
-    ∙ indexed func_type funcs ∙ map_map (λ f. func_type (Some f)) (func_of m) m.funcs
+    ∙ indexed func_type funcs ∙ map-map (λ f. func_type (Some f)) (func_of m) m.funcs
 
 funcs_are : (m : Module) (capacity : ℕ) → Head m → m.imports ≡ [] → (context_of m).funcs ≡ (linked_context m capacity).funcs
 funcs_are m capacity head alone =
@@ -54,7 +56,7 @@ globals_named : (m : Module) (capacity : ℕ) → (linked_context m capacity).gl
 globals_named m capacity =
     let all = map global_type_of (map global_of m.globals) in
     ap (λ n. map (λ a. global_type (slice_get all a)) (numbers 0 n)) (sym (length-map (map global_of m.globals) global_type_of ∙ length-map m.globals global_of))
-    ∙ indexed global_type all ∙ map_same all
+    ∙ indexed global_type all ∙ map-id all
 
 globals_are : (m : Module) (capacity : ℕ) → Head m → m.imports ≡ [] → (context_of m).globals ≡ (linked_context m capacity).globals
 globals_are m capacity head alone =

@@ -5,7 +5,7 @@ use Rattle.std.proofs.lemmas.List.Elements.{All-nil, All-cons}
 use Rattle.ms_linear.specs.declared.table.Entry.{Entry}
 use Rattle.ms_linear.specs.declared.value.Value.{Value}
 use Rattle.ms_linear.specs.Memory.{Memory as Linear, page}
-use Rattle.ms_linear.specs.Table.{Table}
+use Rattle.ms_linear.specs.Table.{Table, most_entries}
 use Rattle.ms_module.specs.declared.module.Element.{Element}
 use Rattle.ms_module.specs.declared.module.Fill.{Fill}
 use Rattle.ms_module.specs.declared.module.Module.{Module}
@@ -13,7 +13,7 @@ use Rattle.ms_rules.specs.Context.{imported_funcs, imported_memories, imported_t
 use Rattle.ms_rules.specs.Modules.{WellTyped}
 use Rattle.ms_task.specs.declared.func.FuncInst.{FuncInst}
 use Rattle.ms_types.specs.declared.types.Limits.{Limits}
-use Rattle.ms_machine.specs.Linking.{constant_of, elements_fit, empty_table, fills_fit, func_of, index_of, min_at, misfit, or_next, reach, sizes_fit, most_entries, values_of, zeroed}
+use Rattle.ms_machine.specs.Linking.{constant_of, elements_fit, empty_table, fills_fit, func_of, index_of, min_at, misfit, or_next, reach, sizes_fit, values_of, zeroed}
 use Rattle.ms_linear.specs.Memory.{most_pages}
 use Rattle.ms_machine.specs.declared.linking.Misfit.{Misfit}
 use Rattle.ms_machine.specs.declared.linking.Misfit.TheVariants.{Outside}

@@ -5,7 +5,7 @@ use Rattle.ms_module.specs.declared.instr.Instr.{Instr}
 use Rattle.ms_task.specs.declared.task.Task.{Task}
 use Rattle.ms_task.specs.Thread.{Thread, with_first}
 use Rattle.ms_task.specs.View.{at_next, thread_of}
-use Rattle.ms_machine.specs.Doing.{Acts, Can, Performs, PerformsFirst, with_more}
+use Rattle.ms_machine.specs.Doing.{DoesInstr, Can, DoesOutcome, DoesFirst, with_more}
 use Rattle.ms_machine.specs.Step.{Outcome, Stuck, act, begin}
 use Rattle.ms_machine.specs.Store.{Store}
 use Rattle.ms_machine.specs.declared.fault.Fault.{Fault}
@@ -22,12 +22,12 @@ named s i j u t e is = begins_with s i u t e ∙ ap (λ k. act s k t) is
 pub can_act : (s : Store) (i j : Instr) (t : Task) (next : ℕ) → begin s (thread_of s.funcs t) ≢ Stuck → thread_of s.funcs t ≡ with_first i (at_next s.funcs t next) → i ≡ j → Can j next s t
 can_act s i j t next can e is stuck = can (named s i j (thread_of s.funcs t) (at_next s.funcs t next) e is ∙ stuck)
 
-first-from : (outcome : Outcome) (s s' : Store) (t t' : Thread) (r : Result (Option Event) Fault) (more : Bool) → Performs outcome s t s' t' r → PerformsFirst outcome s t s' t' (with_more r more)
+first-from : (outcome : Outcome) (s s' : Store) (t t' : Thread) (r : Result (Option Event) Fault) (more : Bool) → DoesOutcome outcome s t s' t' r → DoesFirst outcome s t s' t' (with_more r more)
 first-from outcome s s' t t' (Ok event) more does = does
 first-from outcome s s' t t' (Err (faults.Trap kind)) more does = does
 first-from outcome s s' t t' (Err faults.Memory) more does = does
 
-pub performs : (s s' : Store) (i j : Instr) (t t' : Task) (next : ℕ) (r : Result (Option Event) Fault) (more : Bool) → thread_of s.funcs t ≡ with_first i (at_next s.funcs t next) → i ≡ j → Acts j next s t s' t' r → PerformsFirst (begin s (thread_of s.funcs t)) s (thread_of s.funcs t) s' (thread_of s'.funcs t') (with_more r more)
+pub performs : (s s' : Store) (i j : Instr) (t t' : Task) (next : ℕ) (r : Result (Option Event) Fault) (more : Bool) → thread_of s.funcs t ≡ with_first i (at_next s.funcs t next) → i ≡ j → DoesInstr j next s t s' t' r → DoesFirst (begin s (thread_of s.funcs t)) s (thread_of s.funcs t) s' (thread_of s'.funcs t') (with_more r more)
 performs s s' i j t t' next r more e is does =
-    subst (λ (o : Outcome). PerformsFirst o s (thread_of s.funcs t) s' (thread_of s'.funcs t') (with_more r more)) (sym (named s i j (thread_of s.funcs t) (at_next s.funcs t next) e is))
+    subst (λ (o : Outcome). DoesFirst o s (thread_of s.funcs t) s' (thread_of s'.funcs t') (with_more r more)) (sym (named s i j (thread_of s.funcs t) (at_next s.funcs t next) e is))
     (first-from (act s j (at_next s.funcs t next)) s s' (thread_of s.funcs t) (thread_of s'.funcs t') r more does)

@@ -2,7 +2,8 @@
 use Rattle.std.proofs.Common.{◌≡◌, ◌≢◌, ◌<◌, ◌-◌, ℕ, zero, suc, List, [], ◌∷◌, Option, slice_get, refl, ap, sym, subst, ◌∙◌, arith}
 use Rattle.ms_event.specs.declared.event.Event.{Event}
 use Rattle.ms_task.specs.Thread.{Item, Thread}
-use Rattle.ms_machine.specs.Running.{EndAlike, End, OutOfBudget, Result, Run, Stopped, after_step, ends, if_going, run_thread}
+use Rattle.ms_machine.specs.Running as running
+use Rattle.ms_machine.specs.Running.{EndAlike, End, OutOfBudget, Result, Run, after_step, ends, if_going, run_thread}
 use Rattle.ms_machine.specs.Step.{Next, Trap, step_of}
 use Rattle.ms_machine.specs.Store.{Store}
 use Rattle.ms_machine.specs.declared.stepped.Stepped.TheVariants as answers
@@ -35,7 +36,7 @@ run_ended (suc n) s t e =
     let r = ap (λ w. if_going w (ends (Result (slice_get t.operands 0)) s (suc n)) (after_step (step_of s t) s n (run_thread n))) e in
     (ap (λ (x : Run). x.end) r, ap (λ (x : Run). x.store) r, ap (λ (x : Run). x.left) r)
 
-pub run_traps : (left : ℕ) (s : Store) (t : Thread) (trap : TrapKind) → 0 < left → t.work ≢ [] → step_of s t ≡ Trap trap → ((run_thread left s t).end ≡ Stopped trap) × ((run_thread left s t).store ≡ s) × ((run_thread left s t).left ≡ left - 1)
+pub run_traps : (left : ℕ) (s : Store) (t : Thread) (trap : TrapKind) → 0 < left → t.work ≢ [] → step_of s t ≡ Trap trap → ((run_thread left s t).end ≡ running.Trap trap) × ((run_thread left s t).store ≡ s) × ((run_thread left s t).left ≡ left - 1)
 run_traps zero s t trap more going is = absurd (omega (arith, more))
 run_traps (suc n) s t trap more going is =
     let e : n ≡ suc n - 1 = omega arith in

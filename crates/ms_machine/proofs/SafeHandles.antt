@@ -10,7 +10,7 @@ use Rattle.ms_handle.specs.declared.handle.Handle.{Handle}
 use Rattle.ms_handle.specs.declared.handle.Handle.TheVariants as handles
 use Rattle.ms_handle.specs.Handle.{add, is_near, moved, part, slice}
 use Rattle.ms_segment.specs.Memory.{Memory}
-use Rattle.ms_machine.specs.Running.{told}
+use Rattle.ms_machine.specs.Running.{with_event}
 use Rattle.ms_machine.specs.Safety.{IsMonitored, KnowsHandle}
 use Rattle.ms_machine.specs.Segments.{slice_event}
 use Rattle.ms_machine.proofs.SafeStates.{Follows, Grows, follows-none, handle_grows}
@@ -39,7 +39,7 @@ module _ (state : State) where
 
 module _ (state : State) (m : Memory) (monitored : IsMonitored state m) where
   abbrev Sliced : Handle → Handle → Type 0
-  Sliced h g = Follows state m (slice_event h g) m × KnowsHandle (after_all state (told (slice_event h g) [])) g
+  Sliced h g = Follows state m (slice_event h g) m × KnowsHandle (after_all state (with_event (slice_event h g) [])) g
 
   sliced_state : (id lo hi lo2 hi2 : ℕ) → Grows state (after state (events.Slice id lo hi lo2 hi2))
   sliced_state id lo hi lo2 hi2 = record {
@@ -71,7 +71,7 @@ module _ (state : State) (m : Memory) (monitored : IsMonitored state m) where
   part_sliced id base size offset (pos start) len known = within_sliced id base size start len offset (nat_le (start + len) size) refl known
   part_sliced id base size offset (negsuc n) len known = (follows-none state m monitored, tt)
 
-  pub slice_follows : (h : Handle) (from len : ℕ) → KnowsHandle state h → Follows state m (slice_event h (slice h from len)) m × KnowsHandle (after_all state (told (slice_event h (slice h from len)) [])) (slice h from len)
+  pub slice_follows : (h : Handle) (from len : ℕ) → KnowsHandle state h → Follows state m (slice_event h (slice h from len)) m × KnowsHandle (after_all state (with_event (slice_event h (slice h from len)) [])) (slice h from len)
   slice_follows handles.Null from len known = (follows-none state m monitored, tt)
   slice_follows handles.Broken from len known = (follows-none state m monitored, tt)
   slice_follows (handles.Good id base size offset) from len known = part_sliced id base size offset (offset +ℤ pos from) len known

@@ -20,7 +20,7 @@ use Rattle.ms_segment.proofs.Finds.{Contains-overwritten}
 use Rattle.ms_segment.proofs.Keeps.{length-Makes}
 use Rattle.ms_segment.proofs.Sound.{IsData}
 use Rattle.ms_tagged.specs.Bytes.{Data, Piece}
-use Rattle.ms_machine.specs.Running.{told}
+use Rattle.ms_machine.specs.Running.{with_event}
 use Rattle.ms_machine.specs.Safety.{IsMonitored, IsPaintOf, KnowsHandle}
 use Rattle.ms_machine.proofs.SafePaints.{coat_has, coat_is, paint, paint_is}
 use Rattle.ms_machine.proofs.SafeStates.{Follows, Grows, grows-refl, handle_grows}
@@ -142,7 +142,7 @@ module _ (state : State) (m : Memory) (monitored : IsMonitored state m) where
 
   -- ---- the call
 
-  makes_follows : (size : ℕ) (kind : Kind) (h : Handle) (e : Event) (m' : Memory) → Makes m size kind h e m' → Follows state m (Some e) m' × KnowsHandle (after_all state (told (Some e) [])) h
+  makes_follows : (size : ℕ) (kind : Kind) (h : Handle) (e : Event) (m' : Memory) → Makes m size kind h e m' → Follows state m (Some e) m' × KnowsHandle (after_all state (with_event (Some e) [])) h
   makes_follows size kind h e m' (made {base} few placed) = (
     record {
       may = (alloc_may base size few placed, tt);
@@ -156,5 +156,5 @@ module _ (state : State) (m : Memory) (monitored : IsMonitored state m) where
   makes_follows size kind h e m' (no_room none) = (refused_follows size (inr none), tt)
 
   -- A segment that is made, or that there is no room for, is told as it is. The new handle is known.
-  pub make_follows : (size : ℕ) (kind : Kind) → IsSound m → Follows state m (Some (make m size kind).event) (make m size kind).memory × KnowsHandle (after_all state (told (Some (make m size kind).event) [])) (make m size kind).handle
+  pub make_follows : (size : ℕ) (kind : Kind) → IsSound m → Follows state m (Some (make m size kind).event) (make m size kind).memory × KnowsHandle (after_all state (with_event (Some (make m size kind).event) [])) (make m size kind).handle
   make_follows size kind sound = makes_follows size kind _ _ _ (make_makes m size kind sound)

@@ -6,7 +6,8 @@ use Rattle.ms_event.specs.Monitor.{Accepts, after_all, nothing_yet}
 use Rattle.ms_task.specs.declared.func.FuncInst.{FuncInst}
 use Rattle.ms_task.specs.Thread.{Item, Thread}
 use Rattle.ms_machine.specs.Holding.{StoreFits, ThreadFits, ThreadHolds}
-use Rattle.ms_machine.specs.Running.{End, Lost, OutOfBudget, Result, Run, Stopped, after_event, after_start, after_step, ends, func_thread, if_going, joined, run_from, run_thread, start_of, told}
+use Rattle.ms_machine.specs.Running as running
+use Rattle.ms_machine.specs.Running.{End, OutOfBudget, Result, Run, after_event, after_start, after_step, ends, func_thread, if_going, joined, run_from, run_thread, start_of, with_event}
 use Rattle.ms_machine.specs.Safety.{Knows, Sound}
 use Rattle.ms_machine.specs.Step.{Next, Outcome, Stuck, Trap, step_of}
 use Rattle.ms_machine.specs.Store.{Store}
@@ -38,14 +39,14 @@ ends_safely events s others end left fits sound = record {
   capacity = refl;
 }
 
-told_before : (event : Option Event) (events : List Event) → told event [] ++ events ≡ told event events
-told_before None events = refl
-told_before (Some e) events = refl
+with_event-before : (event : Option Event) (events : List Event) → with_event event [] ++ events ≡ with_event event events
+with_event-before None events = refl
+with_event-before (Some e) events = refl
 
 -- behind a step
-goes_on_safely : (events : List Event) (s s' : Store) (others : List Thread) (event : Option Event) (r : Run) → length s'.segments.bytes ≡ length s.segments.bytes → RunsSafely (events ++ told event []) s' others r → RunsSafely events s others (after_event event r)
+goes_on_safely : (events : List Event) (s s' : Store) (others : List Thread) (event : Option Event) (r : Run) → length s'.segments.bytes ≡ length s.segments.bytes → RunsSafely (events ++ with_event event []) s' others r → RunsSafely events s others (after_event event r)
 goes_on_safely events s s' others event r capacity safely = record {
-  sound = subst (λ es. Sound es r.store others) (append_assoc events (told event []) r.events ∙ ap (λ es. events ++ es) (told_before event r.events)) safely.sound;
+  sound = subst (λ es. Sound es r.store others) (append_assoc events (with_event event []) r.events ∙ ap (λ es. events ++ es) (with_event-before event r.events)) safely.sound;
   fits = safely.fits;
   capacity = safely.capacity ∙ capacity;
 }
@@ -60,9 +61,9 @@ steps_safely n s t others events store fits sound go (Next s' t' event) is =
     let kept = step_keeps s s' t t' event store fits is in
     let mine = All-head (ThreadHolds (Knows (after_all nothing_yet events))) t others sound.threads in
     let follows = step_follows (after_all nothing_yet events) s store.segments sound.monitored s' t t' event fits mine is in
-    goes_on_safely events s s' others event (run_thread n s' t') follows.capacity (go s' t' (events ++ told event []) kept.0 kept.1 (sound_step s s' t t' others events event store fits sound is))
-steps_safely n s t others events store fits sound go (Trap trap) is = ends_safely events s others (Stopped trap) n store (without_first events s t others sound)
-steps_safely n s t others events store fits sound go Stuck is = ends_safely events s others Lost n store (without_first events s t others sound)
+    goes_on_safely events s s' others event (run_thread n s' t') follows.capacity (go s' t' (events ++ with_event event []) kept.0 kept.1 (sound_step s s' t t' others events event store fits sound is))
+steps_safely n s t others events store fits sound go (Trap trap) is = ends_safely events s others (running.Trap trap) n store (without_first events s t others sound)
+steps_safely n s t others events store fits sound go Stuck is = ends_safely events s others running.Stuck n store (without_first events s t others sound)
 
 pub thread_runs_safely : (budget : ℕ) (s : Store) (t : Thread) (others : List Thread) (events : List Event) → StoreFits s → ThreadFits s t → Sound events s (t ∷ others) → RunsSafely events s others (run_thread budget s t)
 thread_runs_safely zero s t others events store fits sound =
@@ -97,9 +98,9 @@ joins_safely events s others r next first second = record {
 after_start_safely : (main : ℕ) (events : List Event) (s : Store) (others : List Thread) (end : End) (r : Run) → RunsSafely events s others r → RunsSafely events s others (after_start end r (λ left s'. run_thread left s' (func_thread s' main)))
 after_start_safely main events s others (Result v) r safely =
     joins_safely events s others r _ safely (func_runs_safely r.left r.store main others (events ++ r.events) safely.fits safely.sound)
-after_start_safely main events s others (Stopped trap) r safely = safely
+after_start_safely main events s others (running.Trap trap) r safely = safely
 after_start_safely main events s others OutOfBudget r safely = safely
-after_start_safely main events s others Lost r safely = safely
+after_start_safely main events s others running.Stuck r safely = safely
 
 -- A run leaves a sound store, after events that are accepted, however it ends.
 pub run_from_safely : (budget : ℕ) (s : Store) (first : Option ℕ) (main : ℕ) (others : List Thread) (events : List Event) → StoreFits s → Sound events s others → RunsSafely events s others (run_from budget s first main)

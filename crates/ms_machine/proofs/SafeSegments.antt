@@ -19,9 +19,10 @@ use Rattle.ms_segment.specs.Calls.{Change}
 use Rattle.ms_segment.specs.Memory.{IsFit, IsSound, Memory, loaded}
 use Rattle.ms_segment.specs.declared.trap.SegTrap.{SegTrap}
 use Rattle.ms_machine.specs.Holding.{Each, Fits}
-use Rattle.ms_machine.specs.Running.{told}
+use Rattle.ms_machine.specs.Running.{with_event}
 use Rattle.ms_machine.specs.Safety.{IsMonitored, Knows, KnowsHandle}
-use Rattle.ms_machine.specs.Segments.{Leaves, changed, handle_read, measured, number_read, number_stored, segment_on, slice_event}
+use Rattle.ms_machine.specs.Segments as segments
+use Rattle.ms_machine.specs.Segments.{changed, handle_read, measured, number_read, number_stored, segment_on, slice_event}
 use Rattle.ms_machine.proofs.HeldSegments.{FreshIn, FreshRead}
 use Rattle.ms_machine.proofs.SafeAccesses.{load_handle_follows, loaded_follows, store_follows, store_handle_follows}
 use Rattle.ms_machine.proofs.SafeEnding.{free_follows}
@@ -79,18 +80,18 @@ module _ (state : State) (m : Memory) (sound : IsSound m) (monitored : IsMonitor
   -- ---- the handles that are made
 
   abbrev KnownAfter : Option Event → Value → Type 0
-  KnownAfter event v = Knows (after_all state (told event [])) v
+  KnownAfter event v = Knows (after_all state (with_event event [])) v
 
-  leaves_event : (us vs : List Value) (n m' : Memory) (e event : Option Event) → Leaves us n e ≡ Leaves vs m' event → e ≡ event
+  leaves_event : (us vs : List Value) (n m' : Memory) (e event : Option Event) → segments.Gives us n e ≡ segments.Gives vs m' event → e ≡ event
   leaves_event us vs n m' e event is = cc
 
-  read_known : (rest us : List Value) (m' : Memory) (event : Option Event) (h : H) (r : Result (H × Event) SegTrap) → IsFit m h → KnowsHandle state h → call.load_handle m h ≡ r → handle_read m rest r ≡ Leaves us m' event → FreshRead (KnownAfter event) r
+  read_known : (rest us : List Value) (m' : Memory) (event : Option Event) (h : H) (r : Result (H × Event) SegTrap) → IsFit m h → KnowsHandle state h → call.load_handle m h ≡ r → handle_read m rest r ≡ segments.Gives us m' event → FreshRead (KnownAfter event) r
   read_known rest us m' event h (Ok x) fit known loads is =
       let follows = load_handle_follows state m monitored h x sound fit known loads in
-      subst (λ e. KnownAfter e (Handle x.0)) (leaves_event (Handle x.0 ∷ rest) us m m' (Some x.1) event is) (handle_grows state (after_all state (told (Some x.1) [])) follows.0.grows x.0 follows.1)
+      subst (λ e. KnownAfter e (Handle x.0)) (leaves_event (Handle x.0 ∷ rest) us m m' (Some x.1) event is) (handle_grows state (after_all state (with_event (Some x.1) [])) follows.0.grows x.0 follows.1)
   read_known rest us m' event h (Err e) fit known loads is = tt
 
-  pub segment_known : (i : Segment) (vs us : List Value) (m' : Memory) (event : Option Event) → Each (Fits m) vs → Each (Knows state) vs → segment_on i m vs ≡ Leaves us m' event → FreshIn (KnownAfter event) i m vs
+  pub segment_known : (i : Segment) (vs us : List Value) (m' : Memory) (event : Option Event) → Each (Fits m) vs → Each (Knows state) vs → segment_on i m vs ≡ segments.Gives us m' event → FreshIn (KnownAfter event) i m vs
   segment_known (New kind) (I32 n ∷ rest) us m' event a b is =
       subst (λ e. KnownAfter e (Handle (call.make m n kind).handle)) (leaves_event _ us _ m' (Some (call.make m n kind).event) event is) (make_follows state m monitored n kind sound).1
   segment_known (Add scale) (I64 delta ∷ Handle h ∷ rest) us m' event a b is =

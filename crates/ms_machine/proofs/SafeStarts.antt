@@ -14,7 +14,7 @@ use Rattle.ms_module.specs.declared.module.Module.{Module}
 use Rattle.ms_module.specs.Numbered.{sequence_at}
 use Rattle.ms_segment.proofs.Sound.{IsData}
 use Rattle.ms_tagged.specs.Bytes.{Data, Piece}
-use Rattle.ms_task.specs.Control.{nobody, settled as settled_thread, started}
+use Rattle.ms_task.specs.Control.{nobody, exited as exited_thread, started}
 use Rattle.ms_task.specs.declared.func.FuncInst.{FuncInst}
 use Rattle.ms_task.specs.Thread.{Activation, Thread, result_of, sequence}
 use Rattle.ms_types.specs.declared.types.ValType.{ValType}
@@ -23,7 +23,7 @@ use Rattle.ms_machine.specs.Holding.{EachGlobal, ThreadHolds}
 use Rattle.ms_machine.specs.Linking.{constant, constant_in, global_of, store_of}
 use Rattle.ms_machine.specs.Safety.{IsMonitored, IsWithin, Knows, Sound}
 use Rattle.ms_machine.specs.Store.{Store}
-use Rattle.ms_machine.proofs.HeldControl.{settle_holds}
+use Rattle.ms_machine.proofs.HeldControl.{exit_holds}
 use Rattle.ms_machine.proofs.HeldValues.{each_default, kept_dos}
 use Rattle.ms_machine.proofs.SafePaints.{Contains-none}
 
@@ -34,10 +34,10 @@ default_known state types.I32 = tt
 default_known state types.I64 = tt
 default_known state types.Handle = tt
 
-starts_known : (state : State) (funcs : List FuncInst) (address : ℕ) (g : FuncInst) → ThreadHolds (Knows state) (settled_thread (started funcs address g))
+starts_known : (state : State) (funcs : List FuncInst) (address : ℕ) (g : FuncInst) → ThreadHolds (Knows state) (exited_thread (started funcs address g))
 starts_known state funcs address g =
     let t = started funcs address g in
-    settle_holds (Knows state) t.frame t.operands t.work tt (each_default (Knows state) (default_known state) g.locals)
+    exit_holds (Knows state) t.frame t.operands t.work tt (each_default (Knows state) (default_known state) g.locals)
     (kept_dos (Knows state) (sequence funcs address 0) (Activation (result_of g) 0 (nobody funcs) ∷ []) (tt, tt))
 
 -- one more thread, whose handles are known
@@ -51,9 +51,9 @@ with_thread events s t others sound known = record {
 }
 
 -- The task of any function may start.
-pub sound_start : (events : List Event) (s : Store) (others : List Thread) (address : ℕ) (g : FuncInst) → Sound events s others → Sound events s (settled_thread (started s.funcs address g) ∷ others)
+pub sound_start : (events : List Event) (s : Store) (others : List Thread) (address : ℕ) (g : FuncInst) → Sound events s others → Sound events s (exited_thread (started s.funcs address g) ∷ others)
 sound_start events s others address g sound =
-    with_thread events s (settled_thread (started s.funcs address g)) others sound (starts_known (after_all nothing_yet events) s.funcs address g)
+    with_thread events s (exited_thread (started s.funcs address g)) others sound (starts_known (after_all nothing_yet events) s.funcs address g)
 
 -- ---- the store of a module: its globals are numbers or null, and nothing has happened yet
 

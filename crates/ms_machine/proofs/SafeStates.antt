@@ -8,7 +8,7 @@ use Rattle.ms_handle.specs.declared.handle.Handle.TheVariants as handles
 use Rattle.ms_linear.specs.declared.value.Value.{Value}
 use Rattle.ms_linear.specs.declared.value.Value.TheVariants as values
 use Rattle.ms_segment.specs.Memory.{Memory}
-use Rattle.ms_machine.specs.Running.{told}
+use Rattle.ms_machine.specs.Running.{with_event}
 use Rattle.ms_machine.specs.Safety.{IsMonitored, Knows, KnowsHandle}
 
 -- ---- what is known stays known
@@ -35,9 +35,9 @@ value_grows state state' grows (values.Handle h) known = handle_grows state stat
 
 -- the event, if there is one, may come next; and the memory afterwards is that of the state after it
 pub record Follows (state : State) (m : Memory) (event : Option Event) (m' : Memory) : Type 0 where
-  pub may : AcceptsFrom (length m.bytes) state (told event [])
-  pub monitored : IsMonitored (after_all state (told event [])) m'
-  pub grows : Grows state (after_all state (told event []))
+  pub may : AcceptsFrom (length m.bytes) state (with_event event [])
+  pub monitored : IsMonitored (after_all state (with_event event [])) m'
+  pub grows : Grows state (after_all state (with_event event []))
   pub capacity : length m'.bytes ≡ length m.bytes
 
 pub follows-none : (state : State) (m : Memory) → IsMonitored state m → Follows state m None m

@@ -14,13 +14,16 @@ use Rattle.ms_module.specs.declared.instr.Instr.{Instr}
 use Rattle.ms_module.specs.declared.instr.Instr.TheVariants.{Unreachable, Nop, Block, Loop, If, Br, BrIf, BrTable, Return, Call, CallIndirect, Drop, Select, LocalGet, LocalSet, LocalTee, GlobalGet, GlobalSet, I32Const, I64Const, Numeric, Linear, Segment}
 use Rattle.ms_operate.specs.Memories.{linear_on}
 use Rattle.ms_operate.specs.Numbers.{numeric_on}
+use Rattle.ms_operate.specs.Effects as effects
 use Rattle.ms_operate.specs.Outcomes as operate
 use Rattle.ms_segment.specs.Memory.{Memory}
-use Rattle.ms_task.specs.Control.{Lost, Moved, To, TooDeep, br_if_on, br_table_on, branch, call_on, if_on, return_on}
+use Rattle.ms_task.specs.Control as control
+use Rattle.ms_task.specs.Control.{Moved, To, TooDeep, br_if_on, br_table_on, branch, call_on, if_on, return_on}
 use Rattle.ms_task.specs.Thread.{Activation, Do, Frame, Item, Label, Thread, thread}
 use Rattle.ms_types.specs.declared.types.FuncType.{FuncType}
-use Rattle.ms_machine.specs.Segments.{Effect, Leaves, Misses, Stops, segment_on}
-use Rattle.ms_machine.specs.Step.{Next, Outcome, Stuck, Trap, act, begin, call, call_target, call_through, first, in_memory, in_segments, linear, moved, on_memory, on_top, pushed, select, set_global, set_global_at, set_local, settled, step_of, value_in, worked}
+use Rattle.ms_machine.specs.Segments as segments
+use Rattle.ms_machine.specs.Segments.{Effect, segment_on}
+use Rattle.ms_machine.specs.Step.{Next, Outcome, Stuck, Trap, act, begin, call, call_target, call_through, first, in_memory, in_segments, linear, moved, on_memory, on_top, pushed, select, set_global, set_global_at, set_local, exited, step_of, value_in, worked}
 use Rattle.ms_machine.specs.Store.{Store, at, func_address, global_address, instance_of, memory_address, table_address, type_at}
 
 -- a fact about the event and the memory
@@ -31,9 +34,9 @@ module _ (R : Option Event → Memory → Type 0) where
   ToldBy Stuck = Unit {0}
 
   abbrev pub ToldIn : Effect → Type 0
-  ToldIn (Leaves vs m event) = R event m
-  ToldIn (Stops trap) = Unit {0}
-  ToldIn Misses = Unit {0}
+  ToldIn (segments.Gives vs m event) = R event m
+  ToldIn (segments.Trap trap) = Unit {0}
+  ToldIn segments.Stuck = Unit {0}
 
   -- ---- nothing is told
 
@@ -65,16 +68,16 @@ module _ (R : Option Event → Memory → Type 0) where
 
     worked_tells : (o : operate.Outcome) → ToldBy (worked s t o)
     worked_tells (operate.Gives vs) = r
-    worked_tells (operate.Traps trap) = tt
-    worked_tells operate.Lacks = tt
+    worked_tells (operate.Trap trap) = tt
+    worked_tells operate.Stuck = tt
 
     linear_tells : (i : LinearInstr) (address : Option ℕ) → ToldBy (linear s t i address)
     linear_tells i None = tt
     linear_tells i (Some x) = on (slice_get s.memories x) where
-      leaves : (e : operate.Effect) → ToldBy (in_memory s t x e)
-      leaves (operate.Leaves vs m) = r
-      leaves (operate.Stops trap) = tt
-      leaves operate.Misses = tt
+      leaves : (e : effects.Effect) → ToldBy (in_memory s t x e)
+      leaves (effects.Gives vs m) = r
+      leaves (effects.Trap trap) = tt
+      leaves effects.Stuck = tt
 
       on : (o : Option LinearMemory) → ToldBy (on_memory s t i x o)
       on None = tt
@@ -83,7 +86,7 @@ module _ (R : Option Event → Memory → Type 0) where
     moved_tells : (m : Moved) → ToldBy (moved s m)
     moved_tells (To u) = r
     moved_tells TooDeep = tt
-    moved_tells Lost = tt
+    moved_tells control.Stuck = tt
 
     call_tells : (address : Option ℕ) → ToldBy (call s t address)
     call_tells None = tt
@@ -100,9 +103,9 @@ module _ (R : Option Event → Memory → Type 0) where
   -- ---- what instructions tell
 
   in_segments_tells : (s : Store) (t : Thread) (e : Effect) → ToldIn e → ToldBy (in_segments s t e)
-  in_segments_tells s t (Leaves vs m event) x = x
-  in_segments_tells s t (Stops trap) x = tt
-  in_segments_tells s t Misses x = tt
+  in_segments_tells s t (segments.Gives vs m event) x = x
+  in_segments_tells s t (segments.Trap trap) x = tt
+  in_segments_tells s t segments.Stuck x = tt
 
   act_tells : (s : Store) (i : Instr) (t : Thread) → R None s.segments → ((j : SegmentInstr) → ToldIn (segment_on j s.segments t.operands)) → ToldBy (act s i t)
   act_tells s Unreachable t r x = tt
@@ -135,11 +138,11 @@ module _ (R : Option Event → Memory → Type 0) where
   first_tells s fr vs (Label k h i ∷ w) r x = tt
   first_tells s fr vs (Activation k h caller ∷ w) r x = tt
 
-  settled_tells : (o : Outcome) → ToldBy o → ToldBy (settled o)
-  settled_tells (Next s t event) r = r
-  settled_tells (Trap trap) r = tt
-  settled_tells Stuck r = tt
+  exited_tells : (o : Outcome) → ToldBy o → ToldBy (exited o)
+  exited_tells (Next s t event) r = r
+  exited_tells (Trap trap) r = tt
+  exited_tells Stuck r = tt
 
   -- what holds of the memory as it is and of no event, and of what instructions on segments leave and tell, holds after a step
   pub step_tells : (s s' : Store) (t t' : Thread) (event : Option Event) → R None s.segments → ((j : SegmentInstr) → ToldIn (segment_on j s.segments t.operands)) → step_of s t ≡ Next s' t' event → R event s'.segments
-  step_tells s s' t t' event r x is = subst ToldBy is (settled_tells (begin s t) (first_tells s t.frame t.operands t.work r x))
+  step_tells s s' t t' event r x is = subst ToldBy is (exited_tells (begin s t) (first_tells s t.frame t.operands t.work r x))

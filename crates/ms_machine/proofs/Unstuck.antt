@@ -2,26 +2,27 @@
 use Rattle.std.proofs.Common.{◌≡◌, ◌≢◌, ℕ, zero, suc, List, [], ◌∷◌, slice_get, Option, Some, None, refl, sym, subst, ◌∙◌}
 use Rattle.std.specs.Prelude.{MatchOption}
 use Rattle.ms_task.specs.Thread.{Item, Thread}
-use Rattle.ms_machine.specs.Running.{End, IsAlone, Lost, OutOfBudget, Result, Run, Stopped, after_start, after_step, ends, func_thread, if_going, run_from, run_thread, start_of}
-use Rattle.ms_machine.specs.Step.{Next, Outcome, Stuck, Trap, begin, settled, step_of}
+use Rattle.ms_machine.specs.Running as running
+use Rattle.ms_machine.specs.Running.{End, IsAlone, OutOfBudget, Result, Run, after_start, after_step, ends, func_thread, if_going, run_from, run_thread, start_of}
+use Rattle.ms_machine.specs.Step.{Next, Outcome, Stuck, Trap, begin, exited, step_of}
 use Rattle.ms_machine.specs.Store.{Store}
 use Rattle.ms_machine.specs.Typing.{Outline, StoreTyped, TaskTyped, outline_of}
-use Rattle.ms_machine.proofs.Sound.{never_stuck, starts_well, stays_typed}
+use Rattle.ms_machine.proofs.TypedSteps.{never_stuck, starts_well, stays_typed}
 
 -- ---- a step
 
-settled_stuck : (o : Outcome) → settled o ≡ Stuck → o ≡ Stuck
-settled_stuck (Next s t event) is = absurd cc
-settled_stuck (Trap trap) is = absurd cc
-settled_stuck Stuck is = refl
+exited_stuck : (o : Outcome) → exited o ≡ Stuck → o ≡ Stuck
+exited_stuck (Next s t event) is = absurd cc
+exited_stuck (Trap trap) is = absurd cc
+exited_stuck Stuck is = refl
 
 pub step_unstuck : (s : Store) (t : Thread) → StoreTyped (outline_of s) → TaskTyped (outline_of s) t → t.work ≢ [] → step_of s t ≢ Stuck
-step_unstuck s t store task going is = never_stuck s t store task going (settled_stuck (begin s t) is)
+step_unstuck s t store task going is = never_stuck s t store task going (exited_stuck (begin s t) is)
 
 -- ---- a task: what typing sees of the store stays
 
 abbrev Goes : Store → Run → Type 0
-Goes s r = (r.end ≢ Lost) × (outline_of r.store ≡ outline_of s)
+Goes s r = (r.end ≢ running.Stuck) × (outline_of r.store ≡ outline_of s)
 
 result_goes : (s : Store) (left : ℕ) (t : Thread) → Goes s (ends (Result (slice_get t.operands 0)) s left)
 result_goes s left t = (λ is. absurd cc, refl)
@@ -51,9 +52,9 @@ func_goes budget s f store alone =
 
 after_goes : (s : Store) (go : ℕ → Store → Run) → ((left : ℕ) (s' : Store) → outline_of s' ≡ outline_of s → Goes s' (go left s')) → (end : End) (r : Run) → Goes s r → Goes s (after_start end r go)
 after_goes s go goes (Result v) r first = let next = goes r.left r.store first.1 in (next.0, next.1 ∙ first.1)
-after_goes s go goes (Stopped trap) r first = first
+after_goes s go goes (running.Trap trap) r first = first
 after_goes s go goes OutOfBudget r first = first
-after_goes s go goes Lost r first = first
+after_goes s go goes running.Stuck r first = first
 
 from_goes : (budget : ℕ) (s : Store) (first : Option ℕ) (main : ℕ) → StoreTyped (outline_of s) → MatchOption first (Unit {0}) (λ f. IsAlone (outline_of s) f) → IsAlone (outline_of s) main → Goes s (run_from budget s first main)
 from_goes budget s None main store first alone = func_goes budget s main store alone
@@ -62,5 +63,5 @@ from_goes budget s (Some start) main store first alone =
     after_goes s (λ left s'. run_thread left s' (func_thread s' main))
     (λ left s' same. func_goes left s' main (subst StoreTyped (sym same) store) (subst (λ (o : Outline). IsAlone o main) (sym same) alone)) r.end r (func_goes budget s start store first)
 
-pub never_lost : (budget : ℕ) (s : Store) (first : Option ℕ) (main : ℕ) → StoreTyped (outline_of s) → MatchOption first (Unit {0}) (λ f. IsAlone (outline_of s) f) → IsAlone (outline_of s) main → (run_from budget s first main).end ≢ Lost
-never_lost budget s first main store start alone = (from_goes budget s first main store start alone).0
+pub run_never_stuck : (budget : ℕ) (s : Store) (first : Option ℕ) (main : ℕ) → StoreTyped (outline_of s) → MatchOption first (Unit {0}) (λ f. IsAlone (outline_of s) f) → IsAlone (outline_of s) main → (run_from budget s first main).end ≢ running.Stuck
+run_never_stuck budget s first main store start alone = (from_goes budget s first main store start alone).0

@@ -9,7 +9,8 @@ use Rattle.ms_operate.specs.declared.trap.Fault.TheVariants as operate
 use Rattle.ms_task.specs.declared.task.Task.{Task}
 use Rattle.ms_task.specs.Thread.{Thread}
 use Rattle.ms_task.specs.View.{at_next, thread_of}
-use Rattle.ms_machine.specs.Segments.{Effect, Leaves, Stops}
+use Rattle.ms_machine.specs.Segments as segments
+use Rattle.ms_machine.specs.Segments.{Effect}
 use Rattle.ms_machine.specs.Step.{Next, Outcome, Stuck, Trap, act, trap_of}
 use Rattle.ms_machine.specs.Store.{Store}
 use Rattle.ms_machine.specs.declared.fault.Fault.{Fault}
@@ -22,23 +23,23 @@ fault_of operate.Memory = faults.Memory
 -- The operands, the memory and the event are those; or it stopped, and all is as before. Where memory ran out nothing is
 -- said: such a task isn't run again.
 abbrev pub DoesInSegments : Effect → List Value → List Value → Memory → Memory → Result (Option Event) Fault → Type 0
-DoesInSegments effect old new old-memory new-memory (Ok event) = effect ≡ Leaves new new-memory event
-DoesInSegments effect old new old-memory new-memory (Err (faults.Trap kind)) = (effect ≡ Stops kind) × (new ≡ old) × (new-memory ≡ old-memory)
+DoesInSegments effect old new old-memory new-memory (Ok event) = effect ≡ segments.Gives new new-memory event
+DoesInSegments effect old new old-memory new-memory (Err (faults.Trap kind)) = (effect ≡ segments.Trap kind) × (new ≡ old) × (new-memory ≡ old-memory)
 DoesInSegments effect old new old-memory new-memory (Err faults.Memory) = Unit {0}
 
 -- The same of a store and a thread.
-abbrev pub Performs : Outcome → Store → Thread → Store → Thread → Result (Option Event) Fault → Type 0
-Performs outcome old old-thread new new-thread (Ok event) = outcome ≡ Next new new-thread event
-Performs outcome old old-thread new new-thread (Err (faults.Trap kind)) = (outcome ≡ Trap kind) × (new ≡ old) × (new-thread ≡ old-thread)
-Performs outcome old old-thread new new-thread (Err faults.Memory) = Unit {0}
+abbrev pub DoesOutcome : Outcome → Store → Thread → Store → Thread → Result (Option Event) Fault → Type 0
+DoesOutcome outcome old old-thread new new-thread (Ok event) = outcome ≡ Next new new-thread event
+DoesOutcome outcome old old-thread new new-thread (Err (faults.Trap kind)) = (outcome ≡ Trap kind) × (new ≡ old) × (new-thread ≡ old-thread)
+DoesOutcome outcome old old-thread new new-thread (Err faults.Memory) = Unit {0}
 
 -- The instruction, behind which a task goes on at a place, finds what it takes.
 abbrev pub Can : Instr → ℕ → Store → Task → Type 0
 Can i next s task = act s i (at_next s.funcs task next) ≢ Stuck
 
 -- The code of the instruction did what the definition says.
-abbrev pub Acts : Instr → ℕ → Store → Task → Store → Task → Result (Option Event) Fault → Type 0
-Acts i next s task s' task' result = Performs (act s i (at_next s.funcs task next)) s (thread_of s.funcs task) s' (thread_of s'.funcs task') result
+abbrev pub DoesInstr : Instr → ℕ → Store → Task → Store → Task → Result (Option Event) Fault → Type 0
+DoesInstr i next s task s' task' result = DoesOutcome (act s i (at_next s.funcs task next)) s (thread_of s.funcs task) s' (thread_of s'.funcs task') result
 
 -- ---- the same with a word on what follows
 
@@ -46,7 +47,7 @@ abbrev pub with_more : Result (Option Event) Fault → Bool → Result (Option E
 with_more (Ok event) more = Ok (event, more)
 with_more (Err fault) more = Err fault
 
-abbrev pub PerformsFirst : Outcome → Store → Thread → Store → Thread → Result (Option Event × Bool) Fault → Type 0
-PerformsFirst outcome old old-thread new new-thread (Ok x) = outcome ≡ Next new new-thread x.0
-PerformsFirst outcome old old-thread new new-thread (Err (faults.Trap kind)) = (outcome ≡ Trap kind) × (new ≡ old) × (new-thread ≡ old-thread)
-PerformsFirst outcome old old-thread new new-thread (Err faults.Memory) = Unit {0}
+abbrev pub DoesFirst : Outcome → Store → Thread → Store → Thread → Result (Option Event × Bool) Fault → Type 0
+DoesFirst outcome old old-thread new new-thread (Ok x) = outcome ≡ Next new new-thread x.0
+DoesFirst outcome old old-thread new new-thread (Err (faults.Trap kind)) = (outcome ≡ Trap kind) × (new ≡ old) × (new-thread ≡ old-thread)
+DoesFirst outcome old old-thread new new-thread (Err faults.Memory) = Unit {0}

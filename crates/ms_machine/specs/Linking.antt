@@ -7,7 +7,7 @@ use Rattle.ms_linear.specs.declared.table.Entry.{Entry}
 use Rattle.ms_linear.specs.declared.value.Value.{Value}
 use Rattle.ms_linear.specs.declared.value.Value.TheVariants as values
 use Rattle.ms_linear.specs.Memory.{Memory as Linear, most_pages, page}
-use Rattle.ms_linear.specs.Table.{Table}
+use Rattle.ms_linear.specs.Table.{Table, most_entries}
 use Rattle.ms_module.specs.declared.access.Segment.TheVariants.{Null}
 use Rattle.ms_module.specs.declared.instr.Instr.{Instr}
 use Rattle.ms_module.specs.declared.instr.Instr.TheVariants.{GlobalGet, I32Const, I64Const, Segment}
@@ -146,9 +146,6 @@ store_of m capacity =
 
 -- ---- the first fault: a table or a memory that is too large, then elements and data that reach past the end
 
-abbrev pub most_entries : ℕ
-most_entries = 65536
-
 abbrev pub min_at : List Limits → ℕ → ℕ
 min_at [] a = 0
 min_at (l ∷ ls) zero = l.min
@@ -195,7 +192,7 @@ abbrev pub linked : Module → (capacity : ℕ) → Result Store Misfit
 linked m capacity = linked_or (misfit m) (store_of m capacity)
 
 -- The answer of the code: the store or the fault is that one. Where memory ran out nothing is said.
-abbrev pub Links : Module → ℕ → Result Store LinkFault → Type 0
-Links m capacity (Ok s) = linked m capacity ≡ Ok s
-Links m capacity (Err (faults.Misfit fault)) = linked m capacity ≡ Err fault
-Links m capacity (Err faults.Memory) = Unit {0}
+abbrev pub DoesLinking : Module → ℕ → Result Store LinkFault → Type 0
+DoesLinking m capacity (Ok s) = linked m capacity ≡ Ok s
+DoesLinking m capacity (Err (faults.Misfit fault)) = linked m capacity ≡ Err fault
+DoesLinking m capacity (Err faults.Memory) = Unit {0}

@@ -2,10 +2,11 @@
 use Rattle.std.specs.Prelude.{◌≡◌, ℕ, zero, suc, ◌+◌, List, [], ◌∷◌, ◌++◌, slice_get, Option, Some, None}
 use Rattle.ms_event.specs.declared.event.Event.{Event}
 use Rattle.ms_linear.specs.declared.value.Value.{Value}
-use Rattle.ms_task.specs.Control.{settled as settled_thread, started}
+use Rattle.ms_task.specs.Control.{exited as exited_thread, started}
 use Rattle.ms_task.specs.declared.func.FuncInst.{FuncInst}
 use Rattle.ms_task.specs.Thread.{Item, Thread, thread}
-use Rattle.ms_machine.specs.Step.{Next, Outcome, Stuck, Trap, step_of}
+use Rattle.ms_machine.specs.Step as step
+use Rattle.ms_machine.specs.Step.{Next, Outcome, step_of}
 use Rattle.ms_machine.specs.Store.{Store}
 use Rattle.ms_machine.specs.Typing.{Outline}
 use Rattle.ms_machine.specs.declared.running.Ran.{Ran}
@@ -15,10 +16,11 @@ use Rattle.ms_machine.specs.declared.trap.TrapKind.{TrapKind}
 pub data End : Type 0 where
   -- nothing is left to do; the value that is left, if any
   Result : Option Value → End
-  Stopped : TrapKind → End
+  -- an instruction stopped the program
+  Trap : TrapKind → End
   OutOfBudget : End
-  -- no well-typed task comes to this
-  Lost : End
+  -- an instruction found no operand, label or function; no well-typed task comes to this
+  Stuck : End
 
 -- how it ends, what has happened, and the store and the budget that are left
 pub record Run : Type 0 where
@@ -30,12 +32,13 @@ pub record Run : Type 0 where
 abbrev pub ends : End → Store → ℕ → Run
 ends end s left = record { end = end; events = []; store = s; left = left }
 
-abbrev pub told : Option Event → List Event → List Event
-told None events = events
-told (Some e) events = e ∷ events
+-- the event, if there is one, in front of later ones
+abbrev pub with_event : Option Event → List Event → List Event
+with_event None events = events
+with_event (Some e) events = e ∷ events
 
 abbrev pub after_event : Option Event → Run → Run
-after_event e r = record { end = r.end; events = told e r.events; store = r.store; left = r.left }
+after_event e r = record { end = r.end; events = with_event e r.events; store = r.store; left = r.left }
 
 -- where nothing is left to do the run has ended, and a step that traps uses up its part of the budget
 abbrev pub if_going : List Item → Run → Run → Run
@@ -44,8 +47,8 @@ if_going (i ∷ w) ended going = going
 
 abbrev pub after_step : Outcome → Store → ℕ → (Store → Thread → Run) → Run
 after_step (Next s' t' event) s left go = after_event event (go s' t')
-after_step (Trap kind) s left go = ends (Stopped kind) s left
-after_step Stuck s left go = ends Lost s left
+after_step (step.Trap kind) s left go = ends (Trap kind) s left
+after_step step.Stuck s left go = ends Stuck s left
 
 abbrev pub run_thread : (budget : ℕ) → Store → Thread → Run
 run_thread zero s t = if_going t.work (ends (Result (slice_get t.operands 0)) s 0) (ends OutOfBudget s 0)
@@ -56,7 +59,7 @@ run_thread (suc n) s t =
 
 abbrev pub start_of : Store → ℕ → Option FuncInst → Thread
 start_of s f None = thread (record { function = f; locals = [] }) [] []
-start_of s f (Some g) = settled_thread (started s.funcs f g)
+start_of s f (Some g) = exited_thread (started s.funcs f g)
 
 abbrev pub func_thread : Store → ℕ → Thread
 func_thread s f = start_of s f (slice_get s.funcs f)
@@ -77,18 +80,18 @@ run_from budget s (Some start) main =
 
 -- ---- what the code answers, against that
 
-abbrev pub Tells : Ran → End → Type 0
-Tells (answers.Result value) end = end ≡ Result value
-Tells (answers.Trap kind) end = end ≡ Stopped kind
-Tells answers.Budget end = end ≡ OutOfBudget
-Tells answers.ReadFault end = ⊥
-Tells answers.WriteFault end = ⊥
-Tells answers.Memory end = Unit {0}
+abbrev pub DoesEnd : Ran → End → Type 0
+DoesEnd (answers.Result value) end = end ≡ Result value
+DoesEnd (answers.Trap kind) end = end ≡ Trap kind
+DoesEnd answers.Budget end = end ≡ OutOfBudget
+DoesEnd answers.ReadFault end = ⊥
+DoesEnd answers.WriteFault end = ⊥
+DoesEnd answers.Memory end = Unit {0}
 
 -- The code's part of a run: its answer, what is left of the budget, and the store. Where memory ran out nothing is said.
-abbrev pub Leaves : Ran → ℕ → Store → Run → Type 0
-Leaves answers.Memory left s r = Unit {0}
-Leaves ran left s r = Tells ran r.end × (r.store ≡ s) × (r.left ≡ left)
+abbrev pub DoesRun : Ran → ℕ → Store → Run → Type 0
+DoesRun answers.Memory left s r = Unit {0}
+DoesRun ran left s r = DoesEnd ran r.end × (r.store ≡ s) × (r.left ≡ left)
 
 -- they end alike
 abbrev pub EndAlike : Run → Run → Type 0
@@ -99,9 +102,9 @@ abbrev pub IsAlone : Outline → ℕ → Type 0
 IsAlone o address = (g : FuncInst) × (slice_get o.funcs address ≡ Some g) × (g.ty.params ≡ [])
 
 -- The answer of a run, and the store that it leaves.
-abbrev pub RunsTo : Ran → Store → Run → Type 0
-RunsTo answers.Memory s r = Unit {0}
-RunsTo ran s r = Tells ran r.end × (r.store ≡ s)
+abbrev pub DoesWholeRun : Ran → Store → Run → Type 0
+DoesWholeRun answers.Memory s r = Unit {0}
+DoesWholeRun ran s r = DoesEnd ran r.end × (r.store ≡ s)
 
 -- ---- for laws
 

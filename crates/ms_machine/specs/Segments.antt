@@ -25,11 +25,11 @@ use Rattle.ms_machine.specs.declared.trap.TrapKind.TheVariants as traps
 
 pub data Effect : Type 0 where
   -- these operands and this memory are there afterwards, and this has happened
-  Leaves : List Value → Memory → Option Event → Effect
+  Gives : List Value → Memory → Option Event → Effect
   -- it stops the program
-  Stops : TrapKind → Effect
+  Trap : TrapKind → Effect
   -- the operands that it takes aren't there
-  Misses : Effect
+  Stuck : Effect
 
 abbrev pub trap_of : SegTrap → TrapKind
 trap_of seg.Null = traps.Null
@@ -42,11 +42,11 @@ trap_of seg.Whole = traps.Whole
 trap_of seg.Kind = traps.Kind
 
 abbrev pub made : List Value → Made → Effect
-made rest m = Leaves (values.Handle m.handle ∷ rest) m.memory (Some m.event)
+made rest m = Gives (values.Handle m.handle ∷ rest) m.memory (Some m.event)
 
 abbrev pub changed : List Value → Result Change SegTrap → Effect
-changed rest (Ok c) = Leaves rest c.memory (Some c.event)
-changed rest (Err e) = Stops (trap_of e)
+changed rest (Ok c) = Gives rest c.memory (Some c.event)
+changed rest (Err e) = Trap (trap_of e)
 
 -- a slice of a good handle is told
 abbrev pub slice_event : Handle → Handle → Option Event
@@ -54,39 +54,39 @@ slice_event (handles.Good id base size offset) (handles.Good id' base' size' off
 slice_event h g = None
 
 abbrev pub sliced : Memory → List Value → Handle → Handle → Effect
-sliced m rest h g = Leaves (values.Handle g ∷ rest) m (slice_event h g)
+sliced m rest h g = Gives (values.Handle g ∷ rest) m (slice_event h g)
 
 abbrev pub is_null : Handle → Bool
 is_null handles.Null = true
 is_null _ = false
 
 abbrev pub measured : Memory → List Value → Result ℤ Apart → Effect
-measured m rest (Ok n) = Leaves (values.I64 (wrapped 64 n) ∷ rest) m None
-measured m rest (Err e) = Stops traps.Apart
+measured m rest (Ok n) = Gives (values.I64 (wrapped 64 n) ∷ rest) m None
+measured m rest (Err e) = Trap traps.Apart
 
 abbrev pub handle_read : Memory → List Value → Result (Handle × Event) SegTrap → Effect
-handle_read m rest (Ok x) = Leaves (values.Handle x.0 ∷ rest) m (Some x.1)
-handle_read m rest (Err e) = Stops (trap_of e)
+handle_read m rest (Ok x) = Gives (values.Handle x.0 ∷ rest) m (Some x.1)
+handle_read m rest (Err e) = Trap (trap_of e)
 
 abbrev pub number_read : LoadOp → Memory → List Value → Result (ℕ × Event) SegTrap → Effect
-number_read op m rest (Ok x) = Leaves (value_of op x.0 ∷ rest) m (Some x.1)
-number_read op m rest (Err e) = Stops (trap_of e)
+number_read op m rest (Ok x) = Gives (value_of op x.0 ∷ rest) m (Some x.1)
+number_read op m rest (Err e) = Trap (trap_of e)
 
 abbrev pub number_stored : Memory → List Value → Handle → ℕ → Option ℕ → Effect
 number_stored m rest h width (Some n) = changed rest (call.store m h width n)
-number_stored m rest h width None = Misses
+number_stored m rest h width None = Stuck
 
 abbrev pub segment_on : Segment → Memory → List Value → Effect
-segment_on Null m vs = Leaves (values.Handle handles.Null ∷ vs) m None
+segment_on Null m vs = Gives (values.Handle handles.Null ∷ vs) m None
 segment_on (New kind) m (values.I32 n ∷ rest) = made rest (call.make m n kind)
 segment_on (Free kind) m (values.Handle h ∷ rest) = changed rest (call.free m h kind)
-segment_on (Add scale) m (values.I64 delta ∷ values.Handle h ∷ rest) = Leaves (values.Handle (add h (signed 64 delta) scale) ∷ rest) m None
+segment_on (Add scale) m (values.I64 delta ∷ values.Handle h ∷ rest) = Gives (values.Handle (add h (signed 64 delta) scale) ∷ rest) m None
 segment_on Slice m (values.I32 len ∷ values.I32 from ∷ values.Handle h ∷ rest) = sliced m rest h (slice h from len)
-segment_on Eq m (values.Handle b ∷ values.Handle a ∷ rest) = Leaves (values.I32 (truth (eq a b)) ∷ rest) m None
-segment_on IsNull m (values.Handle h ∷ rest) = Leaves (values.I32 (truth (is_null h)) ∷ rest) m None
+segment_on Eq m (values.Handle b ∷ values.Handle a ∷ rest) = Gives (values.I32 (truth (eq a b)) ∷ rest) m None
+segment_on IsNull m (values.Handle h ∷ rest) = Gives (values.I32 (truth (is_null h)) ∷ rest) m None
 segment_on Diff m (values.Handle b ∷ values.Handle a ∷ rest) = measured m rest (difference a b)
 segment_on LoadHandle m (values.Handle h ∷ rest) = handle_read m rest (call.load_handle m h)
 segment_on StoreHandle m (values.Handle v ∷ values.Handle h ∷ rest) = changed rest (call.store_handle m h v)
 segment_on (Load op) m (values.Handle h ∷ rest) = number_read op m rest (loaded m h (load_bytes op))
 segment_on (Store op) m (v ∷ values.Handle h ∷ rest) = number_stored m rest h (store_bytes op) (number_of (width_of op) v)
-segment_on i m vs = Misses
+segment_on i m vs = Stuck

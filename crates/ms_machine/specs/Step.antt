@@ -15,10 +15,12 @@ use Rattle.ms_module.specs.declared.instr.Instr.{Instr}
 use Rattle.ms_module.specs.declared.instr.Instr.TheVariants.{Unreachable, Nop, Block, Loop, If, Br, BrIf, BrTable, Return, Call, CallIndirect, Drop, Select, LocalGet, LocalSet, LocalTee, GlobalGet, GlobalSet, I32Const, I64Const, Numeric, Linear, Segment}
 use Rattle.ms_operate.specs.Memories.{linear_on}
 use Rattle.ms_operate.specs.Numbers.{numeric_on}
+use Rattle.ms_operate.specs.Effects as effects
 use Rattle.ms_operate.specs.Outcomes as operate
 use Rattle.ms_operate.specs.declared.trap.Trap.{Trap as OperateTrap}
 use Rattle.ms_operate.specs.declared.trap.Trap.TheVariants as operate-traps
-use Rattle.ms_task.specs.Control.{Moved, To, TooDeep, Lost, block_on, br_if_on, br_table_on, branch, call_on, if_on, loop_on, return_on, settled as settled_thread}
+use Rattle.ms_task.specs.Control as control
+use Rattle.ms_task.specs.Control.{Moved, To, TooDeep, block_on, br_if_on, br_table_on, branch, call_on, if_on, loop_on, return_on, exited as exited_thread}
 use Rattle.ms_task.specs.Thread.{Frame, Item, Do, Thread, thread}
 use Rattle.ms_types.specs.declared.types.FuncType.{FuncType}
 use Rattle.ms_machine.specs.Segments as segments
@@ -52,7 +54,7 @@ on_top (v ∷ vs) go = go v vs
 abbrev pub moved : Store → Moved → Outcome
 moved s (To t) = Next s t None
 moved s TooDeep = Trap traps.Depth
-moved s Lost = Stuck
+moved s control.Stuck = Stuck
 
 -- ---- parametric instructions (4.4.2)
 
@@ -91,13 +93,13 @@ trap_of operate-traps.Linear = traps.Linear
 
 abbrev pub worked : Store → Thread → operate.Outcome → Outcome
 worked s t (operate.Gives vs) = goes s t vs
-worked s t (operate.Traps trap) = Trap (trap_of trap)
-worked s t operate.Lacks = Stuck
+worked s t (operate.Trap trap) = Trap (trap_of trap)
+worked s t operate.Stuck = Stuck
 
-abbrev pub in_memory : Store → Thread → ℕ → operate.Effect → Outcome
-in_memory s t a (operate.Leaves vs m) = Next (with_memories s (slice_set s.memories a m)) (thread t.frame vs t.work) None
-in_memory s t a (operate.Stops trap) = Trap (trap_of trap)
-in_memory s t a operate.Misses = Stuck
+abbrev pub in_memory : Store → Thread → ℕ → effects.Effect → Outcome
+in_memory s t a (effects.Gives vs m) = Next (with_memories s (slice_set s.memories a m)) (thread t.frame vs t.work) None
+in_memory s t a (effects.Trap trap) = Trap (trap_of trap)
+in_memory s t a effects.Stuck = Stuck
 
 abbrev pub on_memory : Store → Thread → LinearInstr → ℕ → Option LinearMemory → Outcome
 on_memory s t i a None = Stuck
@@ -110,9 +112,9 @@ linear s t i (Some a) = on_memory s t i a (slice_get s.memories a)
 -- ---- handles and segments
 
 abbrev pub in_segments : Store → Thread → segments.Effect → Outcome
-in_segments s t (segments.Leaves vs m event) = Next (with_segments s m) (thread t.frame vs t.work) event
-in_segments s t (segments.Stops kind) = Trap kind
-in_segments s t segments.Misses = Stuck
+in_segments s t (segments.Gives vs m event) = Next (with_segments s m) (thread t.frame vs t.work) event
+in_segments s t (segments.Trap kind) = Trap kind
+in_segments s t segments.Stuck = Stuck
 
 -- ---- calls (4.4.5 and 4.4.7)
 
@@ -170,10 +172,10 @@ first s fr vs _ = Stuck
 abbrev pub begin : Store → Thread → Outcome
 begin s t = first s t.frame t.operands t.work
 
-abbrev pub settled : Outcome → Outcome
-settled (Next s t event) = Next s (settled_thread t) event
-settled (Trap kind) = Trap kind
-settled Stuck = Stuck
+abbrev pub exited : Outcome → Outcome
+exited (Next s t event) = Next s (exited_thread t) event
+exited (Trap kind) = Trap kind
+exited Stuck = Stuck
 
 abbrev pub step_of : Store → Thread → Outcome
-step_of s t = settled (begin s t)
+step_of s t = exited (begin s t)

@@ -9,13 +9,13 @@ use Rattle.ms_machine.specs.declared.stepped.Stepped.TheVariants as answers
 
 -- The answer tells the outcome, from a store and a thread to a store and a thread. A trap changes nothing. No
 -- instruction reads the input or writes the output yet.
-abbrev pub Carries : Stepped → Outcome → Store → Thread → Store → Thread → Type 0
-Carries (answers.On event) o s t s' t' = (o ≡ Next s' t' event) × (t'.work ≢ [])
-Carries (answers.Ended value event) o s t s' t' = (o ≡ Next s' t' event) × (t'.work ≡ []) × (value ≡ slice_get t'.operands 0)
-Carries (answers.Trap kind) o s t s' t' = (o ≡ Trap kind) × (s' ≡ s) × (t' ≡ t)
-Carries answers.ReadFault o s t s' t' = ⊥
-Carries answers.WriteFault o s t s' t' = ⊥
-Carries answers.Memory o s t s' t' = Unit {0}
+abbrev pub DoesStep : Stepped → Outcome → Store → Thread → Store → Thread → Type 0
+DoesStep (answers.On event) o s t s' t' = (o ≡ Next s' t' event) × (t'.work ≢ [])
+DoesStep (answers.Ended value event) o s t s' t' = (o ≡ Next s' t' event) × (t'.work ≡ []) × (value ≡ slice_get t'.operands 0)
+DoesStep (answers.Trap kind) o s t s' t' = (o ≡ Trap kind) × (s' ≡ s) × (t' ≡ t)
+DoesStep answers.ReadFault o s t s' t' = ⊥
+DoesStep answers.WriteFault o s t s' t' = ⊥
+DoesStep answers.Memory o s t s' t' = Unit {0}
 
 -- what an answer tells of the segment memory
 abbrev pub event_of : Stepped → Option Event

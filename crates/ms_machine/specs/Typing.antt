@@ -138,12 +138,12 @@ pub record ThreadTyped (o : Outline) (t : Thread) : Type 0 where
   pub work : WorkTyped o t.frame.function t.work ts below
 
 -- no end is in front
-abbrev pub IsSettled : List Item → Type 0
-IsSettled [] = Unit {0}
-IsSettled (Do i ∷ w) = Unit {0}
-IsSettled _ = ⊥
+abbrev pub IsExited : List Item → Type 0
+IsExited [] = Unit {0}
+IsExited (Do i ∷ w) = Unit {0}
+IsExited _ = ⊥
 
 -- a task is well typed where its thread is, and blocks and calls at their ends are left
 pub record TaskTyped (o : Outline) (t : Thread) : Type 0 where
   pub thread : ThreadTyped o t
-  pub settled : IsSettled t.work
+  pub exited : IsExited t.work

@@ -1,7 +1,7 @@
 //! Control instructions on the store (WebAssembly 1.0, 4.4.5).
 
 ghost use Rattle.std.specs.Prelude.{◌≡◌, Some};
-ghost use Rattle.ms_machine.specs.Doing.{Acts, Can};
+ghost use Rattle.ms_machine.specs.Doing.{DoesInstr, Can};
 ghost use Rattle.ms_machine.specs.Step.{table_trap};
 ghost use Rattle.ms_module.specs.declared.instr.Instr.TheVariants as instr;
 ghost use Rattle.ms_task.specs.View.{before};
@@ -24,7 +24,7 @@ pub(crate) fn block<G: Gaps, T: Tagged>(
     body: u32,
     next: usize,
 ) -> Result<Option<Event>, Fault>
-    ensures { Acts (instr.Block ty body) next store.now task.old store.now task.new result }
+    ensures { DoesInstr (instr.Block ty body) next store.now task.old store.now task.new result }
 {
     let _ = store;
     match task.block(body, ty, next, false) {
@@ -42,7 +42,7 @@ pub(crate) fn begin_loop<G: Gaps, T: Tagged>(
     next: usize,
 ) -> Result<Option<Event>, Fault>
     requires { before store.now.funcs task.old next ≡ Some (instr.Loop ty body) }
-    ensures { Acts (instr.Loop ty body) next store.now task.old store.now task.new result }
+    ensures { DoesInstr (instr.Loop ty body) next store.now task.old store.now task.new result }
 {
     let _ = store;
     match task.block(body, None, next, true) {
@@ -61,7 +61,7 @@ pub(crate) fn if_else<G: Gaps, T: Tagged>(
     next: usize,
 ) -> Result<Option<Event>, Fault>
     requires { Can (instr.If ty then_ other) next store.now task.old }
-    ensures { Acts (instr.If ty then_ other) next store.now task.old store.now task.new result }
+    ensures { DoesInstr (instr.If ty then_ other) next store.now task.old store.now task.new result }
 {
     match task.if_else(&store.funcs, then_, other, ty, next) {
         Ok(()) => Ok(None),
@@ -78,7 +78,7 @@ pub(crate) fn br<G: Gaps, T: Tagged>(
     next: usize,
 ) -> Result<Option<Event>, Fault>
     requires { Can (instr.Br label) next store.now task.old }
-    ensures { Acts (instr.Br label) next store.now task.old store.now task.new result }
+    ensures { DoesInstr (instr.Br label) next store.now task.old store.now task.new result }
 {
     let _ = next;
     task.branch(&store.funcs, label as usize);
@@ -93,7 +93,7 @@ pub(crate) fn br_if<G: Gaps, T: Tagged>(
     next: usize,
 ) -> Result<Option<Event>, Fault>
     requires { Can (instr.BrIf label) next store.now task.old }
-    ensures { Acts (instr.BrIf label) next store.now task.old store.now task.new result }
+    ensures { DoesInstr (instr.BrIf label) next store.now task.old store.now task.new result }
 {
     task.branch_if(&store.funcs, label, next);
     Ok(None)
@@ -107,7 +107,7 @@ pub(crate) fn return_<G: Gaps, T: Tagged>(
     next: usize,
 ) -> Result<Option<Event>, Fault>
     requires { Can instr.Return next store.now task.old }
-    ensures { Acts instr.Return next store.now task.old store.now task.new result }
+    ensures { DoesInstr instr.Return next store.now task.old store.now task.new result }
 {
     let _ = next;
     task.return_from(&store.funcs);
@@ -122,7 +122,7 @@ pub(crate) fn call<G: Gaps, T: Tagged>(
     next: usize,
 ) -> Result<Option<Event>, Fault>
     requires { Can (instr.Call x) next store.now task.old }
-    ensures { Acts (instr.Call x) next store.now task.old store.now task.new result }
+    ensures { DoesInstr (instr.Call x) next store.now task.old store.now task.new result }
 {
     let address = store.instance(task.function()).funcs.as_slice()[x as usize];
     match task.call(&store.funcs, address, next) {
@@ -140,7 +140,7 @@ pub(crate) fn call_indirect<G: Gaps, T: Tagged>(
     next: usize,
 ) -> Result<Option<Event>, Fault>
     requires { Can (instr.CallIndirect x) next store.now task.old }
-    ensures { Acts (instr.CallIndirect x) next store.now task.old store.now task.new result }
+    ensures { DoesInstr (instr.CallIndirect x) next store.now task.old store.now task.new result }
 {
     let instance = store.instance(task.function());
     let Some(address) = instance.table else {

@@ -2,7 +2,7 @@
 
 ghost use Rattle.std.specs.Prelude.{◌≡◌, ◌+◌, ◌<◌, ◌^◌, [], None, IfOk, length};
 ghost use Rattle.ms_machine.specs.Linking as link;
-ghost use Rattle.ms_machine.specs.Linking.{Links, store_of};
+ghost use Rattle.ms_machine.specs.Linking.{DoesLinking, store_of};
 ghost use Rattle.ms_machine.specs.Holding.{StoreFits};
 ghost use Rattle.ms_machine.specs.Safety.{Sound};
 ghost use Rattle.ms_machine.specs.Typing.{StoreTyped, outline_of};
@@ -61,7 +61,7 @@ fn store_or_misfit<G: Gaps, T: Tagged>(
 ) -> Result<Store<G, T>, LinkFault>
     requires typed { WellTyped «module» }
     requires alone { «module».imports ≡ [] }
-    ensures { Links «module» capacity result }
+    ensures { DoesLinking «module» capacity result }
 {
     if !is_countable(&module) {
         return Err(LinkFault::Memory);
@@ -127,7 +127,7 @@ pub fn instantiate<G: Gaps, T: Tagged>(
 ) -> Result<Store<G, T>, LinkFault>
     requires typed { WellTyped «module» }
     requires alone { «module».imports ≡ [] }
-    ensures link { Links «module» capacity result }
+    ensures link { DoesLinking «module» capacity result }
     ensures typed { IfOk result (λ s. StoreTyped (outline_of s)) }
     ensures fits { IfOk result StoreFits }
     ensures sound { IfOk result (λ s. Sound [] s []) }

@@ -2,12 +2,12 @@
 
 ghost use Rattle.std.specs.Prelude.{◌≡◌, ◌≢◌, ◌+◌, ◌<◌, ◌≤◌, ◌^◌, ◌++◌, List, [], ◌∷◌, IfOk, IsTrue};
 ghost use Rattle.ms_handle.specs.declared.handle.Handle.{Handle};
-ghost use Rattle.ms_machine.specs.Doing.{PerformsFirst, with_more};
+ghost use Rattle.ms_machine.specs.Doing.{DoesFirst, with_more};
 ghost use Rattle.ms_machine.specs.Holding.{Each, Fits, StoreFits, ThreadFits};
 ghost use Rattle.ms_machine.specs.Step.{Stuck, begin, step_of};
-ghost use Rattle.ms_machine.specs.Running.{told};
+ghost use Rattle.ms_machine.specs.Running.{with_event};
 ghost use Rattle.ms_machine.specs.Safety.{Sound};
-ghost use Rattle.ms_machine.specs.Stepped.{Carries, event_of};
+ghost use Rattle.ms_machine.specs.Stepped.{DoesStep, event_of};
 ghost use Rattle.ms_machine.specs.Typing.{StoreTyped, TaskTyped, outline_of};
 ghost use Rattle.ms_segment.specs.Memory.{IsFit};
 ghost use Rattle.ms_event.specs.declared.event.Event.{Event};
@@ -27,7 +27,10 @@ use ms_tagged::Tagged;
 use ms_task::Task;
 
 /// The same with a word on what follows.
-fn told(outcome: Result<Option<Event>, Fault>, more: bool) -> Result<(Option<Event>, bool), Fault>
+fn and_more(
+    outcome: Result<Option<Event>, Fault>,
+    more: bool,
+) -> Result<(Option<Event>, bool), Fault>
     ensures { result ≡ with_more outcome more }
 {
     match outcome {
@@ -45,7 +48,7 @@ fn perform<G: Gaps, T: Tagged>(
     requires can { begin store.old (thread_of store.old.funcs task.old) ≢ Stuck }
     requires few { store.old.segments.made < 2 ^ 63 }
     requires fit { Each (Fits store.old.segments) task.old.operands }
-    ensures done { PerformsFirst (begin store.old (thread_of store.old.funcs task.old)) store.old (thread_of store.old.funcs task.old) store.new (thread_of store.new.funcs task.new) result }
+    ensures done { DoesFirst (begin store.old (thread_of store.old.funcs task.old)) store.old (thread_of store.old.funcs task.old) store.new (thread_of store.new.funcs task.new) result }
     ensures more { IfOk result (λ x. IsTrue x.1 → Begins (thread_of store.new.funcs task.new).work) }
 {
     let fetched = task.fetch(&store.funcs);
@@ -53,33 +56,36 @@ fn perform<G: Gaps, T: Tagged>(
     let more = fetched.more;
     match *fetched.instr {
         Instr::Unreachable => Err(Fault::Trap(TrapKind::Unreachable)),
-        Instr::Nop => told(plain::nop(store, task, next), more),
-        Instr::Block { ty, body } => told(control::block(store, task, ty, body, next), false),
-        Instr::Loop { ty, body } => told(control::begin_loop(store, task, ty, body, next), false),
+        Instr::Nop => and_more(plain::nop(store, task, next), more),
+        Instr::Block { ty, body } => and_more(control::block(store, task, ty, body, next), false),
+        Instr::Loop { ty, body } => and_more(
+            control::begin_loop(store, task, ty, body, next),
+            false,
+        ),
         Instr::If { ty, then, other } => {
-            told(control::if_else(store, task, ty, then, other, next), false)
+            and_more(control::if_else(store, task, ty, then, other, next), false)
         }
-        Instr::Br(label) => told(control::br(store, task, label, next), false),
-        Instr::BrIf(label) => told(control::br_if(store, task, label, next), false),
+        Instr::Br(label) => and_more(control::br(store, task, label, next), false),
+        Instr::BrIf(label) => and_more(control::br_if(store, task, label, next), false),
         Instr::BrTable(ref table) => {
             task.branch_by_table(&store.funcs, table, next);
             Ok((None, false))
         }
-        Instr::Return => told(control::return_(store, task, next), false),
-        Instr::Call(x) => told(control::call(store, task, x, next), false),
-        Instr::CallIndirect(x) => told(control::call_indirect(store, task, x, next), false),
-        Instr::Drop => told(plain::discard(store, task, next), more),
-        Instr::Select => told(plain::select(store, task, next), more),
-        Instr::LocalGet(x) => told(plain::local_get(store, task, x, next), more),
-        Instr::LocalSet(x) => told(plain::local_set(store, task, x, next), more),
-        Instr::LocalTee(x) => told(plain::local_tee(store, task, x, next), more),
-        Instr::GlobalGet(x) => told(plain::global_get(store, task, x, next), more),
-        Instr::GlobalSet(x) => told(plain::global_set(store, task, x, next), more),
-        Instr::I32Const(n) => told(plain::i32_const(store, task, n, next), more),
-        Instr::I64Const(n) => told(plain::i64_const(store, task, n, next), more),
-        Instr::Numeric(i) => told(memory::numeric(store, task, i, next), more),
-        Instr::Linear(i) => told(memory::linear(store, task, i, next), more),
-        Instr::Segment(i) => told(memory::segment(store, task, i, next), more),
+        Instr::Return => and_more(control::return_(store, task, next), false),
+        Instr::Call(x) => and_more(control::call(store, task, x, next), false),
+        Instr::CallIndirect(x) => and_more(control::call_indirect(store, task, x, next), false),
+        Instr::Drop => and_more(plain::discard(store, task, next), more),
+        Instr::Select => and_more(plain::select(store, task, next), more),
+        Instr::LocalGet(x) => and_more(plain::local_get(store, task, x, next), more),
+        Instr::LocalSet(x) => and_more(plain::local_set(store, task, x, next), more),
+        Instr::LocalTee(x) => and_more(plain::local_tee(store, task, x, next), more),
+        Instr::GlobalGet(x) => and_more(plain::global_get(store, task, x, next), more),
+        Instr::GlobalSet(x) => and_more(plain::global_set(store, task, x, next), more),
+        Instr::I32Const(n) => and_more(plain::i32_const(store, task, n, next), more),
+        Instr::I64Const(n) => and_more(plain::i64_const(store, task, n, next), more),
+        Instr::Numeric(i) => and_more(memory::numeric(store, task, i, next), more),
+        Instr::Linear(i) => and_more(memory::linear(store, task, i, next), more),
+        Instr::Segment(i) => and_more(memory::segment(store, task, i, next), more),
     }
 }
 
@@ -89,14 +95,14 @@ fn advance<G: Gaps, T: Tagged>(store: &mut Store<G, T>, task: &mut Task) -> Step
     requires can { begin store.old (thread_of store.old.funcs task.old) ≢ Stuck }
     requires few { store.old.segments.made < 2 ^ 63 }
     requires fit { Each (Fits store.old.segments) task.old.operands }
-    ensures { Carries result (step_of store.old (thread_of store.old.funcs task.old)) store.old (thread_of store.old.funcs task.old) store.new (thread_of store.new.funcs task.new) }
+    ensures { DoesStep result (step_of store.old (thread_of store.old.funcs task.old)) store.old (thread_of store.old.funcs task.old) store.new (thread_of store.new.funcs task.new) }
 {
     match perform(store, task) {
         Ok((event, more)) => {
             if more {
                 return Stepped::On(event);
             }
-            if task.settle(&store.funcs) {
+            if task.exit_ended(&store.funcs) {
                 return Stepped::Ended(task.operands.last(), event);
             }
             Stepped::On(event)
@@ -106,13 +112,13 @@ fn advance<G: Gaps, T: Tagged>(store: &mut Store<G, T>, task: &mut Task) -> Step
     }
 }
 
-/// One step of a task that has not ended: it carries out one instruction, and leaves the blocks and calls that are then
-/// at their ends.
+/// One step of a task that has not ended: it carries out one instruction, and exits the blocks and calls that are then at
+/// their ends.
 ///
 /// A well-typed task of a well-typed store is never stuck, and stays well typed; handles that fit go on fitting, those of
 /// other tasks too; and each handle that the colour monitor knows it goes on knowing, after the step's event (`sound`). A
 /// trap changes nothing. No instruction takes from the input or puts to the output yet.
-#[tactic(auto, using(crate::proofs::Sound::never_stuck, crate::proofs::Unstuck::step_unstuck, crate::proofs::Sound::begins_well, crate::proofs::Sound::carries_typed, crate::proofs::HeldFits::carries_fits))]
+#[tactic(auto, using(crate::proofs::TypedSteps::never_stuck, crate::proofs::Unstuck::step_unstuck, crate::proofs::TypedSteps::begins_well, crate::proofs::TypedSteps::does_step_typed, crate::proofs::HeldFits::does_step_fits))]
 pub fn step<G: Gaps, T: Tagged, I: Source, O: Sink>(
     store: &mut Store<G, T>,
     task: &mut Task,
@@ -126,13 +132,13 @@ pub fn step<G: Gaps, T: Tagged, I: Source, O: Sink>(
     requires store_fits { StoreFits store.old }
     requires task_fits { ThreadFits store.old (thread_of store.old.funcs task.old) }
     ensures never_stuck { step_of store.old (thread_of store.old.funcs task.old) ≢ Stuck }
-    ensures step { Carries result (step_of store.old (thread_of store.old.funcs task.old)) store.old (thread_of store.old.funcs task.old) store.new (thread_of store.new.funcs task.new) }
+    ensures step { DoesStep result (step_of store.old (thread_of store.old.funcs task.old)) store.old (thread_of store.old.funcs task.old) store.new (thread_of store.new.funcs task.new) }
     ensures outline { result ≢ Stepped.Memory → outline_of store.new ≡ outline_of store.old }
     ensures task { result ≢ Stepped.Memory → TaskTyped (outline_of store.new) (thread_of store.new.funcs task.new) }
     ensures store_fits { result ≢ Stepped.Memory → StoreFits store.new }
     ensures task_fits { result ≢ Stepped.Memory → ThreadFits store.new (thread_of store.new.funcs task.new) }
     ensures others { result ≢ Stepped.Memory → (h : Handle) → IsFit store.old.segments h → IsFit store.new.segments h }
-    ensures sound { result ≢ Stepped.Memory → (events : List Event) (threads : List Thread) → Sound events store.old (thread_of store.old.funcs task.old ∷ threads) → Sound (events ++ told (event_of result) []) store.new (thread_of store.new.funcs task.new ∷ threads) }
+    ensures sound { result ≢ Stepped.Memory → (events : List Event) (threads : List Thread) → Sound events store.old (thread_of store.old.funcs task.old ∷ threads) → Sound (events ++ with_event (event_of result) []) store.new (thread_of store.new.funcs task.new ∷ threads) }
     ensures made { result ≢ Stepped.Memory → store.new.segments.made ≤ store.old.segments.made + 1 }
     ensures input { (I.left input.new ≡ I.left input.old) × (I.faults input.new ≡ I.faults input.old) }
     ensures out { (O.held out.new ≡ O.held out.old) × (O.faults out.new ≡ O.faults out.old) }

@@ -1,7 +1,7 @@
 //! Numeric instructions, and those on the linear memory and on segments, on the store.
 
 ghost use Rattle.std.specs.Prelude.{◌<◌, ◌^◌};
-ghost use Rattle.ms_machine.specs.Doing.{Acts, Can};
+ghost use Rattle.ms_machine.specs.Doing.{DoesInstr, Can};
 ghost use Rattle.ms_machine.specs.Holding.{Each, Fits};
 ghost use Rattle.ms_module.specs.declared.instr.Instr.TheVariants as instr;
 
@@ -22,7 +22,7 @@ pub(crate) fn numeric<G: Gaps, T: Tagged>(
     next: usize,
 ) -> Result<Option<Event>, Fault>
     requires { Can (instr.Numeric i) next store.now task.old }
-    ensures { Acts (instr.Numeric i) next store.now task.old store.now task.new result }
+    ensures { DoesInstr (instr.Numeric i) next store.now task.old store.now task.new result }
 {
     let _ = store;
     match ms_operate::numeric(i, &mut task.operands) {
@@ -42,7 +42,7 @@ pub(crate) fn linear<G: Gaps, T: Tagged>(
     next: usize,
 ) -> Result<Option<Event>, Fault>
     requires { Can (instr.Linear i) next store.old task.old }
-    ensures { Acts (instr.Linear i) next store.old task.old store.new task.new result }
+    ensures { DoesInstr (instr.Linear i) next store.old task.old store.new task.new result }
 {
     let Some(address) = store.instance(task.function()).memory else {
         unreachable!()
@@ -66,7 +66,7 @@ pub(crate) fn segment<G: Gaps, T: Tagged>(
     requires can { Can (instr.Segment i) next store.old task.old }
     requires few { store.old.segments.made < 2 ^ 63 }
     requires fit { Each (Fits store.old.segments) task.old.operands }
-    ensures { Acts (instr.Segment i) next store.old task.old store.new task.new result }
+    ensures { DoesInstr (instr.Segment i) next store.old task.old store.new task.new result }
 {
     match segment::segment(i, &mut store.segments, &mut task.operands) {
         Ok(event) => {

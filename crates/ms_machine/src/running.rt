@@ -2,7 +2,7 @@
 
 ghost use Rattle.std.specs.Prelude.{◌≡◌, ◌≢◌, ◌+◌, ◌<◌, ◌≤◌, ◌^◌, ℕ, List, [], length, MatchOption, None};
 ghost use Rattle.ms_machine.specs.Holding.{StoreFits, ThreadFits};
-ghost use Rattle.ms_machine.specs.Running.{IsAlone, Leaves, Lost, RunsTo, run_from, run_thread};
+ghost use Rattle.ms_machine.specs.Running.{IsAlone, DoesRun, Stuck, DoesWholeRun, run_from, run_thread};
 ghost use Rattle.ms_event.specs.Monitor.{Accepts};
 ghost use Rattle.ms_machine.specs.Safety.{Sound};
 ghost use Rattle.ms_machine.specs.Typing.{StoreTyped, TaskTyped, outline_of};
@@ -50,7 +50,7 @@ fn run_task<G: Gaps, T: Tagged, I: Source, O: Sink>(
     requires few { store.old.segments.made + budget < 2 ^ 63 }
     requires store_fits { StoreFits store.old }
     requires task_fits { ThreadFits store.old (thread_of store.old.funcs task.old) }
-    ensures run { Leaves result.0 result.1 store.new (run_thread budget store.old (thread_of store.old.funcs task.old)) }
+    ensures run { DoesRun result.0 result.1 store.new (run_thread budget store.old (thread_of store.old.funcs task.old)) }
     ensures outline { result.0 ≢ Ran.Memory → outline_of store.new ≡ outline_of store.old }
     ensures store_fits { result.0 ≢ Ran.Memory → StoreFits store.new }
     ensures made { result.0 ≢ Ran.Memory → store.new.segments.made + result.1 ≤ store.old.segments.made + budget }
@@ -88,7 +88,7 @@ fn run_main<G: Gaps, T: Tagged, I: Source, O: Sink>(
     requires fits { StoreFits store.old }
     requires few { store.old.segments.made + budget < 2 ^ 63 }
     requires main { IsAlone (outline_of store.old) main }
-    ensures run { RunsTo result store.new (run_from budget store.old None main) }
+    ensures run { DoesWholeRun result store.new (run_from budget store.old None main) }
     ensures input { (I.left input.new ≡ I.left input.old) × (I.faults input.new ≡ I.faults input.old) }
     ensures out { (O.held out.new ≡ O.held out.old) × (O.faults out.new ≡ O.faults out.old) }
 {
@@ -102,7 +102,7 @@ fn run_main<G: Gaps, T: Tagged, I: Source, O: Sink>(
 ///
 /// Neither has parameters. The store keeps what the run has made of it: its globals and memories, and the segments that are
 /// still live.
-#[tactic(auto, using(crate::proofs::SafeRuns::run_accepted, crate::proofs::Unstuck::never_lost))]
+#[tactic(auto, using(crate::proofs::SafeRuns::run_accepted, crate::proofs::Unstuck::run_never_stuck))]
 pub fn run<G: Gaps, T: Tagged, I: Source, O: Sink>(
     alloc: Global,
     store: &mut Store<G, T>,
@@ -117,8 +117,8 @@ pub fn run<G: Gaps, T: Tagged, I: Source, O: Sink>(
     requires few { store.old.segments.made + budget < 2 ^ 63 }
     requires first { MatchOption first Unit (λ f. IsAlone (outline_of store.old) f) }
     requires main { IsAlone (outline_of store.old) main }
-    ensures run { RunsTo result store.new (run_from budget store.old first main) }
-    ensures never_stuck { (run_from budget store.old first main).end ≢ Lost }
+    ensures run { DoesWholeRun result store.new (run_from budget store.old first main) }
+    ensures never_stuck { (run_from budget store.old first main).end ≢ Stuck }
     // The events of the run are a trace that the colour monitor accepts.
     ensures accepted { Sound [] store.old [] → Accepts (length store.old.segments.bytes) (run_from budget store.old first main).events }
     ensures input { (I.left input.new ≡ I.left input.old) × (I.faults input.new ≡ I.faults input.old) }

@@ -4,7 +4,7 @@ ghost use Rattle.std.specs.Prelude.{◌≡◌, ◌≢◌, ◌<◌, ◌^◌, List
 ghost use Rattle.ms_handle.specs.Handle.{HasBounds};
 ghost use Rattle.ms_machine.specs.Doing.{DoesInSegments};
 ghost use Rattle.ms_machine.specs.Holding.{Each, Fits};
-ghost use Rattle.ms_machine.specs.Segments.{Misses, is_null, segment_on, slice_event};
+ghost use Rattle.ms_machine.specs.Segments.{Stuck, is_null, segment_on, slice_event};
 ghost use Rattle.ms_module.specs.declared.access.Segment.TheVariants as instr;
 
 use crate::fault::{Fault, of_segment};
@@ -25,7 +25,7 @@ pub(crate) fn segment<G: Gaps, T: Tagged>(
     segments: &mut Segments<G, T>,
     operands: &mut Stack<Value>,
 ) -> Result<Option<Event>, Fault>
-    requires there { segment_on i segments.old operands.old ≢ Misses }
+    requires there { segment_on i segments.old operands.old ≢ Stuck }
     requires few { segments.old.made < 2 ^ 63 }
     requires fit { Each (Fits segments.old) operands.old }
     ensures { DoesInSegments (segment_on i segments.old operands.old) operands.old operands.new segments.old segments.new result }
@@ -66,7 +66,7 @@ fn new<G: Gaps, T: Tagged>(
     segments: &mut Segments<G, T>,
     operands: &mut Stack<Value>,
 ) -> Result<Option<Event>, Fault>
-    requires there { segment_on (instr.New kind) segments.old operands.old ≢ Misses }
+    requires there { segment_on (instr.New kind) segments.old operands.old ≢ Stuck }
     requires few { segments.old.made < 2 ^ 63 }
     ensures { DoesInSegments (segment_on (instr.New kind) segments.old operands.old) operands.old operands.new segments.old segments.new result }
 {
@@ -84,7 +84,7 @@ fn free<G: Gaps, T: Tagged>(
     segments: &mut Segments<G, T>,
     operands: &mut Stack<Value>,
 ) -> Result<Option<Event>, Fault>
-    requires there { segment_on (instr.Free kind) segments.old operands.old ≢ Misses }
+    requires there { segment_on (instr.Free kind) segments.old operands.old ≢ Stuck }
     requires fit { Each (Fits segments.old) operands.old }
     ensures { DoesInSegments (segment_on (instr.Free kind) segments.old operands.old) operands.old operands.new segments.old segments.new result }
 {
@@ -106,7 +106,7 @@ fn add_to<G: Gaps, T: Tagged>(
     segments: &Segments<G, T>,
     operands: &mut Stack<Value>,
 ) -> Result<Option<Event>, Fault>
-    requires there { segment_on (instr.Add scale) segments.now operands.old ≢ Misses }
+    requires there { segment_on (instr.Add scale) segments.now operands.old ≢ Stuck }
     requires fit { Each (Fits segments.now) operands.old }
     ensures { DoesInSegments (segment_on (instr.Add scale) segments.now operands.old) operands.old operands.new segments.now segments.now result }
 {
@@ -123,7 +123,7 @@ fn add_to<G: Gaps, T: Tagged>(
 }
 
 /// What a slice of a handle that gave this tells.
-fn told_slice(handle: Handle, part: Handle) -> Option<Event>
+fn event_of_slice(handle: Handle, part: Handle) -> Option<Event>
     requires whole { HasBounds handle }
     requires bounds { HasBounds part }
     ensures { result ≡ slice_event handle part }
@@ -157,7 +157,7 @@ fn slice_of<G: Gaps, T: Tagged>(
     segments: &Segments<G, T>,
     operands: &mut Stack<Value>,
 ) -> Result<Option<Event>, Fault>
-    requires there { segment_on instr.Slice segments.now operands.old ≢ Misses }
+    requires there { segment_on instr.Slice segments.now operands.old ≢ Stuck }
     requires fit { Each (Fits segments.now) operands.old }
     ensures { DoesInSegments (segment_on instr.Slice segments.now operands.old) operands.old operands.new segments.now segments.now result }
 {
@@ -171,7 +171,7 @@ fn slice_of<G: Gaps, T: Tagged>(
     let part = slice(handle, from, len);
     operands.cut(2);
     operands.set_top(Value::Handle(part));
-    Ok(told_slice(handle, part))
+    Ok(event_of_slice(handle, part))
 }
 
 /// `handle.eq`.
@@ -179,7 +179,7 @@ fn are_equal<G: Gaps, T: Tagged>(
     segments: &Segments<G, T>,
     operands: &mut Stack<Value>,
 ) -> Result<Option<Event>, Fault>
-    requires there { segment_on instr.Eq segments.now operands.old ≢ Misses }
+    requires there { segment_on instr.Eq segments.now operands.old ≢ Stuck }
     requires fit { Each (Fits segments.now) operands.old }
     ensures { DoesInSegments (segment_on instr.Eq segments.now operands.old) operands.old operands.new segments.now segments.now result }
 {
@@ -197,7 +197,7 @@ fn is_null<G: Gaps, T: Tagged>(
     segments: &Segments<G, T>,
     operands: &mut Stack<Value>,
 ) -> Result<Option<Event>, Fault>
-    requires there { segment_on instr.IsNull segments.now operands.old ≢ Misses }
+    requires there { segment_on instr.IsNull segments.now operands.old ≢ Stuck }
     ensures { DoesInSegments (segment_on instr.IsNull segments.now operands.old) operands.old operands.new segments.now segments.now result }
 {
     let _ = segments;
@@ -213,7 +213,7 @@ fn difference<G: Gaps, T: Tagged>(
     segments: &Segments<G, T>,
     operands: &mut Stack<Value>,
 ) -> Result<Option<Event>, Fault>
-    requires there { segment_on instr.Diff segments.now operands.old ≢ Misses }
+    requires there { segment_on instr.Diff segments.now operands.old ≢ Stuck }
     requires fit { Each (Fits segments.now) operands.old }
     ensures { DoesInSegments (segment_on instr.Diff segments.now operands.old) operands.old operands.new segments.now segments.now result }
 {
@@ -236,7 +236,7 @@ fn load_handle<G: Gaps, T: Tagged>(
     segments: &Segments<G, T>,
     operands: &mut Stack<Value>,
 ) -> Result<Option<Event>, Fault>
-    requires there { segment_on instr.LoadHandle segments.now operands.old ≢ Misses }
+    requires there { segment_on instr.LoadHandle segments.now operands.old ≢ Stuck }
     requires fit { Each (Fits segments.now) operands.old }
     ensures { DoesInSegments (segment_on instr.LoadHandle segments.now operands.old) operands.old operands.new segments.now segments.now result }
 {
@@ -257,7 +257,7 @@ fn store_handle<G: Gaps, T: Tagged>(
     segments: &mut Segments<G, T>,
     operands: &mut Stack<Value>,
 ) -> Result<Option<Event>, Fault>
-    requires there { segment_on instr.StoreHandle segments.old operands.old ≢ Misses }
+    requires there { segment_on instr.StoreHandle segments.old operands.old ≢ Stuck }
     requires fit { Each (Fits segments.old) operands.old }
     ensures { DoesInSegments (segment_on instr.StoreHandle segments.old operands.old) operands.old operands.new segments.old segments.new result }
 {
@@ -279,7 +279,7 @@ fn load<G: Gaps, T: Tagged>(
     segments: &Segments<G, T>,
     operands: &mut Stack<Value>,
 ) -> Result<Option<Event>, Fault>
-    requires there { segment_on (instr.Load op) segments.now operands.old ≢ Misses }
+    requires there { segment_on (instr.Load op) segments.now operands.old ≢ Stuck }
     requires fit { Each (Fits segments.now) operands.old }
     ensures { DoesInSegments (segment_on (instr.Load op) segments.now operands.old) operands.old operands.new segments.now segments.now result }
 {
@@ -301,7 +301,7 @@ fn store<G: Gaps, T: Tagged>(
     segments: &mut Segments<G, T>,
     operands: &mut Stack<Value>,
 ) -> Result<Option<Event>, Fault>
-    requires there { segment_on (instr.Store op) segments.old operands.old ≢ Misses }
+    requires there { segment_on (instr.Store op) segments.old operands.old ≢ Stuck }
     requires fit { Each (Fits segments.old) operands.old }
     ensures { DoesInSegments (segment_on (instr.Store op) segments.old operands.old) operands.old operands.new segments.old segments.new result }
 {

@@ -5,7 +5,7 @@ ghost use Rattle.ms_event.specs.declared.event.Event.{Event};
 ghost use Rattle.ms_machine.specs.Holding.{ThreadFits};
 ghost use Rattle.ms_machine.specs.Safety.{Sound};
 ghost use Rattle.ms_machine.specs.Typing.{StoreTyped, TaskTyped, outline_of};
-ghost use Rattle.ms_task.specs.Control.{settled, started};
+ghost use Rattle.ms_task.specs.Control.{exited, started};
 ghost use Rattle.ms_task.specs.Thread.{Thread};
 ghost use Rattle.ms_task.specs.View.{thread_of};
 ghost use Rattle.ms_task.specs.declared.func.FuncInst.{FuncInst};
@@ -25,7 +25,7 @@ pub fn start<G: Gaps, T: Tagged>(
 ) -> Result<Task, AllocError>
     requires store { StoreTyped (outline_of store.now) }
     requires there { (g : FuncInst) × (slice_get store.now.funcs address ≡ Some g) × (g.ty.params ≡ []) }
-    ensures start { (g : FuncInst) → slice_get store.now.funcs address ≡ Some g → IfOk result (λ t. thread_of store.now.funcs t ≡ settled (started store.now.funcs address g)) }
+    ensures start { (g : FuncInst) → slice_get store.now.funcs address ≡ Some g → IfOk result (λ t. thread_of store.now.funcs t ≡ exited (started store.now.funcs address g)) }
     ensures task { IfOk result (λ t. TaskTyped (outline_of store.now) (thread_of store.now.funcs t)) }
     ensures fits { IfOk result (λ t. ThreadFits store.now (thread_of store.now.funcs t)) }
     ensures sound { IfOk result (λ t. (events : List Event) (threads : List Thread) → Sound events store.now threads → Sound events store.now (thread_of store.now.funcs t ∷ threads)) }

@@ -1,4 +1,5 @@
 pub mod Outcomes
+pub mod Effects
 pub mod Integers
 pub mod Accesses
 pub mod Numbers

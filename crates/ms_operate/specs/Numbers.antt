@@ -12,25 +12,25 @@ use Rattle.ms_module.specs.declared.numeric.Numeric.{Numeric}
 use Rattle.ms_module.specs.declared.numeric.Numeric.TheVariants.{Eqz, Compare, Unary, Binary, Wrap, ExtendS, ExtendU}
 use Rattle.ms_operate.specs.Accesses.{integer, number_of}
 use Rattle.ms_operate.specs.Integers.{binary, compare, unary}
-use Rattle.ms_operate.specs.Outcomes.{Gives, Lacks, Outcome, Traps}
-use Rattle.ms_operate.specs.declared.trap.Trap.{Trap}
+use Rattle.ms_operate.specs.Outcomes.{Gives, Outcome, Stuck, Trap}
+use Rattle.ms_operate.specs.declared.trap.Trap.{Trap as TrapKind}
 use Rattle.ms_operate.specs.declared.trap.Trap.TheVariants as traps
 
-abbrev pub trap_of : Arith → Trap
+abbrev pub trap_of : Arith → TrapKind
 trap_of ZeroDivide = traps.Zero
 trap_of Overflow = traps.Overflow
 
 abbrev pub given : Width → List Value → Result ℕ Arith → Outcome
 given w rest (Ok n) = Gives (integer w n ∷ rest)
-given w rest (Err e) = Traps (trap_of e)
+given w rest (Err e) = Trap (trap_of e)
 
 abbrev pub on_one : (ℕ → Value) → Option ℕ → List Value → Outcome
 on_one f (Some a) rest = Gives (f a ∷ rest)
-on_one f None rest = Lacks
+on_one f None rest = Stuck
 
 abbrev pub on_two : (ℕ → ℕ → Outcome) → Option ℕ → Option ℕ → Outcome
 on_two f (Some a) (Some b) = f a b
-on_two f a b = Lacks
+on_two f a b = Stuck
 
 abbrev pub numeric_on : Numeric → List Value → Outcome
 numeric_on (Eqz w) (v ∷ rest) = on_one (λ a. I32 (int.truth (a == 0))) (number_of w v) rest
@@ -40,4 +40,4 @@ numeric_on ExtendS (v ∷ rest) = on_one (λ a. I64 (int.extend 32 64 true a)) (
 numeric_on ExtendU (v ∷ rest) = on_one (λ a. I64 a) (number_of W32 v) rest
 numeric_on (Compare w op) (v ∷ u ∷ rest) = on_two (λ a b. Gives (I32 (int.truth (compare op (bits w) a b)) ∷ rest)) (number_of w u) (number_of w v)
 numeric_on (Binary w op) (v ∷ u ∷ rest) = on_two (λ a b. given w rest (binary op (bits w) a b)) (number_of w u) (number_of w v)
-numeric_on i vs = Lacks
+numeric_on i vs = Stuck

@@ -1,7 +1,7 @@
 ghost use Rattle.std.specs.Prelude.{◌≡◌, ◌≢◌};
 ghost use Rattle.ms_module.specs.declared.access.Linear.TheVariants.{Load, Store, Size, Grow};
 ghost use Rattle.ms_operate.specs.Memories.{linear_on};
-ghost use Rattle.ms_operate.specs.Outcomes.{DoesInMemory, Misses};
+ghost use Rattle.ms_operate.specs.Effects.{DoesInMemory, Stuck};
 
 use crate::access::{number, number_for, value_of};
 use crate::trap::{Fault, Trap};
@@ -15,7 +15,7 @@ pub fn linear(
     memory: &mut LinearMemory,
     operands: &mut Stack<Value>,
 ) -> Result<(), Fault>
-    requires { linear_on i memory.old operands.old ≢ Misses }
+    requires { linear_on i memory.old operands.old ≢ Stuck }
     ensures { DoesInMemory (linear_on i memory.old operands.old) operands.old operands.new memory.old memory.new result }
 {
     match i {
@@ -33,7 +33,7 @@ fn load(
     memory: &LinearMemory,
     operands: &mut Stack<Value>,
 ) -> Result<(), Fault>
-    requires { linear_on (Load op arg) memory.now operands.old ≢ Misses }
+    requires { linear_on (Load op arg) memory.now operands.old ≢ Stuck }
     ensures { DoesInMemory (linear_on (Load op arg) memory.now operands.old) operands.old operands.new memory.now memory.now result }
 {
     let base = number(Width::W32, operands.get(0));
@@ -53,7 +53,7 @@ fn store(
     memory: &mut LinearMemory,
     operands: &mut Stack<Value>,
 ) -> Result<(), Fault>
-    requires { linear_on (Store op arg) memory.old operands.old ≢ Misses }
+    requires { linear_on (Store op arg) memory.old operands.old ≢ Stuck }
     ensures { DoesInMemory (linear_on (Store op arg) memory.old operands.old) operands.old operands.new memory.old memory.new result }
 {
     let value = number_for(op, operands.get(0));
@@ -79,7 +79,7 @@ fn size(memory: &LinearMemory, operands: &mut Stack<Value>) -> Result<(), Fault>
 
 /// `memory.grow` on the operands.
 fn grow(memory: &mut LinearMemory, operands: &mut Stack<Value>) -> Result<(), Fault>
-    requires { linear_on Grow memory.old operands.old ≢ Misses }
+    requires { linear_on Grow memory.old operands.old ≢ Stuck }
     ensures { DoesInMemory (linear_on Grow memory.old operands.old) operands.old operands.new memory.old memory.new result }
 {
     let Value::I32(n) = operands.get(0) else {

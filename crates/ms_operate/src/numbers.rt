@@ -4,7 +4,7 @@ ghost use Rattle.ms_module.specs.declared.numeric.Numeric.TheVariants.{Eqz, Comp
 ghost use Rattle.ms_operate.specs.Integers as int;
 ghost use Rattle.ms_operate.specs.Numbers as numbers;
 ghost use Rattle.ms_operate.specs.Numbers.{numeric_on};
-ghost use Rattle.ms_operate.specs.Outcomes.{Does, Gives, Lacks};
+ghost use Rattle.ms_operate.specs.Outcomes.{Does, Gives, Stuck};
 
 use crate::access::{integer, number};
 use crate::trap::Trap;
@@ -20,7 +20,7 @@ use ms_types::Stack;
 ///
 /// The widths are told apart here, so that each is a constant in what is done with it.
 pub fn numeric(i: Numeric, operands: &mut Stack<Value>) -> Result<(), Trap>
-    requires { numeric_on i operands.old ≢ Lacks }
+    requires { numeric_on i operands.old ≢ Stuck }
     ensures { Does (numeric_on i operands.old) operands.old operands.new result }
 {
     match i {
@@ -119,7 +119,7 @@ fn trap_of(error: Arith) -> Trap
 /// `eqz` on the operands.
 #[inline(always)]
 fn test(w: Width, operands: &mut Stack<Value>)
-    requires { numeric_on (Eqz w) operands.old ≢ Lacks }
+    requires { numeric_on (Eqz w) operands.old ≢ Stuck }
     ensures { numeric_on (Eqz w) operands.old ≡ Gives operands.new }
 {
     let a = number(w, operands.get(0));
@@ -129,7 +129,7 @@ fn test(w: Width, operands: &mut Stack<Value>)
 /// An operation on the topmost operand.
 #[inline(always)]
 fn on_one(w: Width, op: UnOp, operands: &mut Stack<Value>)
-    requires { numeric_on (Unary w op) operands.old ≢ Lacks }
+    requires { numeric_on (Unary w op) operands.old ≢ Stuck }
     ensures { numeric_on (Unary w op) operands.old ≡ Gives operands.new }
 {
     let a = number(w, operands.get(0));
@@ -139,7 +139,7 @@ fn on_one(w: Width, op: UnOp, operands: &mut Stack<Value>)
 /// An operation on the two topmost operands.
 #[inline(always)]
 fn on_two(w: Width, op: BinOp, operands: &mut Stack<Value>) -> Result<(), Trap>
-    requires { numeric_on (Binary w op) operands.old ≢ Lacks }
+    requires { numeric_on (Binary w op) operands.old ≢ Stuck }
     ensures { Does (numeric_on (Binary w op) operands.old) operands.old operands.new result }
 {
     let b = number(w, operands.get(0));
@@ -157,7 +157,7 @@ fn on_two(w: Width, op: BinOp, operands: &mut Stack<Value>) -> Result<(), Trap>
 /// A comparison of the two topmost operands.
 #[inline(always)]
 fn compare_two(w: Width, op: RelOp, operands: &mut Stack<Value>)
-    requires { numeric_on (Compare w op) operands.old ≢ Lacks }
+    requires { numeric_on (Compare w op) operands.old ≢ Stuck }
     ensures { numeric_on (Compare w op) operands.old ≡ Gives operands.new }
 {
     let b = number(w, operands.get(0));
@@ -170,7 +170,7 @@ fn compare_two(w: Width, op: RelOp, operands: &mut Stack<Value>)
 /// `i32.wrap_i64` on the operands.
 #[inline(always)]
 fn wrap(operands: &mut Stack<Value>)
-    requires { numeric_on Wrap operands.old ≢ Lacks }
+    requires { numeric_on Wrap operands.old ≢ Stuck }
     ensures { numeric_on Wrap operands.old ≡ Gives operands.new }
 {
     let a = number(Width::W64, operands.get(0));
@@ -180,7 +180,7 @@ fn wrap(operands: &mut Stack<Value>)
 /// `i64.extend_i32_s` on the operands.
 #[inline(always)]
 fn extend_signed(operands: &mut Stack<Value>)
-    requires { numeric_on ExtendS operands.old ≢ Lacks }
+    requires { numeric_on ExtendS operands.old ≢ Stuck }
     ensures { numeric_on ExtendS operands.old ≡ Gives operands.new }
 {
     let a = number(Width::W32, operands.get(0));
@@ -190,7 +190,7 @@ fn extend_signed(operands: &mut Stack<Value>)
 /// `i64.extend_i32_u` on the operands.
 #[inline(always)]
 fn extend_unsigned(operands: &mut Stack<Value>)
-    requires { numeric_on ExtendU operands.old ≢ Lacks }
+    requires { numeric_on ExtendU operands.old ≢ Stuck }
     ensures { numeric_on ExtendU operands.old ≡ Gives operands.new }
 {
     let a = number(Width::W32, operands.get(0));

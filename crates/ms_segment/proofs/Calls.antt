@@ -10,7 +10,8 @@ use Rattle.ms_live.specs.declared.gaps.Live.{Live}
 use Rattle.ms_live.specs.Place.{IsPlace, without}
 use Rattle.ms_tagged.specs.Bytes.{Byte, Data, IsHandleAt, Piece, cleared, overwritten, range, torn, whole}
 use Rattle.ms_segment.specs.declared.trap.SegTrap.{SegTrap}
-use Rattle.ms_segment.specs.Memory.{Access, Frees, IsFit, IsSound, LoadsHandle, Makes, Memory, Stores, ended, full, made, most_live, no_room, read, read_event, stopped, stored, with_bytes, write_event}
+use Rattle.ms_event.specs.Monitor.{most_live}
+use Rattle.ms_segment.specs.Memory.{Access, Frees, IsFit, IsSound, LoadsHandle, Makes, Memory, Stores, ended, full, made, no_room, read, read_event, stopped, stored, with_bytes, write_event}
 use Rattle.ms_segment.specs.Parts.{IsPlaceIn, entered, with_ended}
 use Rattle.ms_segment.proofs.Finds.{Contains-drop, Contains-take}
 

@@ -13,7 +13,8 @@ use Rattle.ms_tagged.specs.Bytes.{Byte, IsHandleAt, data_of, pieces, range}
 use Rattle.ms_tagged.proofs.Numbers.{length-data_of}
 use Rattle.ms_tagged.proofs.Ranges.{length-range}
 use Rattle.ms_segment.specs.declared.trap.SegTrap.{SegTrap}
-use Rattle.ms_segment.specs.Memory.{Access, IsFit, IsSound, Makes, Memory, access, freed, handle_access, made, most_live, read_event, with_bytes}
+use Rattle.ms_event.specs.Monitor.{most_live}
+use Rattle.ms_segment.specs.Memory.{Access, IsFit, IsSound, Makes, Memory, access, freed, handle_access, made, read_event, with_bytes}
 use Rattle.ms_segment.specs.Parts.{IsPlaceIn, entered, with_ended}
 use Rattle.ms_segment.specs.Calls.{Change, ended_at, free, handle_at, handle_loaded_at, load_handle, made_at, make, place_of, store, store_handle, stored_at}
 use Rattle.ms_segment.proofs.Calls.{IsFit-read, IsPlaceIn-from_place, Makes-refused}

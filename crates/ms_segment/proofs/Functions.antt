@@ -19,9 +19,10 @@ use Rattle.ms_tagged.specs.Tags.{pieces_from}
 use Rattle.ms_tagged.proofs.Handles.{IsHandleAt-unique}
 use Rattle.ms_tagged.proofs.Ranges.{length-range}
 use Rattle.ms_segment.specs.declared.trap.SegTrap.{SegTrap}
-use Rattle.ms_segment.specs.Memory.{Access, Frees, IsFit, IsSound, LoadsHandle, Makes, Memory, Stores, access, ended, freed, full, handle_access, made, most_live, no_room, read, read_event, stopped, stored}
+use Rattle.ms_event.specs.Monitor.{most_live}
+use Rattle.ms_segment.specs.Memory.{Access, Frees, IsFit, IsSound, LoadsHandle, Makes, Memory, Stores, access, ended, freed, full, handle_access, made, no_room, read, read_event, stopped, stored}
 use Rattle.ms_segment.specs.Parts.{IsPlaceIn}
-use Rattle.ms_segment.specs.Calls.{Changes, are_pieces, are_zeros, ended_at, free, handle_at, handle_loaded_at, is_free, load_handle, make, made_at, place_from, place_of, same_handle, store, store_handle, stored_at}
+use Rattle.ms_segment.specs.Calls.{DoesChange, are_pieces, are_zeros, ended_at, free, handle_at, handle_loaded_at, is_free, load_handle, make, made_at, place_from, place_of, same_handle, store, store_handle, stored_at}
 use Rattle.ms_segment.proofs.Reach.{handle_access-within}
 
 -- ---- whether a place is free
@@ -204,20 +205,20 @@ loads_alone m h result sound fit loads =
 
 -- ---- freeing and storing
 
-ended_at_is : (m after : Memory) (r : Result ℕ SegTrap) (result : Result Event SegTrap) → Frees m r result after → Changes (ended_at m r) m after result
+ended_at_is : (m after : Memory) (r : Result ℕ SegTrap) (result : Result Event SegTrap) → Frees m r result after → DoesChange (ended_at m r) m after result
 ended_at_is m after r result ended = refl
 ended_at_is m after r result stopped = (refl, refl)
 
-pub frees_alone : (m after : Memory) (h : Handle) (kind : Kind) (result : Result Event SegTrap) → Frees m (freed m h kind) result after → Changes (free m h kind) m after result
+pub frees_alone : (m after : Memory) (h : Handle) (kind : Kind) (result : Result Event SegTrap) → Frees m (freed m h kind) result after → DoesChange (free m h kind) m after result
 frees_alone m after h kind result frees = ended_at_is m after (freed m h kind) result frees
 
-stored_at_is : (m after : Memory) (new : List Byte) (width : ℕ) (r : Result Access SegTrap) (result : Result Event SegTrap) → Stores m new width r result after → Changes (stored_at m new width r) m after result
+stored_at_is : (m after : Memory) (new : List Byte) (width : ℕ) (r : Result Access SegTrap) (result : Result Event SegTrap) → Stores m new width r result after → DoesChange (stored_at m new width r) m after result
 stored_at_is m after new width r result stored = refl
 stored_at_is m after new width r result stopped = (refl, refl)
 
-pub stores_alone : (m after : Memory) (h : Handle) (width value : ℕ) (result : Result Event SegTrap) → Stores m (data_of width value) width (access m h width) result after → Changes (store m h width value) m after result
+pub stores_alone : (m after : Memory) (h : Handle) (width value : ℕ) (result : Result Event SegTrap) → Stores m (data_of width value) width (access m h width) result after → DoesChange (store m h width value) m after result
 stores_alone m after h width value result stores =
     stored_at_is m after (data_of width value) width (access m h width) result stores
 
-pub stores_handle_alone : (m after : Memory) (h v : Handle) (result : Result Event SegTrap) → Stores m (pieces v) 16 (handle_access m h) result after → Changes (store_handle m h v) m after result
+pub stores_handle_alone : (m after : Memory) (h v : Handle) (result : Result Event SegTrap) → Stores m (pieces v) 16 (handle_access m h) result after → DoesChange (store_handle m h v) m after result
 stores_handle_alone m after h v result stores = stored_at_is m after (pieces v) 16 (handle_access m h) result stores

@@ -12,7 +12,8 @@ use Rattle.ms_live.specs.declared.gaps.Live.{Live}
 use Rattle.ms_live.specs.Place.{IsOutside, IsPlace, without}
 use Rattle.ms_tagged.specs.Bytes.{Byte, Data, Piece, data_of, overwritten, pieces}
 use Rattle.ms_tagged.proofs.Ranges.{length-overwritten}
-use Rattle.ms_segment.specs.Memory.{AreApart, IsFit, IsSound, IsWithin, Memory, most_live, with_bytes}
+use Rattle.ms_event.specs.Monitor.{most_live}
+use Rattle.ms_segment.specs.Memory.{AreApart, IsFit, IsSound, IsWithin, Memory, with_bytes}
 use Rattle.ms_segment.specs.Parts.{entered}
 use Rattle.ms_segment.proofs.Finds.{Contains-overwritten, length-filter_le}
 use Rattle.ms_segment.proofs.Fits.{IsFit-ended, IsFit-entered, IsFit-written}

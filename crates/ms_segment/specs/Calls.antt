@@ -11,7 +11,8 @@ use Rattle.ms_handle.specs.declared.handle.Kind.{Kind}
 use Rattle.ms_live.specs.declared.gaps.Live.{Live}
 use Rattle.ms_live.specs.Overlap.{overlaps}
 use Rattle.ms_tagged.specs.Bytes.{Byte, Data, Piece, data_of, pieces, range}
-use Rattle.ms_segment.specs.Memory.{Access, Memory, access, freed, handle_access, most_live, read_event, with_bytes, write_event}
+use Rattle.ms_event.specs.Monitor.{most_live}
+use Rattle.ms_segment.specs.Memory.{Access, Memory, access, freed, handle_access, read_event, with_bytes, write_event}
 use Rattle.ms_segment.specs.Parts.{entered, with_ended}
 use Rattle.ms_segment.specs.declared.trap.SegTrap.{SegTrap}
 
@@ -100,6 +101,6 @@ abbrev pub load_handle : Memory → Handle → Result (Handle × Event) SegTrap
 load_handle m h = handle_loaded_at m (handle_access m h)
 
 -- The code did so: the event is that one and the memory is so, or it stopped and the memory is as before.
-abbrev pub Changes : Result Change SegTrap → Memory → Memory → Result Event SegTrap → Type 0
-Changes change old new (Ok event) = change ≡ Ok (record { event = event; memory = new })
-Changes change old new (Err e) = (change ≡ Err e) × (new ≡ old)
+abbrev pub DoesChange : Result Change SegTrap → Memory → Memory → Result Event SegTrap → Type 0
+DoesChange change old new (Ok event) = change ≡ Ok (record { event = event; memory = new })
+DoesChange change old new (Err e) = (change ≡ Err e) × (new ≡ old)

@@ -3,6 +3,7 @@ use Rattle.std.specs.Prelude.{◌≡◌, ◌==◌, ℕ, ◌+◌, ◌%◌, ◌<�
 use Rattle.std.specs.Ordering.{int_eq}
 use Rattle.ms_event.specs.declared.event.Event.{Event}
 use Rattle.ms_event.specs.declared.event.Event.TheVariants as events
+use Rattle.ms_event.specs.Monitor.{most_live}
 use Rattle.ms_handle.specs.declared.handle.Handle.{Handle}
 use Rattle.ms_handle.specs.declared.handle.Handle.TheVariants as handles
 use Rattle.ms_handle.specs.declared.handle.Kind.{Kind}
@@ -19,10 +20,6 @@ pub record Memory : Type 0 where
   pub bytes : List Byte
   pub live : List Live
   pub made : ℕ
-
--- how many segments may be live at once
-abbrev pub most_live : ℕ
-most_live = 65536
 
 abbrev pub live_of : Memory → ℕ → Option Live
 live_of m id = find (λ s. s.id == id) m.live

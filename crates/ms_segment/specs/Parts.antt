@@ -2,7 +2,8 @@
 use Rattle.std.specs.Prelude.{◌≡◌, ◌⊎◌, ℕ, ◌+◌, ◌<◌, [], ◌∷◌, ◌++◌, Option, Some, None, length, replicate}
 use Rattle.ms_handle.specs.declared.handle.Kind.{Kind}
 use Rattle.ms_live.specs.Place.{IsPlace, without}
-use Rattle.ms_segment.specs.Memory.{Access, Memory, most_live}
+use Rattle.ms_event.specs.Monitor.{most_live}
+use Rattle.ms_segment.specs.Memory.{Access, Memory}
 use Rattle.ms_segment.specs.declared.access.Access.{Access as Spot}
 use Rattle.ms_tagged.specs.Bytes.{Data, overwritten}
 

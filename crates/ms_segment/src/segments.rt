@@ -4,7 +4,7 @@ ghost use Rattle.ms_live.specs.Place.{IsPlace};
 ghost use Rattle.ms_tagged.specs.Bytes.{Data, IsWidth, data_of, pieces, range, shown_at};
 ghost use Rattle.ms_segment.specs.Memory.{Frees, IsFit, IsSound, LoadsHandle, Makes, Stores, access, freed, handle_access, loaded};
 ghost use Rattle.ms_segment.specs.Calls as call;
-ghost use Rattle.ms_segment.specs.Calls.{Changes};
+ghost use Rattle.ms_segment.specs.Calls.{DoesChange};
 ghost use Rattle.ms_segment.specs.Parts.{IsPlaceIn, access_of, entered};
 
 use crate::access::{Access, access_in, end_of};
@@ -76,7 +76,7 @@ impl<G: Gaps, T: Tagged> Segments<G, T> {
     pub fn free(&mut self, h: Handle, kind: Kind) -> Result<Event, SegTrap>
         requires { IsFit self.old h }
         ensures freed { Frees self.old (freed self.old h kind) result self.new }
-        ensures call { Changes (call.free self.old h kind) self.old self.new result }
+        ensures call { DoesChange (call.free self.old h kind) self.old self.new result }
         ensures sound { IsSound self.new }
         ensures others { (h : Handle) → IsFit self.old h → IsFit self.new h }
     {
@@ -104,7 +104,7 @@ impl<G: Gaps, T: Tagged> Segments<G, T> {
         requires fits { IsFit self.old h }
         requires width { IsWidth width }
         ensures stored { Stores self.old (data_of width value) width (access self.old h width) result self.new }
-        ensures call { Changes (call.store self.old h width value) self.old self.new result }
+        ensures call { DoesChange (call.store self.old h width value) self.old self.new result }
         ensures sound { IsSound self.new }
         ensures others { (h : Handle) → IsFit self.old h → IsFit self.new h }
     {
@@ -129,7 +129,7 @@ impl<G: Gaps, T: Tagged> Segments<G, T> {
         requires place { IsFit self.old h }
         requires value { IsFit self.old v }
         ensures stored { Stores self.old (pieces v) 16 (handle_access self.old h) result self.new }
-        ensures call { Changes (call.store_handle self.old h v) self.old self.new result }
+        ensures call { DoesChange (call.store_handle self.old h v) self.old self.new result }
         ensures sound { IsSound self.new }
         ensures others { (h : Handle) → IsFit self.old h → IsFit self.new h }
     {

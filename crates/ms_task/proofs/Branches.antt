@@ -7,12 +7,12 @@ use Rattle.ms_task.specs.declared.func.FuncInst.{FuncInst}
 use Rattle.ms_task.specs.declared.marks.Mark.{Mark}
 use Rattle.ms_task.specs.declared.marks.Mark.TheVariants as marks
 use Rattle.ms_task.specs.Marks.{labels_in}
-use Rattle.ms_task.specs.Control.{To, Lost, again, br_if_on, br_table_on, branch, keep, kept, return_on}
+use Rattle.ms_task.specs.Control.{To, Stuck, again, br_if_on, br_table_on, branch, keep, kept, return_on}
 use Rattle.ms_task.specs.Thread.{Frame, Item, dos, sequence, thread}
 use Rattle.ms_task.specs.View.{again_at, items_of, resume, rest_at}
 use Rattle.ms_task.proofs.Items.{branch_past, return_past, again-at}
 
-pub branch_within : (l : ℕ) (fr : Frame) (vs : List Value) (funcs : List FuncInst) (f : ℕ) (below : List Value) (ms : List Mark) → branch l fr vs (items_of funcs f below ms) ≢ Lost → (l ≤ labels_in ms) × (l < length ms)
+pub branch_within : (l : ℕ) (fr : Frame) (vs : List Value) (funcs : List FuncInst) (f : ℕ) (below : List Value) (ms : List Mark) → branch l fr vs (items_of funcs f below ms) ≢ Stuck → (l ≤ labels_in ms) × (l < length ms)
 branch_within l fr vs funcs f below [] n = absurd (n refl)
 branch_within zero fr vs funcs f below (m ∷ ms) n = (omega arith, omega arith)
 branch_within (suc l) fr vs funcs f below (marks.Label k h s next a ∷ ms) n =
@@ -27,11 +27,11 @@ branch-drop (suc l) fr vs funcs f below (marks.Label k h s next a ∷ ms) le =
     branch_past l fr vs (drop next (sequence funcs f s)) (items_of funcs f below ms) ∙ branch-drop l fr vs funcs f below ms (omega (arith, le))
 branch-drop (suc l) fr vs funcs f below (marks.Activation k h g s next base floor ∷ ms) le = absurd (omega (arith, le))
 
-pub branch_mark : (l : ℕ) (fr : Frame) (vs : List Value) (funcs : List FuncInst) (f : ℕ) (below : List Value) (ms cut ms' : List Mark) (m : Mark) → branch l fr vs (items_of funcs f below ms) ≢ Lost → cut ≡ drop l ms → cut ≡ m ∷ ms' → branch l fr vs (items_of funcs f below ms) ≡ branch 0 fr vs (items_of funcs f below (m ∷ ms'))
+pub branch_mark : (l : ℕ) (fr : Frame) (vs : List Value) (funcs : List FuncInst) (f : ℕ) (below : List Value) (ms cut ms' : List Mark) (m : Mark) → branch l fr vs (items_of funcs f below ms) ≢ Stuck → cut ≡ drop l ms → cut ≡ m ∷ ms' → branch l fr vs (items_of funcs f below ms) ≡ branch 0 fr vs (items_of funcs f below (m ∷ ms'))
 branch_mark l fr vs funcs f below ms cut ms' m n e p =
     branch-drop l fr vs funcs f below ms (branch_within l fr vs funcs f below ms n).0 ∙ ap (λ x. branch 0 fr vs (items_of funcs f below x)) (sym e ∙ p)
 
-pub branch_to_label : (l : ℕ) (fr : Frame) (vs : List Value) (funcs : List FuncInst) (f : ℕ) (below : List Value) (ms cut ms' : List Mark) (k : Option ValType) (h s next : ℕ) (a : Bool) (vs' : List Value) (place : ℕ) → branch l fr vs (items_of funcs f below ms) ≢ Lost → cut ≡ drop l ms → cut ≡ marks.Label k h s next a ∷ ms' → Some vs' ≡ keep k h vs → place ≡ resume a next → To (thread fr vs' (rest_at funcs f s place ++ items_of funcs f below ms')) ≡ branch l fr vs (items_of funcs f below ms)
+pub branch_to_label : (l : ℕ) (fr : Frame) (vs : List Value) (funcs : List FuncInst) (f : ℕ) (below : List Value) (ms cut ms' : List Mark) (k : Option ValType) (h s next : ℕ) (a : Bool) (vs' : List Value) (place : ℕ) → branch l fr vs (items_of funcs f below ms) ≢ Stuck → cut ≡ drop l ms → cut ≡ marks.Label k h s next a ∷ ms' → Some vs' ≡ keep k h vs → place ≡ resume a next → To (thread fr vs' (rest_at funcs f s place ++ items_of funcs f below ms')) ≡ branch l fr vs (items_of funcs f below ms)
 branch_to_label l fr vs funcs f below ms cut ms' k h s next a vs' place n e p kept-is place-is =
     let is = sequence funcs f s in
     let w = items_of funcs f below ms' in
@@ -39,18 +39,18 @@ branch_to_label l fr vs funcs f below ms cut ms' k h s next a vs' place n e p ke
     ∙ ap (λ o. kept o fr (again (again_at a next is) (dos (drop next is) ++ w))) (sym kept-is)
     ∙ ap (λ x. To (thread fr vs' x)) (again-at a next is w ∙ ap (λ q. dos (drop q is) ++ w) (sym place-is)))
 
-pub label_keeps : (l : ℕ) (fr : Frame) (vs : List Value) (funcs : List FuncInst) (f : ℕ) (below : List Value) (ms cut ms' : List Mark) (k : Option ValType) (h s next : ℕ) (a : Bool) → branch l fr vs (items_of funcs f below ms) ≢ Lost → cut ≡ drop l ms → cut ≡ marks.Label k h s next a ∷ ms' → keep k h vs ≢ None
+pub label_keeps : (l : ℕ) (fr : Frame) (vs : List Value) (funcs : List FuncInst) (f : ℕ) (below : List Value) (ms cut ms' : List Mark) (k : Option ValType) (h s next : ℕ) (a : Bool) → branch l fr vs (items_of funcs f below ms) ≢ Stuck → cut ≡ drop l ms → cut ≡ marks.Label k h s next a ∷ ms' → keep k h vs ≢ None
 label_keeps l fr vs funcs f below ms cut ms' k h s next a n e p none =
     n (branch_mark l fr vs funcs f below ms cut ms' (marks.Label k h s next a) n e p
     ∙ ap (λ o. kept o fr (again (again_at a next (sequence funcs f s)) (dos (drop next (sequence funcs f s)) ++ items_of funcs f below ms'))) none)
 
-pub branch_to_call : (l : ℕ) (fr : Frame) (vs : List Value) (funcs : List FuncInst) (f : ℕ) (below : List Value) (ms cut ms' : List Mark) (k : Option ValType) (h g s next base floor : ℕ) (vs' : List Value) (locals : List Value × List Value) → branch l fr vs (items_of funcs f below ms) ≢ Lost → cut ≡ drop l ms → cut ≡ marks.Activation k h g s next base floor ∷ ms' → Some vs' ≡ keep k h vs → locals ≡ (take base below, drop base below) → To (thread (record { function = g; locals = locals.1 }) vs' (rest_at funcs g s next ++ items_of funcs g locals.0 ms')) ≡ branch l fr vs (items_of funcs f below ms)
+pub branch_to_call : (l : ℕ) (fr : Frame) (vs : List Value) (funcs : List FuncInst) (f : ℕ) (below : List Value) (ms cut ms' : List Mark) (k : Option ValType) (h g s next base floor : ℕ) (vs' : List Value) (locals : List Value × List Value) → branch l fr vs (items_of funcs f below ms) ≢ Stuck → cut ≡ drop l ms → cut ≡ marks.Activation k h g s next base floor ∷ ms' → Some vs' ≡ keep k h vs → locals ≡ (take base below, drop base below) → To (thread (record { function = g; locals = locals.1 }) vs' (rest_at funcs g s next ++ items_of funcs g locals.0 ms')) ≡ branch l fr vs (items_of funcs f below ms)
 branch_to_call l fr vs funcs f below ms cut ms' k h g s next base floor vs' locals n e p kept-is locals-is =
     ap (λ (x : List Value × List Value). To (thread (record { function = g; locals = x.1 }) vs' (rest_at funcs g s next ++ items_of funcs g x.0 ms'))) locals-is
     ∙ sym (branch_mark l fr vs funcs f below ms cut ms' (marks.Activation k h g s next base floor) n e p
     ∙ ap (λ o. kept o (record { function = g; locals = drop base below }) (rest_at funcs g s next ++ items_of funcs g (take base below) ms')) (sym kept-is))
 
-pub call_keeps : (l : ℕ) (fr : Frame) (vs : List Value) (funcs : List FuncInst) (f : ℕ) (below : List Value) (ms cut ms' : List Mark) (k : Option ValType) (h g s next base floor : ℕ) → branch l fr vs (items_of funcs f below ms) ≢ Lost → cut ≡ drop l ms → cut ≡ marks.Activation k h g s next base floor ∷ ms' → keep k h vs ≢ None
+pub call_keeps : (l : ℕ) (fr : Frame) (vs : List Value) (funcs : List FuncInst) (f : ℕ) (below : List Value) (ms cut ms' : List Mark) (k : Option ValType) (h g s next base floor : ℕ) → branch l fr vs (items_of funcs f below ms) ≢ Stuck → cut ≡ drop l ms → cut ≡ marks.Activation k h g s next base floor ∷ ms' → keep k h vs ≢ None
 call_keeps l fr vs funcs f below ms cut ms' k h g s next base floor n e p none =
     n (branch_mark l fr vs funcs f below ms cut ms' (marks.Activation k h g s next base floor) n e p
     ∙ ap (λ o. kept o (record { function = g; locals = drop base below }) (rest_at funcs g s next ++ items_of funcs g (take base below) ms')) none)

@@ -11,7 +11,7 @@ use Rattle.std.proofs.lemmas.Bool.{lt-ltb, le-ltb, le-leb, cases_lt, lt-leb}
 use Rattle.std.proofs.lemmas.Option.{slice_get_past, slice_get_within, get_or_from_slice_get}
 use Rattle.std.proofs.lemmas.List.{length-take-le, get_or-take, map-append, reverse-append}
 use Rattle.std.proofs.Math.Seq.{take-append_seam, drop-append_seam, drop-cons, take-suc}
-use Rattle.ms_task.specs.Control.{To, Lost, TooDeep, call_on, enter, entered, started}
+use Rattle.ms_task.specs.Control.{To, Stuck, TooDeep, call_on, deepest, enter, entered, started}
 use Rattle.ms_task.specs.Thread.{Activation, Frame, Thread, depth_of, dos, result_of, sequence, thread}
 use Rattle.ms_task.specs.View.{items_of, rest_at}
 use Rattle.ms_task.proofs.Items.{depth_past}
@@ -25,20 +25,20 @@ depth_of-items_of funcs f below (marks.Activation k h g s next base floor ∷ ms
 pub depth_of_rest : (funcs : List FuncInst) (f s next : ℕ) (below : List Value) (ms : List Mark) → depth_of (rest_at funcs f s next ++ items_of funcs f below ms) ≡ calls_in ms
 depth_of_rest funcs f s next below ms = depth_past (drop next (sequence funcs f s)) (items_of funcs f below ms) ∙ depth_of-items_of funcs f below ms
 
-pub call_deep : (funcs : List FuncInst) (f : ℕ) (t : Thread) → 4096 ≤ depth_of t.work → call_on funcs f t ≡ TooDeep
+pub call_deep : (funcs : List FuncInst) (f : ℕ) (t : Thread) → deepest ≤ depth_of t.work → call_on funcs f t ≡ TooDeep
 call_deep funcs f t h = ap (λ b. cond b (enter funcs f (slice_get funcs f) t) (TooDeep)) (le-ltb _ _ h)
 
-pub call_on-enter : (funcs : List FuncInst) (f : ℕ) (t : Thread) → depth_of t.work < 4096 → call_on funcs f t ≡ enter funcs f (slice_get funcs f) t
+pub call_on-enter : (funcs : List FuncInst) (f : ℕ) (t : Thread) → depth_of t.work < deepest → call_on funcs f t ≡ enter funcs f (slice_get funcs f) t
 call_on-enter funcs f t h = ap (λ b. cond b (enter funcs f (slice_get funcs f) t) (TooDeep)) (lt-ltb _ _ h)
 
-pub call_found : (funcs : List FuncInst) (f : ℕ) (t : Thread) → call_on funcs f t ≢ Lost → depth_of t.work < 4096 → f < length funcs
+pub call_found : (funcs : List FuncInst) (f : ℕ) (t : Thread) → call_on funcs f t ≢ Stuck → depth_of t.work < deepest → f < length funcs
 call_found funcs f t n h =
     ⊎_elim (λ lt. lt) (λ le. absurd (n (call_on-enter funcs f t h ∙ ap (λ o. enter funcs f o t) (slice_get_past funcs f le)))) (cases_lt f (length funcs))
 
-pub call_room : (funcs : List FuncInst) (f : ℕ) (g : FuncInst) (t : Thread) → call_on funcs f t ≢ Lost → depth_of t.work < 4096 → slice_get funcs f ≡ Some g → length g.ty.params ≤ length t.operands
+pub call_room : (funcs : List FuncInst) (f : ℕ) (g : FuncInst) (t : Thread) → call_on funcs f t ≢ Stuck → depth_of t.work < deepest → slice_get funcs f ≡ Some g → length g.ty.params ≤ length t.operands
 call_room funcs f g t n h e =
     ⊎_elim
-    (λ lt. absurd (n (call_on-enter funcs f t h ∙ ap (λ o. enter funcs f o t) e ∙ ap (λ b. cond b (To (entered funcs f g t)) Lost) (lt-leb _ _ lt))))
+    (λ lt. absurd (n (call_on-enter funcs f t h ∙ ap (λ o. enter funcs f o t) e ∙ ap (λ b. cond b (To (entered funcs f g t)) Stuck) (lt-leb _ _ lt))))
     (λ le. le)
     (cases_lt (length t.operands) (length g.ty.params))
 
@@ -47,14 +47,14 @@ entered_frames : (below here args others : List Value) (frames1 frames2 frames3 
 entered_frames below here args others frames1 frames2 frames3 is1 is2 is3 =
     is3 ∙ ap (λ (x : List Value × List Value). (x.0, x.1 ++ others)) (is2 ∙ ap (λ (x : List Value × List Value). (x.0, x.1 ++ args)) is1)
 
-pub call_enters : (funcs : List FuncInst) (f fn s next : ℕ) (g : FuncInst) (below here vs : List Value) (ms ms' : List Mark) (n base height floor : ℕ) (k : Option ValType) (frames1 frames2 frames3 : List Value × List Value) (vs' : List Value) → slice_get funcs f ≡ Some g → n ≡ length g.ty.params → n ≤ length vs → calls_in ms < 4096 → base ≡ length below → k ≡ result_of g → frames1 ≡ (below ++ here, []) → frames2 ≡ (frames1.0, frames1.1 ++ reverse (take n vs)) → frames3 ≡ (frames2.0, frames2.1 ++ map default_of g.locals) → vs' ≡ drop n vs → height ≡ length vs' → ms' ≡ marks.Activation k height fn s next base floor ∷ ms → To (thread (record { function = f; locals = frames3.1 }) vs' (rest_at funcs f 0 0 ++ items_of funcs f frames3.0 ms')) ≡ call_on funcs f (thread (record { function = fn; locals = here }) vs (rest_at funcs fn s next ++ items_of funcs fn below ms))
+pub call_enters : (funcs : List FuncInst) (f fn s next : ℕ) (g : FuncInst) (below here vs : List Value) (ms ms' : List Mark) (n base height floor : ℕ) (k : Option ValType) (frames1 frames2 frames3 : List Value × List Value) (vs' : List Value) → slice_get funcs f ≡ Some g → n ≡ length g.ty.params → n ≤ length vs → calls_in ms < deepest → base ≡ length below → k ≡ result_of g → frames1 ≡ (below ++ here, []) → frames2 ≡ (frames1.0, frames1.1 ++ reverse (take n vs)) → frames3 ≡ (frames2.0, frames2.1 ++ map default_of g.locals) → vs' ≡ drop n vs → height ≡ length vs' → ms' ≡ marks.Activation k height fn s next base floor ∷ ms → To (thread (record { function = f; locals = frames3.1 }) vs' (rest_at funcs f 0 0 ++ items_of funcs f frames3.0 ms')) ≡ call_on funcs f (thread (record { function = fn; locals = here }) vs (rest_at funcs fn s next ++ items_of funcs fn below ms))
 call_enters funcs f fn s next g below here vs ms ms' n base height floor k frames1 frames2 frames3 vs' found n-is room shallow base-is keeps is1 is2 is3 vs-is height-is ms-is =
     let fr : Frame = record { function = fn; locals = here } in
     let w = rest_at funcs fn s next ++ items_of funcs fn below ms in
     let t = thread fr vs w in
     let fr' : Frame = record { function = f; locals = reverse (take n vs) ++ map default_of g.locals } in
     let all = entered_frames below here (reverse (take n vs)) (map default_of g.locals) frames1 frames2 frames3 is1 is2 is3 in
-    let deep : depth_of w < 4096 = rw (depth_of_rest funcs fn s next below ms) shallow in
+    let deep : depth_of w < deepest = rw (depth_of_rest funcs fn s next below ms) shallow in
     let high : height ≡ length vs - length g.ty.params = omega (arith, ap length vs-is, length-drop n vs) in
     let back : take base (below ++ here) ≡ below = ap (λ k. take k (below ++ here)) base-is ∙ take-append_seam below here in
     let mine : drop base (below ++ here) ≡ here = ap (λ k. drop k (below ++ here)) base-is ∙ drop-append_seam below here in
@@ -68,7 +68,7 @@ call_enters funcs f fn s next g below here vs ms ms' n base height floor k frame
     ∙ ap (λ k. To (thread (record { function = f; locals = reverse (take k vs) ++ map default_of g.locals }) (drop k vs) (rest_at funcs f 0 0 ++ Activation (result_of g) (length vs - length g.ty.params) fr ∷ w))) n-is
     ∙ sym (call_on-enter funcs f t deep
     ∙ ap (λ o. enter funcs f o t) found
-    ∙ ap (λ b. cond b (To (entered funcs f g t)) Lost) (le-leb _ _ (subst (λ k. k ≤ length vs) n-is room)))
+    ∙ ap (λ b. cond b (To (entered funcs f g t)) Stuck) (le-leb _ _ (subst (λ k. k ≤ length vs) n-is room)))
 
 pub arguments_more : (i n : ℕ) (vs : List Value) (v : Value) → i < n → n ≤ length vs → slice_get vs (n - 1 - i) ≡ Some v → reverse (drop (n - (i + 1)) (take n vs)) ≡ reverse (drop (n - i) (take n vs)) ++ v ∷ []
 arguments_more i n vs v lt le e =

@@ -6,9 +6,9 @@ use Rattle.ms_module.specs.declared.instr.Instr.{Instr}
 use Rattle.ms_module.specs.declared.instr.Instr.TheVariants.{Loop}
 use Rattle.ms_task.specs.declared.func.FuncInst.{FuncInst}
 use Rattle.ms_task.specs.declared.task.Task.{Task}
-use Rattle.ms_task.specs.Control.{again, block_on, branch, loop_on, return_on, settle}
+use Rattle.ms_task.specs.Control.{again, block_on, branch, loop_on, return_on, exit_ended}
 use Rattle.ms_task.specs.Thread.{Activation, Begins, Do, Frame, Item, Label, depth_of, dos, sequence, thread}
-use Rattle.ms_task.specs.View.{again_at, at_next, before, outer_of, resume, settle_one}
+use Rattle.ms_task.specs.View.{again_at, at_next, before, outer_of, resume, exit_one}
 
 -- ---- instructions are passed over
 
@@ -37,21 +37,21 @@ dos_are_nil (i ∷ is) w e = cc
 
 -- ---- leaving blocks and calls at their ends
 
-pub settle_begins : (fr : Frame) (vs : List Value) (w : List Item) → Begins w → settle fr vs w ≡ thread fr vs w
-settle_begins fr vs [] b = absurd b
-settle_begins fr vs (Do i ∷ w) b = refl
-settle_begins fr vs (Label k h g ∷ w) b = absurd b
-settle_begins fr vs (Activation k h caller ∷ w) b = absurd b
+pub exit_begins : (fr : Frame) (vs : List Value) (w : List Item) → Begins w → exit_ended fr vs w ≡ thread fr vs w
+exit_begins fr vs [] b = absurd b
+exit_begins fr vs (Do i ∷ w) b = refl
+exit_begins fr vs (Label k h g ∷ w) b = absurd b
+exit_begins fr vs (Activation k h caller ∷ w) b = absurd b
 
 pub begins_past : (is : List Instr) (w : List Item) → is ≢ [] → Begins (dos is ++ w)
 begins_past [] w n = absurd (n refl)
 begins_past (i ∷ is) w n = tt
 
-pub settle-settle_one : (fr : Frame) (vs : List Value) (w : List Item) → settle (settle_one fr vs w).frame (settle_one fr vs w).operands (settle_one fr vs w).work ≡ settle fr vs w
-settle-settle_one fr vs [] = refl
-settle-settle_one fr vs (Do i ∷ w) = refl
-settle-settle_one fr vs (Label k h g ∷ w) = refl
-settle-settle_one fr vs (Activation k h caller ∷ w) = refl
+pub exit_ended-exit_one : (fr : Frame) (vs : List Value) (w : List Item) → exit_ended (exit_one fr vs w).frame (exit_one fr vs w).operands (exit_one fr vs w).work ≡ exit_ended fr vs w
+exit_ended-exit_one fr vs [] = refl
+exit_ended-exit_one fr vs (Do i ∷ w) = refl
+exit_ended-exit_one fr vs (Label k h g ∷ w) = refl
+exit_ended-exit_one fr vs (Activation k h caller ∷ w) = refl
 
 -- ---- the loop that begins again
 

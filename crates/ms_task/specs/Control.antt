@@ -15,19 +15,19 @@ pub data Moved : Type 0 where
   -- to a call that would be too deep
   TooDeep : Moved
   -- nowhere: an operand, a label or a function isn't there
-  Lost : Moved
+  Stuck : Moved
 
--- ---- leaving blocks and calls at their ends
+-- ---- exiting blocks and calls at their ends
 
--- ends in front are dropped: leaving belongs to the step before
-abbrev pub settle : Frame → List Value → List Item → Thread
-settle fr vs [] = thread fr vs []
-settle fr vs (Do i ∷ w) = thread fr vs (Do i ∷ w)
-settle fr vs (Label k h g ∷ w) = settle fr vs w
-settle fr vs (Activation k h caller ∷ w) = settle caller vs w
+-- ends in front are dropped: exiting belongs to the step before
+abbrev pub exit_ended : Frame → List Value → List Item → Thread
+exit_ended fr vs [] = thread fr vs []
+exit_ended fr vs (Do i ∷ w) = thread fr vs (Do i ∷ w)
+exit_ended fr vs (Label k h g ∷ w) = exit_ended fr vs w
+exit_ended fr vs (Activation k h caller ∷ w) = exit_ended caller vs w
 
-abbrev pub settled : Thread → Thread
-settled t = settle t.frame t.operands t.work
+abbrev pub exited : Thread → Thread
+exited t = exit_ended t.frame t.operands t.work
 
 -- ---- branches
 
@@ -46,7 +46,7 @@ keep (Some t) h [] = None
 keep (Some t) h (v ∷ vs) = over v (lowest h vs)
 
 abbrev pub kept : Option (List Value) → Frame → List Item → Moved
-kept None fr w = Lost
+kept None fr w = Stuck
 kept (Some vs) fr w = To (thread fr vs w)
 
 abbrev pub again : Option Instr → List Item → List Item
@@ -55,15 +55,15 @@ again (Some i) w = Do i ∷ w
 
 -- to the label of this number, the innermost being 0; behind the labels of the call its own end
 abbrev pub branch : ℕ → Frame → List Value → List Item → Moved
-branch l fr vs [] = Lost
+branch l fr vs [] = Stuck
 branch l fr vs (Do i ∷ w) = branch l fr vs w
 branch zero fr vs (Label k h g ∷ w) = kept (keep k h vs) fr (again g w)
 branch (suc l) fr vs (Label k h g ∷ w) = branch l fr vs w
 branch zero fr vs (Activation k h caller ∷ w) = kept (keep k h vs) caller w
-branch (suc l) fr vs (Activation k h caller ∷ w) = Lost
+branch (suc l) fr vs (Activation k h caller ∷ w) = Stuck
 
 abbrev pub return_on : List Value → List Item → Moved
-return_on vs [] = Lost
+return_on vs [] = Stuck
 return_on vs (Do i ∷ w) = return_on vs w
 return_on vs (Label k h g ∷ w) = return_on vs w
 return_on vs (Activation k h caller ∷ w) = kept (keep k h vs) caller w
@@ -72,14 +72,14 @@ return_on vs (Activation k h caller ∷ w) = kept (keep k h vs) caller w
 abbrev pub on_number : List Value → (nonzero otherwise : List Value → Moved) → Moved
 on_number (I32 zero ∷ vs) nonzero otherwise = otherwise vs
 on_number (I32 (suc n) ∷ vs) nonzero otherwise = nonzero vs
-on_number _ nonzero otherwise = Lost
+on_number _ nonzero otherwise = Stuck
 
 abbrev pub br_if_on : ℕ → Thread → Moved
 br_if_on l t = on_number t.operands (λ vs. branch l t.frame vs t.work) (λ vs. To (thread t.frame vs t.work))
 
 abbrev pub on_index : List Value → (ℕ → List Value → Moved) → Moved
 on_index (I32 i ∷ vs) go = go i vs
-on_index _ go = Lost
+on_index _ go = Stuck
 
 -- to the label for the operand, or to the default one
 abbrev pub br_table_on : List ℕ → ℕ → Thread → Moved
@@ -111,8 +111,8 @@ entered funcs f g t =
     thread (record { function = f; locals = reverse (take n t.operands) ++ map default_of g.locals }) (drop n t.operands) (dos (sequence funcs f 0) ++ Activation (result_of g) (length t.operands - n) t.frame ∷ t.work)
 
 abbrev pub enter : List FuncInst → ℕ → Option FuncInst → Thread → Moved
-enter funcs f None t = Lost
-enter funcs f (Some g) t = if nat_le (length g.ty.params) (length t.operands) then To (entered funcs f g t) else Lost
+enter funcs f None t = Stuck
+enter funcs f (Some g) t = if nat_le (length g.ty.params) (length t.operands) then To (entered funcs f g t) else Stuck
 
 abbrev pub deepest : ℕ
 deepest = 4096

@@ -50,8 +50,8 @@ abbrev pub before : List FuncInst → Task → ℕ → Option Instr
 before funcs t next = again_at true next (sequence funcs t.function t.sequence)
 
 -- one end in front is dropped
-abbrev pub settle_one : Frame → List Value → List Item → Thread
-settle_one fr vs [] = thread fr vs []
-settle_one fr vs (Do i ∷ w) = thread fr vs (Do i ∷ w)
-settle_one fr vs (Label k h g ∷ w) = thread fr vs w
-settle_one fr vs (Activation k h caller ∷ w) = thread caller vs w
+abbrev pub exit_one : Frame → List Value → List Item → Thread
+exit_one fr vs [] = thread fr vs []
+exit_one fr vs (Do i ∷ w) = thread fr vs (Do i ∷ w)
+exit_one fr vs (Label k h g ∷ w) = thread fr vs w
+exit_one fr vs (Activation k h caller ∷ w) = thread caller vs w

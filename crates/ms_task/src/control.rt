@@ -2,7 +2,7 @@
 
 ghost use Rattle.std.specs.Prelude.{◌≡◌, ◌≢◌, ℕ, ◌≤◌, List, [], ◌∷◌, ◌++◌, length, drop, take, reverse, map, slice_get, unwrap_or, OnOk, Option, Some, None, Err};
 ghost use Rattle.ms_linear.specs.Values.{default_of};
-ghost use Rattle.ms_task.specs.Control.{To, Lost, TooDeep, block_on, br_if_on, br_table_on, branch, call_on, if_on, keep, return_on};
+ghost use Rattle.ms_task.specs.Control.{To, Stuck, TooDeep, block_on, br_if_on, br_table_on, branch, call_on, if_on, keep, return_on};
 ghost use Rattle.ms_task.specs.Thread.{sequence};
 ghost use Rattle.ms_task.specs.View.{again_at, at_next, frame_of, outer_of, resume, thread_of};
 ghost use Rattle.ms_task.specs.declared.func.FuncInst.{FuncInst};
@@ -129,7 +129,7 @@ impl Task {
         ty: Option<ValType>,
         next: usize,
     ) -> Result<(), AllocError>
-        requires { if_on funcs.now then other ty (at_next funcs.now self.old next) ≢ Lost }
+        requires { if_on funcs.now then other ty (at_next funcs.now self.old next) ≢ Stuck }
         ensures { OnOk result (To (thread_of funcs.now self.new) ≡ if_on funcs.now then other ty (at_next funcs.now self.old next)) }
     {
         let _ = funcs;
@@ -150,7 +150,7 @@ impl Task {
 
     /// Leaves blocks up to the label's, or the call.
     pub fn branch(&mut self, funcs: &[FuncInst], label: usize)
-        requires { branch label (frame_of self.old) self.old.operands (outer_of funcs.now self.old) ≢ Lost }
+        requires { branch label (frame_of self.old) self.old.operands (outer_of funcs.now self.old) ≢ Stuck }
         ensures { To (thread_of funcs.now self.new) ≡ branch label (frame_of self.old) self.old.operands (outer_of funcs.now self.old) }
     {
         self.marks.cut(label);
@@ -187,7 +187,7 @@ impl Task {
 
     /// Branches at an operand that is not 0.
     pub fn branch_if(&mut self, funcs: &[FuncInst], label: u32, next: usize)
-        requires { br_if_on label (at_next funcs.now self.old next) ≢ Lost }
+        requires { br_if_on label (at_next funcs.now self.old next) ≢ Stuck }
         ensures { To (thread_of funcs.now self.new) ≡ br_if_on label (at_next funcs.now self.old next) }
     {
         let Value::I32(n) = self.operands.pop() else {
@@ -202,7 +202,7 @@ impl Task {
 
     /// Branches to the label for the operand.
     pub fn branch_by_table(&mut self, funcs: &[FuncInst], table: &BrTable, next: usize)
-        requires { br_table_on table.now.labels table.now.default (at_next funcs.now self.old next) ≢ Lost }
+        requires { br_table_on table.now.labels table.now.default (at_next funcs.now self.old next) ≢ Stuck }
         ensures { To (thread_of funcs.now self.new) ≡ br_table_on table.now.labels table.now.default (at_next funcs.now self.old next) }
     {
         let _ = next;
@@ -214,7 +214,7 @@ impl Task {
 
     /// Leaves the current call.
     pub fn return_from(&mut self, funcs: &[FuncInst])
-        requires { return_on self.old.operands (outer_of funcs.now self.old) ≢ Lost }
+        requires { return_on self.old.operands (outer_of funcs.now self.old) ≢ Stuck }
         ensures { To (thread_of funcs.now self.new) ≡ return_on self.old.operands (outer_of funcs.now self.old) }
     {
         let label = self.marks.labels();
@@ -224,7 +224,7 @@ impl Task {
     /// Calls the function of an address, behind which the work goes on at `next`. Where that would be too deep nothing
     /// has changed.
     pub fn call(&mut self, funcs: &[FuncInst], address: u32, next: usize) -> Result<(), CallFault>
-        requires { call_on funcs.now address (at_next funcs.now self.old next) ≢ Lost }
+        requires { call_on funcs.now address (at_next funcs.now self.old next) ≢ Stuck }
         ensures ok { OnOk result (To (thread_of funcs.now self.new) ≡ call_on funcs.now address (at_next funcs.now self.old next)) }
         ensures too_deep { result ≡ Err CallFault.TooDeep → (TooDeep ≡ call_on funcs.now address (at_next funcs.now self.old next)) × (self.new ≡ self.old) }
     {

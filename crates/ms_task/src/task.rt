@@ -1,9 +1,9 @@
 //! A task, the start of one, and the places of instructions.
 
 ghost use Rattle.std.specs.Prelude.{◌≡◌, ◌↔◌, ℕ, List, [], ◌∷◌, Some, IfOk, IsTrue, drop, nat_lt, slice_get};
-ghost use Rattle.ms_task.specs.Control.{deepest, settled, started};
+ghost use Rattle.ms_task.specs.Control.{deepest, exited, started};
 ghost use Rattle.ms_task.specs.Thread.{Begins, depth_of, sequence, with_first};
-ghost use Rattle.ms_task.specs.View.{at_next, before, frame_of, items_of, settle_one, thread_of};
+ghost use Rattle.ms_task.specs.View.{at_next, before, frame_of, items_of, exit_one, thread_of};
 ghost use Rattle.ms_task.specs.declared.func.FuncInst.{FuncInst};
 
 use crate::control::{DEEPEST, add_locals};
@@ -45,7 +45,7 @@ impl Task {
     /// A task that carries out the function of an address, which has no parameters. It may have nothing to do.
     pub fn start(alloc: Global, funcs: &[FuncInst], address: u32) -> Result<Task, AllocError>
         requires { (g : FuncInst) × (slice_get funcs.now address ≡ Some g) × (g.ty.params ≡ []) }
-        ensures { (g : FuncInst) → slice_get funcs.now address ≡ Some g → IfOk result (λ t. thread_of funcs.now t ≡ settled (started funcs.now address g)) }
+        ensures { (g : FuncInst) → slice_get funcs.now address ≡ Some g → IfOk result (λ t. thread_of funcs.now t ≡ exited (started funcs.now address g)) }
     {
         let mut frames = Frames::new(alloc);
         let base = frames.enter();
@@ -61,7 +61,7 @@ impl Task {
             frames,
             marks,
         };
-        task.settle(funcs);
+        task.exit_ended(funcs);
         Ok(task)
     }
 
@@ -108,9 +108,9 @@ impl Task {
         self.place = next;
     }
 
-    /// Leaves blocks and calls that are at their ends, and says whether nothing is left to do.
-    pub fn settle(&mut self, funcs: &[FuncInst]) -> bool
-        ensures thread { thread_of funcs.now self.new ≡ settled (thread_of funcs.now self.old) }
+    /// Exits blocks and calls that are at their ends, and says whether nothing is left to do.
+    pub fn exit_ended(&mut self, funcs: &[FuncInst]) -> bool
+        ensures thread { thread_of funcs.now self.new ≡ exited (thread_of funcs.now self.old) }
         ensures ended { IsTrue result ↔ ((thread_of funcs.now self.new).work ≡ []) }
     {
         while self.is_at_end(funcs) {
@@ -140,7 +140,7 @@ impl Task {
     /// Goes on behind a block or call.
     fn go_on_behind(&mut self, mark: Mark)
         ensures marks { self.new.marks ≡ self.old.marks }
-        ensures thread { (funcs : List FuncInst) → thread_of funcs self.new ≡ settle_one (frame_of self.old) self.old.operands (items_of funcs self.old.function self.old.frames.0 (mark ∷ self.old.marks)) }
+        ensures thread { (funcs : List FuncInst) → thread_of funcs self.new ≡ exit_one (frame_of self.old) self.old.operands (items_of funcs self.old.function self.old.frames.0 (mark ∷ self.old.marks)) }
     {
         match mark {
             Mark::Label { sequence, next, .. } => {

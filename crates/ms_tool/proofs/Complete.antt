@@ -7,7 +7,7 @@ use Rattle.std.proofs.lemmas.Option.{slice_get_cases}
 use Rattle.ms_bin_grammar.specs.declared.fault.ReadFault.{ReadFault as ReadingFault}
 use Rattle.ms_outside.specs.Files.{Files, bytes_of}
 use Rattle.ms_outside.specs.Shelf.{Told}
-use Rattle.ms_machine.specs.Running.{End, Lost, OutOfBudget, Result as Ended, Stopped}
+use Rattle.ms_machine.specs.Running.{End, OutOfBudget, Result as Ended, Stuck, Trap}
 use Rattle.ms_module.specs.declared.module.Module.{Module}
 use Rattle.ms_bin_grammar.specs.Bounds.{usual}
 use Rattle.ms_bin_grammar.specs.Module.{SpellsWithin, Stops, module_format}
@@ -78,9 +78,9 @@ never_wrong m (parts.Function n) well wrong =
 
 ends_once : (end : End) (s : Status) (t : List ℕ) (s' : Status) (t' : List ℕ) → EndsAs end s t → EndsAs end s' t' → Same s t s' t'
 ends_once (Ended value) s t s' t' h k = (h.0 ∙ sym k.0, h.1 ∙ sym k.1)
-ends_once (Stopped trap) s t s' t' h k = (h.0 ∙ sym k.0, h.1 ∙ sym k.1)
+ends_once (Trap trap) s t s' t' h k = (h.0 ∙ sym k.0, h.1 ∙ sym k.1)
 ends_once OutOfBudget s t s' t' h k = (h.0 ∙ sym k.0, h.1 ∙ sym k.1)
-ends_once Lost s t s' t' h k = absurd h
+ends_once Stuck s t s' t' h k = absurd h
 
 answers_once : (e : Execution) (s : Status) (t : List ℕ) (s' : Status) (t' : List ℕ) → AnswersAs e s t → AnswersAs e s' t' → Same s t s' t'
 answers_once Imports s t s' t' h k = (h.0 ∙ sym k.0, h.1 ∙ sym k.1)

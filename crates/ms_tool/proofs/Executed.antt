@@ -1,12 +1,12 @@
 -- What executing a well-typed module comes to, by what was found of it.
-use Rattle.std.proofs.Common.{◌≡◌, ◌≢◌, ℕ, ◌==◌, ◌&&◌, List, [], ◌∷◌, length, Bool, true, false, refl, sym, ap, ◌∙◌, subst, cond, inl, inr, arith}
+use Rattle.std.proofs.Common.{◌≡◌, ◌≢◌, ℕ, ◌==◌, List, [], ◌∷◌, length, Bool, true, false, refl, sym, ap, ◌∙◌, subst, cond, inl, inr, arith}
 use Rattle.std.specs.Prelude.{Option, Some, None, Ok, Err, MatchOption, option_and_then, slice_get}
-use Rattle.std.proofs.lemmas.Bool.{eqb-true}
+use Rattle.std.proofs.lemmas.Bool.{and_parts, eqb-true}
 use Rattle.std.proofs.lemmas.Option.{get_or_from_slice_get}
 use Rattle.ms_bytes.specs.ResultLaws.{chosen}
 use Rattle.ms_machine.proofs.LinkedStores.{linked_func, linked_func_typed, linked_is}
 use Rattle.ms_machine.specs.Linking.{func_of, linked, linked_or, misfit, no_type, store_of}
-use Rattle.ms_machine.specs.Running.{IsAlone, Run, RunsTo, Tells, run_from}
+use Rattle.ms_machine.specs.Running.{IsAlone, Run, DoesWholeRun, DoesEnd, run_from}
 use Rattle.ms_machine.specs.Store.{Store}
 use Rattle.ms_machine.specs.Typing.{outline_of}
 use Rattle.ms_machine.specs.declared.linking.Misfit.{Misfit as Fault}
@@ -16,10 +16,11 @@ use Rattle.ms_module.specs.declared.module.Export.{Export}
 use Rattle.ms_module.specs.declared.module.ExportDesc.{ExportDesc}
 use Rattle.ms_module.specs.declared.module.ExportDesc.TheVariants as exports
 use Rattle.ms_module.specs.declared.module.Func.{Func}
+use Rattle.ms_module.specs.declared.module.Import.{Import}
 use Rattle.ms_module.specs.declared.module.Module.{Module}
 use Rattle.ms_rules.specs.Modules.{StartTyped, WellTyped}
 use Rattle.ms_types.specs.declared.types.FuncType.{FuncType}
-use Rattle.ms_tool.specs.Outcomes.{ComesWithin, IsOver}
+use Rattle.ms_tool.specs.Executions.{DoesExecution, Imports, IsOver, Misfits, NoTask, Runs, execution_within, with_fit, with_imports, with_task}
 use Rattle.ms_tool.specs.Tasks.{exported_task, is_task_result, is_task_type, main_name, of_task_type, task_index}
 use Rattle.ms_tool.specs.declared.exec.Outcome.TheVariants.{Ran}
 
@@ -28,6 +29,9 @@ use Rattle.ms_tool.specs.declared.exec.Outcome.TheVariants.{Ran}
 of_no_length : {A : Type 0} (xs : List A) → (length xs == 0) ≡ true → xs ≡ []
 of_no_length [] e = refl
 of_no_length (x ∷ xs) e = absurd (let none = eqb-true (length (x ∷ xs)) 0 e in omega arith)
+
+pub not_empty : {A : Type 0} (is_empty : Bool) (xs : List A) → is_empty ≡ (length xs == 0) → is_empty ≡ false → xs ≢ []
+not_empty b xs e false_is none = let both : true ≡ false = sym (ap (λ ys. length ys == 0) none) ∙ sym e ∙ false_is in absurd cc
 
 pub empty_is : {A : Type 0} (is_empty : Bool) (xs : List A) → is_empty ≡ (length xs == 0) → is_empty ≡ true → xs ≡ []
 empty_is b xs e true_is = of_no_length xs (sym e ∙ true_is)
@@ -40,23 +44,44 @@ misfit_is m capacity fault links = given (misfit m) links where
   given None e = cc
   given (Some other) e = let same : other ≡ fault = cc in ap Some same
 
+-- ---- what executing the module comes to, in the order of the tests
+
+module _ (budget capacity : ℕ) (m : Module) where
+  pub imports_first : m.imports ≢ [] → execution_within budget capacity m ≡ Imports
+  imports_first some = given m.imports some where
+    given : (is : List Import) → is ≢ [] → with_imports budget capacity m is ≡ Imports
+    given [] some = absurd (some refl)
+    given (i ∷ is) some = refl
+
+  pub misfit_next : (fault : Fault) → m.imports ≡ [] → misfit m ≡ Some fault → execution_within budget capacity m ≡ Misfits fault
+  misfit_next fault alone is = ap (with_imports budget capacity m) alone ∙ ap (with_fit budget capacity m) is
+
+  task_last : (o : Option ℕ) → m.imports ≡ [] → misfit m ≡ None → task_index m main_name ≡ o → execution_within budget capacity m ≡ with_task budget capacity m o
+  task_last o alone fits is = ap (with_imports budget capacity m) alone ∙ ap (with_fit budget capacity m) fits ∙ ap (with_task budget capacity m) is
+
+  pub no_task : m.imports ≡ [] → misfit m ≡ None → task_index m main_name ≡ None → execution_within budget capacity m ≡ NoTask
+  no_task alone fits none = task_last None alone fits none
+
+  pub runs_main : (main : ℕ) → m.imports ≡ [] → misfit m ≡ None → task_index m main_name ≡ Some main → execution_within budget capacity m ≡ Runs (run_from budget (store_of m capacity) m.start main)
+  runs_main main alone fits some = task_last (Some main) alone fits some
+
 -- ---- what running the module answered
 
 pub run_comes : (m : Module) (budget capacity : ℕ) (s after : Store) (main : ℕ) (ran : Ending) → m.imports ≡ [] → linked m capacity ≡ Ok s → task_index m main_name ≡ Some main → ran ≢ endings.Memory
-    → RunsTo ran after (run_from budget s m.start main) → ComesWithin budget capacity m (Ran ran)
+    → DoesWholeRun ran after (run_from budget s m.start main) → DoesExecution (execution_within budget capacity m) (Ran ran)
 run_comes m budget capacity s after main ran alone links some not runs =
     let is = linked_is m capacity s links in
     let run = run_from budget (store_of m capacity) m.start main in
-    let tells = told run ran not (subst (λ (x : Store). RunsTo ran after (run_from budget x m.start main)) is.1 runs) in
-    (tells.0, alone, is.0, main, some, tells.1)
+    let does = does_end run ran not (subst (λ (x : Store). DoesWholeRun ran after (run_from budget x m.start main)) is.1 runs) in
+    (does.0, run, runs_main budget capacity m main alone is.0 some, does.1)
   where
-    told : (run : Run) (ran : Ending) → ran ≢ endings.Memory → RunsTo ran after run → IsOver ran × Tells ran run.end
-    told run (endings.Result value) not h = (tt, h.0)
-    told run (endings.Trap trap) not h = (tt, h.0)
-    told run endings.Budget not h = (tt, h.0)
-    told run endings.ReadFault not h = absurd h.0
-    told run endings.WriteFault not h = absurd h.0
-    told run endings.Memory not h = absurd (not refl)
+    does_end : (run : Run) (ran : Ending) → ran ≢ endings.Memory → DoesWholeRun ran after run → IsOver ran × DoesEnd ran run.end
+    does_end run (endings.Result value) not h = (tt, h.0)
+    does_end run (endings.Trap trap) not h = (tt, h.0)
+    does_end run endings.Budget not h = (tt, h.0)
+    does_end run endings.ReadFault not h = absurd h.0
+    does_end run endings.WriteFault not h = absurd h.0
+    does_end run endings.Memory not h = absurd (not refl)
 
 -- ---- the functions that are run have no parameters
 
@@ -67,12 +92,8 @@ and_then_some f (Some x) y e = (x, refl, e)
 some_is : {A : Type 0} (x y : A) → ◌≡◌ {A = Option A} (Some x) (Some y) → x ≡ y
 some_is x y e = cc
 
-both-left : (a b : Bool) → (a && b) ≡ true → a ≡ true
-both-left true b e = refl
-both-left false b e = e
-
 no_params : (t : FuncType) → is_task_type t ≡ true → t.params ≡ []
-no_params t e = of_no_length t.params (both-left (length t.params == 0) (is_task_result t.results) e)
+no_params t e = of_no_length t.params (and_parts (length t.params == 0) (is_task_result t.results) e).0
 
 -- a task's function, and that it has no parameters
 task_found : (m : Module) (index main : ℕ) (g : Func) → of_task_type m index g ≡ Some main → (index ≡ main) × (t : FuncType) × (slice_get m.sigs g.sig ≡ Some t) × (t.params ≡ [])

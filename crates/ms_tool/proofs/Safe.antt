@@ -4,31 +4,35 @@ use Rattle.std.proofs.lemmas.List.{length-replicate}
 use Rattle.ms_event.specs.Monitor.{Accepts}
 use Rattle.ms_machine.specs.declared.linking.Misfit.{Misfit}
 use Rattle.ms_machine.specs.Linking.{linked, linked_or, misfit, store_of}
-use Rattle.ms_machine.specs.Running.{Lost, Run}
-use Rattle.ms_machine.proofs.LinkedStores.{linked_fits, links_typed}
+use Rattle.ms_machine.specs.Running.{Run, Stuck, run_from}
+use Rattle.ms_machine.proofs.LinkedStores.{linked_fits, does_linking_typed}
 use Rattle.ms_machine.proofs.SafeRuns.{run_accepted}
 use Rattle.ms_machine.proofs.SafeStarts.{sound_linked}
-use Rattle.ms_machine.proofs.Unstuck.{never_lost}
+use Rattle.ms_machine.proofs.Unstuck.{run_never_stuck}
 use Rattle.ms_module.specs.declared.module.Import.{Import}
 use Rattle.ms_module.specs.declared.module.Module.{Module}
 use Rattle.ms_rules.specs.Modules.{WellTyped}
 use Rattle.ms_tagged.specs.Bytes.{Byte, Data}
-use Rattle.ms_tool.specs.Executions.{Runs, default_budget, default_capacity, execution_of, run_of, with_fit, with_imports, with_task}
+use Rattle.ms_tool.specs.Executions.{Runs, default_budget, default_capacity, execution_of, with_fit, with_imports, with_task}
 use Rattle.ms_tool.specs.Tasks.{main_name, task_index}
 use Rattle.ms_tool.proofs.Executed.{first_alone, main_alone}
+
+-- the run within the usual budget, with the usual size
+abbrev run_of : Module → ℕ → Run
+run_of m main = run_from default_budget (store_of m default_capacity) m.start main
 
 same_run : (r s : Run) → Runs r ≡ Runs s → r ≡ s
 same_run r s e = cc
 
-of_task : (m : Module) (o : Option ℕ) (run : Run) → with_task m o ≡ Runs run → (main : ℕ) × (o ≡ Some main) × (run_of m main ≡ run)
+of_task : (m : Module) (o : Option ℕ) (run : Run) → with_task default_budget default_capacity m o ≡ Runs run → (main : ℕ) × (o ≡ Some main) × (run_of m main ≡ run)
 of_task m None run e = absurd cc
 of_task m (Some main) run e = (main, refl, same_run (run_of m main) run e)
 
-of_fit : (m : Module) (o : Option Misfit) (run : Run) → with_fit m o ≡ Runs run → (o ≡ None) × (main : ℕ) × (task_index m main_name ≡ Some main) × (run_of m main ≡ run)
+of_fit : (m : Module) (o : Option Misfit) (run : Run) → with_fit default_budget default_capacity m o ≡ Runs run → (o ≡ None) × (main : ℕ) × (task_index m main_name ≡ Some main) × (run_of m main ≡ run)
 of_fit m (Some fault) run e = absurd cc
 of_fit m None run e = let t = of_task m (task_index m main_name) run e in (refl, t.0, t.1, t.2)
 
-of_imports : (m : Module) (is : List Import) (run : Run) → with_imports m is ≡ Runs run → (is ≡ []) × (misfit m ≡ None) × (main : ℕ) × (task_index m main_name ≡ Some main) × (run_of m main ≡ run)
+of_imports : (m : Module) (is : List Import) (run : Run) → with_imports default_budget default_capacity m is ≡ Runs run → (is ≡ []) × (misfit m ≡ None) × (main : ℕ) × (task_index m main_name ≡ Some main) × (run_of m main ≡ run)
 of_imports m (i ∷ is) run e = absurd cc
 of_imports m [] run e = let f = of_fit m (misfit m) run e in (refl, f.0, f.1, f.2, f.3)
 
@@ -44,13 +48,13 @@ execution_is_accepted m run e =
 
 -- ---- and it is never stuck
 
-run_is_never_lost : (m : Module) (main : ℕ) → WellTyped m → m.imports ≡ [] → misfit m ≡ None → task_index m main_name ≡ Some main → (run_of m main).end ≢ Lost
-run_is_never_lost m main well alone fits task =
+run_is_never_stuck : (m : Module) (main : ℕ) → WellTyped m → m.imports ≡ [] → misfit m ≡ None → task_index m main_name ≡ Some main → (run_of m main).end ≢ Stuck
+run_is_never_stuck m main well alone fits task =
     let s = store_of m default_capacity in
     let links : linked m default_capacity ≡ Ok s = ap (λ o. linked_or o s) fits in
-    never_lost default_budget s m.start main (links_typed m default_capacity (Ok s) links well alone) (first_alone m default_capacity s well alone links) (main_alone m default_capacity s main links task)
+    run_never_stuck default_budget s m.start main (does_linking_typed m default_capacity (Ok s) links well alone) (first_alone m default_capacity s well alone links) (main_alone m default_capacity s main links task)
 
-pub execution_is_never_lost : (m : Module) (run : Run) → WellTyped m → execution_of m ≡ Runs run → run.end ≢ Lost
-execution_is_never_lost m run well e =
+pub execution_is_never_stuck : (m : Module) (run : Run) → WellTyped m → execution_of m ≡ Runs run → run.end ≢ Stuck
+execution_is_never_stuck m run well e =
     let r = of_imports m m.imports run e in
-    subst (λ (x : Run). x.end ≢ Lost) r.4 (run_is_never_lost m r.2 well r.0 r.1 r.3)
+    subst (λ (x : Run). x.end ≢ Stuck) r.4 (run_is_never_stuck m r.2 well r.0 r.1 r.3)

@@ -5,5 +5,4 @@ pub mod Executions
 pub mod Observed
 pub mod Top
 pub mod Reporting
-pub mod Outcomes
 pub mod Statuses

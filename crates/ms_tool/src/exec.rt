@@ -2,7 +2,7 @@
 
 ghost use Rattle.std.specs.Prelude.{◌≡◌, ◌<◌, ◌^◌, IfOk};
 ghost use Rattle.ms_rules.specs.Modules.{WellTyped};
-ghost use Rattle.ms_tool.specs.Outcomes.{ComesTo, ComesWithin, HasLine, IsOutcome, IsOutcomeOf, IsOver, run_line, status_of, status_of_run, text_of};
+ghost use Rattle.ms_tool.specs.Executions.{DoesBytes, DoesExecution, DoesModule, HasLine, IsOver, execution_of, execution_within, run_line, status_of, status_of_run, text_of};
 ghost use Rattle.ms_tool.specs.Reporting.{Reports, ReportsExecution, ReportsFile};
 
 use crate::lines::{fault_line, file_line, misfit_line, part_line, result_line, trap_line};
@@ -56,7 +56,7 @@ fn outcome_within<G: Gaps, T: Tagged, I: Source, O: Sink>(
 ) -> Result<Outcome, AllocError>
     requires typed { WellTyped «module» }
     requires few { budget < 2 ^ 63 }
-    ensures outcome { IfOk result (ComesWithin budget capacity «module») }
+    ensures outcome { IfOk result (DoesExecution (execution_within budget capacity «module»)) }
     ensures input { (I.left input.new ≡ I.left input.old) × (I.faults input.new ≡ I.faults input.old) }
     ensures out { (O.held out.new ≡ O.held out.old) × (O.faults out.new ≡ O.faults out.old) }
 {
@@ -87,7 +87,7 @@ fn outcome_of_typed<I: Source, O: Sink>(
     out: &mut O,
 ) -> Result<Outcome, AllocError>
     requires typed { WellTyped «module» }
-    ensures outcome { IfOk result (ComesTo «module») }
+    ensures outcome { IfOk result (DoesExecution (execution_of «module»)) }
     ensures input { (I.left input.new ≡ I.left input.old) × (I.faults input.new ≡ I.faults input.old) }
     ensures out { (O.held out.new ≡ O.held out.old) × (O.faults out.new ≡ O.faults out.old) }
 {
@@ -107,7 +107,7 @@ fn outcome_of_module<I: Source, O: Sink>(
     input: &mut I,
     out: &mut O,
 ) -> Result<Outcome, AllocError>
-    ensures outcome { IfOk result (IsOutcomeOf «module») }
+    ensures outcome { IfOk result (DoesModule «module») }
     ensures input { (I.left input.new ≡ I.left input.old) × (I.faults input.new ≡ I.faults input.old) }
     ensures out { (O.held out.new ≡ O.held out.old) × (O.faults out.new ≡ O.faults out.old) }
 {
@@ -124,7 +124,7 @@ fn outcome_of<I: Source, O: Sink>(
     input: &mut I,
     out: &mut O,
 ) -> Result<Outcome, AllocError>
-    ensures outcome { IfOk result (IsOutcome bytes.now) }
+    ensures outcome { IfOk result (DoesBytes bytes.now) }
     ensures input { (I.left input.new ≡ I.left input.old) × (I.faults input.new ≡ I.faults input.old) }
     ensures out { (O.held out.new ≡ O.held out.old) × (O.faults out.new ≡ O.faults out.old) }
 {

@@ -3,7 +3,7 @@
 ghost use Rattle.std.specs.Prelude.{◌≡◌, ◌≢◌, ◌<◌, ◌≤◌, ◌⊎◌, ℕ, List, map};
 ghost use Rattle.ms_outside.specs.Faults.{Rose};
 ghost use Rattle.ms_event.specs.Monitor.{Accepts};
-ghost use Rattle.ms_machine.specs.Running.{Lost, Run};
+ghost use Rattle.ms_machine.specs.Running.{Run, Stuck};
 ghost use Rattle.ms_module.specs.declared.module.Module.{Module};
 ghost use Rattle.ms_bin_grammar.specs.Bounds.{usual};
 ghost use Rattle.ms_bin_grammar.specs.Module.{SpellsWithin};
@@ -79,7 +79,7 @@ pub fn tool<F: Shelf, I: Source, O: Sink, R: Sink>(
         → Accepts default_capacity run.events }
 
     // And such a run has an end that the table answers: no task of it is ever stuck.
-    ensures never_stuck { (m : Module) (run : Run) → WellTyped m → execution_of m ≡ Runs run → run.end ≢ Lost }
+    ensures never_stuck { (m : Module) (run : Run) → WellTyped m → execution_of m ≡ Runs run → run.end ≢ Stuck }
 
     // A fault that was counted is never passed over.
     ensures reads { (name : List ℕ) → F.read_faults shelf.old name < F.read_faults shelf.new name → IsFaulty result }

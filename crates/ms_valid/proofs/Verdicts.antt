@@ -9,7 +9,7 @@ use Rattle.ms_module.specs.declared.module.Func.{Func}
 use Rattle.ms_module.specs.declared.module.Module.{Module}
 use Rattle.ms_rules.specs.Context.{Context, context_of, imported_funcs, sigs_of_funcs}
 use Rattle.ms_rules.specs.Modules.{FuncTyped, Head, IsFirstUntyped, WellTyped}
-use Rattle.ms_valid.specs.Refusals.{Blames}
+use Rattle.ms_valid.specs.Refusals.{DoesRefuse}
 use Rattle.ms_valid.specs.Untyped.{AreTypedBelow, IsFirstAt, IsFirstUntypedOf}
 use Rattle.ms_valid.specs.declared.refusal.Part.TheVariants as parts
 use Rattle.ms_valid.specs.declared.refusal.Refusal.{Refusal}
@@ -41,17 +41,17 @@ index_is m c count own index n e all mine is =
     omega arith
 
 pub blamed : (m : Module) (c : Context) (fs : List Func) (o : Option ℕ) (n index : ℕ) (r : Refusal) → c ≡ context_of m → fs ≡ m.funcs → Head m → IsFirstUntypedOf c fs o → o ≡ Some n
-    → index ≡ length (imported_funcs m.imports) + n → (index < 2 ^ 32 → r ≡ Invalid (parts.Function index)) → (2 ^ 32 ≤ index → r ≡ Memory) → Blames m r
+    → index ≡ length (imported_funcs m.imports) + n → (index < 2 ^ 32 → r ≡ Invalid (parts.Function index)) → (2 ^ 32 ≤ index → r ≡ Memory) → DoesRefuse m r
 blamed m c fs o n index r e same head h some is fits past =
     let x : IsFirstAt c fs n = subst (IsFirstUntypedOf c fs) some h in
     let y : IsFirstAt (context_of m) m.funcs n = subst (λ (d : Context). IsFirstAt d m.funcs n) e (subst (λ (gs : List Func). IsFirstAt c gs n) same x) in
     let first : IsFirstUntyped m index = record { number = n; index_is = is; func = y.func; func_is = y.func_is; untyped = y.untyped; least = y.least } in
     elim (cases_lt index (2 ^ 32)) [
-      | inl lt ↦ subst (Blames m) (sym (fits lt)) (head, first)
-      | inr le ↦ subst (Blames m) (sym (past le)) tt
+      | inl lt ↦ subst (DoesRefuse m) (sym (fits lt)) (head, first)
+      | inr le ↦ subst (DoesRefuse m) (sym (past le)) tt
     ]
 
-pub complete : (m : Module) (e : Refusal) → Blames m e → WellTyped m → e ≡ Memory
+pub complete : (m : Module) (e : Refusal) → DoesRefuse m e → WellTyped m → e ≡ Memory
 complete m (Invalid parts.Head) h w = absurd (h w.head)
 complete m (Invalid (parts.Function n)) h w =
     let x = h.1 in

@@ -11,6 +11,6 @@ IsWrong m parts.Head = Head m → ⊥
 IsWrong m (parts.Function n) = Head m × IsFirstUntyped m n
 
 -- want of memory says nothing
-abbrev pub Blames : Module → Refusal → Type 0
-Blames m (Invalid part) = IsWrong m part
-Blames m Memory = Unit {0}
+abbrev pub DoesRefuse : Module → Refusal → Type 0
+DoesRefuse m (Invalid part) = IsWrong m part
+DoesRefuse m Memory = Unit {0}

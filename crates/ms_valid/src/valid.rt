@@ -3,7 +3,7 @@
 ghost use Rattle.std.specs.Prelude.{◌≡◌, ◌≤◌, ◌<◌, ◌^◌, IfErr, IfOk, MatchResult};
 ghost use Rattle.ms_rules.specs.Context.{context_of};
 ghost use Rattle.ms_rules.specs.Modules.{WellTyped};
-ghost use Rattle.ms_valid.specs.Refusals.{Blames};
+ghost use Rattle.ms_valid.specs.Refusals.{DoesRefuse};
 ghost use Rattle.ms_valid.specs.Untyped.{IsFirstUntypedOf};
 ghost use Rattle.ms_valid.specs.declared.refusal.Part.TheVariants.{Function};
 ghost use Rattle.ms_valid.specs.declared.refusal.Refusal.TheVariants.{Invalid, Memory};
@@ -54,7 +54,7 @@ impl Valid {
 /// Takes a module that is well typed. Any other is given back, with the part that is not.
 pub fn validate(alloc: Global, module: Module) -> Result<Valid, (Module, Refusal)>
     ensures valid { IfOk result (λ v. (v ≡ «module») × WellTyped «module») }
-    ensures refused { IfErr result (λ e. (e.0 ≡ «module») × Blames «module» e.1) }
+    ensures refused { IfErr result (λ e. (e.0 ≡ «module») × DoesRefuse «module» e.1) }
     ensures complete { WellTyped «module» → IfErr result (λ e. e.1 ≡ Memory) }
 {
     match judge(alloc, &module) {
@@ -65,7 +65,7 @@ pub fn validate(alloc: Global, module: Module) -> Result<Valid, (Module, Refusal
 
 /// Whether a module is well typed, or what is not.
 fn judge(alloc: Global, module: &Module) -> Result<(), Refusal>
-    ensures { MatchResult result (λ _. WellTyped «module».now) (Blames «module».now) }
+    ensures { MatchResult result (λ _. WellTyped «module».now) (DoesRefuse «module».now) }
 {
     let context = Context::of(alloc, module)?;
     if !is_head_typed(alloc, module, &context)? {

@@ -7,18 +7,9 @@ ghost use Rattle.ms_machine.specs.declared.linking.Misfit.{Misfit};
 
 use super::Misfit;
 use super::constant::{constant, index_of};
-use ms_linear::Value;
+use ms_linear::{MOST_ENTRIES, MOST_PAGES, PAGE, Value};
 use ms_module::Module;
 use ms_types::Limits;
-
-/// How many entries a table may have.
-const MOST_ENTRIES: u32 = 65536;
-
-/// How many pages a memory may have.
-const MOST_PAGES: u32 = 1024;
-
-/// How many bytes a page has.
-const PAGE: u64 = 65536;
 
 /// Whether 32 bits count the module's functions, its globals, and its elements and data together.
 pub(super) fn is_countable(module: &Module) -> bool
@@ -88,7 +79,7 @@ fn fills_outside(module: &Module, values: &[Value]) -> Option<Misfit>
     let fills = module.fills.as_slice();
     for (i, f) in fills.iter().enumerate() {
         let at = index_of(constant(values, &f.offset));
-        let end = u64::from(min_at(module.memories.as_slice(), f.memory)) * PAGE;
+        let end = u64::from(min_at(module.memories.as_slice(), f.memory)) * PAGE as u64;
         if !reaches(at, f.bytes.len(), end) {
             return Some(Misfit::Outside((before + i) as u32));
         }

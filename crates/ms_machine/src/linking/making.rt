@@ -2,6 +2,7 @@
 
 ghost use Rattle.std.specs.Prelude.{◌≡◌, ◌≤◌, ◌<◌, All, IfOk, get_or, length, map};
 ghost use Rattle.ms_linear.specs.Memory.{most_pages};
+ghost use Rattle.ms_linear.specs.Table.{most_entries};
 ghost use Rattle.ms_machine.specs.Linking as link;
 ghost use Rattle.ms_module.specs.declared.module.Module.{Module};
 
@@ -117,7 +118,7 @@ fn first_address(limits: &[Limits]) -> Option<u32>
 
 /// Tables of empty entries.
 pub(super) fn tables_of(alloc: Global, limits: &[Limits]) -> Result<Vec<Table>, AllocError>
-    requires { All (λ l. l.min ≤ link.most_entries) limits.now }
+    requires { All (λ l. l.min ≤ most_entries) limits.now }
     ensures { IfOk result (λ v. v.items ≡ map link.empty_table limits.now) }
 {
     let mut tables = Vec::with_capacity(alloc, limits.len())?;

@@ -2,6 +2,7 @@
 
 ghost use Rattle.std.specs.Prelude.{◌≡◌, ◌<◌, ◌≤◌, ◌+◌, All, IfOk, MatchOption, OnOk, length, map, slice_get};
 ghost use Rattle.ms_linear.specs.Memory.{most_pages};
+ghost use Rattle.ms_linear.specs.Table.{most_entries};
 ghost use Rattle.ms_machine.specs.Linking as link;
 
 use super::constant::{constant, index_of};
@@ -20,7 +21,7 @@ pub(super) fn tables_with(
     values: &[Value],
     elements: &[Element],
 ) -> Result<Vec<Table>, AllocError>
-    requires sizes { All (λ l. l.min ≤ link.most_entries) limits.now }
+    requires sizes { All (λ l. l.min ≤ most_entries) limits.now }
     requires room { All (λ e. MatchOption (slice_get (map link.empty_table limits.now) e.table) ⊥ (λ t. link.index_of (link.constant_of values.now e.offset) + length e.funcs ≤ length t.entries)) elements.now }
     requires there { All (λ e. All (λ f. f < length funcs.now) e.funcs) elements.now }
     ensures { IfOk result (λ v. v.items ≡ link.with_elements funcs.now values.now (map link.empty_table limits.now) elements.now) }

@@ -4,7 +4,7 @@ ghost use Rattle.std.specs.Prelude.{◌≢◌, List, ◌∷◌, IsTrue};
 ghost use Rattle.ms_linear.specs.declared.value.Value.{Value};
 ghost use Rattle.ms_linear.specs.Memory.{Memory};
 ghost use Rattle.ms_operate.specs.Memories.{linear_on};
-ghost use Rattle.ms_operate.specs.Outcomes.{Misses};
+ghost use Rattle.ms_operate.specs.Effects.{Stuck};
 
 use super::*;
 use ms_types::Limits;
@@ -14,7 +14,7 @@ use std::test::Fail;
 
 /// Whether the instruction takes this as its topmost operand.
 fn takes(i: Linear, top: Value) -> bool
-    ensures { (m : Memory) → (rest : List Value) → IsTrue result → linear_on i m (top ∷ rest) ≢ Misses }
+    ensures { (m : Memory) → (rest : List Value) → IsTrue result → linear_on i m (top ∷ rest) ≢ Stuck }
 {
     match (i, top) {
         (Linear::Size, _) => true,

@@ -2,7 +2,7 @@
 
 ghost use Rattle.std.specs.Prelude.{◌≡◌, ◌≢◌, ℕ, List, [], IsTrue, Option, Some, slice_get};
 ghost use Rattle.ms_types.specs.declared.types.ValType.{ValType};
-ghost use Rattle.ms_task.specs.Control.{Lost, call_on, if_on};
+ghost use Rattle.ms_task.specs.Control.{Stuck, call_on, if_on};
 ghost use Rattle.ms_task.specs.View.{at_next};
 ghost use Rattle.ms_task.specs.declared.func.FuncInst.{FuncInst};
 
@@ -48,13 +48,13 @@ fn can_start(funcs: &[FuncInst], address: u32) -> bool
 }
 
 fn can_choose(task: &Task, next: usize) -> bool
-    ensures { IsTrue result → (funcs : List FuncInst) (then : ℕ) (other : Option ℕ) (ty : Option ValType) → if_on funcs then other ty (at_next funcs task.now next) ≢ Lost }
+    ensures { IsTrue result → (funcs : List FuncInst) (then : ℕ) (other : Option ℕ) (ty : Option ValType) → if_on funcs then other ty (at_next funcs task.now next) ≢ Stuck }
 {
     matches!(task.operands.last(), Some(Value::I32(_)))
 }
 
 fn can_call(task: &Task, funcs: &[FuncInst], address: u32, next: usize) -> bool
-    ensures { IsTrue result → call_on funcs.now address (at_next funcs.now task.now next) ≢ Lost }
+    ensures { IsTrue result → call_on funcs.now address (at_next funcs.now task.now next) ≢ Stuck }
 {
     if address as usize >= funcs.len() {
         return false;

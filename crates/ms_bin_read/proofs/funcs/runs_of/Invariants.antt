@@ -8,5 +8,5 @@ abbrev pub invariant-loop : goal.invariant-loop
 invariant-loop l = record {
   so_far : (repeat (more_locals usual) (l.count - l.counter) l.locals).read l.c.end l.c.left ≡ (repeat (more_locals usual) l.count []).read l.fn.c.end l.fn.c.left;
   same_end : l.c.end ≡ l.fn.c.end;
-  few : length l.locals ≤ 50000;
+  few : length l.locals ≤ usual.locals;
 }

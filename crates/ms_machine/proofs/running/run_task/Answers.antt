@@ -1,5 +1,5 @@
 use Rattle.std.proofs.Common.{◌-◌, ap, sym, ◌∙◌, arith}
-use Rattle.ms_machine.specs.Running.{Result, Stopped, run_thread}
+use Rattle.ms_machine.specs.Running.{Result, Trap, run_thread}
 use Rattle.ms_machine.proofs.Runs.{alike_end, alike_trans, on_able, run_ended, run_on, run_traps}
 use Rattle.ms_task.specs.View.{thread_of}
 use Rattle.ms_machine.proofs.running.run_task.Goals as goal
@@ -46,4 +46,4 @@ returns-in-Trap-clause-run g c =
     let all = run_thread c.args.budget c.args.store.now (thread_of c.args.store.now.funcs c.args.task.now) in
     let e = c.in-Trap.ensures.step in
     let stopped = run_traps l.left s t c.in-Trap.kind c.loop-left-test.true l.invariant.going e.0 in
-    alike_end (run_thread l.left s t) all (Stopped c.in-Trap.kind) c.step.new.store (l.left - 1) l.invariant.runs (stopped.0, stopped.1 ∙ sym e.1, stopped.2)
+    alike_end (run_thread l.left s t) all (Trap c.in-Trap.kind) c.step.new.store (l.left - 1) l.invariant.runs (stopped.0, stopped.1 ∙ sym e.1, stopped.2)

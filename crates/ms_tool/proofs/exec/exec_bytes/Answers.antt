@@ -1,5 +1,5 @@
 use Rattle.std.proofs.Common.{inl}
-use Rattle.ms_tool.specs.Outcomes.{status_of, text_of}
+use Rattle.ms_tool.specs.Executions.{status_of, text_of}
 use Rattle.ms_tool.proofs.Outcomes.{has_line, outcome_gives}
 use Rattle.ms_tool.proofs.exec.exec_bytes.Goals as goal
 

@@ -1,7 +1,7 @@
 use Rattle.std.specs.Prelude.{map}
 use Rattle.ms_tool.specs.Observed.{Reads, Report}
 use Rattle.ms_tool.proofs.Complete.{is_complete}
-use Rattle.ms_tool.proofs.Safe.{execution_is_accepted, execution_is_never_lost}
+use Rattle.ms_tool.proofs.Safe.{execution_is_accepted, execution_is_never_stuck}
 use Rattle.ms_tool.proofs.tool.tool.Goals as goal
 
 pub returns-clause-complete : goal.returns-clause-complete
@@ -16,4 +16,4 @@ pub returns-clause-safe : goal.returns-clause-safe
 returns-clause-safe g c = λ bytes m run spelled typed runs. execution_is_accepted m run runs
 
 pub returns-clause-never_stuck : goal.returns-clause-never_stuck
-returns-clause-never_stuck g c = λ m run typed runs. execution_is_never_lost m run typed runs
+returns-clause-never_stuck g c = λ m run typed runs. execution_is_never_stuck m run typed runs

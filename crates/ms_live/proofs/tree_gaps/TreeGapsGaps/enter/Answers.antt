@@ -3,6 +3,7 @@ use Rattle.ms_gap_tree.specs.Rooms.{room_at}
 use Rattle.ms_live.specs.Kept.{IsKept, Kept}
 use Rattle.ms_live.specs.Place.{IsPlace}
 use Rattle.ms_live.specs.declared.gaps.Live.{Live}
+use Rattle.ms_live.specs.declared.gaps.TheConstants.{MOST_LIVE}
 use Rattle.ms_live.specs.declared.tree_gaps.TreeGaps.TheInside.{Inside}
 use Rattle.ms_live.proofs.Keeping.{begun, few_is, kept_entered, near_is}
 use Rattle.ms_live.proofs.tree_gaps.TreeGapsGaps.enter.Goals as goal
@@ -20,12 +21,12 @@ pub begin-requires-clause-near : goal.begin-requires-clause-near
 begin-requires-clause-near c key room e = near_is (kept c.self.inside) c.self.invariant key room e
 
 pub begin-requires-clause-few : goal.begin-requires-clause-few
-begin-requires-clause-few c = few_is (kept c.self.inside) c.self.invariant (subst (λ (k : Kept). length k.live < 65536) (sym c.self.view_is) c.requires.few)
+begin-requires-clause-few c = few_is (kept c.self.inside) c.self.invariant (subst (λ (k : Kept). length k.live < MOST_LIVE) (sym c.self.view_is) c.requires.few)
 
 pub invariant_of-self : goal.invariant_of-self
 invariant_of-self c =
     let k = kept c.self.inside in
-    let few = subst (λ (k : Kept). length k.live < 65536) (sym c.self.view_is) c.requires.few in
+    let few = subst (λ (k : Kept). length k.live < MOST_LIVE) (sym c.self.view_is) c.requires.few in
     let newest = subst (λ (k : Kept). All (λ (other : Live). other.id < c.args.segment.id) k.live) (sym c.self.view_is) c.requires.newest in
     let place = subst (λ (k : Kept). IsPlace k.live k.addresses c.args.segment.size (Some c.args.segment.base)) (sym c.self.view_is) c.requires.placed in
     subst (λ (live : List Live). IsKept (record { addresses = k.addresses; live = live; rooms = c.begin.new.rooms })) (sym c.push.ensures)

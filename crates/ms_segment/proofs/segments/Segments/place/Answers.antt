@@ -1,5 +1,6 @@
 use Rattle.std.proofs.Common.{◌<◌, length, arith, ap}
-use Rattle.ms_segment.specs.Memory.{Memory, most_live}
+use Rattle.ms_event.specs.Monitor.{most_live}
+use Rattle.ms_segment.specs.Memory.{Memory}
 use Rattle.ms_segment.proofs.Calls.{IsPlaceIn-from_place, placed-in}
 use Rattle.ms_segment.proofs.segments.Segments.place.Goals as goal
 

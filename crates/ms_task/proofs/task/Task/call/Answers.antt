@@ -1,5 +1,6 @@
 use Rattle.std.proofs.Common.{◌<◌, ◌≤◌, ap, sym, refl, length}
 use Rattle.std.proofs.lemmas.Option.{slice_get_read}
+use Rattle.ms_task.specs.Control.{deepest}
 use Rattle.ms_task.specs.Marks.{calls_in}
 use Rattle.ms_task.specs.Thread.{depth_of}
 use Rattle.ms_task.specs.View.{at_next}
@@ -11,7 +12,7 @@ returns-then-depth-ge-DEEPEST-clause-too_deep c = λ _.
     let t = c.args.self.now in
     let funcs = c.args.funcs.now in
     let d = depth_of_rest funcs t.function t.sequence c.args.next t.frames.0 t.marks in
-    let deep : 4096 ≤ depth_of (at_next funcs t c.args.next).work = rw (d, ← c.depth.ensures) c.if-depth-ge-DEEPEST.true in
+    let deep : deepest ≤ depth_of (at_next funcs t c.args.next).work = rw (d, ← c.depth.ensures) c.if-depth-ge-DEEPEST.true in
     (sym (call_deep funcs c.args.address (at_next funcs t c.args.next) deep), refl)
 
 pub bounds-funcs-address : goal.bounds-funcs-address
@@ -19,7 +20,7 @@ bounds-funcs-address c =
     let t = c.args.self.now in
     let funcs = c.args.funcs.now in
     let d = depth_of_rest funcs t.function t.sequence c.args.next t.frames.0 t.marks in
-    let shallow : depth_of (at_next funcs t c.args.next).work < 4096 = rw (d, ← c.depth.ensures) c.if-depth-ge-DEEPEST.false in
+    let shallow : depth_of (at_next funcs t c.args.next).work < deepest = rw (d, ← c.depth.ensures) c.if-depth-ge-DEEPEST.false in
     call_found funcs c.args.address (at_next funcs t c.args.next) c.requires shallow
 
 pub take_arguments-requires : goal.take_arguments-requires
@@ -27,7 +28,7 @@ take_arguments-requires c =
     let t = c.args.self.now in
     let funcs = c.args.funcs.now in
     let d = depth_of_rest funcs t.function t.sequence c.args.next t.frames.0 t.marks in
-    let shallow : depth_of (at_next funcs t c.args.next).work < 4096 = rw (d, ← c.depth.ensures) c.if-depth-ge-DEEPEST.false in
+    let shallow : depth_of (at_next funcs t c.args.next).work < deepest = rw (d, ← c.depth.ensures) c.if-depth-ge-DEEPEST.false in
     let within = call_found funcs c.args.address (at_next funcs t c.args.next) c.requires shallow in
     let found = slice_get_read funcs (length funcs) c.args.address c.index-funcs-address.result refl within c.index-funcs-address.is in
     rw (ap length c.params.ensures) (call_room funcs c.args.address c.index-funcs-address.result (at_next funcs t c.args.next) c.requires shallow found)
@@ -37,8 +38,8 @@ returns-clause-ok c =
     let t = c.args.self.now in
     let funcs = c.args.funcs.now in
     let d = depth_of_rest funcs t.function t.sequence c.args.next t.frames.0 t.marks in
-    let calls : calls_in t.marks < 4096 = rw (← c.depth.ensures) c.if-depth-ge-DEEPEST.false in
-    let shallow : depth_of (at_next funcs t c.args.next).work < 4096 = rw d calls in
+    let calls : calls_in t.marks < deepest = rw (← c.depth.ensures) c.if-depth-ge-DEEPEST.false in
+    let shallow : depth_of (at_next funcs t c.args.next).work < deepest = rw d calls in
     let within = call_found funcs c.args.address (at_next funcs t c.args.next) c.requires shallow in
     let g = c.index-funcs-address.result in
     let found = slice_get_read funcs (length funcs) c.args.address c.index-funcs-address.result refl within c.index-funcs-address.is in

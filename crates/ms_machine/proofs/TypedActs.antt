@@ -10,7 +10,7 @@ use Rattle.ms_module.specs.declared.instr.Instr.TheVariants.{Unreachable, Nop, B
 use Rattle.ms_operate.specs.Numbers.{numeric_on}
 use Rattle.ms_rules.specs.Instructions.{numeric_arrow, segment_arrow}
 use Rattle.ms_rules.specs.Typing.{Calls, CallsByTable, types}
-use Rattle.ms_task.specs.Control.{Moved, To, TooDeep, Lost, block_on, br_if_on, br_table_on, branch, call_on, else_on, if_on, loop_on, return_on}
+use Rattle.ms_task.specs.Control.{Moved, To, TooDeep, Stuck, block_on, br_if_on, br_table_on, branch, call_on, else_on, if_on, loop_on, return_on}
 use Rattle.ms_task.specs.Thread.{Frame, Item, thread}
 use Rattle.ms_types.specs.declared.types.FuncType.{FuncType}
 use Rattle.ms_types.specs.declared.types.ValType.{ValType}
@@ -19,19 +19,19 @@ use Rattle.ms_machine.specs.Segments.{segment_on}
 use Rattle.ms_machine.specs.Step.{act, call, call_target, call_through, moved}
 use Rattle.ms_machine.specs.Store.{Store, at, func_address, table_address, type_at}
 use Rattle.ms_machine.specs.Typing.{FrameTyped, InstrTypedAt, StoreTyped, WorkTyped, context_at, labels_of, outline_of, types_of}
-use Rattle.ms_machine.proofs.SoundBlocks.{block_typed, else_typed, loop_typed, number_typed, table_takes}
-use Rattle.ms_machine.proofs.SoundCalls.{call_typed, func_named, instance_at}
-use Rattle.ms_machine.proofs.SoundNumbers.{GivesTyped, numeric_typed}
-use Rattle.ms_machine.proofs.SoundPlain.{OutcomeTyped, drop_typed, global_get_typed, global_set_typed, goes_typed, in_segments_typed, linear_outcome, local_get_typed, local_set_typed, local_tee_typed, over_below, select_typed, worked_typed}
-use Rattle.ms_machine.proofs.SoundSegments.{LeavesTyped, segment_typed}
-use Rattle.ms_machine.proofs.SoundStores.{TargetTyped, sig_named, table_named, target_typed}
-use Rattle.ms_machine.proofs.SoundValues.{i32_top}
-use Rattle.ms_machine.proofs.SoundWork.{MovedTyped, branch_typed, return_typed}
+use Rattle.ms_machine.proofs.TypedBlocks.{block_typed, else_typed, loop_typed, number_typed, table_takes}
+use Rattle.ms_machine.proofs.TypedCalls.{call_typed, func_named, instance_at}
+use Rattle.ms_machine.proofs.TypedNumbers.{GivesTyped, numeric_typed}
+use Rattle.ms_machine.proofs.TypedPlain.{OutcomeTyped, drop_typed, global_get_typed, global_set_typed, goes_typed, in_segments_typed, linear_outcome, local_get_typed, local_set_typed, local_tee_typed, over_below, select_typed, worked_typed}
+use Rattle.ms_machine.proofs.TypedSegments.{EffectTyped, segment_typed}
+use Rattle.ms_machine.proofs.TypedStores.{TargetTyped, sig_named, table_named, target_typed}
+use Rattle.ms_machine.proofs.TypedValues.{i32_top}
+use Rattle.ms_machine.proofs.TypedWork.{MovedTyped, branch_typed, return_typed}
 
 moved_typed : (s : Store) (m : Moved) → MovedTyped (outline_of s) m → OutcomeTyped (outline_of s) (moved s m)
 moved_typed s (To t) h = (refl, h)
 moved_typed s TooDeep h = tt
-moved_typed s Lost h = h
+moved_typed s Stuck h = h
 
 -- ---- calls
 
@@ -118,4 +118,4 @@ act_typed s store (Numeric i) fr vs w ts t below frame operands (r, before, left
 act_typed s store (Linear i) fr vs w ts t below frame operands h work = linear_outcome s store i fr vs w ts t below frame operands h work
 act_typed s store (Segment i) fr vs w ts t below frame operands (r, before, left) work =
     let e = over_below (reverse (segment_arrow i).takes) (types (segment_arrow i).gives) r ts t below vs operands before left in
-    in_segments_typed s fr vs w t below (segment_on i s.segments vs) (subst (λ l. LeavesTyped l (segment_on i s.segments vs)) e.1 (segment_typed i s.segments vs (r ++ below) e.0)) frame work
+    in_segments_typed s fr vs w t below (segment_on i s.segments vs) (subst (λ l. EffectTyped l (segment_on i s.segments vs)) e.1 (segment_typed i s.segments vs (r ++ below) e.0)) frame work

@@ -9,8 +9,8 @@ use Rattle.ms_task.specs.Control.{Moved, block_on, else_on, loop_on, on_number}
 use Rattle.ms_task.specs.Thread.{Frame, Item, Label, body_of, sequence, thread}
 use Rattle.ms_types.specs.declared.types.ValType.{ValType}
 use Rattle.ms_machine.specs.Typing.{FrameTyped, Outline, WorkTyped, context_at, labels_of, types_of}
-use Rattle.ms_machine.proofs.SoundValues.{height}
-use Rattle.ms_machine.proofs.SoundWork.{MovedTyped, sequence_typed}
+use Rattle.ms_machine.proofs.TypedValues.{height}
+use Rattle.ms_machine.proofs.TypedWork.{MovedTyped, sequence_typed}
 
 -- how a block's sequence is known to be typed in the function of an address
 abbrev pub TypedAt : Outline → ℕ → List (Option ValType) → ℕ → Option ValType → Type 0

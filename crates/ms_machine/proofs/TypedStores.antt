@@ -16,8 +16,8 @@ use Rattle.ms_types.specs.declared.types.GlobalType.{GlobalType}
 use Rattle.ms_machine.specs.Store.{Store, at, global_address, memory_address, number_of_instance, table_address, type_at, with_globals, with_memories}
 use Rattle.ms_machine.specs.declared.store.Instance.{Instance}
 use Rattle.ms_machine.specs.Typing.{EntryTyped, InstanceTyped, IsBelow, Outline, StoreTyped, any_size, context_at, context_in, context_inside, global_type, outline_of}
-use Rattle.ms_machine.proofs.SoundCalls.{instance_at}
-use Rattle.ms_machine.proofs.SoundValues.{all_at, get_mapped, get_within, set_mapped}
+use Rattle.ms_machine.proofs.TypedCalls.{instance_at}
+use Rattle.ms_machine.proofs.TypedValues.{all_at, get_mapped, get_within, set_mapped}
 
 -- ---- the instance
 

@@ -5,7 +5,7 @@ use Rattle.std.proofs.lemmas.List.{drop-map, length-reverse, map-append, reverse
 use Rattle.ms_linear.specs.Values.{default_of, type_of}
 use Rattle.ms_linear.specs.declared.value.Value.{Value}
 use Rattle.ms_rules.specs.Typing.{Typed, types}
-use Rattle.ms_task.specs.Control.{Lost, Moved, To, TooDeep, call_on, deepest, enter, entered}
+use Rattle.ms_task.specs.Control.{Stuck, Moved, To, TooDeep, call_on, deepest, enter, entered}
 use Rattle.ms_task.specs.declared.func.FuncInst.{FuncInst}
 use Rattle.ms_task.specs.Thread.{Activation, Frame, Item, body_in, depth_of, result_of, sequence, thread}
 use Rattle.ms_types.specs.declared.types.FuncType.{FuncType}
@@ -13,9 +13,9 @@ use Rattle.ms_types.specs.declared.types.ValType.{ValType}
 use Rattle.ms_machine.specs.Store.{at, func_address, number_of_instance}
 use Rattle.ms_machine.specs.declared.store.Instance.{Instance}
 use Rattle.ms_machine.specs.Typing.{FrameTyped, Outline, StoreTyped, ThreadTyped, WorkTyped, context_at, context_in, context_inside, func_type, types_of}
-use Rattle.ms_machine.proofs.SoundBlocks.{TypedAt, opened}
-use Rattle.ms_machine.proofs.SoundValues.{defaults_typed, drop_seam, get_mapped, height, take_seam, types_of-reverse}
-use Rattle.ms_machine.proofs.SoundWork.{MovedTyped, sequence_typed}
+use Rattle.ms_machine.proofs.TypedBlocks.{TypedAt, opened}
+use Rattle.ms_machine.proofs.TypedValues.{defaults_typed, drop_seam, get_mapped, height, take_seam, types_of-reverse}
+use Rattle.ms_machine.proofs.TypedWork.{MovedTyped, sequence_typed}
 
 -- ---- inside a function
 
@@ -108,5 +108,5 @@ call_typed o store fr vs w f g k r below found results frame operands work =
     let left = subst (λ x. WorkTyped o fr.function w (types x ++ r) below) (sym (result_is g k results)) work in
     either_typed o (nat_lt (depth_of w) deepest) (enter o.funcs f (slice_get o.funcs f) t) TooDeep
     (subst (λ x. MovedTyped o (enter o.funcs f x t)) (sym found)
-    (subst (λ b. MovedTyped o (cond b (To (entered o.funcs f g t)) Lost)) (sym (le-leb _ _ room)) (entered_typed o store fr vs w f g r below found frame operands left)))
+    (subst (λ b. MovedTyped o (cond b (To (entered o.funcs f g t)) Stuck)) (sym (le-leb _ _ room)) (entered_typed o store fr vs w f g r below found frame operands left)))
     tt

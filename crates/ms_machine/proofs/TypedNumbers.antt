@@ -22,14 +22,17 @@ use Rattle.ms_operate.specs.Accesses.{integer as integer_value, number_of, value
 use Rattle.ms_operate.specs.Integers.{binary, compare}
 use Rattle.ms_operate.specs.Memories.{grow_by, linear_on, load_at, may_grow, store_at}
 use Rattle.ms_operate.specs.Numbers.{given, numeric_on, on_one, on_two}
-use Rattle.ms_operate.specs.Outcomes.{Effect, Gives, Lacks, Leaves, Misses, Outcome, Stops, Traps}
+use Rattle.ms_operate.specs.Effects as effects
+use Rattle.ms_operate.specs.Effects.{Effect}
+use Rattle.ms_operate.specs.Outcomes as operate
+use Rattle.ms_operate.specs.Outcomes.{Outcome}
 use Rattle.ms_operate.specs.declared.trap.Trap.TheVariants as traps
 use Rattle.ms_rules.specs.Instructions.{integer, linear_arrow, loaded, numeric_arrow, stored}
 use Rattle.ms_rules.specs.Typing.{types}
 use Rattle.ms_types.specs.declared.types.ValType.{ValType}
 use Rattle.ms_types.specs.declared.types.ValType.TheVariants.{I32, I64}
 use Rattle.ms_machine.specs.Typing.{types_of}
-use Rattle.ms_machine.proofs.SoundValues.{i32_top, i64_top}
+use Rattle.ms_machine.proofs.TypedValues.{i32_top, i64_top}
 
 -- ---- numbers as values
 
@@ -68,9 +71,9 @@ stored_typed stores.I64Store32 = refl
 
 -- the operands that are left have these types
 abbrev pub GivesTyped : List ValType → Outcome → Type 0
-GivesTyped ts (Gives vs) = types_of vs ≡ ts
-GivesTyped ts (Traps trap) = Unit {0}
-GivesTyped ts Lacks = ⊥
+GivesTyped ts (operate.Gives vs) = types_of vs ≡ ts
+GivesTyped ts (operate.Trap trap) = Unit {0}
+GivesTyped ts operate.Stuck = ⊥
 
 given_typed : (w : Width) (rest : List Value) (ts : List ValType) (r : Result ℕ Arith) → types_of rest ≡ ts → GivesTyped (integer w ∷ ts) (given w rest r)
 given_typed w rest ts (Ok n) e = ap₂ (λ t l. t ∷ l) (integer_typed w n) e
@@ -100,48 +103,48 @@ numeric_typed (Unary w op) vs r e = one_typed (Unary w op) _ w vs (integer w) r 
 numeric_typed Wrap vs r e = one_typed Wrap _ W64 vs I32 r (λ v rest. refl) (λ n. refl) e
 numeric_typed ExtendS vs r e = one_typed ExtendS _ W32 vs I64 r (λ v rest. refl) (λ n. refl) e
 numeric_typed ExtendU vs r e = one_typed ExtendU _ W32 vs I64 r (λ v rest. refl) (λ n. refl) e
-numeric_typed (Compare w op) vs r e = two_typed (Compare w op) (λ rest a b. Gives (values.I32 (int.truth (compare op (bits w) a b)) ∷ rest)) w vs I32 r (λ v u rest. refl) (λ a b rest h. ap (λ l. I32 ∷ l) h) e
+numeric_typed (Compare w op) vs r e = two_typed (Compare w op) (λ rest a b. operate.Gives (values.I32 (int.truth (compare op (bits w) a b)) ∷ rest)) w vs I32 r (λ v u rest. refl) (λ a b rest h. ap (λ l. I32 ∷ l) h) e
 numeric_typed (Binary w op) vs r e = two_typed (Binary w op) (λ rest a b. given w rest (binary op (bits w) a b)) w vs (integer w) r (λ v u rest. refl) (λ a b rest h. given_typed w rest r (binary op (bits w) a b) h) e
 
 -- ---- the linear memory
 
-abbrev pub LeavesTyped : List ValType → Effect → Type 0
-LeavesTyped ts (Leaves vs m) = types_of vs ≡ ts
-LeavesTyped ts (Stops trap) = Unit {0}
-LeavesTyped ts Misses = ⊥
+abbrev pub EffectTyped : List ValType → Effect → Type 0
+EffectTyped ts (effects.Gives vs m) = types_of vs ≡ ts
+EffectTyped ts (effects.Trap trap) = Unit {0}
+EffectTyped ts effects.Stuck = ⊥
 
-either_typed : (ts : List ValType) (b : Bool) (x y : Effect) → LeavesTyped ts x → LeavesTyped ts y → LeavesTyped ts (cond b x y)
+either_typed : (ts : List ValType) (b : Bool) (x y : Effect) → EffectTyped ts x → EffectTyped ts y → EffectTyped ts (cond b x y)
 either_typed ts true x y h g = h
 either_typed ts false x y h g = g
 
-load_typed : (op : LoadOp) (arg : MemArg) (m : Memory) (rest : List Value) (base : Option ℕ) (n : ℕ) (r : List ValType) → base ≡ Some n → types_of rest ≡ r → LeavesTyped (loaded op ∷ r) (load_at op arg m rest base)
+load_typed : (op : LoadOp) (arg : MemArg) (m : Memory) (rest : List Value) (base : Option ℕ) (n : ℕ) (r : List ValType) → base ≡ Some n → types_of rest ≡ r → EffectTyped (loaded op ∷ r) (load_at op arg m rest base)
 load_typed op arg m rest base n r is e =
-    subst (λ o. LeavesTyped (loaded op ∷ r) (load_at op arg m rest o)) (sym is)
-    (either_typed (loaded op ∷ r) (nat_le (n + arg.offset + load_bytes op) (length m.bytes)) (Leaves (value_of op (linear_loaded m (n + arg.offset) (load_bytes op)) ∷ rest) m) (Stops traps.Linear)
+    subst (λ o. EffectTyped (loaded op ∷ r) (load_at op arg m rest o)) (sym is)
+    (either_typed (loaded op ∷ r) (nat_le (n + arg.offset + load_bytes op) (length m.bytes)) (effects.Gives (value_of op (linear_loaded m (n + arg.offset) (load_bytes op)) ∷ rest) m) (effects.Trap traps.Linear)
     (ap₂ (λ t l. t ∷ l) (loaded_typed op (linear_loaded m (n + arg.offset) (load_bytes op))) e)
     tt)
 
-store_typed : (op : StoreOp) (arg : MemArg) (m : Memory) (rest : List Value) (base value : Option ℕ) (n x : ℕ) (r : List ValType) → base ≡ Some n → value ≡ Some x → types_of rest ≡ r → LeavesTyped r (store_at op arg m rest base value)
+store_typed : (op : StoreOp) (arg : MemArg) (m : Memory) (rest : List Value) (base value : Option ℕ) (n x : ℕ) (r : List ValType) → base ≡ Some n → value ≡ Some x → types_of rest ≡ r → EffectTyped r (store_at op arg m rest base value)
 store_typed op arg m rest base value n x r is gives e =
-    subst (λ o. LeavesTyped r (store_at op arg m rest o value)) (sym is)
-    (subst (λ o. LeavesTyped r (store_at op arg m rest (Some n) o)) (sym gives)
-    (either_typed r (nat_le (n + arg.offset + store_bytes op) (length m.bytes)) (Leaves rest (linear_stored m (n + arg.offset) (store_bytes op) x)) (Stops traps.Linear) e tt))
+    subst (λ o. EffectTyped r (store_at op arg m rest o value)) (sym is)
+    (subst (λ o. EffectTyped r (store_at op arg m rest (Some n) o)) (sym gives)
+    (either_typed r (nat_le (n + arg.offset + store_bytes op) (length m.bytes)) (effects.Gives rest (linear_stored m (n + arg.offset) (store_bytes op) x)) (effects.Trap traps.Linear) e tt))
 
-grow_typed : (m : Memory) (rest : List Value) (size : Option ℕ) (n : ℕ) (r : List ValType) → size ≡ Some n → types_of rest ≡ r → LeavesTyped (I32 ∷ r) (grow_by m rest size)
+grow_typed : (m : Memory) (rest : List Value) (size : Option ℕ) (n : ℕ) (r : List ValType) → size ≡ Some n → types_of rest ≡ r → EffectTyped (I32 ∷ r) (grow_by m rest size)
 grow_typed m rest size n r is e =
-    subst (λ o. LeavesTyped (I32 ∷ r) (grow_by m rest o)) (sym is)
-    (either_typed (I32 ∷ r) (may_grow m n) (Leaves (values.I32 (pages m) ∷ rest) (grown m n)) (Leaves (values.I32 (2 ^ 32 - 1) ∷ rest) m) (ap (λ l. I32 ∷ l) e) (ap (λ l. I32 ∷ l) e))
+    subst (λ o. EffectTyped (I32 ∷ r) (grow_by m rest o)) (sym is)
+    (either_typed (I32 ∷ r) (may_grow m n) (effects.Gives (values.I32 (pages m) ∷ rest) (grown m n)) (effects.Gives (values.I32 (2 ^ 32 - 1) ∷ rest) m) (ap (λ l. I32 ∷ l) e) (ap (λ l. I32 ∷ l) e))
 
-pub linear_typed : (i : Linear) (m : Memory) (vs : List Value) (r : List ValType) → types_of vs ≡ reverse (linear_arrow i).takes ++ r → LeavesTyped (types (linear_arrow i).gives ++ r) (linear_on i m vs)
+pub linear_typed : (i : Linear) (m : Memory) (vs : List Value) (r : List ValType) → types_of vs ≡ reverse (linear_arrow i).takes ++ r → EffectTyped (types (linear_arrow i).gives ++ r) (linear_on i m vs)
 linear_typed (Load op arg) m vs r e =
     let a = number_top W32 vs r e in
-    subst (λ l. LeavesTyped (loaded op ∷ r) (linear_on (Load op arg) m l)) (sym a.3) (load_typed op arg m a.2 (number_of W32 a.0) a.1 r a.4 a.5)
+    subst (λ l. EffectTyped (loaded op ∷ r) (linear_on (Load op arg) m l)) (sym a.3) (load_typed op arg m a.2 (number_of W32 a.0) a.1 r a.4 a.5)
 linear_typed (Store op arg) m vs r e =
     let x = number_top (width_of op) vs (I32 ∷ r) (e ∙ ap (λ t. t ∷ I32 ∷ r) (stored_typed op)) in
     let a = number_top W32 x.2 r x.5 in
-    subst (λ l. LeavesTyped r (linear_on (Store op arg) m l)) (sym (x.3 ∙ ap (λ l. x.0 ∷ l) a.3))
+    subst (λ l. EffectTyped r (linear_on (Store op arg) m l)) (sym (x.3 ∙ ap (λ l. x.0 ∷ l) a.3))
     (store_typed op arg m a.2 (number_of W32 a.0) (number_of (width_of op) x.0) a.1 x.1 r a.4 x.4 a.5)
 linear_typed Size m vs r e = ap (λ l. I32 ∷ l) e
 linear_typed Grow m vs r e =
     let a = number_top W32 vs r e in
-    subst (λ l. LeavesTyped (I32 ∷ r) (linear_on Grow m l)) (sym a.3) (grow_typed m a.2 (number_of W32 a.0) a.1 r a.4 a.5)
+    subst (λ l. EffectTyped (I32 ∷ r) (linear_on Grow m l)) (sym a.3) (grow_typed m a.2 (number_of W32 a.0) a.1 r a.4 a.5)

@@ -8,6 +8,7 @@ use Rattle.ms_linear.specs.declared.value.Value.{Value}
 use Rattle.ms_linear.specs.declared.value.Value.TheVariants as values
 use Rattle.ms_module.specs.declared.access.Linear.{Linear as LinearInstr}
 use Rattle.ms_operate.specs.Memories.{linear_on}
+use Rattle.ms_operate.specs.Effects as effects
 use Rattle.ms_operate.specs.Outcomes as operate
 use Rattle.ms_rules.specs.Instructions.{linear_arrow}
 use Rattle.ms_rules.specs.Typing.{Accesses, Gets, GetsGlobal, Selects, Sets, SetsGlobal, Tees, types}
@@ -18,11 +19,11 @@ use Rattle.ms_machine.specs.Segments as segments
 use Rattle.ms_machine.specs.Step.{Outcome, Next, Stuck, Trap, choose, goes, in_memory, in_segments, linear, on_memory, on_top, pushed, select, set_global, set_local, value_in, worked}
 use Rattle.ms_machine.specs.Store.{Store, at, global_address, memory_address}
 use Rattle.ms_machine.specs.Typing.{FrameTyped, Outline, StoreTyped, ThreadTyped, WorkTyped, context_at, outline_of, types_of}
-use Rattle.ms_machine.proofs.SoundCalls.{instance_at}
-use Rattle.ms_machine.proofs.SoundNumbers.{GivesTyped, LeavesTyped, linear_typed}
-use Rattle.ms_machine.proofs.SoundSegments.{LeavesTyped as SegmentTyped}
-use Rattle.ms_machine.proofs.SoundStores.{global_named, memory_named, same_globals, same_memories}
-use Rattle.ms_machine.proofs.SoundValues.{get_mapped, get_within, i32_top, set_mapped, value_top}
+use Rattle.ms_machine.proofs.TypedCalls.{instance_at}
+use Rattle.ms_machine.proofs.TypedNumbers.{GivesTyped, EffectTyped, linear_typed}
+use Rattle.ms_machine.proofs.TypedSegments.{EffectTyped as SegmentTyped}
+use Rattle.ms_machine.proofs.TypedStores.{global_named, memory_named, same_globals, same_memories}
+use Rattle.ms_machine.proofs.TypedValues.{get_mapped, get_within, i32_top, set_mapped, value_top}
 
 -- it is not stuck, the outline stays, and the thread is typed
 abbrev pub OutcomeTyped : Outline → Outcome → Type 0
@@ -35,20 +36,20 @@ goes_typed s fr vs0 vs w t below operands frame work = (refl, record { ts = t; b
 
 pub worked_typed : (s : Store) (fr : Frame) (vs : List Value) (w : List Item) (t below : List ValType) (r : operate.Outcome) → GivesTyped (t ++ below) r → FrameTyped (outline_of s) fr → WorkTyped (outline_of s) fr.function w t below → OutcomeTyped (outline_of s) (worked s (thread fr vs w) r)
 worked_typed s fr vs w t below (operate.Gives vs') h frame work = goes_typed s fr vs vs' w t below h frame work
-worked_typed s fr vs w t below (operate.Traps trap) h frame work = tt
-worked_typed s fr vs w t below operate.Lacks h frame work = h
+worked_typed s fr vs w t below (operate.Trap trap) h frame work = tt
+worked_typed s fr vs w t below operate.Stuck h frame work = h
 
 pub in_segments_typed : (s : Store) (fr : Frame) (vs : List Value) (w : List Item) (t below : List ValType) (e : segments.Effect) → SegmentTyped (t ++ below) e → FrameTyped (outline_of s) fr → WorkTyped (outline_of s) fr.function w t below → OutcomeTyped (outline_of s) (in_segments s (thread fr vs w) e)
-in_segments_typed s fr vs w t below (segments.Leaves vs' m event) h frame work = (refl, record { ts = t; below = below; operands = h; frame = frame; work = work })
-in_segments_typed s fr vs w t below (segments.Stops trap) h frame work = tt
-in_segments_typed s fr vs w t below segments.Misses h frame work = h
+in_segments_typed s fr vs w t below (segments.Gives vs' m event) h frame work = (refl, record { ts = t; below = below; operands = h; frame = frame; work = work })
+in_segments_typed s fr vs w t below (segments.Trap trap) h frame work = tt
+in_segments_typed s fr vs w t below segments.Stuck h frame work = h
 
 -- ---- the linear memory
 
-in_memory_typed : (s : Store) (fr : Frame) (vs : List Value) (w : List Item) (t below : List ValType) (a : ℕ) (e : operate.Effect) → LeavesTyped (t ++ below) e → FrameTyped (outline_of s) fr → WorkTyped (outline_of s) fr.function w t below → OutcomeTyped (outline_of s) (in_memory s (thread fr vs w) a e)
-in_memory_typed s fr vs w t below a (operate.Leaves vs' m) h frame work = (same_memories s a m, record { ts = t; below = below; operands = h; frame = frame; work = work })
-in_memory_typed s fr vs w t below a (operate.Stops trap) h frame work = tt
-in_memory_typed s fr vs w t below a operate.Misses h frame work = h
+in_memory_typed : (s : Store) (fr : Frame) (vs : List Value) (w : List Item) (t below : List ValType) (a : ℕ) (e : effects.Effect) → EffectTyped (t ++ below) e → FrameTyped (outline_of s) fr → WorkTyped (outline_of s) fr.function w t below → OutcomeTyped (outline_of s) (in_memory s (thread fr vs w) a e)
+in_memory_typed s fr vs w t below a (effects.Gives vs' m) h frame work = (same_memories s a m, record { ts = t; below = below; operands = h; frame = frame; work = work })
+in_memory_typed s fr vs w t below a (effects.Trap trap) h frame work = tt
+in_memory_typed s fr vs w t below a effects.Stuck h frame work = h
 
 -- the types before and after an instruction that takes and gives some, over those of what lies below
 pub over_below : (takes gives r ts t below : List ValType) (vs : List Value) → types_of vs ≡ ts ++ below → ts ≡ takes ++ r → t ≡ gives ++ r → (types_of vs ≡ takes ++ (r ++ below)) × (gives ++ (r ++ below) ≡ t ++ below)
@@ -63,7 +64,7 @@ linear_outcome s store i fr vs w ts t below frame operands (some, aligned, (r, b
     let e = over_below (reverse (linear_arrow i).takes) (types (linear_arrow i).gives) r ts t below vs operands before left in
     subst (λ x. OutcomeTyped o (linear s (thread fr vs w) i x)) (sym a.1)
     (subst (λ x. OutcomeTyped o (on_memory s (thread fr vs w) i a.0 x)) (sym m.1)
-    (in_memory_typed s fr vs w t below a.0 (linear_on i m.0 vs) (subst (λ l. LeavesTyped l (linear_on i m.0 vs)) e.1 (linear_typed i m.0 vs (r ++ below) e.0)) frame work))
+    (in_memory_typed s fr vs w t below a.0 (linear_on i m.0 vs) (subst (λ l. EffectTyped l (linear_on i m.0 vs)) e.1 (linear_typed i m.0 vs (r ++ below) e.0)) frame work))
 
 -- ---- parametric instructions
 

@@ -1,4 +1,4 @@
--- Work of known types: sequences in front of it, branches, returns, and leaving blocks and calls at their ends.
+-- Work of known types: sequences in front of it, branches, returns, and exiting blocks and calls at their ends.
 use Rattle.std.proofs.Common.{◌≡◌, ℕ, zero, suc, ◌+◌, ◌-◌, ◌≤◌, List, [], ◌∷◌, ◌++◌, length, drop, slice_get, Option, Some, None, cond, refl, sym, ap, ◌∙◌, subst, arith, append_assoc, length-append}
 use Rattle.std.proofs.lemmas.Bool.{le-leb}
 use Rattle.std.proofs.lemmas.List.{drop-map, length-map}
@@ -6,17 +6,17 @@ use Rattle.ms_linear.specs.Values.{type_of}
 use Rattle.ms_linear.specs.declared.value.Value.{Value}
 use Rattle.ms_module.specs.declared.instr.Instr.{Instr}
 use Rattle.ms_rules.specs.Typing.{SequenceTyped, Typed, types}
-use Rattle.ms_task.specs.Control.{Moved, To, TooDeep, Lost, branch, keep, kept, lowest, over, return_on, settle}
+use Rattle.ms_task.specs.Control.{Moved, To, TooDeep, Stuck, branch, keep, kept, lowest, over, return_on, exit_ended}
 use Rattle.ms_task.specs.Thread.{Activation, Do, Frame, Item, Label, body_of, dos}
 use Rattle.ms_types.specs.declared.types.ValType.{ValType}
 use Rattle.ms_machine.specs.Typing.{FrameTyped, InstrTypedAt, Outline, TaskTyped, ThreadTyped, WorkTyped, context_at, labels_of, types_of}
-use Rattle.ms_machine.proofs.SoundValues.{drop_seam}
+use Rattle.ms_machine.proofs.TypedValues.{drop_seam}
 
 -- where a control instruction leads is typed
 abbrev pub MovedTyped : Outline → Moved → Type 0
 MovedTyped o (To t) = ThreadTyped o t
 MovedTyped o TooDeep = Unit {0}
-MovedTyped o Lost = ⊥
+MovedTyped o Stuck = ⊥
 
 -- a typed sequence in front of typed work
 pub sequence_typed : (o : Outline) (f : ℕ) (is : List Instr) (w : List Item) (ls : List (Option ValType)) (t1 t2 below : List ValType) → ls ≡ labels_of w → SequenceTyped (Typed (context_at o f) (body_of o.funcs f)) (context_at o f) ls is t1 t2 → WorkTyped o f w t2 below → WorkTyped o f (dos is ++ w) t1 below
@@ -91,10 +91,10 @@ return_typed o fr vs (Activation k' h caller ∷ w) k ts junk below frame (mine,
 
 -- ---- ends
 
-pub settle_typed : (o : Outline) (fr : Frame) (vs : List Value) (w : List Item) (ts below : List ValType) → types_of vs ≡ ts ++ below → FrameTyped o fr → WorkTyped o fr.function w ts below → TaskTyped o (settle fr vs w)
-settle_typed o fr vs [] ts below operands frame work = record { thread = record { ts = ts; below = below; operands = operands; frame = frame; work = work }; settled = tt }
-settle_typed o fr vs (Do i ∷ w) ts below operands frame work = record { thread = record { ts = ts; below = below; operands = operands; frame = frame; work = work }; settled = tt }
-settle_typed o fr vs (Label k h None ∷ w) ts below operands frame (mine, rest, e, high, on, there) = settle_typed o fr vs w (ts ++ mine) rest (more_typed ts mine rest below vs e operands) frame on
-settle_typed o fr vs (Label k h (Some i) ∷ w) ts below operands frame (mine, rest, e, high, on, there) = settle_typed o fr vs w (ts ++ mine) rest (more_typed ts mine rest below vs e operands) frame on
-settle_typed o fr vs (Activation k h caller ∷ w) ts below operands frame (mine, rest, e, high, ends, returns, callers, there) =
-    settle_typed o caller vs w (types k ++ mine) rest (more_typed ts mine rest below vs e operands ∙ ap (λ x. (x ++ mine) ++ rest) ends) callers there
+pub exit_typed : (o : Outline) (fr : Frame) (vs : List Value) (w : List Item) (ts below : List ValType) → types_of vs ≡ ts ++ below → FrameTyped o fr → WorkTyped o fr.function w ts below → TaskTyped o (exit_ended fr vs w)
+exit_typed o fr vs [] ts below operands frame work = record { thread = record { ts = ts; below = below; operands = operands; frame = frame; work = work }; exited = tt }
+exit_typed o fr vs (Do i ∷ w) ts below operands frame work = record { thread = record { ts = ts; below = below; operands = operands; frame = frame; work = work }; exited = tt }
+exit_typed o fr vs (Label k h None ∷ w) ts below operands frame (mine, rest, e, high, on, there) = exit_typed o fr vs w (ts ++ mine) rest (more_typed ts mine rest below vs e operands) frame on
+exit_typed o fr vs (Label k h (Some i) ∷ w) ts below operands frame (mine, rest, e, high, on, there) = exit_typed o fr vs w (ts ++ mine) rest (more_typed ts mine rest below vs e operands) frame on
+exit_typed o fr vs (Activation k h caller ∷ w) ts below operands frame (mine, rest, e, high, ends, returns, callers, there) =
+    exit_typed o caller vs w (types k ++ mine) rest (more_typed ts mine rest below vs e operands ∙ ap (λ x. (x ++ mine) ++ rest) ends) callers there
