@@ -47,14 +47,19 @@ abbrev pub AllWithin : ℕ → List Place → Type 0
 AllWithin n [] = Unit {0}
 AllWithin n (p ∷ ps) = Within n p × AllWithin n ps
 
--- a step is this item
-abbrev pub IsItem : Step → Item → Type 0
-IsItem (step.Plain i) x = (x ≡ Plain i.now) × (block_of i.now ≡ None)
-IsItem (step.Begin opening ty) x = x ≡ Begin opening ty
-IsItem step.Else x = x ≡ Else
-IsItem step.End x = x ≡ End
+-- the item that a step is
+abbrev pub item_of : Step → Item
+item_of (step.Plain i) = Plain i.now
+item_of (step.Begin opening ty) = Begin opening ty
+item_of step.Else = Else
+item_of step.End = End
+
+-- it is no block
+abbrev pub IsStep : Step → Type 0
+IsStep (step.Plain i) = block_of i.now ≡ None
+IsStep _ = Unit {0}
 
 -- a step is the first of the items, and the others are left
 abbrev pub Goes : Option Step → List Item → List Item → Type 0
 Goes None old new = (old ≡ []) × (new ≡ [])
-Goes (Some s) old new = (x : Item) × IsItem s x × (old ≡ x ∷ new)
+Goes (Some s) old new = (old ≡ item_of s ∷ new) × IsStep s

@@ -1,4 +1,5 @@
 ghost use Rattle.std.specs.Prelude.{◌≡◌, IfOk, OnErr};
+ghost use Rattle.ms_module.specs.Building.{IsNumbered};
 ghost use Rattle.ms_flat.specs.Flat.{flat};
 ghost use Rattle.ms_flat.specs.Places.{Goes, block_of};
 
@@ -109,7 +110,8 @@ impl<'a> Model for Walk<'a> {
 impl<'a> Walk<'a> {
     /// The beginning of a body. Takes no memory.
     pub fn new(alloc: Global, code: &'a Code) -> Self
-        ensures { result ≡ flat code.now }
+        ensures flat { result ≡ flat code.now }
+        ensures numbered { IsNumbered code.now }
     {
         let _some = code.len();
         Walk {
