@@ -1,16 +1,14 @@
 -- All the numbers of an event, and then the end.
-use Rattle.std.proofs.Common.{◌≡◌, ℕ, List, [], ◌∷◌, ◌++◌, Bool, true, false, Some, None, eqb, length, sym, ap, ◌∙◌, arith}
+use Rattle.std.proofs.Common.{◌≡◌, ℕ, List, [], ◌∷◌, ◌++◌, Bool, true, false, Some, None, eqb, length, sym, ap, ◌∙◌}
 use Rattle.std.specs.Bool.{then_some}
 use Rattle.std.specs.Fmt.{decimal}
 use Rattle.std.proofs.lemmas.Bool.{eqb-true}
+use Rattle.std.proofs.lemmas.List.{nil_from_length}
 use Rattle.ms_event.specs.Text.{IsId, IsWord}
 use Rattle.ms_event.specs.Reading.{ReadsFive, ReadsNumber, ReadsOne, ReadsPair, ReadsThree}
 
 no_more : (left : List ℕ) → true ≡ eqb (length left) 0 → left ≡ []
-no_more left e = none left (eqb-true _ _ (sym e)) where
-  none : (left : List ℕ) → length left ≡ 0 → left ≡ []
-  none [] e = cc
-  none (c ∷ left) e = absurd (omega (arith, e))
+no_more left e = nil_from_length left (eqb-true _ _ (sym e))
 
 some_more : (left : List ℕ) → false ≡ eqb (length left) 0 → left ≡ [] → ⊥
 some_more left e none = let test : false ≡ true = rw none at e in cc

@@ -1,6 +1,6 @@
 -- The linear memory as a plain list of bytes (WebAssembly 1.0, 4.2.8 and 4.4.4).
 use Rattle.ms_bytes.specs.Little.{bytes_of, number_of}
-use Rattle.std.specs.Prelude.{◌≡◌, ◌≤◌, ◌⊎◌, ℕ, ◌+◌, ◌*◌, ◌/◌, ◌%◌, List, ◌++◌, length, take, drop, replicate, Option, Some, None}
+use Rattle.std.specs.Prelude.{◌≡◌, ◌≤◌, ◌⊎◌, ℕ, ◌+◌, ◌*◌, ◌/◌, List, ◌++◌, length, take, drop, replicate, Option, Some, None}
 
 -- its bytes, and the greatest number of pages that it may have, if one is set
 pub record Memory : Type 0 where

@@ -1,69 +1,40 @@
 -- What executing a well-typed module comes to, by what was found of it.
-use Rattle.std.proofs.Common.{◌≡◌, ◌≢◌, ℕ, ◌==◌, List, [], ◌∷◌, length, Bool, true, false, refl, sym, ap, ◌∙◌, subst, cond, inl, inr, arith}
-use Rattle.std.specs.Prelude.{Option, Some, None, Ok, Err, MatchOption, option_and_then, slice_get}
+use Rattle.std.proofs.Common.{◌≡◌, ◌≢◌, ℕ, ◌==◌, List, [], length, Bool, true, refl, sym, ap, ◌∙◌, subst, cond, inl, inr}
+use Rattle.std.specs.Prelude.{Option, Some, None, Ok, MatchOption, option_and_then, slice_get}
 use Rattle.std.proofs.lemmas.Bool.{and_parts, eqb-true}
+use Rattle.std.proofs.lemmas.List.{nil_from_length}
 use Rattle.std.proofs.lemmas.Option.{get_or_from_slice_get}
 use Rattle.ms_bytes.specs.ResultLaws.{chosen}
 use Rattle.ms_machine.proofs.LinkedStores.{linked_func, linked_func_typed, linked_is}
-use Rattle.ms_machine.specs.Linking.{func_of, linked, linked_or, misfit, no_type, store_of}
+use Rattle.ms_machine.specs.Linking.{func_of, linked, misfit, no_type, store_of}
 use Rattle.ms_machine.specs.Running.{IsAlone, Run, DoesWholeRun, DoesEnd, run_from}
 use Rattle.ms_machine.specs.Store.{Store}
 use Rattle.ms_machine.specs.Typing.{outline_of}
-use Rattle.ms_machine.specs.declared.linking.Misfit.{Misfit as Fault}
 use Rattle.ms_machine.specs.declared.running.Ran.{Ran as Ending}
 use Rattle.ms_machine.specs.declared.running.Ran.TheVariants as endings
 use Rattle.ms_module.specs.declared.module.Export.{Export}
 use Rattle.ms_module.specs.declared.module.ExportDesc.{ExportDesc}
 use Rattle.ms_module.specs.declared.module.ExportDesc.TheVariants as exports
 use Rattle.ms_module.specs.declared.module.Func.{Func}
-use Rattle.ms_module.specs.declared.module.Import.{Import}
 use Rattle.ms_module.specs.declared.module.Module.{Module}
 use Rattle.ms_rules.specs.Modules.{StartTyped, WellTyped}
 use Rattle.ms_types.specs.declared.types.FuncType.{FuncType}
-use Rattle.ms_tool.specs.Executions.{DoesExecution, Imports, IsOver, Misfits, NoTask, Runs, execution_within, with_fit, with_imports, with_task}
+use Rattle.ms_tool.specs.Executions.{DoesExecution, IsOver, Runs, execution_within, with_fit, with_imports, with_task}
 use Rattle.ms_tool.specs.Tasks.{exported_task, is_task_result, is_task_type, main_name, of_task_type, task_index}
 use Rattle.ms_tool.specs.declared.exec.Outcome.TheVariants.{Ran}
 
 -- ---- lists that are empty
 
 of_no_length : {A : Type 0} (xs : List A) → (length xs == 0) ≡ true → xs ≡ []
-of_no_length [] e = refl
-of_no_length (x ∷ xs) e = absurd (let none = eqb-true (length (x ∷ xs)) 0 e in omega arith)
-
-pub not_empty : {A : Type 0} (is_empty : Bool) (xs : List A) → is_empty ≡ (length xs == 0) → is_empty ≡ false → xs ≢ []
-not_empty b xs e false_is none = let both : true ≡ false = sym (ap (λ ys. length ys == 0) none) ∙ sym e ∙ false_is in absurd cc
+of_no_length xs e = nil_from_length xs (eqb-true (length xs) 0 e)
 
 pub empty_is : {A : Type 0} (is_empty : Bool) (xs : List A) → is_empty ≡ (length xs == 0) → is_empty ≡ true → xs ≡ []
 empty_is b xs e true_is = of_no_length xs (sym e ∙ true_is)
 
--- ---- the answer of linking, where the module has no imports
+-- ---- what executing the module comes to, where it is run
 
-pub misfit_is : (m : Module) (capacity : ℕ) (fault : Fault) → linked m capacity ≡ Err fault → misfit m ≡ Some fault
-misfit_is m capacity fault links = given (misfit m) links where
-  given : (o : Option Fault) → linked_or o (store_of m capacity) ≡ Err fault → o ≡ Some fault
-  given None e = cc
-  given (Some other) e = let same : other ≡ fault = cc in ap Some same
-
--- ---- what executing the module comes to, in the order of the tests
-
-module _ (budget capacity : ℕ) (m : Module) where
-  pub imports_first : m.imports ≢ [] → execution_within budget capacity m ≡ Imports
-  imports_first some = given m.imports some where
-    given : (is : List Import) → is ≢ [] → with_imports budget capacity m is ≡ Imports
-    given [] some = absurd (some refl)
-    given (i ∷ is) some = refl
-
-  pub misfit_next : (fault : Fault) → m.imports ≡ [] → misfit m ≡ Some fault → execution_within budget capacity m ≡ Misfits fault
-  misfit_next fault alone is = ap (with_imports budget capacity m) alone ∙ ap (with_fit budget capacity m) is
-
-  task_last : (o : Option ℕ) → m.imports ≡ [] → misfit m ≡ None → task_index m main_name ≡ o → execution_within budget capacity m ≡ with_task budget capacity m o
-  task_last o alone fits is = ap (with_imports budget capacity m) alone ∙ ap (with_fit budget capacity m) fits ∙ ap (with_task budget capacity m) is
-
-  pub no_task : m.imports ≡ [] → misfit m ≡ None → task_index m main_name ≡ None → execution_within budget capacity m ≡ NoTask
-  no_task alone fits none = task_last None alone fits none
-
-  pub runs_main : (main : ℕ) → m.imports ≡ [] → misfit m ≡ None → task_index m main_name ≡ Some main → execution_within budget capacity m ≡ Runs (run_from budget (store_of m capacity) m.start main)
-  runs_main main alone fits some = task_last (Some main) alone fits some
+runs_main : (budget capacity : ℕ) (m : Module) (main : ℕ) → m.imports ≡ [] → misfit m ≡ None → task_index m main_name ≡ Some main → execution_within budget capacity m ≡ Runs (run_from budget (store_of m capacity) m.start main)
+runs_main budget capacity m main alone fits some = ap (with_imports budget capacity m) alone ∙ ap (with_fit budget capacity m) fits ∙ ap (with_task budget capacity m) some
 
 -- ---- what running the module answered
 
