@@ -1,5 +1,5 @@
 -- Tokens rise in the text that they are lexed from, and lexing ends where the text does.
-use Rattle.std.proofs.Common.{◌≡◌, ℕ, ◌+◌, ◌-◌, ◌≤◌, ◌<◌, false, List, [], ◌∷◌, ◌++◌, length, Ok, refl, sym, subst, ap, ◌∙◌, arith}
+use Rattle.std.proofs.Common.{◌≡◌, ℕ, ◌≤◌, ◌<◌, false, List, [], ◌∷◌, ◌++◌, length, Ok, refl, sym, subst, ap, ◌∙◌, arith}
 use Rattle.ms_bytes.specs.Spot.{place_of}
 use Rattle.ms_bytes.specs.ResultLaws.{ok_is}
 use Rattle.ms_bytes.specs.Runs.{Runs, goes, rests}

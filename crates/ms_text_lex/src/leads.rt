@@ -43,10 +43,18 @@ fn lead_by(byte: u8, rest: &[u8]) -> Lead
         return Lead::Blanks;
     }
     if byte == b';' {
-        return if first_is(b';', rest) { Lead::LineComment } else { Lead::Nothing };
+        return if first_is(b';', rest) {
+            Lead::LineComment
+        } else {
+            Lead::Nothing
+        };
     }
     if byte == b'(' {
-        return if first_is(b';', rest) { Lead::BlockComment } else { Lead::Paren(Kind::Open) };
+        return if first_is(b';', rest) {
+            Lead::BlockComment
+        } else {
+            Lead::Paren(Kind::Open)
+        };
     }
     if byte == b')' {
         return Lead::Paren(Kind::Close);

@@ -105,3 +105,6 @@ pub fn lex(alloc: Global, source: &[u8]) -> Result<Vector<Token>, LexFault>
         Err(fault) => Err(fault),
     }
 }
+
+#[cfg(test)]
+mod tests;
