@@ -11,12 +11,12 @@ use Rattle.ms_module.specs.Nesting.{ModuleNestsWithin, NestsWithin}
 use Rattle.ms_module.proofs.Nesting.{nests}
 use Rattle.ms_bin_grammar.specs.Bounds.{Bounds}
 use Rattle.ms_bin_grammar.specs.Module.{Spells, SpellsWithin}
-use Rattle.ms_bin_grammar.proofs.Spelling.{one_module}
 use Rattle.ms_bin_write.specs.Parts.{number_bytes, vec_bytes}
 use Rattle.ms_bin_write.specs.Types.{func_type_bytes, limits_bytes, table_bytes}
 use Rattle.ms_bin_write.specs.Ranges.{AllFit, CodeFits, ElementFits, FillFits, FuncFits, GlobalFits, ModuleFits}
 use Rattle.ms_bin_write.specs.Written.{IsLarge, IsTooMany, KeepsBounds, codes, element_bytes, elements, export_bytes, fill_bytes, func_bytes, global_bytes, import_bytes, sigs_of, exports, fills, globals, imports, indices, memories, tables, types, written}
 use Rattle.ms_bin_write.proofs.SpelledParts.{ElementKeeps, FillKeeps, FuncKeeps, GlobalKeeps}
+use Rattle.ms_bin_write.proofs.Wider.{one_spelled}
 use Rattle.ms_bin_write.proofs.SpelledModule.{Keeps, module_spelled}
 
 -- ---- facts of all items
@@ -96,8 +96,8 @@ module _ (m : Module) (fits : ModuleFits m) (small : ¬ (IsLarge m)) (bytes : Li
   unfolding wide
   spelled = (wide m, omega arith, spelled_within (wide m) (keeps_wide m fits))
 
-  pub no_other : (bounds : Bounds) (other : Module) → KeepsBounds bounds m → SpellsWithin bounds bytes other → other ≡ m
-  no_other bounds other kept h = one_module bounds bytes other m h (spelled_within bounds kept)
+  pub no_other : (other : Module) → Spells bytes other → other ≡ m
+  no_other other h = one_spelled bytes other m h spelled
 
 -- ---- eleven parts, one after the other
 

@@ -6,4 +6,5 @@ pub mod SpelledInstrs
 pub mod SpelledBodies
 pub mod SpelledParts
 pub mod SpelledModule
+pub mod Wider
 pub mod Kept

@@ -78,9 +78,12 @@ pub fn write(alloc: Global, module: &Module) -> Result<Vec<u8>, BinFault>
     ensures spelled { IfOk result (λ bytes. Spells bytes.items «module».now) }
     ensures within { IfOk result (λ bytes. (bounds : Bounds) → KeepsBounds bounds «module».now → SpellsWithin bounds bytes.items «module».now) }
     // They spell no other module.
-    ensures only { IfOk result (λ bytes. (bounds : Bounds) (other : Module) → KeepsBounds bounds «module».now → SpellsWithin bounds bytes.items other → other ≡ «module».now) }
+    ensures only { IfOk result (λ bytes. (other : Module) → Spells bytes.items other → other ≡ «module».now) }
 {
     let mut out = Vec::from_slice(alloc, &[0x00, 0x61, 0x73, 0x6D, 0x01, 0x00, 0x00, 0x00])?;
     write_sections(alloc, module, &mut out)?;
     Ok(out)
 }
+
+#[cfg(test)]
+mod tests;

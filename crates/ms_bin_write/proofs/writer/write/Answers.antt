@@ -26,4 +26,4 @@ returns-clause-only c =
     let bytes = c.write_sections.new.out.items in
     let s = c.in_ok-write_sections.ensures in
     let is : bytes ≡ written m = grind (arith, common_steps) in
-    λ bounds other kept h. no_other m s.within s.small bytes is bounds other kept h
+    λ other h. no_other m s.within s.small bytes is other h
