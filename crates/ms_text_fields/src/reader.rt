@@ -131,3 +131,6 @@ pub fn fields(alloc: Global, source: &[u8], tokens: &[Token]) -> Result<Vector<F
         Err(fault) => Err(fault),
     }
 }
+
+#[cfg(test)]
+mod tests;
