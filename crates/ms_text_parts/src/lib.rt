@@ -14,7 +14,9 @@ mod words;
 
 pub use block_types::block_type;
 pub use locals::all_locals;
-pub use numbers::{constant_32, constant_64, index, mem_arg, next_is_index, number, optional_index};
+pub use numbers::{
+    constant_32, constant_64, index, mem_arg, next_is_index, number, optional_index,
+};
 pub use parts::{
     closing, keyword, name, next_begins, next_closes, next_is_id, no_group, opening, optional_id,
     string, the,

@@ -9,9 +9,7 @@ ghost use Rattle.ms_text_grammar.specs.Types.{global_type, limits, max_by, next_
 ghost use Rattle.ms_text_parts.specs.Readers.{Reads};
 
 use crate::numbers::{index, number};
-use crate::parts::{
-    closing, next_begins, next_closes, no_group, opening, optional_id, the,
-};
+use crate::parts::{closing, next_begins, next_closes, no_group, opening, optional_id, the};
 use crate::steps::{Steps, run};
 use crate::words::{Words, bad, is_keyword, is_number};
 use ms_text_grammar::{Index, Param, TextFault, TypeField, TypeUse, Word};
