@@ -1,13 +1,11 @@
 -- What is known of a module that was written, and bounds that it keeps.
-use Rattle.std.proofs.Common.{◌≡◌, ℕ, zero, suc, ◌+◌, ◌-◌, ◌<◌, ◌≤◌, ◌^◌, List, [], ◌∷◌, ◌++◌, length, inl, inr, refl, sym, ap, subst, ◌∙◌, arith, append_assoc}
+use Rattle.std.proofs.Common.{◌≡◌, ℕ, ◌+◌, ◌<◌, ◌≤◌, ◌^◌, List, [], ◌∷◌, ◌++◌, length, inl, inr, sym, subst, arith, append_assoc}
 use Rattle.std.specs.Prelude.{All}
 use Rattle.std.proofs.lemmas.Bool.{cases_lt}
 use Rattle.std.proofs.lemmas.List.Elements.{All-cons, All-head, All-nil, All-tail}
 use Rattle.ms_module.specs.declared.instr.Instr.{Instr}
-use Rattle.ms_module.specs.declared.module.Func.{Func}
 use Rattle.ms_module.specs.declared.module.Module.{Module}
-use Rattle.ms_module.specs.Building.{IsNumbered}
-use Rattle.ms_module.specs.Nesting.{ModuleNestsWithin, NestsWithin}
+use Rattle.ms_module.specs.Nesting.{NestsWithin}
 use Rattle.ms_module.proofs.Nesting.{nests}
 use Rattle.ms_bin_grammar.specs.Bounds.{Bounds}
 use Rattle.ms_bin_grammar.specs.Module.{Spells, SpellsWithin}

@@ -1,26 +1,23 @@
 -- What is written is spelled so: numbers, vectors, sizes, names and types.
-use Rattle.std.proofs.Common.{◌≡◌, ℕ, zero, suc, ◌+◌, ◌<◌, ◌≤◌, ◌^◌, Bool, true, false, List, [], ◌∷◌, ◌++◌, length, inl, inr, refl, sym, ap, subst, ◌∙◌, arith, append_assoc}
+use Rattle.std.proofs.Common.{ℕ, ◌<◌, ◌≤◌, ◌^◌, Bool, true, false, List, [], ◌∷◌, ◌++◌, length, inl, inr, refl, sym, subst, arith, append_assoc}
 use Rattle.std.specs.Prelude.{Option, Some, None}
 use Rattle.std.specs.List.{flat_map}
 use Rattle.std.proofs.lemmas.List.{length-append}
 use Rattle.ms_bytes.specs.Repetition.{times}
 use Rattle.ms_types.specs.declared.types.ValType.{ValType}
 use Rattle.ms_types.specs.declared.types.ValType.TheVariants.{I32, I64, Handle}
-use Rattle.ms_types.specs.declared.types.FuncType.{FuncType}
 use Rattle.ms_types.specs.declared.types.GlobalType.{GlobalType}
-use Rattle.ms_types.specs.declared.types.Limits.{Limits}
-use Rattle.ms_leb.specs.Leb128.{UnsignedAt}
 use Rattle.ms_leb.specs.Shortest.{shortest_unsigned}
 use Rattle.ms_leb.proofs.Spelling.{unsigned_spelled}
 use Rattle.ms_module.specs.Instructions.{value_rows}
 use Rattle.ms_bin_grammar.specs.Faults.{Binary}
 use Rattle.ms_bin_grammar.specs.Numbers.{number, vec}
-use Rattle.ms_bin_grammar.specs.Sizes.{bytes, name, sized}
+use Rattle.ms_bin_grammar.specs.Sizes.{name, sized}
 use Rattle.ms_bin_grammar.specs.Types.{block_type, block_types, func_type, global_type, limits, mutability, table_type, val_type, val_types}
 use Rattle.ms_bin_write.specs.Parts.{number_bytes, sized_bytes, vec_bytes}
 use Rattle.ms_bin_write.specs.Types.{block_type_code, func_type_bytes, global_type_bytes, limits_by, limits_bytes, mutability_code, table_bytes, value_bytes, value_code}
-use Rattle.ms_bin_write.specs.Ranges.{AllFit, LimitsFit, NameFits, NumberFits, NumberFitsIf}
-use Rattle.ms_bin_write.proofs.Counts.{count_few, number_some}
+use Rattle.ms_bin_write.specs.Ranges.{AllFit, LimitsFit, NameFits, NumberFitsIf}
+use Rattle.ms_bin_write.proofs.Counts.{count_few}
 
 -- what is written is spelled so, unless it has too many bytes
 abbrev pub Law : {A : Type 0} → Binary A → (A → List ℕ) → (A → Type 0) → Type 0

@@ -1,29 +1,24 @@
 -- Bodies are spelled as they are written: each item is a turn of the grammar.
-use Rattle.std.proofs.Common.{◌≡◌, ℕ, zero, suc, ◌+◌, ◌<◌, ◌≤◌, ◌^◌, Bool, true, false, eqb, ltb, not, List, [], ◌∷◌, ◌++◌, length, inl, inr, refl, sym, ap, subst, ◌∙◌, arith, append_assoc}
+use Rattle.std.proofs.Common.{◌≡◌, ℕ, ◌<◌, ◌≤◌, ◌^◌, Bool, true, false, eqb, ltb, not, List, [], ◌∷◌, ◌++◌, length, inl, inr, refl, sym, ap, subst, arith, append_assoc}
 use Rattle.std.specs.Prelude.{◌≢◌, ◌||◌, Option}
 use Rattle.std.specs.List.{flat_map}
 use Rattle.std.proofs.lemmas.Bool.{eq-eqb, lt-ltb}
 use Rattle.std.proofs.lemmas.Bool.Decides.{nat_tests}
 use Rattle.std.proofs.lemmas.List.{length-append}
-use Rattle.ms_bytes.specs.Codes.{AmongSpelled, Coded}
-use Rattle.ms_bytes.specs.Choice.{followed}
-use Rattle.ms_bytes.specs.Parts.{pure}
 use Rattle.ms_bytes.specs.Runs.{Runs, goes, rests}
 use Rattle.ms_types.specs.declared.types.ValType.{ValType}
 use Rattle.ms_module.specs.declared.instr.Instr.{Instr}
 use Rattle.ms_module.specs.declared.builder.Opening.{Opening}
 use Rattle.ms_module.specs.declared.builder.Opening.TheVariants.{Block, Loop, If}
-use Rattle.ms_module.specs.Building.{IsNumbered, State, begun, closed, first_state, placed, turned}
-use Rattle.ms_module.specs.Instructions.{else_code, end_code, opening_rows}
+use Rattle.ms_module.specs.Building.{State, begun, first_state, placed}
+use Rattle.ms_module.specs.Instructions.{end_code, opening_rows}
 use Rattle.ms_module.specs.Nesting.{NestsWithin}
 use Rattle.ms_module.specs.Numbered.{IsPlain}
 use Rattle.ms_flat.specs.Flat.{Item, Plain, Begin, Else, End, flat}
 use Rattle.ms_flat.specs.Rebuilt.{AllMayCome, MayCome, after, after_item}
 use Rattle.ms_flat.proofs.Arriving.{flat_leads}
 use Rattle.ms_flat.proofs.Depths.{flat_may_come}
-use Rattle.ms_bin_grammar.specs.declared.fault.ReadFault.{ReadFault}
 use Rattle.ms_bin_grammar.specs.Body.{block_rows, body, goes_on, turn, turns}
-use Rattle.ms_bin_grammar.specs.Code.{plain}
 use Rattle.ms_bin_write.specs.Instrs.{body_bytes, item_bytes, opcode, operands}
 use Rattle.ms_bin_write.specs.Types.{block_type_code}
 use Rattle.ms_bin_write.specs.Ranges.{AllFit, CodeFits, InstrFits, ItemFits}

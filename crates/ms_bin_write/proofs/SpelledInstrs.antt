@@ -1,9 +1,8 @@
 -- Instructions that are no blocks are spelled as they are written.
-use Rattle.std.proofs.Common.{◌≡◌, ℕ, zero, suc, ◌+◌, ◌-◌, ◌<◌, ◌≤◌, ◌^◌, Bool, true, false, eqb, cond, leb, List, [], ◌∷◌, ◌++◌, length, inl, inr, refl, sym, ap, subst, ◌∙◌, arith, append_assoc}
-use Rattle.std.specs.Prelude.{◌≢◌, Option, Some, None, ℤ, codes}
+use Rattle.std.proofs.Common.{◌≡◌, ℕ, ◌-◌, ◌<◌, ◌≤◌, ◌^◌, Bool, true, false, eqb, cond, List, [], ◌∷◌, ◌++◌, length, inl, inr, refl, sym, subst, arith}
+use Rattle.std.specs.Prelude.{◌≢◌, Some, None, ℤ, codes}
 use Rattle.std.proofs.lemmas.Bool.{eqb-true, eq-eqb, le-leb}
-use Rattle.std.proofs.lemmas.List.{length-append}
-use Rattle.ms_bytes.specs.Codes.{AmongSpelled, Coded, NamedSpelled}
+use Rattle.ms_bytes.specs.Codes.{AmongSpelled, Coded}
 use Rattle.ms_handle.specs.declared.handle.Kind.{Kind}
 use Rattle.ms_handle.specs.declared.handle.Kind.TheVariants.{Heap, Frame}
 use Rattle.ms_leb.specs.Leb128.{IsWithin}
@@ -12,7 +11,6 @@ use Rattle.ms_leb.proofs.Spelling.{signed_spelled}
 use Rattle.ms_module.specs.declared.access.MemArg.{MemArg}
 use Rattle.ms_module.specs.declared.access.LoadOp.{LoadOp}
 use Rattle.ms_module.specs.declared.access.StoreOp.{StoreOp}
-use Rattle.ms_module.specs.declared.access.Linear.{Linear}
 use Rattle.ms_module.specs.declared.access.Linear.TheVariants as linear
 use Rattle.ms_module.specs.declared.access.Segment.{Segment}
 use Rattle.ms_module.specs.declared.access.Segment.TheVariants as segment
@@ -20,7 +18,7 @@ use Rattle.ms_module.specs.declared.numeric.Numeric.{Numeric}
 use Rattle.ms_module.specs.declared.br_table.Targets.{Targets}
 use Rattle.ms_module.specs.declared.instr.Instr.{Instr}
 use Rattle.ms_module.specs.declared.instr.Instr.TheVariants as instr
-use Rattle.ms_module.specs.Numbered.{HasAlign, IsPlain}
+use Rattle.ms_module.specs.Numbered.{IsPlain}
 use Rattle.ms_module.specs.Instructions.{Bare, Form, Func, Global, Int32, Int64, KindOf, Label, Labels, Local, Memory, Row, Scale, Type_, by_code, load_rows, numeric_rows, operand_rows, prefix, segment_load_rows, segment_rows, segment_store_rows, store_rows}
 use Rattle.ms_flat.specs.Keywords.{code_of, load_word, store_word}
 use Rattle.ms_bin_grammar.specs.declared.fault.ReadFault.{ReadFault}
@@ -31,7 +29,7 @@ use Rattle.ms_bin_write.specs.Instrs.{kind_code, linear_code, mem_arg_bytes, num
 use Rattle.ms_bin_write.specs.Ranges.{AllFit, InstrFits, NumberFits}
 use Rattle.ms_bin_write.proofs.Counts.{number_some}
 use Rattle.ms_bin_write.proofs.Found.{is_block_code, load_found, numeric_found, segment_load_found, segment_store_found, store_found}
-use Rattle.ms_bin_write.proofs.Spelled.{Law, back_few, before, front_few, number_before, number_law, vec_law}
+use Rattle.ms_bin_write.proofs.Spelled.{Law, before, front_few, number_before, number_law, vec_law}
 
 -- ---- a row of the table
 

@@ -1,7 +1,7 @@
 -- A module is spelled as it is written.
-use Rattle.std.proofs.Common.{◌≡◌, ℕ, zero, suc, ◌+◌, ◌<◌, ◌≤◌, ◌^◌, Bool, true, false, eqb, not, List, [], ◌∷◌, ◌++◌, length, inl, inr, refl, sym, ap, subst, ◌∙◌, arith, append_assoc}
-use Rattle.std.specs.Prelude.{Option, Some, None, map}
-use Rattle.std.proofs.lemmas.Bool.{cases_lt, eq-eqb, lt-ltb}
+use Rattle.std.proofs.Common.{◌≡◌, ℕ, ◌<◌, ◌≤◌, ◌^◌, true, eqb, not, List, [], ◌∷◌, ◌++◌, length, inl, inr, refl, sym, subst, arith}
+use Rattle.std.specs.Prelude.{Option, Some, None}
+use Rattle.std.proofs.lemmas.Bool.{eq-eqb, lt-ltb}
 use Rattle.std.proofs.lemmas.Bool.Decides.{nat_tests}
 use Rattle.std.proofs.lemmas.List.{append-nil, length-append, length-map}
 use Rattle.ms_bytes.specs.Runs.{Runs, goes, rests}
@@ -23,11 +23,11 @@ use Rattle.ms_bin_grammar.specs.Types.{func_type, limits, table_type}
 use Rattle.ms_bin_grammar.specs.Module.{SpellsWithin, element, export, fill, funcs, global, has_more, import, module_format, section, section_rows}
 use Rattle.ms_bin_write.specs.Parts.{number_bytes, sized_bytes, vec_bytes}
 use Rattle.ms_bin_write.specs.Types.{func_type_bytes, limits_by, limits_bytes, table_bytes}
-use Rattle.ms_bin_write.specs.Ranges.{AllFit, ExportFits, ImportFits, LimitsFit, ModuleFits, NumberFits, NumberFitsIf}
-use Rattle.ms_bin_write.specs.Written.{element_bytes, export_bytes, export_desc_bytes, fill_bytes, func_bytes, global_bytes, import_bytes, import_desc_bytes, markers, part_bytes, section_bytes, sections_bytes, sigs_of, start_bytes, written}
+use Rattle.ms_bin_write.specs.Ranges.{AllFit, ExportFits, ImportFits, LimitsFit, NumberFits, NumberFitsIf}
+use Rattle.ms_bin_write.specs.Written.{element_bytes, export_bytes, export_desc_bytes, fill_bytes, func_bytes, global_bytes, import_bytes, import_desc_bytes, part_bytes, sections_bytes, sigs_of, start_bytes, written}
 use Rattle.ms_bin_write.specs.Instrs.{body_bytes}
 use Rattle.ms_bin_write.proofs.Counts.{number_any, number_len, sized_some}
-use Rattle.ms_bin_write.proofs.Spelled.{Anything, Law, all_anything, func_type_law, limits_law, number_law, sized_law, table_law, vec_law}
+use Rattle.ms_bin_write.proofs.Spelled.{Anything, all_anything, func_type_law, limits_law, number_law, sized_law, table_law, vec_law}
 use Rattle.ms_bin_write.proofs.SpelledParts.{ElementKeeps, FillKeeps, FuncKeeps, GlobalKeeps, element_law, export_law, fill_law, funcs_law, global_law, import_law, indices_law}
 
 -- what the sections so far say

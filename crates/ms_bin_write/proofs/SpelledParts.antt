@@ -1,6 +1,6 @@
 -- What sections hold is spelled as it is written.
-use Rattle.std.proofs.Common.{◌≡◌, ℕ, zero, suc, ◌+◌, ◌<◌, ◌≤◌, ◌^◌, Bool, true, false, eqb, leb, List, [], ◌∷◌, ◌++◌, length, replicate, inl, inr, refl, sym, ap, subst, ◌∙◌, arith, append_assoc}
-use Rattle.std.specs.Prelude.{Option, Some, None, map, All}
+use Rattle.std.proofs.Common.{◌≡◌, ℕ, ◌+◌, ◌<◌, ◌≤◌, ◌^◌, Bool, true, false, List, [], ◌∷◌, ◌++◌, length, replicate, inl, inr, refl, sym, ap, subst, ◌∙◌, arith, append_assoc}
+use Rattle.std.specs.Prelude.{map}
 use Rattle.std.specs.List.{flat_map}
 use Rattle.std.proofs.lemmas.Bool.{eq-eqb, le-leb}
 use Rattle.std.proofs.lemmas.List.{append-nil, length-append, length-replicate, length-map}
@@ -8,28 +8,22 @@ use Rattle.ms_bytes.specs.Repetition.{each, repeat}
 use Rattle.ms_types.specs.declared.types.ValType.{ValType}
 use Rattle.ms_types.specs.declared.types.ValType.TheVariants.{I32, I64, Handle}
 use Rattle.ms_module.specs.declared.instr.Instr.{Instr}
-use Rattle.ms_module.specs.declared.module.ImportDesc.{ImportDesc}
 use Rattle.ms_module.specs.declared.module.ImportDesc.TheVariants as imported
-use Rattle.ms_module.specs.declared.module.Import.{Import}
 use Rattle.ms_module.specs.declared.module.Func.{Func}
 use Rattle.ms_module.specs.declared.module.Global.{Global}
-use Rattle.ms_module.specs.declared.module.ExportDesc.{ExportDesc}
 use Rattle.ms_module.specs.declared.module.ExportDesc.TheVariants as exported
-use Rattle.ms_module.specs.declared.module.Export.{Export}
 use Rattle.ms_module.specs.declared.module.Element.{Element}
 use Rattle.ms_module.specs.declared.module.Fill.{Fill}
 use Rattle.ms_module.specs.Nesting.{NestsWithin}
 use Rattle.ms_bin_grammar.specs.Bounds.{Bounds}
-use Rattle.ms_bin_grammar.specs.Faults.{Binary}
 use Rattle.ms_bin_grammar.specs.Numbers.{number, vec}
 use Rattle.ms_bin_grammar.specs.Sizes.{name, sized}
-use Rattle.ms_bin_grammar.specs.Types.{val_type}
 use Rattle.ms_bin_grammar.specs.Body.{body}
 use Rattle.ms_bin_grammar.specs.Module.{element, export, export_desc, fill, func, funcs, global, import, import_desc, locals, more_locals}
 use Rattle.ms_bin_write.specs.Parts.{number_bytes, sized_bytes, vec_bytes}
 use Rattle.ms_bin_write.specs.Types.{global_type_bytes, limits_bytes, table_bytes, value_code}
 use Rattle.ms_bin_write.specs.Instrs.{body_bytes}
-use Rattle.ms_bin_write.specs.Ranges.{AllFit, CodeFits, ElementFits, ExportDescFits, ExportFits, FillFits, FuncFits, GlobalFits, ImportDescFits, ImportFits, NameFits, NumberFits}
+use Rattle.ms_bin_write.specs.Ranges.{AllFit, CodeFits, ExportDescFits, ExportFits, FuncFits, ImportDescFits, ImportFits, NameFits, NumberFits}
 use Rattle.ms_bin_write.specs.Written.{Group, element_bytes, export_bytes, export_desc_bytes, fill_bytes, func_bytes, global_bytes, group_bytes, groups, import_bytes, import_desc_bytes, joined, locals_bytes, same_type}
 use Rattle.ms_bin_write.proofs.Counts.{count_few, number_some, sized_len}
 use Rattle.ms_bin_write.proofs.Spelled.{Anything, Law, all_anything, back_few, before, front_few, global_type_law, limits_law, name_law, number_before, number_law, sized_law, table_law, value_law, vec_law}

@@ -1,6 +1,6 @@
 -- What is spelled within some bounds is spelled so within greater ones. So bytes spell one module at most, whatever the bounds.
-use Rattle.std.proofs.Common.{◌≡◌, ℕ, zero, suc, ◌+◌, ◌≤◌, ◌<◌, Bool, true, false, leb, ltb, inl, inr, List, [], ◌∷◌, length, refl, sym, subst, arith}
-use Rattle.std.specs.Prelude.{◌≢◌, map}
+use Rattle.std.proofs.Common.{◌≡◌, ℕ, zero, suc, ◌+◌, ◌≤◌, ◌<◌, Bool, true, leb, ltb, inl, inr, List, [], ◌∷◌, length, refl, subst, arith}
+use Rattle.std.specs.Prelude.{◌≢◌}
 use Rattle.std.proofs.lemmas.Bool.{leb-true, le-leb, ltb-true, lt-ltb}
 use Rattle.ms_bytes.specs.Codes.{AmongSpelled, Case, CaseSpelled, Coded}
 use Rattle.ms_bytes.specs.Choice.{followed, no_other}
@@ -8,9 +8,8 @@ use Rattle.ms_bytes.specs.Parts.{pure}
 use Rattle.ms_bytes.specs.Repetition.{each, repeat, times}
 use Rattle.ms_bytes.specs.Runs.{Runs, goes, rests}
 use Rattle.ms_types.specs.declared.types.ValType.{ValType}
-use Rattle.ms_module.specs.declared.instr.Instr.{Instr}
 use Rattle.ms_module.specs.declared.module.Module.{Module}
-use Rattle.ms_module.specs.Building.{State, first_state, placed}
+use Rattle.ms_module.specs.Building.{State, placed}
 use Rattle.ms_module.specs.Instructions.{opening_rows}
 use Rattle.ms_bin_grammar.specs.declared.fault.ReadFault.{ReadFault}
 use Rattle.ms_bin_grammar.specs.declared.fault.ReadFault.TheVariants.{Malformed}

@@ -1,5 +1,5 @@
 -- The parts of what is written (WebAssembly 1.0, 5.1.3 and 5.2): numbers, vectors, and what has its size before it.
-use Rattle.std.specs.Prelude.{ℕ, List, [], ◌∷◌, ◌++◌, length}
+use Rattle.std.specs.Prelude.{ℕ, List, ◌++◌, length}
 use Rattle.std.specs.List.{flat_map}
 use Rattle.ms_leb.specs.Shortest.{shortest_unsigned}
 

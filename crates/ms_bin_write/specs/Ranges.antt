@@ -4,7 +4,6 @@ use Rattle.std.specs.Prelude.{◌≡◌, ◌<◌, ◌^◌, ℕ, true, List, [], 
 use Rattle.std.specs.Str.{is_utf8}
 use Rattle.ms_types.specs.declared.types.Limits.{Limits}
 use Rattle.ms_leb.specs.Leb128.{IsWithin}
-use Rattle.ms_module.specs.declared.access.MemArg.{MemArg}
 use Rattle.ms_module.specs.declared.access.Linear.{Linear}
 use Rattle.ms_module.specs.declared.access.Linear.TheVariants as linear
 use Rattle.ms_module.specs.declared.access.Segment.{Segment}
@@ -23,7 +22,7 @@ use Rattle.ms_module.specs.declared.module.Element.{Element}
 use Rattle.ms_module.specs.declared.module.Fill.{Fill}
 use Rattle.ms_module.specs.declared.module.Module.{Module}
 use Rattle.ms_module.specs.Building.{IsNumbered}
-use Rattle.ms_flat.specs.Flat.{Item, Plain, Begin, Else, End, flat}
+use Rattle.ms_flat.specs.Flat.{Item, Plain, flat}
 
 abbrev pub AllFit : {A : Type 0} → (A → Type 0) → List A → Type 0
 AllFit fits [] = Unit {0}

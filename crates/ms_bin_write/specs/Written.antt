@@ -1,7 +1,6 @@
 -- How a module is written (WebAssembly 1.0, 5.5): with the shortest numbers, the fewest runs of locals, no empty section and no
 -- custom one.
-use Rattle.std.specs.Prelude.{◌≤◌, ◌+◌, ◌^◌, ℕ, suc, Bool, true, false, List, [], ◌∷◌, ◌++◌, length, map, All, Option, Some, None, if◌then◌else◌}
-use Rattle.std.specs.List.{flat_map}
+use Rattle.std.specs.Prelude.{◌≤◌, ◌^◌, ℕ, suc, Bool, true, false, List, [], ◌∷◌, ◌++◌, length, map, All, Option, Some, None, if◌then◌else◌}
 use Rattle.ms_types.specs.declared.types.ValType.{ValType}
 use Rattle.ms_types.specs.declared.types.ValType.TheVariants.{I32, I64, Handle}
 use Rattle.ms_module.specs.declared.module.ImportDesc.{ImportDesc}

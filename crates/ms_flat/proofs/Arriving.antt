@@ -1,6 +1,6 @@
 -- What is built is what its items up to there build.
-use Rattle.std.proofs.Common.{◌≡◌, ℕ, zero, suc, ◌+◌, ◌<◌, ◌≤◌, Bool, true, false, List, [], ◌∷◌, ◌++◌, length, refl, sym, ap, subst, ◌∙◌, arith, append_assoc}
-use Rattle.std.specs.Prelude.{Option, Some, None}
+use Rattle.std.proofs.Common.{◌≡◌, ℕ, ◌<◌, ◌≤◌, Bool, true, false, List, [], ◌∷◌, ◌++◌, length, refl, sym, ap, subst, ◌∙◌, arith, append_assoc}
+use Rattle.std.specs.Prelude.{Option, None}
 use Rattle.std.proofs.lemmas.List.{append-nil}
 use Rattle.ms_types.specs.declared.types.ValType.{ValType}
 use Rattle.ms_module.specs.declared.instr.Instr.{Instr}
@@ -10,13 +10,12 @@ use Rattle.ms_module.specs.declared.builder.Arm.{Arm}
 use Rattle.ms_module.specs.declared.builder.Arm.TheVariants.{First, Second, Turned}
 use Rattle.ms_module.specs.declared.builder.Open.{Open}
 use Rattle.ms_module.specs.declared.instr.Instr.TheVariants as instr
-use Rattle.ms_module.specs.Building.{Builds, IsNumbered, State, begins, begun, begun_in, closed, closed_in, closes, current, first_state, in_second, is_turned, is_turned_in, may_turn, may_turn_in, opens, placed, placed_in, places, put, started, turned, turned_blocks, turns, whole}
-use Rattle.ms_module.specs.Nesting.{OfAllNamed}
+use Rattle.ms_module.specs.Building.{Builds, IsNumbered, State, begins, begun, closed_in, closes, current, first_state, is_turned, is_turned_in, may_turn, may_turn_in, opens, placed, placed_in, places, started, turned_blocks, turns, whole}
 use Rattle.ms_module.specs.Numbered.{IsPlain, sequence_at}
 use Rattle.ms_module.proofs.Order.{Fall, current_within, in_order, length-put, names_later}
 use Rattle.ms_flat.specs.Flat.{Item, Plain, Begin, Else, End, flat, items_of, items_within, sequence_items}
 use Rattle.ms_flat.specs.Rebuilt.{after, after_item}
-use Rattle.ms_flat.proofs.Sequences.{length-more, of_all_named, plain_names_none, sequence_items-is, within_is}
+use Rattle.ms_flat.proofs.Sequences.{length-more, of_all_named, plain_names_none, within_is}
 use Rattle.ms_flat.proofs.Growing.{Apart, Below, Kept, below, kept, kept_started, whole_apart}
 use Rattle.ms_flat.proofs.Rebuilding.{begun_items, begun_so_far, close_items, items_at, lower, more_at, more_so_far, none_at, put_so_far, so_far}
 

@@ -1,9 +1,7 @@
 -- What is left of a body behind each step.
-use Rattle.std.proofs.Common.{◌≡◌, ℕ, zero, suc, ◌+◌, ◌<◌, ◌≤◌, List, [], ◌∷◌, ◌++◌, length, drop, refl, sym, ap, subst, ◌∙◌, arith, append_assoc, add-one}
+use Rattle.std.proofs.Common.{◌≡◌, ℕ, zero, suc, ◌+◌, List, [], ◌∷◌, ◌++◌, drop, refl, sym, ap, subst, ◌∙◌, append_assoc, add-one}
 use Rattle.std.specs.Prelude.{Option, Some, None, slice_get}
-use Rattle.std.specs.List.{flat_map}
 use Rattle.std.proofs.lemmas.List.{append-nil}
-use Rattle.ms_types.specs.declared.types.ValType.{ValType}
 use Rattle.ms_module.specs.declared.instr.Instr.{Instr}
 use Rattle.ms_module.specs.declared.instr.Instr.TheVariants as instr
 use Rattle.ms_module.specs.declared.builder.Opening.TheVariants as opening
@@ -11,8 +9,8 @@ use Rattle.ms_module.specs.Building.{IsNumbered}
 use Rattle.ms_module.specs.Numbered.{AllNameWithin, NamesWithin, sequence_at}
 use Rattle.ms_flat.specs.declared.walk.Block.{Block}
 use Rattle.ms_flat.specs.declared.walk.Place.{Place}
-use Rattle.ms_flat.specs.Flat.{Item, Plain, Begin, Else, End, flat, items_of, sequence_items}
-use Rattle.ms_flat.specs.Places.{OtherWithin, Within, around_items, block_of, else_then, left, rest_of}
+use Rattle.ms_flat.specs.Flat.{Item, Begin, Else, End, flat, items_of, sequence_items}
+use Rattle.ms_flat.specs.Places.{Within, block_of, else_then, left, rest_of}
 use Rattle.ms_flat.proofs.Sequences.{sequence_items-is}
 
 abbrev arm_then : (ℕ → List Item) → Option ℕ → List Item → List Item

@@ -1,6 +1,6 @@
 -- The sequences that still grow while a body is built: its own one and that of each open block. No instruction names one.
-use Rattle.std.proofs.Common.{◌≡◌, ℕ, zero, suc, ◌<◌, ◌≤◌, Bool, true, false, List, [], ◌∷◌, ◌++◌, length, refl, sym, ap, subst, arith}
-use Rattle.std.specs.Prelude.{◌≢◌, Option, Some, None}
+use Rattle.std.proofs.Common.{◌≡◌, ℕ, zero, suc, ◌<◌, Bool, true, false, List, [], ◌∷◌, ◌++◌, length, refl, arith}
+use Rattle.std.specs.Prelude.{◌≢◌, Option}
 use Rattle.ms_types.specs.declared.types.ValType.{ValType}
 use Rattle.ms_module.specs.declared.instr.Instr.{Instr}
 use Rattle.ms_module.specs.declared.builder.Opening.{Opening}
@@ -8,11 +8,11 @@ use Rattle.ms_module.specs.declared.builder.Opening.TheVariants.{Block, If, Loop
 use Rattle.ms_module.specs.declared.builder.Arm.{Arm}
 use Rattle.ms_module.specs.declared.builder.Arm.TheVariants.{First, Second, Turned}
 use Rattle.ms_module.specs.declared.builder.Open.{Open}
-use Rattle.ms_module.specs.Building.{Builds, State, begins, begun_in, closed_in, closes, current, in_second, is_turned, is_turned_in, may_turn, opens, placed_in, places, put, started, turned_blocks, turns, whole}
+use Rattle.ms_module.specs.Building.{Builds, State, begins, begun_in, closed_in, closes, current, in_second, is_turned, opens, placed_in, places, started, turned_blocks, turns, whole}
 use Rattle.ms_module.specs.Nesting.{OfAllNamed, OfNamed}
 use Rattle.ms_module.specs.Numbered.{sequence_at}
 use Rattle.ms_module.proofs.Order.{ArmFalls, Fall, InOrder, in_order}
-use Rattle.ms_flat.proofs.Sequences.{Later, all_named_within, at_more, at_put, length-more, of_all_named, of_named, plain_names_none}
+use Rattle.ms_flat.proofs.Sequences.{all_named_within, at_more, at_put, length-more, of_all_named, plain_names_none}
 
 -- a number is none of theirs
 abbrev pub Apart : ℕ → List Open → Type 0

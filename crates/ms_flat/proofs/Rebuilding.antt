@@ -1,6 +1,6 @@
 -- The items of a body build its sequences again.
-use Rattle.std.proofs.Common.{◌≡◌, ℕ, zero, suc, ◌+◌, ◌<◌, ◌≤◌, Bool, true, false, List, [], ◌∷◌, ◌++◌, length, refl, sym, ap, subst, ◌∙◌, arith, append_assoc}
-use Rattle.std.specs.Prelude.{◌≢◌, Option, Some, None}
+use Rattle.std.proofs.Common.{◌≡◌, ℕ, ◌<◌, ◌≤◌, List, [], ◌∷◌, ◌++◌, length, refl, sym, ap, ◌∙◌, arith, append_assoc}
+use Rattle.std.specs.Prelude.{◌≢◌, Option}
 use Rattle.std.specs.List.{flat_map}
 use Rattle.std.proofs.lemmas.List.{append-nil}
 use Rattle.std.proofs.lemmas.Grind.{flat_map-append}
@@ -11,14 +11,13 @@ use Rattle.ms_module.specs.declared.builder.Opening.TheVariants.{Block, If, Loop
 use Rattle.ms_module.specs.declared.builder.Arm.{Arm}
 use Rattle.ms_module.specs.declared.builder.Arm.TheVariants.{First, Second, Turned}
 use Rattle.ms_module.specs.declared.builder.Open.{Open}
-use Rattle.ms_module.specs.Building.{Builds, IsNumbered, State, begins, begun, begun_in, closed, closed_in, closes, current, first_state, in_second, is_turned, is_turned_in, may_turn, may_turn_in, opens, placed, placed_in, places, put, started, turned, turned_blocks, turns, whole}
+use Rattle.ms_module.specs.Building.{current, put, whole}
 use Rattle.ms_module.specs.Nesting.{OfAllNamed, OfNamed}
-use Rattle.ms_module.specs.Numbered.{IsPlain, sequence_at}
-use Rattle.ms_module.proofs.Order.{Fall, InOrder, in_order, length-put, names_later}
-use Rattle.ms_flat.specs.Flat.{Item, Plain, Begin, Else, End, flat, items_of, items_within, sequence_items}
-use Rattle.ms_flat.specs.Rebuilt.{after, after_item}
-use Rattle.ms_flat.proofs.Sequences.{Later, all_same, all_trivial, at_more, length-more, of_all_named, of_named, past_end, plain_names_none, put_other, put_same, same_items, within-agrees, within-more, within_is}
-use Rattle.ms_flat.proofs.Growing.{Apart, ArmBelow, Below, Kept, apart, arm_apart, below, kept, kept_started, whole_apart}
+use Rattle.ms_module.specs.Numbered.{sequence_at}
+use Rattle.ms_module.proofs.Order.{Fall}
+use Rattle.ms_flat.specs.Flat.{Item, Begin, Else, End, items_of, items_within}
+use Rattle.ms_flat.proofs.Sequences.{Later, all_same, all_trivial, at_more, of_all_named, of_named, past_end, put_other, put_same, same_items, within-agrees, within-more, within_is}
+use Rattle.ms_flat.proofs.Growing.{Apart, ArmBelow, Below, Kept, arm_apart}
 
 -- the items of a sequence, by those of the sequences that it names
 abbrev pub items_at : (ℕ → List Item) → List (List Instr) → ℕ → List Item

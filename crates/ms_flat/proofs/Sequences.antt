@@ -1,6 +1,6 @@
 -- The items of a sequence by those of the sequences that it names.
-use Rattle.std.proofs.Common.{◌≡◌, ℕ, zero, suc, ◌+◌, ◌<◌, ◌≤◌, List, [], ◌∷◌, ◌++◌, length, refl, sym, ap, ◌∙◌, arith, append_assoc}
-use Rattle.std.specs.Prelude.{◌≢◌, Option, Some, None}
+use Rattle.std.proofs.Common.{◌≡◌, ℕ, zero, suc, ◌+◌, ◌<◌, ◌≤◌, List, [], ◌∷◌, ◌++◌, length, refl, ap, ◌∙◌, arith}
+use Rattle.std.specs.Prelude.{◌≢◌, Some, None}
 use Rattle.std.specs.List.{flat_map}
 use Rattle.std.proofs.lemmas.List.{length-append}
 use Rattle.ms_module.specs.declared.instr.Instr.{Instr}
@@ -9,7 +9,7 @@ use Rattle.ms_module.specs.Building.{IsNumbered, put}
 use Rattle.ms_module.specs.Nesting.{OfAllNamed, OfNamed}
 use Rattle.ms_module.specs.Numbered.{AllNameWithin, IsPlain, NamesWithin, sequence_at}
 use Rattle.ms_module.proofs.Order.{names_later}
-use Rattle.ms_flat.specs.Flat.{Item, Plain, Begin, Else, End, items_of, items_within, sequence_items}
+use Rattle.ms_flat.specs.Flat.{Item, items_of, items_within, sequence_items}
 
 -- ---- what holds of named sequences
 

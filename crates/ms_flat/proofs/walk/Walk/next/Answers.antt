@@ -2,11 +2,11 @@ use Rattle.std.proofs.Common.{◌≡◌, ◌∷◌, List, length, refl, sym, ap,
 use Rattle.std.specs.Prelude.{Some, None, slice_get}
 use Rattle.std.proofs.lemmas.Option.{slice_get_past, slice_get_read}
 use Rattle.ms_module.specs.declared.instr.Instr.{Instr}
-use Rattle.ms_module.specs.Numbered.{AllNameWithin, sequence_at}
+use Rattle.ms_module.specs.Numbered.{sequence_at}
 use Rattle.ms_flat.specs.declared.walk.Place.{Place}
 use Rattle.ms_flat.specs.Flat.{Else}
 use Rattle.ms_flat.specs.Places.{AllWithin, Within, left}
-use Rattle.ms_flat.proofs.Going.{behind, block_within, left_block, left_else}
+use Rattle.ms_flat.proofs.Going.{block_within, left_block, left_else}
 use Rattle.ms_flat.proofs.walk.Walk.next.Goals as goal
 
 pub returns-in-Some-other-clause-ok : goal.returns-in-Some-other-clause-ok
