@@ -19,7 +19,7 @@ low_takes_z l (Err d) n t e = absurd cc
 
 -- ---- unsigned
 
-more_unsigned : (bits b : ℕ) (front : List ℕ) (high n : ℕ) → 128 ≤ b → 7 < bits → IsUnsigned (bits - 7) front high → n ≡ high * 128 + (b - 128) → IsUnsigned bits (b ∷ front) n
+pub more_unsigned : (bits b : ℕ) (front : List ℕ) (high n : ℕ) → 128 ≤ b → 7 < bits → IsUnsigned (bits - 7) front high → n ≡ high * 128 + (b - 128) → IsUnsigned bits (b ∷ front) n
 more_unsigned bits b [] high n le lt h e = absurd h
 more_unsigned bits b (c ∷ front) high n le lt h e = (le, lt, (high, h, e))
 
@@ -62,7 +62,7 @@ unsigned_again bits (b ∷ c ∷ front) n rest h =
 
 -- ---- signed
 
-more_signed : (bits b : ℕ) (front : List ℕ) (high n : ℤ) → 128 ≤ b → 7 < bits → IsSigned (bits - 7) front high → n ≡ high *ℤ pos 128 +ℤ pos (b - 128) → IsSigned bits (b ∷ front) n
+pub more_signed : (bits b : ℕ) (front : List ℕ) (high n : ℤ) → 128 ≤ b → 7 < bits → IsSigned (bits - 7) front high → n ≡ high *ℤ pos 128 +ℤ pos (b - 128) → IsSigned bits (b ∷ front) n
 more_signed bits b [] high n le lt h e = absurd h
 more_signed bits b (c ∷ front) high n le lt h e = (le, lt, (high, h, e))
 

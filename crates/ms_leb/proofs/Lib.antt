@@ -1,3 +1,4 @@
 pub mod Powers
 pub mod Leb128Laws
 pub mod Reading
+pub mod Spelling

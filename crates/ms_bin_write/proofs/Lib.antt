@@ -1,0 +1,10 @@
+pub mod Groups
+pub mod Counts
+pub mod Spelled
+pub mod Found
+pub mod SpelledInstrs
+pub mod SpelledBodies
+pub mod SpelledParts
+pub mod SpelledModule
+pub mod Wider
+pub mod Kept

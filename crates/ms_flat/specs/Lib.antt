@@ -1,0 +1,4 @@
+pub mod Keywords
+pub mod Flat
+pub mod Rebuilt
+pub mod Places
