@@ -1,0 +1,7 @@
+use Rattle.std.proofs.Common.{◌≡◌, ◌++◌, drop}
+use Rattle.ms_text_write.specs.Parts.{behind}
+use Rattle.ms_text_write.proofs.parts.write_behind.Given as goal
+
+-- what is written and what is left are all of it
+abbrev pub invariant-loop-item : goal.invariant-loop-item
+invariant-loop-item g l = l.out.items ++ behind l.lead g.T.Show.text (drop l.item-index l.items) ≡ l.initial.out.items ++ behind l.lead g.T.Show.text l.items

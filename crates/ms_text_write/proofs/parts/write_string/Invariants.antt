@@ -1,0 +1,8 @@
+use Rattle.std.proofs.Common.{◌≡◌, ◌++◌, drop}
+use Rattle.std.specs.List.{flat_map}
+use Rattle.ms_text_write.specs.Parts.{byte_text}
+use Rattle.ms_text_write.proofs.parts.write_string.Given as goal
+
+-- what is written and what is left are all of it
+abbrev pub invariant-loop-byte : goal.invariant-loop-byte
+invariant-loop-byte l = l.out.items ++ flat_map byte_text (drop l.byte-index l.bytes) ≡ l.initial.out.items ++ flat_map byte_text l.bytes

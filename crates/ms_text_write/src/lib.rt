@@ -1,0 +1,19 @@
+//! The writer of texts (WebAssembly 1.0, chapter 6).
+//!
+//! `write` gives the one text of a module that `specs/Shown.antt`, to be read first, says: indices alone, flat instructions, a
+//! line a field. The functions below it write a part each at the end of bytes. It stands on `ms_flat`, which goes through
+//! bodies and has the keywords of instructions, and on `ms_text_grammar` for the other keywords.
+#![tactic(auto)]
+
+mod body;
+mod fields;
+mod funcs;
+mod parts;
+mod types;
+mod words;
+mod writer;
+
+pub use writer::write;
+
+#[cfg(test)]
+mod tests;

@@ -1,0 +1,91 @@
+//! Writing a module (WebAssembly 1.0, 6.6.13).
+
+ghost use Rattle.std.specs.Prelude.{◌≡◌, ◌++◌, OnOk, IfOk};
+ghost use Rattle.ms_text_write.specs.Types.{memory_text, table_text};
+ghost use Rattle.ms_text_write.specs.Shown.{lines, parts_text, shown, start_line, uses_text};
+
+use crate::parts::{Show, write_behind, write_indexed, write_opened};
+use crate::types::{write_memory, write_table};
+use ms_module::Module;
+use ms_text_grammar::Word;
+use ms_types::Limits;
+use std::alloc::{AllocError, Global};
+
+/// Writes fields, each behind the beginning of a line.
+#[tactic(auto, unfolding(crate::specs::Shown::lines))]
+fn write_lines<T: Show>(alloc: Global, fields: &[T], out: &mut Vec<u8>) -> Result<(), AllocError>
+    ensures { OnOk result (out.new.items ≡ out.old.items ++ lines T.text fields.now) }
+{
+    write_behind(alloc, b"\n  ", fields, out)
+}
+
+/// Writes tables, a line each.
+#[tactic(auto, unfolding(crate::specs::Shown::lines))]
+fn write_tables(tables: &[Limits], out: &mut Vec<u8>) -> Result<(), AllocError>
+    ensures { OnOk result (out.new.items ≡ out.old.items ++ lines table_text tables.now) }
+{
+    for limits in tables {
+        out.extend_from_slice(b"\n  ")?;
+        write_table(*limits, out)?;
+    }
+    Ok(())
+}
+
+/// Writes memories, a line each.
+#[tactic(auto, unfolding(crate::specs::Shown::lines))]
+fn write_memories(memories: &[Limits], out: &mut Vec<u8>) -> Result<(), AllocError>
+    ensures { OnOk result (out.new.items ≡ out.old.items ++ lines memory_text memories.now) }
+{
+    for limits in memories {
+        out.extend_from_slice(b"\n  ")?;
+        write_memory(*limits, out)?;
+    }
+    Ok(())
+}
+
+/// Writes the line of the start function, if there is one.
+fn write_start(start: Option<u32>, out: &mut Vec<u8>) -> Result<(), AllocError>
+    ensures { OnOk result (out.new.items ≡ out.old.items ++ start_line start) }
+{
+    let Some(index) = start else {
+        return Ok(());
+    };
+    out.extend_from_slice(b"\n  ")?;
+    write_indexed(Word::Start, index, out)
+}
+
+/// Writes what the module is made of: types, imports, functions, tables, memories and globals.
+#[tactic(auto, unfolding(crate::specs::Shown::parts_text))]
+fn write_parts(alloc: Global, module: &Module, out: &mut Vec<u8>) -> Result<(), AllocError>
+    ensures { OnOk result (out.new.items ≡ out.old.items ++ parts_text «module».now) }
+{
+    write_lines(alloc, module.sigs.as_slice(), out)?;
+    write_lines(alloc, module.imports.as_slice(), out)?;
+    write_lines(alloc, module.funcs.as_slice(), out)?;
+    write_tables(module.tables.as_slice(), out)?;
+    write_memories(module.memories.as_slice(), out)?;
+    write_lines(alloc, module.globals.as_slice(), out)
+}
+
+/// Writes what the module gives, and what it begins with: exports, the start function, elements and data.
+#[tactic(auto, unfolding(crate::specs::Shown::uses_text))]
+fn write_uses(alloc: Global, module: &Module, out: &mut Vec<u8>) -> Result<(), AllocError>
+    ensures { OnOk result (out.new.items ≡ out.old.items ++ uses_text «module».now) }
+{
+    write_lines(alloc, module.exports.as_slice(), out)?;
+    write_start(module.start, out)?;
+    write_lines(alloc, module.elements.as_slice(), out)?;
+    write_lines(alloc, module.fills.as_slice(), out)
+}
+
+/// Writes a module as text, the same for the same module. The one error is want of memory.
+pub fn write(alloc: Global, module: &Module) -> Result<Vec<u8>, AllocError>
+    ensures { IfOk result (λ text. text.items ≡ shown «module».now) }
+{
+    let mut out = Vec::new(alloc);
+    write_opened(Word::Module, &mut out)?;
+    write_parts(alloc, module, &mut out)?;
+    write_uses(alloc, module, &mut out)?;
+    out.extend_from_slice(b")\n")?;
+    Ok(out)
+}
