@@ -1,6 +1,6 @@
 -- A file is all of its tokens, and these are fields in one way at most.
 use Rattle.std.specs.Prelude.{◌≡◌, ℕ, Bool, true, false, List, [], length, Ok, Result}
-use Rattle.std.proofs.Common.{sym, ◌∙◌, ap}
+use Rattle.std.proofs.Common.{subst, sym, ◌∙◌, ap}
 use Rattle.ms_bytes.specs.Parts.{ended, pure, seq}
 use Rattle.ms_text_lex.specs.declared.token.Token.{Token}
 use Rattle.ms_text_grammar.specs.declared.fault.TextFault.{TextFault}
@@ -9,6 +9,11 @@ use Rattle.ms_text_grammar.specs.declared.word.Word.TheVariants as word
 use Rattle.ms_text_grammar.specs.Tokens.{begins}
 use Rattle.ms_text_grammar.specs.Faults.{bad}
 use Rattle.ms_text_grammar.specs.Bounds.{Bounds, usual}
+use Rattle.ms_module.specs.declared.module.Module.{Module}
+use Rattle.ms_text_lex.specs.Lexing.{Lexes, lexemes}
+use Rattle.ms_text_lex.specs.Fault as lexing
+use Rattle.ms_text_grammar.specs.Elaborating.{module_of}
+use Rattle.ms_text_grammar.specs.TextSpells.{TextSpells}
 use Rattle.ms_text_grammar.specs.Fields.{File, file, file_by, file_within}
 
 abbrev whole : List Field → Result (List Field × List Token) TextFault
@@ -32,3 +37,22 @@ module _ (source : List ℕ) where
       let e : whole x ≡ whole y = sym ((file source).again (length source) s x [] h) ∙ (file source).again (length source) s y [] k in
       let pairs : ◌≡◌ {A = List Field × List Token} (x, []) (y, []) = cc in
       ap (λ (p : List Field × List Token). p.0) pairs
+
+abbrev all_of : List Token → Result (List Token × List ℕ) lexing.Fault
+all_of tokens = Ok (tokens, [])
+
+same_tokens : (bytes : List ℕ) (s t : List Token) → Lexes bytes s → Lexes bytes t → s ≡ t
+same_tokens bytes s t h k =
+    let format = lexemes (length bytes) in
+    let e : all_of s ≡ all_of t = sym (format.again (length bytes) bytes s [] h) ∙ format.again (length bytes) bytes t [] k in
+    let pairs : ◌≡◌ {A = List Token × List ℕ} (s, []) (t, []) = cc in
+    ap (λ (p : List Token × List ℕ). p.0) pairs
+
+same_fields : (bytes : List ℕ) (s t : List Token) (x y : List Field) → s ≡ t → (file bytes).spelled s x [] → (file bytes).spelled t y [] → x ≡ y
+same_fields bytes s t x y e h k = one_way bytes t x y (subst (λ (l : List Token). (file bytes).spelled l x []) e h) k
+
+pub one_module : (bytes : List ℕ) (m n : Module) → TextSpells bytes m → TextSpells bytes n → m ≡ n
+one_module bytes m n h k =
+    let tokens = same_tokens bytes h.tokens k.tokens h.lexed k.lexed in
+    let fields = same_fields bytes h.tokens k.tokens h.fields k.fields tokens h.spelled.grammar k.spelled.grammar in
+    h.is ∙ ap (λ (fs : List Field). (module_of bytes fs).value) fields ∙ sym k.is

@@ -1,5 +1,5 @@
 -- Bodies: one turn after the other (WebAssembly 1.0, 6.5.8 and 6.6.5), where at most so many blocks may be in one another.
-use Rattle.std.specs.Prelude.{◌&&◌, ℕ, Bool, true, false, not, List, [], ◌∷◌}
+use Rattle.std.specs.Prelude.{◌&&◌, ◌==◌, ℕ, Bool, not, List, length}
 use Rattle.std.proofs.Common.{arith}
 use Rattle.ms_bytes.specs.Do.{◌>>=◌}
 use Rattle.ms_bytes.specs.Parts.{choose_least, pure}
@@ -15,10 +15,6 @@ use Rattle.ms_text_grammar.specs.Faults.{Textual, bad}
 use Rattle.ms_text_grammar.specs.Turns.{State, first_state, folded, sign_of, turn_on}
 use Rattle.ms_text_grammar.specs.TurnLaws.{turn_on_least}
 
-abbrev pub no_frames : List Frame → Bool
-no_frames [] = true
-no_frames (f ∷ fs) = false
-
 abbrev pub body_of : State → Body
 body_of st = record { uses = st.uses; ops = st.ops }
 
@@ -28,7 +24,7 @@ module _ (source : List ℕ) (most : ℕ) where
 
   -- up to the parenthesis that closes what the body is in
   abbrev pub body_goes : State → List Token → Bool
-  body_goes st s = not (no_frames st.frames && closes s)
+  body_goes st s = not ((length st.frames == 0) && closes s)
 
   pub turn_takes : TakesItem {F = TextFault} body_goes turn
   unfolding turn
@@ -41,7 +37,7 @@ module _ (source : List ℕ) (most : ℕ) where
 
   -- while frames are open
   abbrev pub inside_goes : State → List Token → Bool
-  inside_goes st s = not (no_frames st.frames)
+  inside_goes st s = not (length st.frames == 0)
 
   pub inside_takes : TakesItem {F = TextFault} inside_goes turn
   unfolding turn

@@ -17,7 +17,7 @@ use Rattle.ms_text_grammar.specs.declared.word.Word.{Word}
 use Rattle.ms_text_grammar.specs.declared.word.Word.TheVariants as word
 use Rattle.ms_text_grammar.specs.Keywords.{spelling}
 use Rattle.ms_text_grammar.specs.Tokens.{begins, is_close, is_keyword}
-use Rattle.ms_text_grammar.specs.Faults.{Textual, bad}
+use Rattle.ms_text_grammar.specs.Faults.{Textual, bad, kept}
 use Rattle.ms_text_grammar.specs.Parts.{closing, opening, optional_id, the}
 use Rattle.ms_text_grammar.specs.Numbers.{if_so, index}
 use Rattle.ms_text_grammar.specs.Types.{type_field}
@@ -44,14 +44,14 @@ among [] text = None
 among (w ∷ ws) text = if bytes_eq text (spelling w) then Some w else among ws text
 
 -- one start at most; no import behind a definition
-abbrev pub may_stand : Bool → Bool → Word → Option Word
-may_stand started defined word.Start = if started then None else Some word.Start
-may_stand started defined word.Import = if defined then None else Some word.Import
-may_stand started defined w = Some w
+abbrev pub may_stand : File → Word → Bool
+may_stand file word.Start = not file.started
+may_stand file word.Import = not file.defined
+may_stand file _ = true
 
-abbrev pub standing : Bool → Bool → Option Word → Option Word
-standing started defined None = None
-standing started defined (Some w) = may_stand started defined w
+abbrev pub standing : File → Option Word → Option Word
+standing file None = None
+standing file (Some w) = kept (may_stand file w) w
 
 abbrev pub is_start : Field → Bool
 is_start (field.Start x) = true
@@ -66,7 +66,7 @@ with_field f file = record { bracketed = file.bracketed; fields = file.fields ++
 
 module _ (source : List ℕ) (bounds : Bounds) where
   abbrev pub field_word : File → Token → Option Word
-  field_word file t = standing file.started file.defined (if_so (is_keyword t.kind) (among field_words (text_of source t)))
+  field_word file t = standing file (if_so (is_keyword t.kind) (among field_words (text_of source t)))
 
   -- behind the word of a field
   unfoldable pub behind_field : Bool → Word → Textual Field

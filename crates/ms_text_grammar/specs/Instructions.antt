@@ -1,6 +1,6 @@
 -- Instructions that are no blocks: a keyword, and what stands behind it (WebAssembly 1.0, 6.5.2 to 6.5.6). The keywords stand in
 -- the table of instructions (`Instructions` of `ms_module`).
-use Rattle.std.specs.Prelude.{◌==◌, ◌++◌, ℕ, Bool, true, List, [], ◌∷◌, Option, Some, None, if◌then◌else◌}
+use Rattle.std.specs.Prelude.{◌==◌, ◌++◌, ◌||◌, ℕ, Bool, true, List, [], ◌∷◌, length, Option, Some, None, if◌then◌else◌}
 use Rattle.std.specs.Str.{bytes_eq}
 use Rattle.std.proofs.Common.{arith}
 use Rattle.ms_bytes.specs.Do.{◌>>=◌}
@@ -20,7 +20,7 @@ use Rattle.ms_module.specs.declared.access.Segment.TheVariants as segment
 use Rattle.ms_module.specs.declared.instr.Instr.{Instr}
 use Rattle.ms_module.specs.declared.instr.Instr.TheVariants as instr
 use Rattle.ms_module.specs.declared.numeric.Numeric.{Numeric}
-use Rattle.ms_module.specs.Instructions.{Bare, Form, Func, Global, Int32, Int64, KindOf, Label, Labels, Local, Memory, Scale, Type_, by_word, load_rows, numeric_rows, operand_rows, segment_load_rows, segment_rows, segment_store_rows, store_rows}
+use Rattle.ms_module.specs.Instructions.{Bare, Form, Func, Global, Int32, Int64, KindOf, Label, Labels, Local, Memory, Row, Scale, Type_, by_word, load_rows, row, numeric_rows, operand_rows, segment_load_rows, segment_rows, segment_store_rows, store_rows}
 use Rattle.ms_text_grammar.specs.declared.fault.TextFault.{TextFault}
 use Rattle.ms_text_grammar.specs.declared.frame.Fresh.{Fresh}
 use Rattle.ms_text_grammar.specs.declared.frame.Fresh.TheVariants as fresh
@@ -47,20 +47,19 @@ pub data Form_ : Type 0 where
   load : LoadOp → Form_
   store : StoreOp → Form_
 
--- what a keyword is by some rows of the table, else by others
-abbrev pub by_rows : {A : Type 0} → (A → Form_) → Option A → Option Form_ → Option Form_
-by_rows f (Some x) others = Some (f x)
-by_rows f None others = others
+-- rows of the table, as one kind of these
+abbrev pub rows_as : {A : Type 0} → (A → Form_) → List (Row A) → List (Row Form_)
+rows_as f [] = []
+rows_as f (r ∷ rs) = row r.code r.word (f r.item) ∷ rows_as f rs
+
+-- all keywords
+unfoldable pub form_rows : List (Row Form_)
+form_rows =
+    rows_as operand operand_rows ++ rows_as numeric numeric_rows ++ rows_as load load_rows ++ rows_as store store_rows
+    ++ rows_as operand segment_rows ++ rows_as segment_load segment_load_rows ++ rows_as segment_store segment_store_rows
 
 abbrev pub form_of : List ℕ → Option Form_
-form_of text =
-    by_rows operand (by_word operand_rows text)
-    (by_rows numeric (by_word numeric_rows text)
-    (by_rows load (by_word load_rows text)
-    (by_rows store (by_word store_rows text)
-    (by_rows operand (by_word segment_rows text)
-    (by_rows segment_load (by_word segment_load_rows text)
-    (by_rows segment_store (by_word segment_store_rows text) None))))))
+form_of text = by_word form_rows text
 
 -- the exponent of the alignment of so many bytes, of 1, 2, 4 or 8
 abbrev pub natural : ℕ → ℕ
@@ -74,10 +73,18 @@ kind_of text = if bytes_eq text (spelling word.Heap) then Some Heap else if byte
 abbrev pub fresh_of : Instr → Fresh
 fresh_of i = fresh.Plain (plain.Instr i None)
 
+-- the number of an index, or 0 in place of an identifier, which is kept beside it
+abbrev pub number_in : Index → ℕ
+number_in (Number n) = n
+number_in (Name id) = 0
+
+abbrev pub id_in : Index → Option Token
+id_in (Number n) = None
+id_in (Name id) = Some id
+
 -- the instruction with an index
 abbrev pub indexed : (ℕ → Instr) → Index → Fresh
-indexed f (Number n) = fresh.Plain (plain.Instr (f n) None)
-indexed f (Name id) = fresh.Plain (plain.Instr (f 0) (Some id))
+indexed f x = fresh.Plain (plain.Instr (f (number_in x)) (id_in x))
 
 module _ (source : List ℕ) where
   unfoldable pub next_label : List Index → Textual (List Index)
@@ -85,15 +92,14 @@ module _ (source : List ℕ) where
     l ← index source
     pure (ls ++ l ∷ [])
 
+  -- one at least
   abbrev pub labels_go : List Index → List Token → Bool
-  labels_go [] s = true
-  labels_go (l ∷ ls) s = begins_index s
+  labels_go ls s = (length ls == 0) || begins_index s
 
   pub label_takes : TakesItem {F = TextFault} labels_go next_label
   unfolding next_label index
   label_takes = takes_least labels_go next_label (λ ls. omega arith)
 
-  -- labels, one at least
   unfoldable pub labels : Textual (List Index)
   labels = run (bad source) labels_go next_label label_takes []
 

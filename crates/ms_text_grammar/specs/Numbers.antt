@@ -6,7 +6,7 @@ use Rattle.ms_bytes.specs.Parts.{choose, choose_least, item, pure}
 use Rattle.ms_text_lex.specs.declared.token.Token.{Token}
 use Rattle.ms_text_lex.specs.Tokens.{text_of}
 use Rattle.ms_text_lex.specs.Words.{has_sign, is_unsigned}
-use Rattle.ms_text_lex.specs.Numbers.{is_negative, magnitude}
+use Rattle.ms_text_lex.specs.Numbers.{constant_of, index_of}
 use Rattle.ms_module.specs.Instructions.{begins_with}
 use Rattle.ms_module.specs.declared.access.MemArg.{MemArg}
 use Rattle.ms_text_grammar.specs.declared.fault.TextFault.{TextFault}
@@ -17,17 +17,6 @@ use Rattle.ms_text_grammar.specs.Keywords.{align_is, offset_is}
 use Rattle.ms_text_grammar.specs.Tokens.{begins_id, begins_index, is_keyword, is_number, next}
 use Rattle.ms_text_grammar.specs.Faults.{Textual, bad, kept}
 use Rattle.ms_text_grammar.specs.Parts.{identifier}
-
--- a constant of so many bits, signed or not, as a signed number (6.5.6)
-abbrev pub constant_of : ℕ → List ℕ → Option ℤ
-constant_of bits s =
-    if is_negative s then (if nat_le (magnitude s) (2 ^ (bits - 1)) then Some (pos 0 -ℤ pos (magnitude s)) else None) else
-    if nat_lt (magnitude s) (2 ^ (bits - 1)) then Some (pos (magnitude s)) else
-    if nat_lt (magnitude s) (2 ^ bits) then Some (pos (magnitude s) -ℤ pos (2 ^ bits)) else None
-
--- a number of 32 bits without a sign
-abbrev pub u32_of : List ℕ → Option ℕ
-u32_of s = if has_sign s then None else if nat_lt (magnitude s) (2 ^ 32) then Some (magnitude s) else None
 
 abbrev pub if_so : {A : Type 0} → Bool → Option A → Option A
 if_so true x = x
@@ -59,6 +48,10 @@ power_from (suc more) k n = if n == 2 ^ k then Some k else power_from more (suc 
 abbrev pub exponent_of : ℕ → Option ℕ
 exponent_of n = power_from 32 0 n
 
+abbrev pub exponent_in : Option ℕ → Option ℕ
+exponent_in None = None
+exponent_in (Some n) = exponent_of n
+
 module _ (source : List ℕ) where
   -- a number token without a sign
   abbrev pub is_plain_number : Token → Bool
@@ -68,7 +61,7 @@ module _ (source : List ℕ) where
   constant bits = item (out_of_range source (λ t. is_number t.kind)) (λ t. if_so (is_number t.kind) (constant_of bits (text_of source t)))
 
   unfoldable pub number : Textual ℕ
-  number = item (out_of_range source is_plain_number) (λ t. if_so (is_number t.kind) (u32_of (text_of source t)))
+  number = item (out_of_range source is_plain_number) (λ t. if_so (is_number t.kind) (index_of (text_of source t)))
 
   unfoldable pub index_by : Bool → Textual Index
   index_by true = do
@@ -97,15 +90,12 @@ module _ (source : List ℕ) where
 
   -- ---- offsets and alignments of accesses (6.5.5): `offset=N` and `align=N`, each a keyword
 
-  -- a keyword of this front, and what its number is
-  abbrev pub numbered : {A : Type 0} → List ℕ → (ℕ → Option A) → Textual A
-  numbered front f = item (out_of_range source (is_numbered source front)) (λ t. if_so (is_numbered source front t) (f (magnitude (behind source front t))))
-
-  abbrev pub below_u32 : ℕ → Option ℕ
-  below_u32 n = kept (nat_lt n (2 ^ 32)) n
+  -- a keyword of this front, by what is made of its number
+  abbrev pub numbered : {A : Type 0} → List ℕ → (Option ℕ → Option A) → Textual A
+  numbered front f = item (out_of_range source (is_numbered source front)) (λ t. if_so (is_numbered source front t) (f (index_of (behind source front t))))
 
   unfoldable pub offset_by : Bool → Textual ℕ
-  offset_by true = numbered offset_is below_u32
+  offset_by true = numbered offset_is (λ n. n)
   offset_by false = pure 0
 
   -- 0 where it is not written
@@ -113,7 +103,7 @@ module _ (source : List ℕ) where
   offset = choose (next (is_front source offset_is)) offset_by
 
   unfoldable pub align_by : ℕ → Bool → Textual ℕ
-  align_by natural true = numbered align_is exponent_of
+  align_by natural true = numbered align_is exponent_in
   align_by natural false = pure natural
 
   -- the exponent; the natural one where it is not written

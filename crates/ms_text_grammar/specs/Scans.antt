@@ -6,6 +6,7 @@ use Rattle.ms_text_lex.specs.declared.token.Token.{Token}
 use Rattle.ms_text_grammar.specs.declared.fault.Counted.TheVariants.{Parens}
 use Rattle.ms_text_grammar.specs.declared.fault.TextFault.{TextFault}
 use Rattle.ms_text_grammar.specs.declared.fault.TextFault.TheVariants as fault
+use Rattle.ms_text_grammar.specs.declared.placed.Placed.{Placed}
 use Rattle.ms_text_grammar.specs.declared.surface.Index.{Index}
 use Rattle.ms_text_grammar.specs.declared.surface.Index.TheVariants.{Name, Number}
 use Rattle.ms_text_grammar.specs.declared.surface.TypeField.{TypeField}
@@ -28,11 +29,6 @@ too_deep most depth (t ∷ ts) =
     if is_close t.kind then too_deep most (depth - 1) ts else too_deep most depth ts
 
 -- ---- type uses and type fields
-
--- a type use, and the place of its `(type`
-pub record Placed : Type 0 where
-  pub at : ℕ
-  pub sig : TypeUse
 
 abbrev pub tail_of : List Token → List Token
 tail_of [] = []

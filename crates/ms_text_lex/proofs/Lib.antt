@@ -1,3 +1,5 @@
 pub mod StepLoop
 pub mod Digits
 pub mod Spans
+pub mod StringLaws
+pub mod StringValues

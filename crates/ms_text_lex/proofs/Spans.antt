@@ -1,5 +1,5 @@
 -- Tokens rise in the text that they are lexed from, and lexing ends where the text does.
-use Rattle.std.proofs.Common.{◌≡◌, ℕ, ◌+◌, ◌-◌, ◌≤◌, ◌<◌, false, List, [], ◌∷◌, ◌++◌, length, Ok, refl, sym, subst, ap, ◌∙◌, arith}
+use Rattle.std.proofs.Common.{◌≡◌, ℕ, ◌≤◌, ◌<◌, false, List, [], ◌∷◌, ◌++◌, length, Ok, refl, sym, subst, ap, ◌∙◌, arith}
 use Rattle.ms_bytes.specs.Spot.{place_of}
 use Rattle.ms_bytes.specs.ResultLaws.{ok_is}
 use Rattle.ms_bytes.specs.Runs.{Runs, goes, rests}
@@ -7,7 +7,7 @@ use Rattle.ms_bytes.specs.RunLaws.{run_last}
 use Rattle.ms_text_lex.specs.declared.leads.Lead.{Lead}
 use Rattle.ms_text_lex.specs.declared.leads.Lead.TheVariants as leads
 use Rattle.ms_text_lex.specs.declared.token.Kind.{Kind}
-use Rattle.ms_text_lex.specs.declared.token.Kind.TheVariants.{Text}
+use Rattle.ms_text_lex.specs.declared.token.Kind.TheVariants.{Close, Open, Text}
 use Rattle.ms_text_lex.specs.declared.token.Token.{Token}
 use Rattle.ms_text_lex.specs.Fault.{Fault}
 use Rattle.ms_text_lex.specs.Lexing.{Lexes, behind, here, lead_of, lexeme, lexeme_takes, lexemes, lexing_goes, token}
@@ -48,7 +48,8 @@ module _ (size : ℕ) (ts next : List Token) (s t : List ℕ) (fits : length s �
   behind_rises leads.Blanks h = passed h.3.3.0
   behind_rises leads.LineComment h = passed h.3.0
   behind_rises leads.BlockComment h = passed h.3.0
-  behind_rises (leads.Paren kind) h = added kind h.3.0 h.3.3.0 (h.3.2.0 ∙ ap (place_of size) (h.3.2.1 ∙ h.3.3.1))
+  behind_rises leads.Open h = added Open h.3.0 h.3.3.0 (h.3.2.0 ∙ ap (place_of size) (h.3.2.1 ∙ h.3.3.1))
+  behind_rises leads.Close h = added Close h.3.0 h.3.3.0 (h.3.2.0 ∙ ap (place_of size) (h.3.2.1 ∙ h.3.3.1))
   behind_rises leads.Quote h = added Text h.3.0 h.3.3.0 (h.3.2.0 ∙ ap (place_of size) (h.3.2.1 ∙ h.3.3.1))
   behind_rises leads.Word h = added h.0 h.3.0 h.3.3.0 (h.3.2.0 ∙ ap (place_of size) (h.3.2.1 ∙ h.3.3.1))
   behind_rises leads.Nothing h = absurd h

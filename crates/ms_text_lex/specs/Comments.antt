@@ -1,5 +1,5 @@
 -- Comments (WebAssembly 1.0, 6.2.4).
-use Rattle.std.specs.Prelude.{◌==◌, ◌-◌, ◌≤◌, ◌&&◌, not, ℕ, suc, Bool, true, false, List, [], ◌∷◌, if◌then◌else◌}
+use Rattle.std.specs.Prelude.{◌==◌, ◌-◌, ◌≤◌, ◌&&◌, not, ℕ, suc, Bool, List, [], ◌∷◌, if◌then◌else◌}
 use Rattle.std.proofs.Common.{arith}
 use Rattle.std.specs.Str.{is_utf8}
 use Rattle.ms_bytes.specs.Format.{Format}

@@ -29,8 +29,8 @@ abbrev pub lead_by : ℕ → List ℕ → Lead
 lead_by b s =
     if is_blank b then leads.Blanks else
     if b == 59 then (if first_is 59 s then leads.LineComment else leads.Nothing) else
-    if b == 40 then (if first_is 59 s then leads.BlockComment else leads.Paren Open) else
-    if b == 41 then leads.Paren Close else
+    if b == 40 then (if first_is 59 s then leads.BlockComment else leads.Open) else
+    if b == 41 then leads.Close else
     if b == 34 then leads.Quote else
     if is_idchar b then leads.Word else leads.Nothing
 
@@ -57,10 +57,14 @@ behind size ts at leads.LineComment = do
 behind size ts at leads.BlockComment = do
   text ← block_comment
   pure ts
-behind size ts at (leads.Paren kind) = do
+behind size ts at leads.Open = do
   b ← item char_here any
   end ← here size
-  pure (ts ++ token kind at end ∷ [])
+  pure (ts ++ token Open at end ∷ [])
+behind size ts at leads.Close = do
+  b ← item char_here any
+  end ← here size
+  pure (ts ++ token Close at end ∷ [])
 behind size ts at leads.Quote = do
   text ← string
   end ← here size
@@ -77,7 +81,8 @@ unfolding behind line_comment line_text block_comment utf8_comment comment_text 
 behind_least size ts at leads.Blanks = omega arith
 behind_least size ts at leads.LineComment = omega arith
 behind_least size ts at leads.BlockComment = omega arith
-behind_least size ts at (leads.Paren kind) = omega arith
+behind_least size ts at leads.Open = omega arith
+behind_least size ts at leads.Close = omega arith
 behind_least size ts at leads.Quote = omega arith
 behind_least size ts at leads.Word = omega arith
 behind_least size ts at leads.Nothing = omega arith

@@ -1,5 +1,5 @@
 -- Strings (WebAssembly 1.0, 6.3.3).
-use Rattle.std.specs.Prelude.{◌==◌, ◌+◌, ◌*◌, ◌≤◌, ◌||◌, ◌&&◌, not, ℕ, Bool, true, false, List, [], ◌∷◌, Option, Some, None, nat_lt, if◌then◌else◌}
+use Rattle.std.specs.Prelude.{◌==◌, ◌+◌, ◌*◌, ◌||◌, ◌&&◌, not, ℕ, Bool, true, false, List, [], ◌∷◌, Option, Some, None, nat_lt, if◌then◌else◌}
 use Rattle.std.proofs.Common.{arith}
 use lib.Utf8.{scalar}
 use Rattle.std.specs.Str.{is_utf8}
@@ -121,7 +121,7 @@ unfolding skip_piece piece
 skip_takes = takes_least string_goes skip_piece (λ st. omega arith)
 
 unfoldable pub skip_pieces : Format ℕ Fault Elements
-skip_pieces = run broken string_goes skip_piece skip_takes (record { })
+skip_pieces = run broken string_goes skip_piece skip_takes (record {})
 
 -- a string in its quotes
 unfoldable pub quoted : Format ℕ Fault (Unit {0})

@@ -1,5 +1,5 @@
 -- What a string stands for: the bytes of its elements, one behind the other (WebAssembly 1.0, 6.3.3).
-use Rattle.std.specs.Prelude.{ℕ, List, [], ◌∷◌, ◌++◌, length, Result, Ok, Err, encode_utf8}
+use Rattle.std.specs.Prelude.{◌≡◌, ℕ, List, [], ◌∷◌, ◌++◌, length, Result, Ok, Err, encode_utf8}
 use Rattle.std.proofs.Common.{arith}
 use Rattle.ms_bytes.specs.Format.{Format}
 use Rattle.ms_bytes.specs.Parts.{item, pure}
@@ -8,6 +8,7 @@ use Rattle.ms_bytes.specs.RunLaws.{takes_least}
 use Rattle.ms_bytes.specs.Repetition.{run}
 use Rattle.ms_text_lex.specs.declared.strings.Piece.{Piece}
 use Rattle.ms_text_lex.specs.declared.strings.Piece.TheVariants.{Byte, Scalar}
+use Rattle.ms_text_lex.specs.declared.token.Kind.TheVariants.{Text}
 use Rattle.ms_text_lex.specs.declared.token.Token.{Token}
 use Rattle.ms_text_lex.specs.Fault.{Fault, broken, this, ◌>>=◌}
 use Rattle.ms_text_lex.specs.Strings.{piece, string_goes}
@@ -47,6 +48,14 @@ or_nothing (Err e) = []
 unfoldable pub bytes_in : List ℕ → List ℕ
 bytes_in text = or_nothing (string_bytes.read (length text) text)
 
+-- the text is a string, and stands for these bytes
+abbrev pub StandsFor : List ℕ → List ℕ → Type 0
+StandsFor text bytes = string_bytes.spelled text bytes []
+
 -- what a string token stands for
 abbrev pub value_of : List ℕ → Token → List ℕ
 value_of source token = bytes_in (text_of source token)
+
+-- if the token is a string, then it is one that stands for this
+abbrev pub HasValue : List ℕ → Token → Type 0
+HasValue source token = token.kind ≡ Text → StandsFor (text_of source token) (value_of source token)

@@ -5,7 +5,6 @@ ghost use Rattle.ms_bytes.specs.Spot.{first_is};
 ghost use Rattle.ms_text_lex.specs.Lexing.{lead_by, lead_of};
 
 use crate::class::{is_blank, is_idchar};
-use crate::token::Kind;
 use ms_bytes::Cursor;
 
 /// What begins.
@@ -16,7 +15,9 @@ pub enum Lead {
     LineComment,
     /// `(;`.
     BlockComment,
-    Paren(Kind),
+    /// `(` alone.
+    Open,
+    Close,
     /// A string.
     Quote,
     /// Identifier characters.
@@ -43,13 +44,21 @@ fn lead_by(byte: u8, rest: &[u8]) -> Lead
         return Lead::Blanks;
     }
     if byte == b';' {
-        return if first_is(b';', rest) { Lead::LineComment } else { Lead::Nothing };
+        return if first_is(b';', rest) {
+            Lead::LineComment
+        } else {
+            Lead::Nothing
+        };
     }
     if byte == b'(' {
-        return if first_is(b';', rest) { Lead::BlockComment } else { Lead::Paren(Kind::Open) };
+        return if first_is(b';', rest) {
+            Lead::BlockComment
+        } else {
+            Lead::Open
+        };
     }
     if byte == b')' {
-        return Lead::Paren(Kind::Close);
+        return Lead::Close;
     }
     if byte == b'"' {
         return Lead::Quote;

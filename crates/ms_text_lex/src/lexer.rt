@@ -1,11 +1,12 @@
 //! Lexing (WebAssembly 1.0, 6.2).
 
-ghost use Rattle.std.specs.Prelude.{◌≡◌, ◌⊎◌, List, length, IfErr, IfOk, MatchResult, Ok, Err};
+ghost use Rattle.std.specs.Prelude.{◌≡◌, ◌⊎◌, All, List, length, IfErr, IfOk, MatchResult, Ok, Err};
 ghost use Rattle.ms_text_lex.specs.declared.token.Token.{Token};
 ghost use Rattle.ms_text_lex.specs.Fault.{Fault};
 ghost use Rattle.ms_text_lex.specs.Lexing.{LexStops, Lexes, lexeme, lexemes, lexing_goes, word};
 ghost use Rattle.ms_text_lex.specs.Readers.{FirstFault, Reads, fault_of, told};
 ghost use Rattle.ms_text_lex.specs.Tokens.{Rises};
+ghost use Rattle.ms_text_lex.specs.Values.{HasValue};
 
 use crate::class::{Class, run_len};
 use crate::comments::{block_comment, line_comment};
@@ -52,8 +53,15 @@ impl Steps for Vector<Token> {
             }
             Lead::LineComment => line_comment(c)?,
             Lead::BlockComment => block_comment(c)?,
-            Lead::Paren(kind) => {
+            Lead::Open => {
                 first(c)?;
+                let kind = Kind::Open;
+                let end = c.at();
+                self.push(Token { kind, at, end })?;
+            }
+            Lead::Close => {
+                first(c)?;
+                let kind = Kind::Close;
                 let end = c.at();
                 self.push(Token { kind, at, end })?;
             }
@@ -96,6 +104,8 @@ pub fn lex(alloc: Global, source: &[u8]) -> Result<Vector<Token>, LexFault>
     ensures stops { (first : Fault) → LexStops source.now first → (result ≡ Err (told first)) ⊎ (result ≡ Err LexFault.Memory) }
     // Tokens rise in the source and don't overlap.
     ensures rises { (tokens : List Token) → Lexes source.now tokens → Rises 0 (length source.now) tokens }
+    // Each string token is a string, and stands for its value.
+    ensures strings { (tokens : List Token) → Lexes source.now tokens → All (HasValue source.now) tokens }
     // The source has one list of tokens at most.
     ensures one { (tokens others : List Token) → Lexes source.now tokens → Lexes source.now others → tokens ≡ others }
 {
@@ -105,3 +115,6 @@ pub fn lex(alloc: Global, source: &[u8]) -> Result<Vector<Token>, LexFault>
         Err(fault) => Err(fault),
     }
 }
+
+#[cfg(test)]
+mod tests;

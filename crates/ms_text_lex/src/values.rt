@@ -109,9 +109,17 @@ pub fn string_value(alloc: Global, source: &[u8], token: Token) -> Result<Vec<u8
 
 /// Adds the bytes that a string token of this source stands for at the end of others. After an error, which is want of
 /// memory, nothing has changed.
-pub fn append_value(alloc: Global, bytes: &mut Vec<u8>, source: &[u8], token: Token) -> Result<(), AllocError>
+pub fn append_value(
+    alloc: Global,
+    bytes: &mut Vec<u8>,
+    source: &[u8],
+    token: Token,
+) -> Result<(), AllocError>
     ensures { bytes.new.items ≡ (if is_ok result then bytes.old.items ++ value_of source.now token else bytes.old.items) }
 {
     let value = string_value(alloc, source, token)?;
     bytes.extend_from_slice(value.as_slice())
 }
+
+#[cfg(test)]
+mod tests;

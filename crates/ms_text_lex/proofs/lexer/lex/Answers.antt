@@ -1,4 +1,5 @@
 use Rattle.ms_text_lex.proofs.Spans.{is_found, one, rise}
+use Rattle.ms_text_lex.proofs.StringValues.{have_values}
 use Rattle.ms_text_lex.proofs.lexer.lex.Goals as goal
 
 pub returns-in-Ok-clause-found : goal.returns-in-Ok-clause-found
@@ -17,3 +18,9 @@ returns-in-Ok-clause-one c = one c.args.source.now
 
 pub returns-in-Err-clause-one : goal.returns-in-Err-clause-one
 returns-in-Err-clause-one c = one c.args.source.now
+
+pub returns-in-Ok-clause-strings : goal.returns-in-Ok-clause-strings
+returns-in-Ok-clause-strings c = have_values c.args.source.now
+
+pub returns-in-Err-clause-strings : goal.returns-in-Err-clause-strings
+returns-in-Err-clause-strings c = have_values c.args.source.now

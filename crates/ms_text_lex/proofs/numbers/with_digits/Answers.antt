@@ -1,7 +1,6 @@
-use Rattle.std.proofs.Common.{◌≡◌, ◌≤◌, ◌^◌, suc, eqb, false, get_or, drop, length, ◌<◌, ◌∷◌, arith}
+use Rattle.std.proofs.Common.{◌≡◌, suc, eqb, false, get_or, drop, length, ◌<◌, ◌∷◌, arith}
 use Rattle.std.proofs.lemmas.Bool.Decides.{nat_tests}
 use Rattle.std.proofs.Math.Seq.{drop-cons}
-use Rattle.ms_text_lex.specs.Numbers.{with_digits}
 use Rattle.ms_text_lex.proofs.Digits.{stays_large}
 use Rattle.ms_text_lex.proofs.numbers.with_digits.Goals as goal
 

@@ -1,0 +1,8 @@
+use crate::surface::TypeUse;
+
+/// A type use, and the place of its `(type`.
+#[derive(Debug, Drop)]
+pub struct Placed {
+    pub at: usize,
+    pub sig: TypeUse,
+}

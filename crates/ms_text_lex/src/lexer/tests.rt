@@ -1,0 +1,44 @@
+//! A text with its tokens, worked out by hand.
+
+use super::*;
+use std::test::Fail;
+
+const TOKENS: [Token; 6] = [
+    Token {
+        kind: Kind::Open,
+        at: 0,
+        end: 1,
+    },
+    Token {
+        kind: Kind::Keyword,
+        at: 1,
+        end: 5,
+    },
+    Token {
+        kind: Kind::Id,
+        at: 6,
+        end: 8,
+    },
+    Token {
+        kind: Kind::Text,
+        at: 8,
+        end: 11,
+    },
+    Token {
+        kind: Kind::Number,
+        at: 26,
+        end: 30,
+    },
+    Token {
+        kind: Kind::Close,
+        at: 30,
+        end: 31,
+    },
+];
+
+#[test]
+fn a_text_is_its_tokens(rt: HostRuntime) -> Result<(), Fail> {
+    let tokens = lex(rt.alloc(), b"(func $a\"b\" (; (; \xC3\xA9 ;) ;)0x1F) ;; c")?;
+    assert!(rt; tokens.as_slice() == TOKENS.as_slice());
+    Ok(())
+}

@@ -1,0 +1,2 @@
+pub mod StepLoop
+pub mod Constants
