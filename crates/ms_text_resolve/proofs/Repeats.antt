@@ -2,7 +2,6 @@
 use Rattle.std.proofs.Common.{◌≡◌, ℕ, zero, suc, ◌+◌, ◌==◌, Bool, true, false, List, [], ◌∷◌, ◌++◌, Option, Some, None, length, replicate, refl, sym, ap, ◌∙◌, append_assoc, arith, slice_get, if◌then◌else◌}
 use Rattle.std.proofs.lemmas.List.{append-nil}
 use Rattle.ms_text_lex.specs.declared.token.Token.{Token}
-use Rattle.ms_module.specs.declared.br_table.Targets.{Targets}
 use Rattle.ms_text_grammar.specs.declared.surface.Param.{Param}
 use Rattle.ms_text_grammar.specs.declared.surface.TypeUse.{TypeUse}
 use Rattle.ms_text_grammar.specs.Elaborating.{Scope, found, is_known, is_named, local_ids, param_ids, params_len, repeat_of, repeats, targets, targets_of}

@@ -55,7 +55,12 @@ impl Making {
     }
 
     /// Opens a block.
-    fn begin(&mut self, opening: Opening, label: Option<Token>, ty: Option<ValType>) -> Result<(), AllocError>
+    fn begin(
+        &mut self,
+        opening: Opening,
+        label: Option<Token>,
+        ty: Option<ValType>,
+    ) -> Result<(), AllocError>
         ensures { OnOk result (self.new ≡ with_begin opening label ty self.old) }
     {
         self.builder.open(opening, ty)?;
@@ -113,7 +118,12 @@ fn built(alloc: Global, around: Around, ops: &[Op]) -> Result<Making, AllocError
 }
 
 /// The indices of the types of uses, one after the other.
-fn use_indices(alloc: Global, context: &Context, uses: &[TypeUse], wrong: &mut Vec<usize>) -> Result<Vec<u32>, AllocError>
+fn use_indices(
+    alloc: Global,
+    context: &Context,
+    uses: &[TypeUse],
+    wrong: &mut Vec<usize>,
+) -> Result<Vec<u32>, AllocError>
     ensures { IfOk result (λ ns. Adds wrong.old.items wrong.new.items ns.items (each (use_index context.now.source context.now.scope) uses.now)) }
 {
     let mut indices = Vec::new(alloc);
@@ -124,7 +134,13 @@ fn use_indices(alloc: Global, context: &Context, uses: &[TypeUse], wrong: &mut V
 }
 
 /// The code of a body with these locals. In the grammar each block of a body has ended.
-pub fn code_of<'a>(alloc: Global, context: &Context<'a>, locals: &LocalIds<'a>, body: &Body, wrong: &mut Vec<usize>) -> Result<Code, AllocError>
+pub fn code_of<'a>(
+    alloc: Global,
+    context: &Context<'a>,
+    locals: &LocalIds<'a>,
+    body: &Body,
+    wrong: &mut Vec<usize>,
+) -> Result<Code, AllocError>
     requires { locals.now.source ≡ context.now.source }
     ensures { IfOk result (λ code. Adds wrong.old.items wrong.new.items code (code_of context.now.source context.now.scope locals.now.ids body.now)) }
 {

@@ -1,11 +1,11 @@
 //! What identifiers and type uses of a module stand for (WebAssembly 1.0, 6.1.3 and 6.6.3).
 
 ghost use Rattle.std.specs.Prelude.{◌≡◌, ◌++◌, IfOk, OnOk, slice_get};
-ghost use Rattle.ms_text_grammar.specs.Elaborating.{identified, ids_of, params_len, repeated, resolved, scope_of, use_index};
+ghost use Rattle.ms_text_grammar.specs.Elaborating.{each, identified, ids_of, params_len, repeated, resolved, scope_of, use_index};
 ghost use Rattle.ms_text_resolve.specs.Answers.{Adds};
 
 use crate::gather::{entries_of, sigs_of, types_of};
-use crate::names::{identified, resolved};
+use crate::names::{all_resolved, identified, resolved};
 use crate::sigs::Sigs;
 use ms_text_grammar::{ExternKind, Field, Index, TypeUse};
 use ms_text_lex::Token;
@@ -34,15 +34,15 @@ impl<'a> Model for Context<'a> {
     ghost Value = { Setting };
 
     ghost view = { λ c. record {
-        source = c.source.now;
-        scope = record {
-            types = c.types.ids;
-            funcs = c.funcs.ids;
-            tables = c.tables.ids;
-            memories = c.memories.ids;
-            globals = c.globals.ids;
-            sigs = c.sigs;
-        };
+      source = c.source.now;
+      scope = record {
+        types = c.types.ids;
+        funcs = c.funcs.ids;
+        tables = c.tables.ids;
+        memories = c.memories.ids;
+        globals = c.globals.ids;
+        sigs = c.sigs;
+      };
     } };
 
     ghost invariant = { λ c. (c.types.source ≡ c.source.now) × (c.funcs.source ≡ c.source.now) × (c.tables.source ≡ c.source.now) × (c.memories.source ≡ c.source.now) × (c.globals.source ≡ c.source.now) };
@@ -50,7 +50,12 @@ impl<'a> Model for Context<'a> {
 
 impl<'a> Context<'a> {
     /// What identifiers and type uses of these fields stand for. The places of repeated identifiers are wrong.
-    pub fn new(alloc: Global, source: &'a [u8], fields: &[Field], wrong: &mut Vec<usize>) -> Result<Self, AllocError>
+    pub fn new(
+        alloc: Global,
+        source: &'a [u8],
+        fields: &[Field],
+        wrong: &mut Vec<usize>,
+    ) -> Result<Self, AllocError>
         ensures context { IfOk result (λ c. c ≡ record { source = source.now; scope = scope_of fields.now }) }
         ensures wrong { OnOk result (wrong.new.items ≡ wrong.old.items ++ repeated source.now (scope_of fields.now)) }
     {
@@ -79,7 +84,12 @@ impl<'a> Context<'a> {
     }
 
     /// The index of an identifier among entries of a kind; where it is unknown, its place is wrong.
-    pub fn identified(&self, kind: ExternKind, id: Token, wrong: &mut Vec<usize>) -> Result<u32, AllocError>
+    pub fn identified(
+        &self,
+        kind: ExternKind,
+        id: Token,
+        wrong: &mut Vec<usize>,
+    ) -> Result<u32, AllocError>
         ensures { IfOk result (λ n. Adds wrong.old.items wrong.new.items n (identified self.now.source (ids_of self.now.scope kind) id)) }
     {
         match kind {
@@ -91,7 +101,12 @@ impl<'a> Context<'a> {
     }
 
     /// What an index among entries of a kind stands for.
-    pub fn resolved(&self, kind: ExternKind, index: Index, wrong: &mut Vec<usize>) -> Result<u32, AllocError>
+    pub fn resolved(
+        &self,
+        kind: ExternKind,
+        index: Index,
+        wrong: &mut Vec<usize>,
+    ) -> Result<u32, AllocError>
         ensures { IfOk result (λ n. Adds wrong.old.items wrong.new.items n (resolved self.now.source (ids_of self.now.scope kind) index)) }
     {
         match index {
@@ -100,8 +115,25 @@ impl<'a> Context<'a> {
         }
     }
 
+    /// What indices of functions stand for, one after the other.
+    pub fn funcs_resolved(
+        &self,
+        alloc: Global,
+        indices: &[Index],
+        wrong: &mut Vec<usize>,
+    ) -> Result<Vector<u32>, AllocError>
+        ensures { IfOk result (λ ns. Adds wrong.old.items wrong.new.items ns (each (resolved self.now.source self.now.scope.funcs) indices.now)) }
+    {
+        all_resolved(alloc, &self.funcs, indices, wrong)
+    }
+
     /// The index of the type of a use: the one that it names, else the least one that is what it writes.
-    pub fn use_index(&self, alloc: Global, sig: &TypeUse, wrong: &mut Vec<usize>) -> Result<u32, AllocError>
+    pub fn use_index(
+        &self,
+        alloc: Global,
+        sig: &TypeUse,
+        wrong: &mut Vec<usize>,
+    ) -> Result<u32, AllocError>
         ensures { IfOk result (λ n. Adds wrong.old.items wrong.new.items n (use_index self.now.source self.now.scope sig.now)) }
     {
         match sig.sig {

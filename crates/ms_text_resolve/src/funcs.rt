@@ -28,7 +28,14 @@ fn local_types(alloc: Global, params: &[Param]) -> Result<Locals, AllocError>
 }
 
 /// A function.
-fn func_of(alloc: Global, context: &Context, sig: &TypeUse, locals: &[Param], body: &Body, wrong: &mut Vec<usize>) -> Result<Func, AllocError>
+fn func_of(
+    alloc: Global,
+    context: &Context,
+    sig: &TypeUse,
+    locals: &[Param],
+    body: &Body,
+    wrong: &mut Vec<usize>,
+) -> Result<Func, AllocError>
     ensures { IfOk result (λ f. Adds wrong.old.items wrong.new.items f (func_of context.now.source context.now.scope sig.now locals.now body.now)) }
 {
     let index = context.use_index(alloc, sig, wrong)?;
@@ -42,7 +49,12 @@ fn func_of(alloc: Global, context: &Context, sig: &TypeUse, locals: &[Param], bo
 }
 
 /// The functions of fields.
-pub fn funcs_of(alloc: Global, context: &Context, fields: &[Field], wrong: &mut Vec<usize>) -> Result<Vector<Func>, AllocError>
+pub fn funcs_of(
+    alloc: Global,
+    context: &Context,
+    fields: &[Field],
+    wrong: &mut Vec<usize>,
+) -> Result<Vector<Func>, AllocError>
     ensures { IfOk result (λ funcs. Adds wrong.old.items wrong.new.items funcs (funcs_of context.now.source context.now.scope (defined (entries_in fields.now)))) }
 {
     let mut funcs = Vector::new(alloc);
@@ -62,7 +74,13 @@ pub fn funcs_of(alloc: Global, context: &Context, fields: &[Field], wrong: &mut 
 }
 
 /// A global.
-fn global_of(alloc: Global, context: &Context, ty: GlobalType, init: &Body, wrong: &mut Vec<usize>) -> Result<GlobalVar, AllocError>
+fn global_of(
+    alloc: Global,
+    context: &Context,
+    ty: GlobalType,
+    init: &Body,
+    wrong: &mut Vec<usize>,
+) -> Result<GlobalVar, AllocError>
     ensures { IfOk result (λ g. Adds wrong.old.items wrong.new.items g (global_of context.now.source context.now.scope ty init.now)) }
 {
     let none = LocalIds::none(alloc, context.source());
@@ -71,7 +89,12 @@ fn global_of(alloc: Global, context: &Context, ty: GlobalType, init: &Body, wron
 }
 
 /// The globals of fields.
-pub fn globals_of(alloc: Global, context: &Context, fields: &[Field], wrong: &mut Vec<usize>) -> Result<Vector<GlobalVar>, AllocError>
+pub fn globals_of(
+    alloc: Global,
+    context: &Context,
+    fields: &[Field],
+    wrong: &mut Vec<usize>,
+) -> Result<Vector<GlobalVar>, AllocError>
     ensures { IfOk result (λ globals. Adds wrong.old.items wrong.new.items globals (globals_of context.now.source context.now.scope (defined (entries_in fields.now)))) }
 {
     let mut globals = Vector::new(alloc);

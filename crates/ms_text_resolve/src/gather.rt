@@ -11,7 +11,12 @@ use ms_text_space::Space;
 use std::alloc::{AllocError, Global};
 
 /// The index space of types.
-pub fn types_of<'a>(alloc: Global, source: &'a [u8], fields: &[Field], wrong: &mut Vec<usize>) -> Result<Space<'a>, AllocError>
+pub fn types_of<'a>(
+    alloc: Global,
+    source: &'a [u8],
+    fields: &[Field],
+    wrong: &mut Vec<usize>,
+) -> Result<Space<'a>, AllocError>
     ensures ids { IfOk result (λ s. s.ids ≡ type_ids (types_in fields.now)) }
     ensures source { IfOk result (λ s. s.source ≡ source.now) }
     ensures wrong { OnOk result (wrong.new.items ≡ wrong.old.items ++ repeats source.now [] (type_ids (types_in fields.now))) }
@@ -27,7 +32,13 @@ pub fn types_of<'a>(alloc: Global, source: &'a [u8], fields: &[Field], wrong: &m
 }
 
 /// The index space of the entries of a kind.
-pub fn entries_of<'a>(alloc: Global, source: &'a [u8], kind: ExternKind, fields: &[Field], wrong: &mut Vec<usize>) -> Result<Space<'a>, AllocError>
+pub fn entries_of<'a>(
+    alloc: Global,
+    source: &'a [u8],
+    kind: ExternKind,
+    fields: &[Field],
+    wrong: &mut Vec<usize>,
+) -> Result<Space<'a>, AllocError>
     ensures ids { IfOk result (λ s. s.ids ≡ entry_ids (of_kind kind (entries_in fields.now))) }
     ensures source { IfOk result (λ s. s.source ≡ source.now) }
     ensures wrong { OnOk result (wrong.new.items ≡ wrong.old.items ++ repeats source.now [] (entry_ids (of_kind kind (entries_in fields.now)))) }

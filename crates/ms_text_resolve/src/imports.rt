@@ -52,7 +52,12 @@ fn limits_of(alloc: Global, source: &[u8], item: &Item) -> Result<Limits, AllocE
 }
 
 /// What an imported entry asks for; the places of repeated identifiers of its parameters are wrong.
-fn desc_of(alloc: Global, context: &Context, item: &Item, wrong: &mut Vec<usize>) -> Result<ImportDesc, AllocError>
+fn desc_of(
+    alloc: Global,
+    context: &Context,
+    item: &Item,
+    wrong: &mut Vec<usize>,
+) -> Result<ImportDesc, AllocError>
     ensures { IfOk result (λ d. Adds wrong.old.items wrong.new.items d (desc_of context.now.source context.now.scope item.now)) }
 {
     match item {
@@ -70,7 +75,13 @@ fn desc_of(alloc: Global, context: &Context, item: &Item, wrong: &mut Vec<usize>
     }
 }
 
-fn import_of(alloc: Global, context: &Context, names: ImportNames, item: &Item, wrong: &mut Vec<usize>) -> Result<Import, AllocError>
+fn import_of(
+    alloc: Global,
+    context: &Context,
+    names: ImportNames,
+    item: &Item,
+    wrong: &mut Vec<usize>,
+) -> Result<Import, AllocError>
     ensures { IfOk result (λ i. Adds wrong.old.items wrong.new.items i (import_of context.now.source context.now.scope names item.now)) }
 {
     let module = name_of(alloc, context.source(), names.module)?;
@@ -80,7 +91,12 @@ fn import_of(alloc: Global, context: &Context, names: ImportNames, item: &Item, 
 }
 
 /// The imports of fields.
-pub fn imports_of(alloc: Global, context: &Context, fields: &[Field], wrong: &mut Vec<usize>) -> Result<Vector<Import>, AllocError>
+pub fn imports_of(
+    alloc: Global,
+    context: &Context,
+    fields: &[Field],
+    wrong: &mut Vec<usize>,
+) -> Result<Vector<Import>, AllocError>
     ensures { IfOk result (λ imports. Adds wrong.old.items wrong.new.items imports (imports_of context.now.source context.now.scope (entries_in fields.now))) }
 {
     let mut imports = Vector::new(alloc);
@@ -97,7 +113,12 @@ pub fn imports_of(alloc: Global, context: &Context, fields: &[Field], wrong: &mu
 }
 
 /// The sizes of the tables, or of the memories, that are not imported.
-pub fn sizes_of(alloc: Global, source: &[u8], kind: ExternKind, fields: &[Field]) -> Result<Vector<Limits>, AllocError>
+pub fn sizes_of(
+    alloc: Global,
+    source: &[u8],
+    kind: ExternKind,
+    fields: &[Field],
+) -> Result<Vector<Limits>, AllocError>
     ensures { IfOk result (λ sizes. sizes ≡ sizes_of source.now (of_kind kind (defined (entries_in fields.now)))) }
 {
     let mut sizes = Vector::new(alloc);

@@ -24,8 +24,14 @@ pub fn copied(alloc: Global, instr: &Instr) -> Result<Instr, AllocError>
     Ok(match instr {
         Instr::Unreachable => Instr::Unreachable,
         Instr::Nop => Instr::Nop,
-        Instr::Block { ty, body } => Instr::Block { ty: *ty, body: *body },
-        Instr::Loop { ty, body } => Instr::Loop { ty: *ty, body: *body },
+        Instr::Block { ty, body } => Instr::Block {
+            ty: *ty,
+            body: *body,
+        },
+        Instr::Loop { ty, body } => Instr::Loop {
+            ty: *ty,
+            body: *body,
+        },
         Instr::If { ty, then, other } => Instr::If {
             ty: *ty,
             then: *then,
@@ -85,7 +91,14 @@ pub struct Around<'b, 'a> {
 }
 
 /// An instruction with an identifier in the place of its index.
-fn named(alloc: Global, around: Around, labels: &Stack<Option<Token>>, instr: &Instr, id: Token, wrong: &mut Vec<usize>) -> Result<Instr, AllocError>
+fn named(
+    alloc: Global,
+    around: Around,
+    labels: &Stack<Option<Token>>,
+    instr: &Instr,
+    id: Token,
+    wrong: &mut Vec<usize>,
+) -> Result<Instr, AllocError>
     requires { (around.locals.now).source ≡ (around.context.now).source }
     ensures { IfOk result (λ i. Adds wrong.old.items wrong.new.items i (instr_of (around.entry.context.now).source (around.entry.context.now).scope (around.entry.locals.now).ids around.entry.uses.now labels.now (written.Instr instr.now (Some id)))) }
 {
@@ -97,8 +110,12 @@ fn named(alloc: Global, around: Around, labels: &Stack<Option<Token>>, instr: &I
         Instr::LocalGet(_) => Ok(Instr::LocalGet(around.locals.identified(id, wrong)?)),
         Instr::LocalSet(_) => Ok(Instr::LocalSet(around.locals.identified(id, wrong)?)),
         Instr::LocalTee(_) => Ok(Instr::LocalTee(around.locals.identified(id, wrong)?)),
-        Instr::GlobalGet(_) => Ok(Instr::GlobalGet(around.context.identified(ExternKind::Global, id, wrong)?)),
-        Instr::GlobalSet(_) => Ok(Instr::GlobalSet(around.context.identified(ExternKind::Global, id, wrong)?)),
+        Instr::GlobalGet(_) => Ok(Instr::GlobalGet(
+            around.context.identified(ExternKind::Global, id, wrong)?,
+        )),
+        Instr::GlobalSet(_) => Ok(Instr::GlobalSet(
+            around.context.identified(ExternKind::Global, id, wrong)?,
+        )),
         _ => {
             wrong.push(id.at)?;
             copied(alloc, instr)
@@ -107,13 +124,22 @@ fn named(alloc: Global, around: Around, labels: &Stack<Option<Token>>, instr: &I
 }
 
 /// An instruction with its identifiers replaced.
-pub fn instr_of(alloc: Global, around: Around, labels: &Stack<Option<Token>>, plain: &Plain, wrong: &mut Vec<usize>) -> Result<Instr, AllocError>
+pub fn instr_of(
+    alloc: Global,
+    around: Around,
+    labels: &Stack<Option<Token>>,
+    plain: &Plain,
+    wrong: &mut Vec<usize>,
+) -> Result<Instr, AllocError>
     requires { (around.locals.now).source ≡ (around.context.now).source }
     ensures { IfOk result (λ i. Adds wrong.old.items wrong.new.items i (instr_of (around.entry.context.now).source (around.entry.context.now).scope (around.entry.locals.now).ids around.entry.uses.now labels.now plain.now)) }
 {
     match plain {
         Plain::Instr { instr, id: None } => copied(alloc, instr),
-        Plain::Instr { instr, id: Some(id) } => named(alloc, around, labels, instr, *id, wrong),
+        Plain::Instr {
+            instr,
+            id: Some(id),
+        } => named(alloc, around, labels, instr, *id, wrong),
         Plain::BrTable(indices) => {
             let source = around.context.source();
             let numbers = labels_resolved(alloc, source, labels, indices.as_slice(), wrong)?;

@@ -33,7 +33,12 @@ fn found(source: &[u8], labels: &Stack<Option<Token>>, id: Token) -> Result<Opti
 }
 
 /// The index of a label; where it is unknown, its place is wrong.
-pub fn label_identified(source: &[u8], labels: &Stack<Option<Token>>, id: Token, wrong: &mut Vec<usize>) -> Result<u32, AllocError>
+pub fn label_identified(
+    source: &[u8],
+    labels: &Stack<Option<Token>>,
+    id: Token,
+    wrong: &mut Vec<usize>,
+) -> Result<u32, AllocError>
     ensures { IfOk result (λ n. Adds wrong.old.items wrong.new.items n (identified source.now labels.now id)) }
 {
     match found(source, labels, id)? {
@@ -46,7 +51,12 @@ pub fn label_identified(source: &[u8], labels: &Stack<Option<Token>>, id: Token,
 }
 
 /// What the index of a label stands for.
-pub fn label_resolved(source: &[u8], labels: &Stack<Option<Token>>, index: Index, wrong: &mut Vec<usize>) -> Result<u32, AllocError>
+pub fn label_resolved(
+    source: &[u8],
+    labels: &Stack<Option<Token>>,
+    index: Index,
+    wrong: &mut Vec<usize>,
+) -> Result<u32, AllocError>
     ensures { IfOk result (λ n. Adds wrong.old.items wrong.new.items n (resolved source.now labels.now index)) }
 {
     match index {
@@ -56,7 +66,13 @@ pub fn label_resolved(source: &[u8], labels: &Stack<Option<Token>>, index: Index
 }
 
 /// What the indices of labels stand for, one after the other.
-pub fn labels_resolved(alloc: Global, source: &[u8], labels: &Stack<Option<Token>>, indices: &[Index], wrong: &mut Vec<usize>) -> Result<Vec<u32>, AllocError>
+pub fn labels_resolved(
+    alloc: Global,
+    source: &[u8],
+    labels: &Stack<Option<Token>>,
+    indices: &[Index],
+    wrong: &mut Vec<usize>,
+) -> Result<Vec<u32>, AllocError>
     ensures { IfOk result (λ ns. Adds wrong.old.items wrong.new.items ns.items (each (resolved source.now labels.now) indices.now)) }
 {
     let mut numbers = Vec::new(alloc);

@@ -7,6 +7,7 @@
 
 mod body;
 mod context;
+mod exports;
 mod funcs;
 mod gather;
 mod imports;
@@ -14,6 +15,10 @@ mod instrs;
 mod kinds;
 mod labels;
 mod locals;
+mod modules;
 mod names;
+mod segments;
 mod sigs;
 mod texts;
+
+pub use modules::resolve;

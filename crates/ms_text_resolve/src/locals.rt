@@ -43,7 +43,14 @@ impl<'a> LocalIds<'a> {
 
     /// Those of a function: behind the parameters that are written, or, where none is, behind those of its type. The places
     /// of repeated ones are wrong.
-    pub fn of_func(alloc: Global, context: &Context<'a>, index: u32, sig: &TypeUse, locals: &[Param], wrong: &mut Vec<usize>) -> Result<Self, AllocError>
+    pub fn of_func(
+        alloc: Global,
+        context: &Context<'a>,
+        index: u32,
+        sig: &TypeUse,
+        locals: &[Param],
+        wrong: &mut Vec<usize>,
+    ) -> Result<Self, AllocError>
         ensures source { IfOk result (λ l. l.source ≡ context.now.source) }
         ensures ids { IfOk result (λ l. l.ids ≡ local_ids context.now.scope index sig.now locals.now) }
         ensures wrong { IfOk result (λ l. wrong.new.items ≡ wrong.old.items ++ repeats context.now.source [] (local_ids context.now.scope index sig.now locals.now)) }
@@ -58,10 +65,7 @@ impl<'a> LocalIds<'a> {
         }
         enter_all(&mut behind, sig.params.as_slice(), wrong)?;
         enter_all(&mut behind, locals, wrong)?;
-        Ok(LocalIds {
-            unnamed: 0,
-            behind,
-        })
+        Ok(LocalIds { unnamed: 0, behind })
     }
 
     /// The first local of this identifier.

@@ -41,7 +41,12 @@ pub fn resolved(space: &Space, index: Index, wrong: &mut Vec<usize>) -> Result<u
 }
 
 /// What indices stand for, one after the other.
-pub fn all_resolved(alloc: Global, space: &Space, indices: &[Index], wrong: &mut Vec<usize>) -> Result<Vector<u32>, AllocError>
+pub fn all_resolved(
+    alloc: Global,
+    space: &Space,
+    indices: &[Index],
+    wrong: &mut Vec<usize>,
+) -> Result<Vector<u32>, AllocError>
     ensures { IfOk result (λ ns. Adds wrong.old.items wrong.new.items ns (each (resolved space.now.source space.now.ids) indices.now)) }
 {
     let mut numbers = Vector::new(alloc);
@@ -61,14 +66,18 @@ pub fn enter(space: &mut Space, id: Option<Token>, wrong: &mut Vec<usize>) -> Re
     if !repeated {
         return Ok(());
     }
-    if let Some(id) = id {
-        wrong.push(id.at)?;
+    if let Some(repeat) = id {
+        wrong.push(repeat.at)?;
     }
     Ok(())
 }
 
 /// Adds parameters or locals.
-pub fn enter_all(space: &mut Space, params: &[Param], wrong: &mut Vec<usize>) -> Result<(), AllocError>
+pub fn enter_all(
+    space: &mut Space,
+    params: &[Param],
+    wrong: &mut Vec<usize>,
+) -> Result<(), AllocError>
     ensures ids { OnOk result (space.new.ids ≡ space.old.ids ++ param_ids params.now) }
     ensures wrong { OnOk result (wrong.new.items ≡ wrong.old.items ++ repeats space.old.source space.old.ids (param_ids params.now)) }
     ensures source { OnOk result (space.new.source ≡ space.old.source) }

@@ -29,7 +29,11 @@ fn param_types(alloc: Global, params: &[Param]) -> Result<Vector<ValType>, Alloc
 }
 
 /// The type that these parameters and results are.
-fn written_type(alloc: Global, params: &[Param], results: &[ValType]) -> Result<FuncType, AllocError>
+fn written_type(
+    alloc: Global,
+    params: &[Param],
+    results: &[ValType],
+) -> Result<FuncType, AllocError>
     ensures { IfOk result (λ ty. ty ≡ record { params = param_types params.now; results = results.now }) }
 {
     let params = param_types(alloc, params)?;
@@ -131,7 +135,12 @@ impl Sigs {
     }
 
     /// Adds the type that these parameters and results are.
-    pub fn add(&mut self, alloc: Global, params: &[Param], results: &[ValType]) -> Result<(), AllocError>
+    pub fn add(
+        &mut self,
+        alloc: Global,
+        params: &[Param],
+        results: &[ValType],
+    ) -> Result<(), AllocError>
         ensures { OnOk result (self.new ≡ self.old ++ record { params = param_types params.now; results = results.now } ∷ []) }
     {
         let ty = written_type(alloc, params, results)?;

@@ -1,4 +1,4 @@
-use Rattle.std.proofs.Common.{◌≡◌, ◌∙◌, sym, ap, ℕ, Bool, Option, Some, true, false, arith}
+use Rattle.std.proofs.Common.{◌≡◌, ◌∙◌, sym, ap, ℕ, Some, true, false, arith}
 use Rattle.ms_text_grammar.specs.Elaborating.{is_named}
 use Rattle.ms_text_resolve.proofs.Lists.{found_here, found_past}
 use Rattle.ms_text_resolve.proofs.labels.found.Goals as goal

@@ -1,4 +1,4 @@
-use Rattle.std.proofs.Common.{◌≡◌, ◌+◌, ◌∙◌, ℕ, Option, Some, None, sym, ap, arith}
+use Rattle.std.proofs.Common.{◌≡◌, ◌+◌, ◌∙◌, ℕ, Some, None, sym, ap, arith}
 use Rattle.ms_text_grammar.specs.Elaborating.{found}
 use Rattle.ms_text_resolve.proofs.Repeats.{found_behind, shifted}
 use Rattle.ms_text_resolve.proofs.locals.LocalIds.find.Goals as goal

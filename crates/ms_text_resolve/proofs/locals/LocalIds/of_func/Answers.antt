@@ -1,6 +1,5 @@
-use Rattle.std.proofs.Common.{◌≡◌, ◌++◌, [], arith}
+use Rattle.std.proofs.Common.{arith}
 use Rattle.std.proofs.lemmas.Grind.{common_steps}
-use Rattle.ms_text_grammar.specs.Elaborating.{local_ids, param_ids, repeats}
 use Rattle.ms_text_resolve.proofs.Repeats.{repeats_named, repeats_unnamed}
 use Rattle.ms_text_resolve.proofs.locals.LocalIds.of_func.Goals as goal
 

@@ -1,10 +1,6 @@
-use Rattle.std.proofs.Common.{◌≡◌, ◌++◌, ◌∷◌, [], ◌∙◌, refl, sym, ap, Bool, true, false, None, Option, is_some, OnOk, arith}
+use Rattle.std.proofs.Common.{◌≡◌, ◌∙◌, refl, true, false, None, arith}
 use Rattle.std.proofs.lemmas.Grind.{common_steps}
-use Rattle.ms_types.specs.declared.types.FuncType.{FuncType}
-use Rattle.ms_text_grammar.specs.declared.surface.Index.{Index}
-use Rattle.ms_text_grammar.specs.Elaborating.{with_use}
 use Rattle.ms_text_grammar.specs.Shapes.{has_type, use_type}
-use Rattle.ms_text_resolve.specs.Keys.{key_of}
 use Rattle.ms_text_resolve.proofs.Types.{has_first}
 use Rattle.ms_text_resolve.proofs.sigs.Sigs.add_use.Goals as goal
 

@@ -1,8 +1,8 @@
-use Rattle.std.proofs.Common.{◌≡◌, ◌+◌, ◌∙◌, ℕ, refl, sym, ap, Some, None, length, arith}
+use Rattle.std.proofs.Common.{◌≡◌, ◌+◌, refl, Some, None, length, arith}
 use Rattle.std.proofs.lemmas.Grind.{common_steps}
 use Rattle.ms_text_grammar.specs.Shapes.{least_equal, use_type}
 use Rattle.ms_text_resolve.specs.Keys.{first_of, key_of}
-use Rattle.ms_text_resolve.proofs.Types.{least_first, number_or}
+use Rattle.ms_text_resolve.proofs.Types.{least_first}
 use Rattle.ms_text_resolve.proofs.sigs.Sigs.least_equal.Goals as goal
 
 pub returns-in-Some : goal.returns-in-Some

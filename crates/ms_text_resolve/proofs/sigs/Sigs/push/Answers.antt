@@ -1,6 +1,6 @@
 use Rattle.std.proofs.Common.{◌≡◌, ◌+◌, ◌++◌, ◌∷◌, [], ℕ, List, Option, length, sym, ap, ◌∙◌, arith}
 use Rattle.ms_types.specs.declared.types.FuncType.{FuncType}
-use Rattle.ms_text_resolve.specs.Keys.{first_of, key_of}
+use Rattle.ms_text_resolve.specs.Keys.{first_of}
 use Rattle.ms_text_space.specs.Spaces.{first_or, numbered}
 use Rattle.ms_text_resolve.proofs.Types.{first_added}
 use Rattle.ms_text_resolve.proofs.sigs.Sigs.push.Goals as goal
