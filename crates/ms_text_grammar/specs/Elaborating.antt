@@ -5,10 +5,13 @@
 use Rattle.std.specs.Prelude.{◌==◌, ◌+◌, ◌/◌, ℕ, suc, pos, Bool, true, false, List, [], ◌∷◌, ◌++◌, Option, Some, None, length, replicate, slice_get, if◌then◌else◌}
 use Rattle.std.specs.Str.{bytes_eq}
 use Rattle.ms_types.specs.declared.types.FuncType.{FuncType}
+use Rattle.ms_types.specs.declared.types.GlobalType.{GlobalType}
 use Rattle.ms_types.specs.declared.types.Limits.{Limits}
+use Rattle.ms_types.specs.declared.types.ValType.{ValType}
 use Rattle.ms_module.specs.declared.br_table.Targets.{Targets}
 use Rattle.ms_module.specs.declared.instr.Instr.{Instr}
 use Rattle.ms_module.specs.declared.instr.Instr.TheVariants as instr
+use Rattle.ms_module.specs.declared.builder.Opening.{Opening}
 use Rattle.ms_module.specs.declared.module.Module.{Module}
 use Rattle.ms_module.specs.declared.module.Import.{Import}
 use Rattle.ms_module.specs.declared.module.ImportDesc.{ImportDesc}
@@ -93,11 +96,14 @@ module _ (source : List ℕ) where
   is_known [] id = false
   is_known (x ∷ xs) id = if is_named x id then true else is_known xs id
 
+  abbrev pub repeat_of : List (Option Token) → Option Token → List ℕ
+  repeat_of before None = []
+  repeat_of before (Some id) = if is_known before id then id.at ∷ [] else []
+
   -- the places of identifiers that stood before; the first list is what stood before
   abbrev pub repeats : List (Option Token) → List (Option Token) → List ℕ
   repeats before [] = []
-  repeats before (None ∷ ids) = repeats before ids
-  repeats before (Some id ∷ ids) = if is_known before id then id.at ∷ repeats before ids else repeats (Some id ∷ before) ids
+  repeats before (id ∷ ids) = repeat_of before id ++ repeats (before ++ id ∷ []) ids
 
 -- ---- the fields by their kinds
 
@@ -130,6 +136,29 @@ same_kind _ _ = false
 abbrev pub of_kind : ExternKind → List Entry → List Entry
 of_kind k [] = []
 of_kind k (e ∷ es) = if same_kind (kind_of e.item) k then e ∷ of_kind k es else of_kind k es
+
+-- how many entries of each kind there are
+pub record Counts : Type 0 where
+  pub funcs : ℕ
+  pub tables : ℕ
+  pub memories : ℕ
+  pub globals : ℕ
+
+abbrev pub no_entries : Counts
+no_entries = record { funcs = 0; tables = 0; memories = 0; globals = 0 }
+
+abbrev pub count_of : Counts → ExternKind → ℕ
+count_of n kind.Func = n.funcs
+count_of n kind.Table = n.tables
+count_of n kind.Memory = n.memories
+count_of n kind.Global = n.globals
+
+-- with one of this kind more
+abbrev pub counted : Counts → ExternKind → Counts
+counted n kind.Func = record n { funcs = n.funcs + 1 }
+counted n kind.Table = record n { tables = n.tables + 1 }
+counted n kind.Memory = record n { memories = n.memories + 1 }
+counted n kind.Global = record n { globals = n.globals + 1 }
 
 abbrev pub entry_ids : List Entry → List (Option Token)
 entry_ids [] = []
@@ -258,9 +287,18 @@ pub record Built : Type 0 where
 abbrev pub nothing_built : Built
 nothing_built = record { st = first_state; labels = []; wrong = [] }
 
+abbrev pub with_begin : Opening → Option Token → Option ValType → Built → Built
+with_begin opening label ty b = record { st = begun b.st opening ty; labels = label ∷ b.labels; wrong = b.wrong }
+
+abbrev pub with_else : Built → Built
+with_else b = record { st = turned b.st; labels = b.labels; wrong = b.wrong }
+
 abbrev pub inner : List (Option Token) → List (Option Token)
 inner [] = []
 inner (l ∷ ls) = ls
+
+abbrev pub with_end : Built → Built
+with_end b = record { st = closed b.st; labels = inner b.labels; wrong = b.wrong }
 
 module _ (source : List ℕ) (scope : Scope) where
   abbrev pub index_by : Option Index → FuncType → With ℕ
@@ -283,9 +321,9 @@ module _ (source : List ℕ) (scope : Scope) where
   -- one step of a body
   abbrev pub with_op : List (Option Token) → List ℕ → Op → Built → Built
   with_op locals uses (op.Plain p) b = with_instr (instr_of locals uses b.labels p) b
-  with_op locals uses (op.Begin opening label ty) b = record { st = begun b.st opening ty; labels = label ∷ b.labels; wrong = b.wrong }
-  with_op locals uses op.Else b = record { st = turned b.st; labels = b.labels; wrong = b.wrong }
-  with_op locals uses op.End b = record { st = closed b.st; labels = inner b.labels; wrong = b.wrong }
+  with_op locals uses (op.Begin opening label ty) b = with_begin opening label ty b
+  with_op locals uses op.Else b = with_else b
+  with_op locals uses op.End b = with_end b
 
   abbrev pub built : List (Option Token) → List ℕ → List Op → Built → Built
   built locals uses [] b = b
@@ -326,7 +364,7 @@ export_desc kind.Table n = exported.Table n
 export_desc kind.Memory n = exported.Memory n
 export_desc kind.Global n = exported.Global n
 
-module _ (source : List ℕ) (scope : Scope) where
+module _ (source : List ℕ) where
   -- the bytes of strings, one behind the other
   abbrev pub text_values : List Token → List ℕ
   text_values [] = []
@@ -344,25 +382,33 @@ module _ (source : List ℕ) (scope : Scope) where
   sizes_of [] = []
   sizes_of (e ∷ es) = limits_of e.item ∷ sizes_of es
 
+  -- the exports of these names, all of one entry
+  abbrev pub inline_exports : List Token → ExportDesc → List Export
+  inline_exports [] desc = []
+  inline_exports (name ∷ names) desc = record { name = value_of source name; desc = desc } ∷ inline_exports names desc
+
+module _ (source : List ℕ) (scope : Scope) where
   -- what an imported entry asks for; the identifiers of a function's parameters are apart
   abbrev pub desc_of : Item → With ImportDesc
   desc_of (item.Func sig locals body) =
       let n = use_index source scope sig in
       record { value = imported.Func n.value; wrong = n.wrong ++ repeats source [] (param_ids sig.params) }
   desc_of (item.Table limits) = right (imported.Table limits)
-  desc_of (item.Elements funcs) = right (imported.Table (limits_of (item.Elements funcs)))
+  desc_of (item.Elements funcs) = right (imported.Table (limits_of source (item.Elements funcs)))
   desc_of (item.Memory limits) = right (imported.Memory limits)
-  desc_of (item.Data strings) = right (imported.Memory (limits_of (item.Data strings)))
+  desc_of (item.Data strings) = right (imported.Memory (limits_of source (item.Data strings)))
   desc_of (item.Global ty init) = right (imported.Global ty)
 
-  abbrev pub import_by : Option ImportNames → With ImportDesc → With (List Import) → With (List Import)
-  import_by None desc rest = rest
-  import_by (Some names) desc rest =
-      joined (mapped (λ d. record { «module» = value_of source names.module; name = value_of source names.name; desc = d }) desc) rest
+  abbrev pub import_of : ImportNames → Item → With Import
+  import_of names i = mapped (λ d. record { «module» = value_of source names.module; name = value_of source names.name; desc = d }) (desc_of i)
+
+  abbrev pub import_by : Option ImportNames → Item → With (List Import) → With (List Import)
+  import_by None i rest = rest
+  import_by (Some names) i rest = joined (import_of names i) rest
 
   abbrev pub imports_of : List Entry → With (List Import)
   imports_of [] = right []
-  imports_of (e ∷ es) = import_by e.import (desc_of e.item) (imports_of es)
+  imports_of (e ∷ es) = import_by e.import e.item (imports_of es)
 
   -- a defined function: the index of its type, the types of its locals, and its body
   abbrev pub func_of : TypeUse → List Param → Body → With Func
@@ -383,28 +429,28 @@ module _ (source : List ℕ) (scope : Scope) where
   funcs_of [] = right []
   funcs_of (e ∷ es) = func_in e.item (funcs_of es)
 
+  abbrev pub global_of : GlobalType → Body → With Global
+  global_of ty init = mapped (λ code. record { ty = ty; init = code }) (code_of source scope [] init)
+
   abbrev pub global_in : Item → With (List Global) → With (List Global)
-  global_in (item.Global ty init) rest = joined (mapped (λ code. record { ty = ty; init = code }) (code_of source scope [] init)) rest
+  global_in (item.Global ty init) rest = joined (global_of ty init) rest
   global_in _ rest = rest
 
   abbrev pub globals_of : List Entry → With (List Global)
   globals_of [] = right []
   globals_of (e ∷ es) = global_in e.item (globals_of es)
 
-  -- the exports of these names, all of one entry
-  abbrev pub inline_exports : List Token → ExportDesc → List Export
-  inline_exports [] desc = []
-  inline_exports (name ∷ names) desc = record { name = value_of source name; desc = desc } ∷ inline_exports names desc
+  abbrev pub export_of : Token → ExternKind → Index → With Export
+  export_of name k index = mapped (λ n. record { name = value_of source name; desc = export_desc k n }) (resolved source (ids_of scope k) index)
 
   -- Exports, those of an entry at its place. The entry's index is the number of entries of its kind before it.
-  abbrev pub exports_from : List Entry → List Field → With (List Export)
+  abbrev pub exports_from : Counts → List Field → With (List Export)
   exports_from before [] = right []
-  exports_from before (field.Export name k index ∷ fs) =
-      joined (mapped (λ n. record { name = value_of source name; desc = export_desc k n }) (resolved source (ids_of scope k) index)) (exports_from before fs)
+  exports_from before (field.Export name k index ∷ fs) = joined (export_of name k index) (exports_from before fs)
   exports_from before (field.Entry e ∷ fs) =
-      let rest = exports_from (before ++ e ∷ []) fs in
       let k = kind_of e.item in
-      record { value = inline_exports e.exports (export_desc k (length (of_kind k before))) ++ rest.value; wrong = rest.wrong }
+      let rest = exports_from (counted before k) fs in
+      record { value = inline_exports source e.exports (export_desc k (count_of before k)) ++ rest.value; wrong = rest.wrong }
   exports_from before (_ ∷ fs) = exports_from before fs
 
   abbrev pub starts_in : List Field → With (Option ℕ)
@@ -412,39 +458,46 @@ module _ (source : List ℕ) (scope : Scope) where
   starts_in (field.Start index ∷ fs) = mapped (λ n. Some n) (resolved source scope.funcs index)
   starts_in (_ ∷ fs) = starts_in fs
 
-  -- Elements, those that a table begins with at its place. The table's index is the number of tables before it.
-  abbrev pub element_of : ℕ → List (List Instr) → With (List ℕ) → With Element
-  element_of table offset funcs = mapped (λ ns. record { table = table; offset = offset; funcs = ns }) funcs
-
-  abbrev pub inline_element : ℕ → Item → With (List Element) → With (List Element)
-  inline_element n (item.Elements funcs) rest = joined (element_of n at_zero (each (resolved source scope.funcs) funcs)) rest
-  inline_element n _ rest = rest
-
-  abbrev pub elements_from : List Entry → List Field → With (List Element)
-  elements_from before [] = right []
-  elements_from before (field.Element table offset funcs ∷ fs) =
+  abbrev pub element_of : Index → Body → List Index → With Element
+  element_of table offset funcs =
       let n = resolved source scope.tables table in
       let code = code_of source scope [] offset in
-      let one = element_of n.value code.value (each (resolved source scope.funcs) funcs) in
-      joined (record { value = one.value; wrong = n.wrong ++ code.wrong ++ one.wrong }) (elements_from before fs)
-  elements_from before (field.Entry e ∷ fs) = inline_element (length (of_kind kind.Table before)) e.item (elements_from (before ++ e ∷ []) fs)
+      let ns = each (resolved source scope.funcs) funcs in
+      record { value = record { table = n.value; offset = code.value; funcs = ns.value }; wrong = n.wrong ++ code.wrong ++ ns.wrong }
+
+  -- one that the table of this index begins with
+  abbrev pub element_at_zero : ℕ → List Index → With Element
+  element_at_zero n funcs = mapped (λ ns. record { table = n; offset = at_zero; funcs = ns }) (each (resolved source scope.funcs) funcs)
+
+  abbrev pub inline_element : ℕ → Item → With (List Element) → With (List Element)
+  inline_element n (item.Elements funcs) rest = joined (element_at_zero n funcs) rest
+  inline_element n _ rest = rest
+
+  -- Elements, those that a table begins with at its place. The table's index is the number of tables before it.
+  abbrev pub elements_from : Counts → List Field → With (List Element)
+  elements_from before [] = right []
+  elements_from before (field.Element table offset funcs ∷ fs) = joined (element_of table offset funcs) (elements_from before fs)
+  elements_from before (field.Entry e ∷ fs) = inline_element before.tables e.item (elements_from (counted before (kind_of e.item)) fs)
   elements_from before (_ ∷ fs) = elements_from before fs
 
   -- data, the same
-  abbrev pub fill_of : ℕ → List (List Instr) → List Token → Fill
-  fill_of memory offset strings = record { memory = memory; offset = offset; bytes = text_values strings }
-
-  abbrev pub inline_fill : ℕ → Item → With (List Fill) → With (List Fill)
-  inline_fill n (item.Data strings) rest = joined (right (fill_of n at_zero strings)) rest
-  inline_fill n _ rest = rest
-
-  abbrev pub fills_from : List Entry → List Field → With (List Fill)
-  fills_from before [] = right []
-  fills_from before (field.Data memory offset strings ∷ fs) =
+  abbrev pub fill_of : Index → Body → List Token → With Fill
+  fill_of memory offset strings =
       let n = resolved source scope.memories memory in
       let code = code_of source scope [] offset in
-      joined (record { value = fill_of n.value code.value strings; wrong = n.wrong ++ code.wrong }) (fills_from before fs)
-  fills_from before (field.Entry e ∷ fs) = inline_fill (length (of_kind kind.Memory before)) e.item (fills_from (before ++ e ∷ []) fs)
+      record { value = record { memory = n.value; offset = code.value; bytes = text_values source strings }; wrong = n.wrong ++ code.wrong }
+
+  abbrev pub fill_at_zero : ℕ → List Token → Fill
+  fill_at_zero n strings = record { memory = n; offset = at_zero; bytes = text_values source strings }
+
+  abbrev pub inline_fill : ℕ → Item → With (List Fill) → With (List Fill)
+  inline_fill n (item.Data strings) rest = joined (right (fill_at_zero n strings)) rest
+  inline_fill n _ rest = rest
+
+  abbrev pub fills_from : Counts → List Field → With (List Fill)
+  fills_from before [] = right []
+  fills_from before (field.Data memory offset strings ∷ fs) = joined (fill_of memory offset strings) (fills_from before fs)
+  fills_from before (field.Entry e ∷ fs) = inline_fill before.memories e.item (fills_from (counted before (kind_of e.item)) fs)
   fills_from before (_ ∷ fs) = fills_from before fs
 
 -- identifiers that stand twice in an index space of the module
@@ -462,17 +515,17 @@ module_of source fs =
     let imports = imports_of source scope entries in
     let funcs = funcs_of source scope inside in
     let globals = globals_of source scope inside in
-    let exports = exports_from source scope [] fs in
+    let exports = exports_from source scope no_entries fs in
     let start = starts_in source scope fs in
-    let elements = elements_from source scope [] fs in
-    let fills = fills_from source scope [] fs in
+    let elements = elements_from source scope no_entries fs in
+    let fills = fills_from source scope no_entries fs in
     record {
       value = record {
         sigs = scope.sigs;
         imports = imports.value;
         funcs = funcs.value;
-        tables = sizes_of source scope (of_kind kind.Table inside);
-        memories = sizes_of source scope (of_kind kind.Memory inside);
+        tables = sizes_of source (of_kind kind.Table inside);
+        memories = sizes_of source (of_kind kind.Memory inside);
         globals = globals.value;
         exports = exports.value;
         elements = elements.value;

@@ -1,0 +1,12 @@
+use Rattle.std.proofs.Common.{◌≡◌, ◌++◌, drop}
+use Rattle.ms_text_grammar.specs.Elaborating.{exports_from, no_entries}
+use Rattle.ms_text_resolve.proofs.exports.exports_of.Given as goal
+
+abbrev pub invariant-loop-field : goal.invariant-loop-field
+invariant-loop-field l =
+    let left = exports_from l.context.source l.context.scope l.before (drop l.field-index l.fields) in
+    let all = exports_from l.context.source l.context.scope no_entries l.fields in
+    record {
+      values : l.exports ++ left.value ≡ all.value;
+      wrongs : l.wrong.items ++ left.wrong ≡ l.initial.wrong.items ++ all.wrong;
+    }

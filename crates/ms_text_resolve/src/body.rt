@@ -1,0 +1,163 @@
+//! Bodies: flat instructions to numbered sequences (WebAssembly 1.0, 6.5).
+
+ghost use Rattle.std.specs.Prelude.{◌≡◌, ◌++◌, ◌∷◌, [], IfOk, OnOk};
+ghost use Rattle.ms_text_grammar.specs.Elaborating.{built, code_of, each, instr_of, nothing_built, use_index, with_begin, with_else, with_end, with_instr, with_op};
+ghost use Rattle.ms_text_resolve.specs.Answers.{Adds};
+
+use crate::context::Context;
+use crate::instrs::{Around, instr_of, is_plain};
+use crate::locals::LocalIds;
+use ms_module::{Builder, Code, Opening};
+use ms_text_grammar::{Body, Op, Plain, TypeUse};
+use ms_text_lex::Token;
+use ms_types::{Stack, ValType};
+use std::alloc::{AllocError, Global};
+use std::marker::Model;
+
+/// A body that is being built: its sequences, the labels of its open blocks, and the places of wrong identifiers in it.
+#[derive(Drop)]
+struct Making {
+    builder: Builder,
+    labels: Stack<Option<Token>>,
+    wrong: Vec<usize>,
+}
+
+impl Model for Making {
+    ghost use Rattle.ms_text_grammar.specs.Elaborating.{Built};
+
+    ghost Value = { Built };
+
+    ghost view = { λ m. record { st = m.builder; labels = m.labels; wrong = m.wrong.items } };
+}
+
+impl Making {
+    fn new(alloc: Global) -> Result<Self, AllocError>
+        ensures { IfOk result (λ m. m ≡ nothing_built) }
+    {
+        Ok(Making {
+            builder: Builder::new(alloc)?,
+            labels: Stack::new(alloc),
+            wrong: Vec::new(alloc),
+        })
+    }
+
+    /// An instruction that is no block. The grammar gives no other one here.
+    fn plain(&mut self, alloc: Global, around: Around, plain: &Plain) -> Result<(), AllocError>
+        requires { (around.locals.now).source ≡ (around.context.now).source }
+        ensures { OnOk result (self.new ≡ with_instr (around.entry.context.now).source (around.entry.context.now).scope (instr_of (around.entry.context.now).source (around.entry.context.now).scope (around.entry.locals.now).ids around.entry.uses.now self.old.labels plain.now) self.old) }
+    {
+        let instr = instr_of(alloc, around, &self.labels, plain, &mut self.wrong)?;
+        if !is_plain(&instr) {
+            return Err(AllocError);
+        }
+        self.builder.add(instr)?;
+        Ok(())
+    }
+
+    /// Opens a block.
+    fn begin(
+        &mut self,
+        opening: Opening,
+        label: Option<Token>,
+        ty: Option<ValType>,
+    ) -> Result<(), AllocError>
+        ensures { OnOk result (self.new ≡ with_begin opening label ty self.old) }
+    {
+        self.builder.open(opening, ty)?;
+        self.labels.push(label)?;
+        Ok(())
+    }
+
+    /// An `else`. The grammar gives none outside of an `if`.
+    fn turn(&mut self) -> Result<(), AllocError>
+        ensures { OnOk result (self.new ≡ with_else self.old) }
+    {
+        if !self.builder.may_turn() {
+            return Err(AllocError);
+        }
+        self.builder.turn();
+        Ok(())
+    }
+
+    /// Ends the innermost block. The grammar gives no `end` without one.
+    fn end(&mut self) -> Result<(), AllocError>
+        ensures { OnOk result (self.new ≡ with_end self.old) }
+    {
+        if self.builder.depth() == 0 || self.labels.len() == 0 {
+            return Err(AllocError);
+        }
+        self.builder.close()?;
+        let _ = self.labels.pop();
+        Ok(())
+    }
+
+    /// A step of a body.
+    fn step(&mut self, alloc: Global, around: Around, step: &Op) -> Result<(), AllocError>
+        requires { (around.locals.now).source ≡ (around.context.now).source }
+        ensures { OnOk result (self.new ≡ with_op (around.entry.context.now).source (around.entry.context.now).scope (around.entry.locals.now).ids around.entry.uses.now step.now self.old) }
+    {
+        match step {
+            Op::Plain(plain) => self.plain(alloc, around, plain),
+            Op::Begin { opening, label, ty } => self.begin(*opening, *label, *ty),
+            Op::Else => self.turn(),
+            Op::End => self.end(),
+        }
+    }
+}
+
+/// Builds a body of its steps.
+fn built(alloc: Global, around: Around, ops: &[Op]) -> Result<Making, AllocError>
+    requires { (around.locals.now).source ≡ (around.context.now).source }
+    ensures { IfOk result (λ m. m ≡ built (around.entry.context.now).source (around.entry.context.now).scope (around.entry.locals.now).ids around.entry.uses.now ops.now nothing_built) }
+{
+    let mut making = Making::new(alloc)?;
+    for step in ops {
+        making.step(alloc, around, step)?;
+    }
+    Ok(making)
+}
+
+/// The indices of the types of uses, one after the other.
+fn use_indices(
+    alloc: Global,
+    context: &Context,
+    uses: &[TypeUse],
+    wrong: &mut Vec<usize>,
+) -> Result<Vec<u32>, AllocError>
+    ensures { IfOk result (λ ns. Adds wrong.old.items wrong.new.items ns.items (each (use_index context.now.source context.now.scope) uses.now)) }
+{
+    let mut indices = Vec::new(alloc);
+    for sig in uses {
+        indices.push(context.use_index(alloc, sig, wrong)?)?;
+    }
+    Ok(indices)
+}
+
+/// The code of a body with these locals. In the grammar each block of a body has ended.
+pub fn code_of<'a>(
+    alloc: Global,
+    context: &Context<'a>,
+    locals: &LocalIds<'a>,
+    body: &Body,
+    wrong: &mut Vec<usize>,
+) -> Result<Code, AllocError>
+    requires { locals.now.source ≡ context.now.source }
+    ensures { IfOk result (λ code. Adds wrong.old.items wrong.new.items code (code_of context.now.source context.now.scope locals.now.ids body.now)) }
+{
+    let uses = use_indices(alloc, context, body.uses.as_slice(), wrong)?;
+    let around = Around {
+        context,
+        locals,
+        uses: uses.as_slice(),
+    };
+    let Making {
+        builder,
+        labels: _,
+        wrong: inside,
+    } = built(alloc, around, body.ops.as_slice())?;
+    if builder.depth() > 0 {
+        return Err(AllocError);
+    }
+    wrong.extend_from_slice(inside.as_slice())?;
+    Ok(builder.finish())
+}

@@ -1,0 +1,114 @@
+//! Functions and globals that are not imported (WebAssembly 1.0, 6.6.5 and 6.6.8).
+
+ghost use Rattle.std.specs.Prelude.{◌≡◌, ◌++◌, IfOk, OnOk};
+ghost use Rattle.ms_text_grammar.specs.Elaborating.{defined, entries_in, func_of, funcs_of, global_of, globals_of};
+ghost use Rattle.ms_text_grammar.specs.Shapes.{param_types};
+ghost use Rattle.ms_text_resolve.specs.Answers.{Adds};
+
+use crate::body::code_of;
+use crate::context::Context;
+use crate::locals::LocalIds;
+use ms_module::{Func, Global as GlobalVar, Locals};
+use ms_text_grammar::{Body, Field, Item, Param, TypeUse};
+use ms_types::{GlobalType, Vector};
+use std::alloc::{AllocError, Global};
+
+/// The types of locals.
+fn local_types(alloc: Global, params: &[Param]) -> Result<Locals, AllocError>
+    ensures { IfOk result (λ locals. locals ≡ param_types params.now) }
+{
+    let mut locals = Locals::new(alloc);
+    for param in params {
+        if locals.len() >= u32::MAX as usize {
+            return Err(AllocError);
+        }
+        locals.push(1, param.ty)?;
+    }
+    Ok(locals)
+}
+
+/// A function.
+fn func_of(
+    alloc: Global,
+    context: &Context,
+    sig: &TypeUse,
+    locals: &[Param],
+    body: &Body,
+    wrong: &mut Vec<usize>,
+) -> Result<Func, AllocError>
+    ensures { IfOk result (λ f. Adds wrong.old.items wrong.new.items f (func_of context.now.source context.now.scope sig.now locals.now body.now)) }
+{
+    let index = context.use_index(alloc, sig, wrong)?;
+    let ids = LocalIds::of_func(alloc, context, index, sig, locals, wrong)?;
+    let body = code_of(alloc, context, &ids, body, wrong)?;
+    Ok(Func {
+        sig: index,
+        locals: local_types(alloc, locals)?,
+        body,
+    })
+}
+
+/// The functions of fields.
+pub fn funcs_of(
+    alloc: Global,
+    context: &Context,
+    fields: &[Field],
+    wrong: &mut Vec<usize>,
+) -> Result<Vector<Func>, AllocError>
+    ensures { IfOk result (λ funcs. Adds wrong.old.items wrong.new.items funcs (funcs_of context.now.source context.now.scope (defined (entries_in fields.now)))) }
+{
+    let mut funcs = Vector::new(alloc);
+    for field in fields {
+        let Field::Entry(entry) = field else {
+            continue;
+        };
+        if entry.import.is_some() {
+            continue;
+        }
+        let Item::Func { sig, locals, body } = &entry.item else {
+            continue;
+        };
+        funcs.push(func_of(alloc, context, sig, locals.as_slice(), body, wrong)?)?;
+    }
+    Ok(funcs)
+}
+
+/// A global.
+fn global_of(
+    alloc: Global,
+    context: &Context,
+    ty: GlobalType,
+    init: &Body,
+    wrong: &mut Vec<usize>,
+) -> Result<GlobalVar, AllocError>
+    ensures { IfOk result (λ g. Adds wrong.old.items wrong.new.items g (global_of context.now.source context.now.scope ty init.now)) }
+{
+    let none = LocalIds::none(alloc, context.source());
+    let init = code_of(alloc, context, &none, init, wrong)?;
+    Ok(GlobalVar { ty, init })
+}
+
+/// The globals of fields.
+pub fn globals_of(
+    alloc: Global,
+    context: &Context,
+    fields: &[Field],
+    wrong: &mut Vec<usize>,
+) -> Result<Vector<GlobalVar>, AllocError>
+    ensures { IfOk result (λ globals. Adds wrong.old.items wrong.new.items globals (globals_of context.now.source context.now.scope (defined (entries_in fields.now)))) }
+{
+    let mut globals = Vector::new(alloc);
+    for field in fields {
+        let Field::Entry(entry) = field else {
+            continue;
+        };
+        if entry.import.is_some() {
+            continue;
+        }
+        let Item::Global { ty, init } = &entry.item else {
+            continue;
+        };
+        globals.push(global_of(alloc, context, *ty, init, wrong)?)?;
+    }
+    Ok(globals)
+}
