@@ -48,10 +48,10 @@ fn write_function_section(
 /// Writes the sections of a module behind the markers.
 #[tactic(auto, unfolding(crate::specs::Written::sections_bytes))]
 fn write_sections(alloc: Global, module: &Module, out: &mut Vec<u8>) -> Result<(), BinFault>
-    ensures written { OnOk result (out.new.items ≡ out.old.items ++ sections_bytes module.now) }
-    ensures within { OnOk result (ModuleFits module.now) }
-    ensures small { OnOk result (¬ IsLarge module.now) }
-    ensures large { result ≡ Err Large → IsLarge module.now }
+    ensures written { OnOk result (out.new.items ≡ out.old.items ++ sections_bytes «module».now) }
+    ensures within { OnOk result (ModuleFits «module».now) }
+    ensures small { OnOk result (¬ IsLarge «module».now) }
+    ensures large { result ≡ Err Large → IsLarge «module».now }
 {
     write_part(alloc, 1, &module.sigs, out)?;
     write_part(alloc, 2, &module.imports, out)?;
@@ -70,15 +70,15 @@ fn write_sections(alloc: Global, module: &Module, out: &mut Vec<u8>) -> Result<(
 ///
 /// `Large` exactly where a section, or the body of a function, would have 2^32 bytes or more. `Memory` where memory ran out.
 pub fn write(alloc: Global, module: &Module) -> Result<Vec<u8>, BinFault>
-    ensures written { IfOk result (λ bytes. bytes.items ≡ written module.now) }
+    ensures written { IfOk result (λ bytes. bytes.items ≡ written «module».now) }
     // `Large` is told only where it is so, and where it is so nothing is written.
-    ensures large { result ≡ Err Large → IsLarge module.now }
-    ensures small { OnOk result (¬ IsLarge module.now) }
+    ensures large { result ≡ Err Large → IsLarge «module».now }
+    ensures small { OnOk result (¬ IsLarge «module».now) }
     // The bytes spell the module, and within all bounds that it keeps.
-    ensures spelled { IfOk result (λ bytes. Spells bytes.items module.now) }
-    ensures within { IfOk result (λ bytes. (bounds : Bounds) → KeepsBounds bounds module.now → SpellsWithin bounds bytes.items module.now) }
+    ensures spelled { IfOk result (λ bytes. Spells bytes.items «module».now) }
+    ensures within { IfOk result (λ bytes. (bounds : Bounds) → KeepsBounds bounds «module».now → SpellsWithin bounds bytes.items «module».now) }
     // They spell no other module.
-    ensures only { IfOk result (λ bytes. (other : Module) → Spells bytes.items other → other ≡ module.now) }
+    ensures only { IfOk result (λ bytes. (other : Module) → Spells bytes.items other → other ≡ «module».now) }
 {
     let mut out = Vec::from_slice(alloc, &[0x00, 0x61, 0x73, 0x6D, 0x01, 0x00, 0x00, 0x00])?;
     write_sections(alloc, module, &mut out)?;
