@@ -1,2 +1,5 @@
 mod Plain
 mod Rows
+mod ReadKeywords
+mod ReadNumbers
+mod ReadStrings
