@@ -1,0 +1,151 @@
+//! The words that go on behind an expression.
+
+ghost use Rattle.std.specs.Prelude.{◌≡◌};
+ghost use Rattle.c_goals.specs.Calls.{Turned};
+ghost use Rattle.c_goals.specs.Table.{access_name, are_no_args, next_argument, level_at, on_mark, postfix, tail, takes_type, turn, type_in_parens};
+
+use crate::classes::{access_at, infix_at, is_specifier, step_at};
+use crate::kind::{Kind, Punctuator, Row};
+use crate::turning::Outcome;
+use crate::value::Value;
+use c_token::{Mark, Word};
+use c_tree::{Access, Args, Expr, ExprNode};
+use std::alloc::{AllocError, Global};
+
+/// The level of choices.
+const CHOICE: u8 = 2;
+
+/// The level of casts.
+const CAST: u8 = 13;
+
+/// The level of postfix expressions.
+const POSTFIX: u8 = 15;
+
+/// The least level of an expression of this kind.
+fn level_at(kind: Kind) -> u8
+    ensures { result ≡ level_at kind }
+{
+    match kind {
+        Kind::Expr(level) => level,
+        _ => 14,
+    }
+}
+
+/// What goes on behind a postfix expression.
+fn postfix(alloc: Global, e: Expr, mark: Mark) -> Result<Outcome, AllocError>
+    ensures { Turned (postfix e mark) (Value.Expr e) result }
+{
+    if let Some(op) = step_at(mark) {
+        let whole = Expr::new(alloc, ExprNode::After(op, e))?;
+        return Ok(Outcome::Joined(Value::Expr(whole)));
+    }
+    if let Some(op) = access_at(mark) {
+        return Ok(Outcome::Joined(Value::Access(op, e)));
+    }
+    if Punctuator::OpenBracket.is_mark(mark) {
+        return Ok(Outcome::Opens(Row::Index, Value::Expr(e)));
+    }
+    if Punctuator::OpenParen.is_mark(mark) {
+        return Ok(Outcome::Joined(Value::Call(e, Args::new(alloc))));
+    }
+    Ok(Outcome::Stuck(Value::Expr(e)))
+}
+
+/// What goes on behind an expression, at a mark.
+fn tail_mark(alloc: Global, level: u8, e: Expr, mark: Mark) -> Result<Outcome, AllocError>
+    ensures { Turned (tail level e mark) (Value.Expr e) result }
+{
+    if let Some(op) = infix_at(mark) {
+        if level <= op.makes() && op.left() <= e.level() {
+            return Ok(Outcome::Opens(Row::Between(op), Value::Expr(e)));
+        }
+        return Ok(Outcome::Stuck(Value::Expr(e)));
+    }
+    if Punctuator::Question.is_mark(mark) {
+        if level <= CHOICE && 3 <= e.level() {
+            return Ok(Outcome::Opens(Row::Choice, Value::Expr(e)));
+        }
+        return Ok(Outcome::Stuck(Value::Expr(e)));
+    }
+    if POSTFIX <= e.level() {
+        return postfix(alloc, e, mark);
+    }
+    Ok(Outcome::Stuck(Value::Expr(e)))
+}
+
+/// What goes on behind an expression.
+pub fn tail(alloc: Global, kind: Kind, e: Expr, word: &Word) -> Result<Outcome, AllocError>
+    ensures { Turned (turn kind (Value.Expr e) word.now) (Value.Expr e) result }
+{
+    match word {
+        Word::Mark(mark) => tail_mark(alloc, level_at(kind), e, *mark),
+        _ => Ok(Outcome::Stuck(Value::Expr(e))),
+    }
+}
+
+/// Whether the name of a type in parentheses may stand there by itself.
+fn takes_type(kind: Kind) -> bool
+    ensures { result ≡ takes_type kind }
+{
+    matches!(kind, Kind::SizeofOperand)
+}
+
+/// What goes on behind an opening parenthesis where an expression is wanted.
+pub fn paren_turn(kind: Kind, word: &Word) -> Result<Outcome, AllocError>
+    ensures { Turned (turn kind Value.Paren word.now) Value.Paren result }
+{
+    if !is_specifier(word) {
+        return Ok(Outcome::Begins(Row::Parenthesised, Value::Paren));
+    }
+    if takes_type(kind) {
+        return Ok(Outcome::Begins(Row::TypeName, Value::Paren));
+    }
+    if level_at(kind) <= CAST {
+        return Ok(Outcome::Begins(Row::Cast, Value::Paren));
+    }
+    Ok(Outcome::Stuck(Value::Paren))
+}
+
+/// Whether there are no arguments.
+#[tactic(auto, using(crate::proofs::Empty::no_args))]
+fn are_no_args(args: &Args) -> bool
+    ensures { result ≡ are_no_args args.now }
+{
+    args.items().is_empty()
+}
+
+/// What goes on behind a call's arguments.
+pub fn call_turn(
+    alloc: Global,
+    callee: Expr,
+    args: Args,
+    word: &Word,
+) -> Result<Outcome, AllocError>
+    ensures { Turned (turn Kind.Statement (Value.Call callee args) word.now) (Value.Call callee args) result }
+{
+    if Punctuator::CloseParen.is(word) {
+        let whole = Expr::new(alloc, ExprNode::Call(callee, args))?;
+        return Ok(Outcome::Joined(Value::Expr(whole)));
+    }
+    if are_no_args(&args) {
+        return Ok(Outcome::Begins(Row::Argument, Value::Call(callee, args)));
+    }
+    if Punctuator::Comma.is(word) {
+        return Ok(Outcome::Opens(Row::Argument, Value::Call(callee, args)));
+    }
+    Ok(Outcome::Stuck(Value::Call(callee, args)))
+}
+
+/// The name behind `.` or `->`.
+pub fn access_name(alloc: Global, op: Access, e: Expr, word: &Word) -> Result<Outcome, AllocError>
+    ensures { Turned (access_name op e word.now) (Value.Access op e) result }
+{
+    match word {
+        Word::Name(name) => {
+            let name = name.copy(alloc)?;
+            let whole = Expr::new(alloc, ExprNode::Member(op, e, name))?;
+            Ok(Outcome::Joined(Value::Expr(whole)))
+        }
+        _ => Ok(Outcome::Stuck(Value::Access(op, e))),
+    }
+}

@@ -1,0 +1,111 @@
+//! The words that go on behind initializers and declarators with initializers.
+
+ghost use Rattle.std.specs.Prelude.{◌≡◌};
+ghost use Rattle.c_goals.specs.Calls.{Turned};
+ghost use Rattle.c_goals.specs.Table.{are_no_values, form_end, has_no_value, inits_tail, is_single, next_element};
+
+use crate::kind::{Kind, Punctuator, Row};
+use crate::turning::Outcome;
+use crate::value::Value;
+use c_token::Word;
+use c_tree::{Block, ExternalForm, Init, Initialiser, InitialiserNode, Initialisers, Inits};
+use std::alloc::{AllocError, Global};
+
+/// Whether there are no initializers.
+#[tactic(auto, using(crate::proofs::Empty::no_values))]
+pub fn are_no_values(values: &Initialisers) -> bool
+    ensures { result ≡ are_no_values values.now }
+{
+    values.items().is_empty()
+}
+
+/// What goes on behind initializers in braces (C11, 6.7.9).
+pub fn element_turn(
+    alloc: Global,
+    values: Initialisers,
+    comma: bool,
+    word: &Word,
+) -> Result<Outcome, AllocError>
+    ensures { Turned (next_element values comma word.now) (Value.Braces values comma) result }
+{
+    if are_no_values(&values) {
+        return Ok(Outcome::Begins(Row::Element, Value::Braces(values, comma)));
+    }
+    if Punctuator::CloseBrace.is(word) {
+        let whole = Initialiser::new(alloc, InitialiserNode::Braces(values, comma))?;
+        return Ok(Outcome::Joined(Value::Initialiser(whole)));
+    }
+    if comma {
+        return Ok(Outcome::Begins(Row::Element, Value::Braces(values, comma)));
+    }
+    if Punctuator::Comma.is(word) {
+        return Ok(Outcome::Joined(Value::Braces(values, true)));
+    }
+    Ok(Outcome::Stuck(Value::Braces(values, comma)))
+}
+
+/// Whether a declarator has no initializer.
+fn has_no_value(value: &Option<Initialiser>) -> bool
+    ensures { result ≡ has_no_value value.now }
+{
+    match value {
+        Some(_) => false,
+        None => true,
+    }
+}
+
+/// Whether this is one declarator without an initializer.
+#[tactic(auto, using(crate::proofs::Empty::none))]
+fn is_single(inits: &Inits, last: &Init) -> bool
+    ensures { result ≡ is_single inits.now last.now }
+{
+    inits.items().is_empty() && has_no_value(&last.value)
+}
+
+/// What ends the declarators of an external declaration (C11, 6.9).
+fn form_end(
+    alloc: Global,
+    kind: Kind,
+    inits: Inits,
+    last: Init,
+    word: &Word,
+) -> Result<Outcome, AllocError>
+    ensures { Turned (form_end kind inits last word.now) (Value.Inits inits last) result }
+{
+    match kind {
+        Kind::Form => {
+            if Punctuator::Semicolon.is(word) {
+                let whole = ExternalForm::Declaration(inits.with(last)?);
+                return Ok(Outcome::Joined(Value::Form(whole)));
+            }
+            if Punctuator::OpenBrace.is(word) && is_single(&inits, &last) {
+                let body = Value::Items(Some(last.declarator), Block::new(alloc));
+                return Ok(Outcome::Joined(body));
+            }
+            Ok(Outcome::Stuck(Value::Inits(inits, last)))
+        }
+        _ => Ok(Outcome::Stuck(Value::Inits(inits, last))),
+    }
+}
+
+/// What goes on behind declarators with initializers (C11, 6.7).
+pub fn inits_tail(
+    alloc: Global,
+    kind: Kind,
+    inits: Inits,
+    last: Init,
+    word: &Word,
+) -> Result<Outcome, AllocError>
+    ensures { Turned (inits_tail kind inits last word.now) (Value.Inits inits last) result }
+{
+    if Punctuator::Comma.is(word) {
+        return Ok(Outcome::Opens(Row::NextInit, Value::Inits(inits, last)));
+    }
+    if Punctuator::Equals.is(word) {
+        if has_no_value(&last.value) {
+            return Ok(Outcome::Opens(Row::InitValue, Value::Inits(inits, last)));
+        }
+        return Ok(Outcome::Stuck(Value::Inits(inits, last)));
+    }
+    form_end(alloc, kind, inits, last, word)
+}
