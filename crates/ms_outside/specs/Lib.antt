@@ -4,7 +4,8 @@ pub mod Sink
 pub mod Files
 pub mod Shelf
 pub mod Script
-pub mod Calls
 pub mod Memory
 pub mod Kept
 pub mod Adapters
+pub mod Devices
+pub mod System

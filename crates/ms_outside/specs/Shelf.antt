@@ -1,9 +1,12 @@
--- Reading a file from a shelf.
-use Rattle.std.specs.Prelude.{◌≡◌, ◌≤◌, ◌<◌, ℕ, List, length, Option, MatchOption, ⊤}
+-- Reading a file from a shelf, and writing one.
+use Rattle.std.specs.Prelude.{◌≡◌, ◌≤◌, ◌<◌, ◌⊎◌, ℕ, List, length, Option, None, Some, MatchOption, ⊤}
+use Rattle.std.specs.FinMap.{insert}
 use Rattle.ms_outside.specs.declared.shelf.Fetched.{Fetched}
 use Rattle.ms_outside.specs.declared.shelf.Fetched.TheVariants.{Bytes, TooLong, Failed, Memory}
+use Rattle.ms_outside.specs.declared.sink.Put as put
 use Rattle.ms_outside.specs.Faults.{Rose}
 use Rattle.ms_outside.specs.Files.{Files, bytes_of}
+use Rattle.ms_outside.specs.Sink.{IsFront}
 
 -- what a shelf that may not tell its files says of a file
 abbrev pub Told : Option Files → List ℕ → (List ℕ → Type 0) → Type 0
@@ -29,3 +32,14 @@ CountsRead name (Bytes v) before after = SameCounts before after
 CountsRead name TooLong before after = SameCounts before after
 CountsRead name Failed before after = CountsReadFault name before after
 CountsRead name Memory before after = SameCounts before after
+
+-- the files after a write of these bytes under this name that gave this, where these files were known
+abbrev pub WritesInto : put.Put → List ℕ → List ℕ → Files → Option Files → Type 0
+WritesInto put.TheVariants.Done name bytes known new = new ≡ Some (insert known name bytes)
+WritesInto put.TheVariants.Failed name bytes known new =
+    (new ≡ Some known) ⊎ ((front : List ℕ) × IsFront front bytes × (new ≡ Some (insert known name front)))
+WritesInto put.TheVariants.Memory name bytes known new = new ≡ Some known
+
+-- the same of a shelf that may not tell its files
+abbrev pub Writes : List ℕ → List ℕ → put.Put → Option Files → Option Files → Type 0
+Writes name bytes answer old new = MatchOption old (new ≡ None) (λ known. WritesInto answer name bytes known new)

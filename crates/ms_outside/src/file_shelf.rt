@@ -1,77 +1,98 @@
-ghost use Rattle.std.specs.Prelude.{◌≡◌};
-ghost use Rattle.ms_outside.specs.Adapters.{ReadsSomeFile, ReadsToEnd, file_faults, runtime_of};
-ghost use Rattle.ms_outside.specs.Shelf.{CountsRead, Fetches};
+ghost use Rattle.std.specs.Prelude.{◌≡◌, ℕ, List};
+ghost use Rattle.ms_outside.specs.Adapters.{ReadsFile, ReadsToEnd, WritesFile};
+ghost use Rattle.ms_outside.specs.Shelf.{CountsRead, Fetches, SameCounts, Writes};
+ghost use Rattle.ms_outside.specs.Sink.{CountsPut};
+ghost use Rattle.ms_outside.specs.System.{disk_read_faults, disk_write_faults, shelf_disk};
 
-use crate::count::one_more_fault;
+use crate::device::{Disk, ReadDevice};
 use crate::shelf::{Fetched, Shelf};
+use crate::sink::Put;
+use crate::std_sink::write_and_flush;
+use crate::system::SystemDisk;
 use std::alloc::Global;
-use std::fs;
-use std::io::Read;
 use std::rt::Files;
 
 /// How many bytes a read asks for at most.
 const CHUNK: usize = 8192;
 
-/// A shelf of the files of a file system, whose names are paths.
+/// A shelf of the files of a disk.
 ///
-/// It doesn't tell its files, since nothing is known of a file system.
+/// It doesn't tell its files, since nothing is known of a file system. It has one count of failed reads, whatever the
+/// name.
 #[derive(Drop)]
-pub struct FileShelf<R> {
-    rt: R,
-    faults: u64,
+pub struct FileShelf<D> {
+    disk: D,
 }
 
-impl<R: Files> FileShelf<R> {
-    /// A shelf of the files that the runtime reaches, with no fault so far.
-    pub fn new(rt: R) -> FileShelf<R>
-        ensures rt { runtime_of result ≡ rt }
-        ensures faults { file_faults result ≡ 0 }
+impl<R: Files> FileShelf<SystemDisk<R>> {
+    /// A shelf of the files that the runtime reaches, whose names are paths, with no fault so far.
+    pub fn new(rt: R) -> FileShelf<SystemDisk<R>>
+        ensures reads { disk_read_faults (shelf_disk result) ≡ 0 }
+        ensures writes { disk_write_faults (shelf_disk result) ≡ 0 }
     {
-        FileShelf { rt, faults: 0 }
+        FileShelf {
+            disk: SystemDisk::new(rt),
+        }
     }
 
     /// How many reads failed, of whatever name, at most `u64::MAX`.
-    pub fn faults(&self) -> u64
-        ensures { result ≡ file_faults self.now }
+    pub fn read_faults(&self) -> u64
+        ensures { result ≡ disk_read_faults (shelf_disk self.now) }
     {
-        self.faults
+        self.disk.read_faults()
+    }
+
+    /// How many writes failed, of whatever name, at most `u64::MAX`.
+    pub fn write_faults(&self) -> u64
+        ensures { result ≡ disk_write_faults (shelf_disk self.now) }
+    {
+        self.disk.write_faults()
     }
 }
 
-impl<R: Files> Shelf for FileShelf<R> {
+impl<D: Disk> Shelf for FileShelf<D> {
     ghost use Rattle.std.specs.Prelude.{None};
-    ghost use Rattle.ms_outside.specs.Adapters.{file_faults};
+    ghost use Rattle.ms_outside.specs.System.{shelf_disk};
 
     ghost files = { λ _. None };
 
-    ghost read_faults = { λ s _. file_faults s };
+    ghost read_faults = { λ s _. D.read_faults (shelf_disk s) };
+
+    ghost write_faults = { λ s. D.write_faults (shelf_disk s) };
 
     fn read(&mut self, alloc: Global, name: &str, limit: u32) -> Fetched
         ensures answer { Fetches name.now limit None result }
-        ensures faults { CountsRead name.now result (λ _. file_faults self.old) (λ _. file_faults self.new) }
-        ensures reads { ReadsSomeFile R.File.remaining limit result }
+        ensures faults { CountsRead name.now result (λ _. D.read_faults (shelf_disk self.old)) (λ _. D.read_faults (shelf_disk self.new)) }
+        ensures writes { D.write_faults (shelf_disk self.new) ≡ D.write_faults (shelf_disk self.old) }
+        ensures reads { ReadsFile (λ file. D.is_opened file name.now) D.Reader.left limit result }
     {
-        let fetched = fetch(&self.rt, alloc, name, limit);
-        if matches!(&fetched, Fetched::Failed) {
-            self.faults = one_more_fault(self.faults);
-        }
+        let Ok(mut file) = self.disk.open(name) else {
+            return Fetched::Failed;
+        };
+        let fetched = read_to_end(alloc, &mut file, limit);
+        self.disk.close_reader(file);
         fetched
     }
-}
 
-/// Opens the file of this name, and reads it to the end.
-fn fetch<R: Files>(rt: &R, alloc: Global, name: &str, limit: u32) -> Fetched
-    ensures { ReadsSomeFile R.File.remaining limit result }
-{
-    match fs::open(rt, name) {
-        Ok(mut file) => read_to_end(alloc, &mut file, limit),
-        Err(_) => Fetched::Failed,
+    fn write(&mut self, alloc: Global, name: &str, bytes: &[u8]) -> Put
+        ensures files { Writes name.now bytes.now result None None }
+        ensures reads { SameCounts (λ _. D.read_faults (shelf_disk self.old)) (λ _. D.read_faults (shelf_disk self.new)) }
+        ensures faults { CountsPut result (D.write_faults (shelf_disk self.old)) (D.write_faults (shelf_disk self.new)) }
+        ensures writes { WritesFile (λ file. D.is_created file name.now) D.Writer.held D.Writer.is_flushed bytes.now result }
+    {
+        let Ok(mut file) = self.disk.create(name) else {
+            return Put::Failed;
+        };
+        let answer = write_and_flush(&mut file, bytes);
+        self.disk.close_writer(file);
+        answer
     }
 }
 
 /// Reads to the end, of at most `limit` bytes, and never more than one byte beyond them.
-fn read_to_end<F: Read>(alloc: Global, file: &mut F, limit: u32) -> Fetched
-    ensures { ReadsToEnd limit (F.remaining file.old) (F.remaining file.new) result }
+fn read_to_end<F: ReadDevice>(alloc: Global, file: &mut F, limit: u32) -> Fetched
+    ensures reads { ReadsToEnd limit (F.left file.old) (F.left file.new) result }
+    ensures faults { (name : List ℕ) → CountsRead name result (λ _. F.faults file.old) (λ _. F.faults file.new) }
 {
     let most = limit as usize + 1;
     let mut bytes = Vec::new(alloc);

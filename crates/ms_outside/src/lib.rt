@@ -4,12 +4,15 @@
 //! caller that is generic over the trait can't raise a count by itself, so a clause "this answer only where the count
 //! rose" refuses a body that gives up.
 //!
-//! `MemSource`, `MemSink` and `MemShelf` are objects in memory for tests, which tell all that they hold and fail exactly
-//! at the calls that they are told to fail at. `StdSource`, `StdSink` and `FileShelf` are over a reader, a writer and the
-//! files of the standard library. It stands on nothing. Read `specs/Source.antt`, `Sink.antt` and `Shelf.antt` first.
+//! `SureSource`, `SureSink` and `SureShelf` are in memory, tell all that they hold and never fail; `MemSource`, `MemSink` and
+//! `MemShelf`, for tests, fail exactly at the calls that they are told to fail at. `StdSource`, `StdSink` and `FileShelf` are
+//! over the system, by devices that count their own faults. It stands on nothing. Read `specs/Source.antt`, `Sink.antt` and
+//! `Shelf.antt` first.
 #![tactic(auto)]
 
 mod count;
+mod device;
+mod fault_counts;
 mod file_shelf;
 mod mem_shelf;
 mod mem_sink;
@@ -20,7 +23,12 @@ mod sink;
 mod source;
 mod std_sink;
 mod std_source;
+mod sure_shelf;
+mod sure_sink;
+mod sure_source;
+mod system;
 
+pub use device::{Disk, Fault, ReadDevice, WriteDevice};
 pub use file_shelf::FileShelf;
 pub use mem_shelf::MemShelf;
 pub use mem_sink::MemSink;
@@ -30,6 +38,10 @@ pub use sink::{Put, Sink};
 pub use source::{Got, Source};
 pub use std_sink::StdSink;
 pub use std_source::StdSource;
+pub use sure_shelf::SureShelf;
+pub use sure_sink::SureSink;
+pub use sure_source::SureSource;
+pub use system::{SystemDisk, SystemReader, SystemWriter};
 
 #[cfg(test)]
 mod tests;

@@ -1,42 +1,41 @@
 ghost use Rattle.std.specs.Prelude.{◌≡◌, ◌≢◌, ◌≤◌, ◌-◌, [], IfOk, OnErr, IsTrue, ◌↔◌, length};
 ghost use Rattle.ms_outside.specs.Memory.{Output};
-ghost use Rattle.ms_outside.specs.Script.{also_failing, called, next_fails, no_script};
+ghost use Rattle.ms_outside.specs.Script.{also_failing, called, counted, next_fails, no_script};
 ghost use Rattle.ms_outside.specs.Sink.{CountsPut, Puts};
 
+use crate::count::one_more_fault;
 use crate::script::Script;
 use crate::sink::{Put, Sink};
+use crate::sure_sink::SureSink;
 use std::alloc::{AllocError, Global};
 use std::marker::Model;
 
 /// A sink that holds its bytes in memory, for tests: its calls fail where a script has it.
 #[derive(Drop)]
 pub struct MemSink {
-    bytes: Vec<u8>,
-    room: usize,
+    content: SureSink,
     script: Script,
+    faults: u64,
 }
 
 impl Model for MemSink {
-    ghost use Rattle.std.specs.Prelude.{◌+◌, ◌≤◌, vec_capacity, vec_len};
     ghost use Rattle.ms_outside.specs.Memory.{Output};
 
     ghost Value = { Output };
 
-    ghost view = { λ s. record { held = s.bytes.items; room = s.room; script = s.script } };
-
-    ghost invariant = { λ s. vec_len s.bytes + s.room ≤ vec_capacity s.bytes };
+    ghost view = { λ s. record { held = s.content.held; room = s.content.room; script = s.script; faults = s.faults } };
 }
 
 impl MemSink {
     /// An empty sink with room for this many bytes, none of whose puts is to fail.
     pub fn new(alloc: Global, room: usize) -> Result<MemSink, AllocError>
-        ensures { IfOk result (λ sink. sink ≡ record { held = []; room = room; script = no_script }) }
+        ensures { IfOk result (λ sink. sink ≡ record { held = []; room = room; script = no_script; faults = 0 }) }
     {
-        let bytes = Vec::with_capacity(alloc, room)?;
+        let content = SureSink::new(alloc, room)?;
         Ok(MemSink {
-            bytes,
-            room,
+            content,
             script: Script::new(alloc),
+            faults: 0,
         })
     }
 
@@ -50,16 +49,16 @@ impl MemSink {
 
     /// How many puts failed, at most `u64::MAX`.
     pub fn faults(&self) -> u64
-        ensures { result ≡ self.now.script.faults }
+        ensures { result ≡ self.now.faults }
     {
-        self.script.faults()
+        self.faults
     }
 
     /// The bytes that were put.
     pub fn held(&self) -> &[u8]
         ensures { result.now ≡ self.now.held }
     {
-        self.bytes.as_slice()
+        self.content.held()
     }
 }
 
@@ -68,26 +67,22 @@ impl Sink for MemSink {
 
     ghost held = { λ s. Some s.held };
 
-    ghost faults = { λ s. s.script.faults };
+    ghost faults = { λ s. s.faults };
 
     fn put(&mut self, piece: &[u8]) -> Put
         ensures held { Puts result piece.now (Some self.old.held) (Some self.new.held) }
-        ensures faults { CountsPut result self.old.script.faults self.new.script.faults }
+        ensures faults { CountsPut result self.old.faults self.new.faults }
         ensures failed { (result ≡ Put.Failed) ↔ IsTrue (next_fails self.old.script) }
-        ensures script { self.new.script ≡ called (next_fails self.old.script) self.old.script }
+        ensures script { self.new.script ≡ called self.old.script }
+        ensures counted { self.new.faults ≡ counted (next_fails self.old.script) self.old.faults }
         ensures stays { result ≢ Put.Done → (self.new.held ≡ self.old.held) × (self.new.room ≡ self.old.room) }
         ensures reserved { length piece.now ≤ self.old.room → result ≢ Put.Memory }
         ensures room { result ≡ Put.Done → self.new.room ≡ self.old.room - length piece.now }
     {
         if self.script.call() {
+            self.faults = one_more_fault(self.faults);
             return Put::Failed;
         }
-        match self.bytes.extend_from_slice(piece) {
-            Ok(()) => {
-                self.room = self.room.saturating_sub(piece.len());
-                Put::Done
-            }
-            Err(_) => Put::Memory,
-        }
+        self.content.put(piece)
     }
 }

@@ -1,39 +1,40 @@
 ghost use Rattle.std.specs.Prelude.{◌≡◌, IfOk, OnErr, IsTrue, ◌↔◌};
 ghost use Rattle.ms_outside.specs.Memory.{Input};
-ghost use Rattle.ms_outside.specs.Script.{also_failing, called, next_fails, no_script};
+ghost use Rattle.ms_outside.specs.Script.{also_failing, called, counted, next_fails, no_script};
 ghost use Rattle.ms_outside.specs.Source.{CountsTake, Takes};
 
+use crate::count::one_more_fault;
 use crate::script::Script;
 use crate::source::{Got, Source};
+use crate::sure_source::SureSource;
 use std::alloc::{AllocError, Global};
 use std::marker::Model;
 
 /// A source over bytes in memory, for tests: its calls fail where a script has it.
 #[derive(Drop)]
 pub struct MemSource {
-    bytes: Vec<u8>,
-    next: usize,
+    content: SureSource,
     script: Script,
+    faults: u64,
 }
 
 impl Model for MemSource {
-    ghost use Rattle.std.specs.Prelude.{drop};
     ghost use Rattle.ms_outside.specs.Memory.{Input};
 
     ghost Value = { Input };
 
-    ghost view = { λ s. record { left = drop s.next s.bytes.items; script = s.script } };
+    ghost view = { λ s. record { left = s.content; script = s.script; faults = s.faults } };
 }
 
 impl MemSource {
     /// A source of these bytes, none of whose takes is to fail.
     pub fn new(alloc: Global, bytes: Vec<u8>) -> MemSource
-        ensures { result ≡ record { left = bytes.items; script = no_script } }
+        ensures { result ≡ record { left = bytes.items; script = no_script; faults = 0 } }
     {
         MemSource {
-            bytes,
-            next: 0,
+            content: SureSource::new(bytes),
             script: Script::new(alloc),
+            faults: 0,
         }
     }
 
@@ -47,9 +48,9 @@ impl MemSource {
 
     /// How many takes failed, at most `u64::MAX`.
     pub fn faults(&self) -> u64
-        ensures { result ≡ self.now.script.faults }
+        ensures { result ≡ self.now.faults }
     {
-        self.script.faults()
+        self.faults
     }
 }
 
@@ -58,23 +59,19 @@ impl Source for MemSource {
 
     ghost left = { λ s. Some s.left };
 
-    ghost faults = { λ s. s.script.faults };
+    ghost faults = { λ s. s.faults };
 
     fn take(&mut self) -> Got
         ensures left { Takes result (Some self.old.left) (Some self.new.left) }
-        ensures faults { CountsTake result self.old.script.faults self.new.script.faults }
+        ensures faults { CountsTake result self.old.faults self.new.faults }
         ensures failed { (result ≡ Got.Failed) ↔ IsTrue (next_fails self.old.script) }
-        ensures script { self.new.script ≡ called (next_fails self.old.script) self.old.script }
+        ensures script { self.new.script ≡ called self.old.script }
+        ensures counted { self.new.faults ≡ counted (next_fails self.old.script) self.old.faults }
     {
         if self.script.call() {
+            self.faults = one_more_fault(self.faults);
             return Got::Failed;
         }
-        match self.bytes.get(self.next) {
-            None => Got::End,
-            Some(byte) => {
-                self.next += 1;
-                Got::Byte(*byte)
-            }
-        }
+        self.content.take()
     }
 }

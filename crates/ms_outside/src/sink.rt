@@ -1,14 +1,14 @@
 ghost use Rattle.std.specs.Prelude.{ℕ, List, Option};
 ghost use Rattle.ms_outside.specs.Sink.{CountsPut, Puts};
 
-/// What a put into a sink gives.
+/// What a put into a sink, or a write to a shelf, gives.
 #[derive(Clone, Copy, Debug, PartialEq, Eq)]
 pub enum Put {
-    /// The sink holds the piece.
+    /// It holds the piece.
     Done,
-    /// The sink failed, which it has counted. It holds a first part of the piece, perhaps nothing of it.
+    /// It failed, which it has counted. It holds a first part of the piece, perhaps nothing of it.
     Failed,
-    /// Memory ran out. The sink is unchanged.
+    /// Memory ran out. It is unchanged.
     Memory,
 }
 

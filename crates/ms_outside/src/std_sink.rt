@@ -1,71 +1,73 @@
 ghost use Rattle.std.specs.Prelude.{◌≡◌};
-ghost use Rattle.ms_outside.specs.Adapters.{Writes, put_faults, writer_of};
+ghost use Rattle.ms_outside.specs.Adapters.{Flushes, WritesPiece};
 ghost use Rattle.ms_outside.specs.Sink.{CountsPut, Puts};
+ghost use Rattle.ms_outside.specs.System.{sink_device, writer_faults, writer_of};
 
-use crate::count::one_more_fault;
+use crate::device::WriteDevice;
 use crate::sink::{Put, Sink};
+use crate::system::SystemWriter;
 use std::io::Write;
 
-/// A sink over a writer of the standard library, which is flushed after each put.
+/// A sink over a device, which is flushed after each put.
 ///
 /// It doesn't tell what it holds, since nothing is known of most writers.
 #[derive(Drop)]
-pub struct StdSink<W> {
-    writer: W,
-    faults: u64,
+pub struct StdSink<D> {
+    device: D,
 }
 
-impl<W: Write> StdSink<W> {
-    /// A sink over this writer, with no fault so far.
-    pub fn new(writer: W) -> StdSink<W>
-        ensures writer { writer_of result ≡ writer }
-        ensures faults { put_faults result ≡ 0 }
+impl<W: Write> StdSink<SystemWriter<W>> {
+    /// A sink over this writer of the standard library, with no fault so far.
+    pub fn new(writer: W) -> StdSink<SystemWriter<W>>
+        ensures writer { writer_of (sink_device result) ≡ writer }
+        ensures faults { writer_faults (sink_device result) ≡ 0 }
     {
-        StdSink { writer, faults: 0 }
+        StdSink {
+            device: SystemWriter::new(writer, 0),
+        }
     }
 
     /// How many puts failed, at most `u64::MAX`.
     pub fn faults(&self) -> u64
-        ensures { result ≡ put_faults self.now }
+        ensures { result ≡ writer_faults (sink_device self.now) }
     {
-        self.faults
+        self.device.faults()
     }
 }
 
-impl<W: Write> Sink for StdSink<W> {
+impl<D: WriteDevice> Sink for StdSink<D> {
     ghost use Rattle.std.specs.Prelude.{None};
-    ghost use Rattle.ms_outside.specs.Adapters.{put_faults};
+    ghost use Rattle.ms_outside.specs.System.{sink_device};
 
     ghost held = { λ _. None };
 
-    ghost faults = { λ s. put_faults s };
+    ghost faults = { λ s. D.faults (sink_device s) };
 
-    /// Writes the piece, and flushes the writer. A failed flush, too, is a fault, and so is a writer that takes nothing.
+    /// Writes the piece, and flushes the device. A failed flush, too, is a fault, and so is a writer that takes nothing.
     fn put(&mut self, piece: &[u8]) -> Put
         ensures held { Puts result piece.now None None }
-        ensures faults { CountsPut result (put_faults self.old) (put_faults self.new) }
-        ensures writes { Writes result piece.now (W.contents (writer_of self.old)) (W.contents (writer_of self.new)) }
+        ensures faults { CountsPut result (D.faults (sink_device self.old)) (D.faults (sink_device self.new)) }
+        ensures writes { WritesPiece result piece.now (D.held (sink_device self.old)) (D.held (sink_device self.new)) }
+        ensures flushed { Flushes D.is_flushed result (sink_device self.new) }
     {
-        let answer = write_and_flush(&mut self.writer, piece);
-        if answer == Put::Failed {
-            self.faults = one_more_fault(self.faults);
-        }
-        answer
+        write_and_flush(&mut self.device, piece)
     }
 }
 
-/// Writes the whole piece, and flushes the writer.
-fn write_and_flush<W: Write>(writer: &mut W, piece: &[u8]) -> Put
-    ensures { Writes result piece.now (W.contents writer.old) (W.contents writer.new) }
+/// Writes the whole piece, and flushes the device.
+pub(crate) fn write_and_flush<D: WriteDevice>(device: &mut D, piece: &[u8]) -> Put
+    ensures faults { CountsPut result (D.faults device.old) (D.faults device.new) }
+    ensures writes { WritesPiece result piece.now (D.held device.old) (D.held device.new) }
+    ensures flushed { Flushes D.is_flushed result device.new }
 {
     let mut rest = piece;
     while !rest.is_empty() {
-        match writer.write(rest) {
-            Ok(0) | Err(_) => return Put::Failed,
+        match device.write(rest) {
             Ok(n) => rest = &rest[n..],
+            Err(_) => return Put::Failed,
         }
     }
-    match writer.flush() {
+    match device.flush() {
         Ok(()) => Put::Done,
         Err(_) => Put::Failed,
     }

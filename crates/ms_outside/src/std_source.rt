@@ -1,58 +1,58 @@
 ghost use Rattle.std.specs.Prelude.{◌≡◌};
-ghost use Rattle.ms_outside.specs.Adapters.{ReadsByte, reader_of, take_faults};
+ghost use Rattle.ms_outside.specs.Adapters.{ReadsByte};
 ghost use Rattle.ms_outside.specs.Source.{CountsTake, Takes};
+ghost use Rattle.ms_outside.specs.System.{reader_faults, reader_of, source_device};
 
-use crate::count::one_more_fault;
+use crate::device::ReadDevice;
 use crate::source::{Got, Source};
+use crate::system::SystemReader;
 use std::io::Read;
 
-/// A source over a reader of the standard library, which is read one byte a take: give it one that has a buffer.
+/// A source over a device, which is read one byte a take: give it one that has a buffer.
 ///
 /// It doesn't tell what is left, since nothing is known of most readers.
 #[derive(Drop)]
-pub struct StdSource<R> {
-    reader: R,
-    faults: u64,
+pub struct StdSource<D> {
+    device: D,
 }
 
-impl<R: Read> StdSource<R> {
-    /// A source over this reader, with no fault so far.
-    pub fn new(reader: R) -> StdSource<R>
-        ensures reader { reader_of result ≡ reader }
-        ensures faults { take_faults result ≡ 0 }
+impl<R: Read> StdSource<SystemReader<R>> {
+    /// A source over this reader of the standard library, with no fault so far.
+    pub fn new(reader: R) -> StdSource<SystemReader<R>>
+        ensures reader { reader_of (source_device result) ≡ reader }
+        ensures faults { reader_faults (source_device result) ≡ 0 }
     {
-        StdSource { reader, faults: 0 }
+        StdSource {
+            device: SystemReader::new(reader, 0),
+        }
     }
 
     /// How many takes failed, at most `u64::MAX`.
     pub fn faults(&self) -> u64
-        ensures { result ≡ take_faults self.now }
+        ensures { result ≡ reader_faults (source_device self.now) }
     {
-        self.faults
+        self.device.faults()
     }
 }
 
-impl<R: Read> Source for StdSource<R> {
+impl<D: ReadDevice> Source for StdSource<D> {
     ghost use Rattle.std.specs.Prelude.{None};
-    ghost use Rattle.ms_outside.specs.Adapters.{take_faults};
+    ghost use Rattle.ms_outside.specs.System.{source_device};
 
     ghost left = { λ _. None };
 
-    ghost faults = { λ s. take_faults s };
+    ghost faults = { λ s. D.faults (source_device s) };
 
     fn take(&mut self) -> Got
         ensures left { Takes result None None }
-        ensures faults { CountsTake result (take_faults self.old) (take_faults self.new) }
-        ensures reads { ReadsByte result (R.remaining (reader_of self.old)) (R.remaining (reader_of self.new)) }
+        ensures faults { CountsTake result (D.faults (source_device self.old)) (D.faults (source_device self.new)) }
+        ensures reads { ReadsByte result (D.left (source_device self.old)) (D.left (source_device self.new)) }
     {
         let mut byte = [0u8; 1];
-        match self.reader.read(&mut byte) {
+        match self.device.read(&mut byte) {
             Ok(0) => Got::End,
             Ok(_) => Got::Byte(byte[0]),
-            Err(_) => {
-                self.faults = one_more_fault(self.faults);
-                Got::Failed
-            }
+            Err(_) => Got::Failed,
         }
     }
 }

@@ -1,42 +1,55 @@
 use crate::{
-    FileShelf, Got, MemShelf, MemSink, MemSource, Put, Shelf, Sink, Source, StdSink, StdSource,
+    Fetched, FileShelf, Got, MemShelf, MemSink, MemSource, Put, Shelf, Sink, Source, StdSink,
+    StdSource, SureShelf, SureSink, SureSource,
 };
 use std::io::{ErrorKind, Read, Write};
 use std::test::Fail;
 use std::{env, fs, io, process};
 
-/// What a fake does once it has no room or no byte left.
-#[derive(Clone, Copy, Debug, PartialEq, Eq)]
-enum AtEnd {
+/// What a call of a reader does.
+#[derive(Clone, Copy, Debug)]
+enum Turn {
+    Gives(u8),
     Fails,
-    GivesNothing,
+    Ends,
 }
 
-/// A reader of one byte that then fails, or ends.
+/// A reader whose calls do these turns, and that has then ended.
 #[derive(Drop)]
-struct OneByte {
-    byte: Option<u8>,
-    at_end: AtEnd,
+struct Turns {
+    turns: [Turn; 4],
+    next: usize,
 }
 
-impl Read for OneByte {
+impl Read for Turns {
     fn read(&mut self, buf: &mut [u8]) -> io::Result<usize> {
-        match (buf, self.byte.take()) {
-            ([first, ..], Some(byte)) => {
-                *first = byte;
+        let Some(turn) = self.turns.get(self.next) else {
+            return Ok(0);
+        };
+        self.next += 1;
+        match (buf, turn) {
+            ([first, ..], Turn::Gives(byte)) => {
+                *first = *byte;
                 Ok(1)
             }
-            _ if self.at_end == AtEnd::Fails => Err(io::Error::from(ErrorKind::Other)),
+            (_, Turn::Fails) => Err(io::Error::from(ErrorKind::Other)),
             _ => Ok(0),
         }
     }
+}
+
+/// What a writer does once it has no room left.
+#[derive(Clone, Copy, Debug, PartialEq, Eq)]
+enum AtEnd {
+    Fails,
+    TakesNothing,
 }
 
 /// A writer that takes one byte a call while it has room, and whose flush may fail.
 #[derive(Drop)]
 struct Slow {
     held: Vec<u8>,
-    room: u8,
+    room: u16,
     at_end: AtEnd,
     flushes: bool,
 }
@@ -106,65 +119,86 @@ fn sink_in_memory(rt: HostRuntime) -> Result<(), Fail> {
 fn shelf_in_memory(rt: HostRuntime) -> Result<(), Fail> {
     let mut shelf = MemShelf::new(rt.alloc());
     shelf.add(rt.alloc(), "a b", [1].to_vec(rt.alloc())?)?;
-    shelf.add(rt.alloc(), "long", [1, 2, 3, 4].to_vec(rt.alloc())?)?;
-    shelf.add(rt.alloc(), "a b", [1, 2, 3].to_vec(rt.alloc())?)?;
-    shelf.fail_at(2)?;
+    shelf.fail_read_at(2)?;
+    shelf.fail_write_at(2)?;
+    // what is written to the name, the answer, what it then has, and the faults of writes
+    let writes = [
+        ("a b", b"123".as_slice(), Put::Done, b"123".as_slice(), 0),
+        ("a b", b"4", Put::Failed, b"123", 1),
+        ("long", b"1234", Put::Done, b"1234", 1),
+    ];
+    for (name, bytes, answer, kept, faults) in writes {
+        assert_eq!(rt; shelf.write(rt.alloc(), name, bytes), answer);
+        assert_eq!(rt; shelf.get(name), Some(kept));
+        assert_eq!(rt; shelf.write_faults(), faults);
+    }
+    // the limit, the answer, and the faults of reads of this name
     let reads = [
-        ("a b", 3, "Bytes([1, 2, 3])", 0),
+        ("a b", 3, "Bytes([49, 50, 51])", 0),
         ("a b", 3, "Failed", 1),
-        ("a b", 3, "Bytes([1, 2, 3])", 1),
+        ("a b", 3, "Bytes([49, 50, 51])", 1),
+        ("a", 3, "Failed", 1),
         ("a", 3, "Failed", 2),
-        ("long", 3, "TooLong", 2),
-        ("long", 4, "Bytes([1, 2, 3, 4])", 2),
+        ("long", 3, "TooLong", 0),
+        ("long", 4, "Bytes([49, 50, 51, 52])", 0),
     ];
     for (name, limit, answer, faults) in reads {
         let fetched = shelf.read(rt.alloc(), name, limit);
         let text = format!(in rt.alloc(); "{fetched:?}")?;
         assert_eq!(rt; text.as_str(), answer, "{name} within {limit}");
-        assert_eq!(rt; shelf.faults(), faults);
+        assert_eq!(rt; shelf.read_faults(name), faults);
     }
     Ok(())
 }
 
 #[test]
-fn source_that_fails(rt: HostRuntime) {
-    let ends = [
-        (AtEnd::Fails, Got::Failed, 1, 2),
-        (AtEnd::GivesNothing, Got::End, 0, 0),
+fn objects_that_never_fail(rt: HostRuntime) -> Result<(), Fail> {
+    let mut source = SureSource::new([7].to_vec(rt.alloc())?);
+    assert_eq!(rt; source.take(), Got::Byte(7));
+    assert_eq!(rt; source.take(), Got::End);
+    let mut sink = SureSink::new(rt.alloc(), 1)?;
+    assert_eq!(rt; sink.put(b"abc"), Put::Done);
+    assert_eq!(rt; sink.held(), b"abc".as_slice());
+    let mut shelf = SureShelf::new(rt.alloc());
+    assert_eq!(rt; shelf.write(rt.alloc(), "a", b"1"), Put::Done);
+    for (name, answer) in [("a", "Bytes([49])"), ("b", "Bytes([])")] {
+        let fetched = shelf.read(rt.alloc(), name, 1);
+        let text = format!(in rt.alloc(); "{fetched:?}")?;
+        assert_eq!(rt; text.as_str(), answer);
+    }
+    Ok(())
+}
+
+#[test]
+fn source_over_a_reader_that_fails(rt: HostRuntime) {
+    let turns = [Turn::Fails, Turn::Gives(9), Turn::Fails, Turn::Ends];
+    let mut source = StdSource::new(Turns { turns, next: 0 });
+    let takes = [
+        (Got::Failed, 1),
+        (Got::Byte(9), 1),
+        (Got::Failed, 2),
+        (Got::End, 2),
     ];
-    for (at_end, got, once, twice) in ends {
-        let mut source = StdSource::new(OneByte {
-            byte: Some(9),
-            at_end,
-        });
-        assert_eq!(rt; source.take(), Got::Byte(9));
-        assert_eq!(rt; source.faults(), 0);
+    for (got, faults) in takes {
         assert_eq!(rt; source.take(), got);
-        assert_eq!(rt; source.faults(), once);
-        assert_eq!(rt; source.take(), got);
-        assert_eq!(rt; source.faults(), twice);
+        assert_eq!(rt; source.faults(), faults);
     }
 }
 
 #[test]
-fn sink_over_writers_that_fail(rt: HostRuntime) {
-    // the room, what comes at its end, whether a flush succeeds, the answer to a put of "abc", what is held, and the faults
+fn sink_over_writers_that_fail(rt: HostRuntime) -> Result<(), Fail> {
+    let long = vec![in rt.alloc(); 7u8; 20_000]?;
+    let long = long.as_slice();
+    let abc = b"abc".as_slice();
+    // the piece, the room, what comes at its end, whether a flush succeeds, the answer, what is held, and the faults
     let cases = [
-        (3, AtEnd::Fails, true, Put::Done, b"abc".as_slice(), 0),
-        (2, AtEnd::Fails, true, Put::Failed, b"ab".as_slice(), 1),
-        (0, AtEnd::Fails, true, Put::Failed, b"".as_slice(), 1),
-        (
-            1,
-            AtEnd::GivesNothing,
-            true,
-            Put::Failed,
-            b"a".as_slice(),
-            1,
-        ),
-        (0, AtEnd::GivesNothing, true, Put::Failed, b"".as_slice(), 1),
-        (3, AtEnd::Fails, false, Put::Failed, b"abc".as_slice(), 1),
+        (long, 20_000, AtEnd::Fails, true, Put::Done, long, 0),
+        (abc, 2, AtEnd::Fails, true, Put::Failed, b"ab", 1),
+        (abc, 0, AtEnd::Fails, true, Put::Failed, b"", 1),
+        (abc, 1, AtEnd::TakesNothing, true, Put::Failed, b"a", 1),
+        (abc, 3, AtEnd::Fails, false, Put::Failed, abc, 1),
     ];
-    for (room, at_end, flushes, answer, held, faults) in cases {
+    for (piece, room, at_end, flushes, answer, held, faults) in cases {
         let mut writer = Slow {
             held: Vec::new(rt.alloc()),
             room,
@@ -172,21 +206,36 @@ fn sink_over_writers_that_fail(rt: HostRuntime) {
             flushes,
         };
         let mut sink = StdSink::new(&mut writer);
-        assert_eq!(rt; sink.put(b"abc"), answer, "room {room}, then {at_end:?}");
+        assert_eq!(rt; sink.put(piece), answer, "room {room}, then {at_end:?}");
         assert_eq!(rt; sink.faults(), faults);
         assert_eq!(rt; writer.held.as_slice(), held);
     }
+    Ok(())
 }
 
 #[test]
 fn shelf_of_files(rt: HostRuntime) -> Result<(), Fail> {
     let id = process::id(rt.process());
-    let name = format!(in rt.alloc(); "shelf of files é {id}")?;
+    let name = format!(in rt.alloc(); " shelf of files é {id} ")?;
     let folder = env::temp_dir(&rt)?;
     let path = folder.join(rt.alloc(), name.as_str())?;
     let missing = path.join(rt.alloc(), "missing")?;
+    let long = vec![in rt.alloc(); 7u8; 20_000]?;
+    let mut shelf = FileShelf::new(&rt);
+    for bytes in [long.as_slice(), b"", b"abc"] {
+        assert_eq!(rt; shelf.write(rt.alloc(), path.as_str(), bytes), Put::Done);
+        assert_eq!(rt; fs::read(&rt, path.as_str())?.as_slice(), bytes);
+        match shelf.read(rt.alloc(), path.as_str(), 20_000) {
+            Fetched::Bytes(read) => assert_eq!(rt; read.as_slice(), bytes),
+            fetched => assert!(rt; false, "{fetched:?}"),
+        }
+    }
+    assert_eq!(rt;
+        shelf.write(rt.alloc(), missing.as_str(), b"abc"),
+        Put::Failed
+    );
+    assert_eq!(rt; shelf.write_faults(), 1);
     let reads = [
-        (path.as_str(), 4, "Bytes([97, 98, 99])", 0),
         (path.as_str(), 3, "Bytes([97, 98, 99])", 0),
         (path.as_str(), 2, "TooLong", 0),
         (path.as_str(), 0, "TooLong", 0),
@@ -194,13 +243,11 @@ fn shelf_of_files(rt: HostRuntime) -> Result<(), Fail> {
         (folder.as_str(), 9, "Failed", 2),
         (path.as_str(), u32::MAX, "Bytes([97, 98, 99])", 2),
     ];
-    fs::write(&rt, path.as_str(), "abc")?;
-    let mut shelf = FileShelf::new(&rt);
     for (name, limit, answer, faults) in reads {
         let fetched = shelf.read(rt.alloc(), name, limit);
         let text = format!(in rt.alloc(); "{fetched:?}")?;
         assert_eq!(rt; text.as_str(), answer, "{name} within {limit}");
-        assert_eq!(rt; shelf.faults(), faults);
+        assert_eq!(rt; shelf.read_faults(), faults);
     }
     fs::remove_file(&rt, path.as_str())?;
     Ok(())

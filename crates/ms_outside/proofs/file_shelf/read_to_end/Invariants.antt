@@ -7,7 +7,8 @@ invariant-loop-chunk g l =
     record {
       most : l.most ≡ l.limit + 1;
       within : vec_len l.bytes ≤ l.most;
-      reads : Consumes (g.F.Read.remaining l.fn.file) (g.F.Read.remaining l.file) l.bytes.items;
+      reads : Consumes (g.F.ReadDevice.left l.fn.file) (g.F.ReadDevice.left l.file) l.bytes.items;
+      faults : g.F.ReadDevice.faults l.file ≡ g.F.ReadDevice.faults l.fn.file;
     }
 
 abbrev pub decreases-loop-chunk : goal.decreases-loop-chunk

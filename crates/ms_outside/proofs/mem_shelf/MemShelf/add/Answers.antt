@@ -1,6 +1,0 @@
-use Rattle.std.proofs.Common.{refl}
-use Rattle.ms_outside.proofs.Kept.{files_of-updated}
-use Rattle.ms_outside.proofs.mem_shelf.MemShelf.add.Goals as goal
-
-pub returns-clause-ok : goal.returns-clause-ok
-returns-clause-ok c = rw (files_of-updated c.self.inside.kept c.insert.new.self _ c.args.bytes c.in_ok-insert.ensures.updates, c.in_ok-key.ensures.ok, ← c.self.view_is) refl
