@@ -1,0 +1,13 @@
+-- What computes of the definition.
+use Rattle.std.proofs.Common.{◌≡◌, true, refl}
+use Rattle.clap.specs.Words.{is_simple_and_free}
+use Rattle.ms_words.specs.Commands.{default_budget, default_memory, mswasm}
+
+pub mswasm_is_simple : is_simple_and_free mswasm ≡ true
+mswasm_is_simple = refl
+
+pub default_budget_is : default_budget ≡ 1000000
+default_budget_is = refl
+
+pub default_memory_is : default_memory ≡ 1048576
+default_memory_is = refl

@@ -1,0 +1,19 @@
+//! The words of the command line, for the commands `exec`, `check`, `asm` and `dis`, and their usage lines.
+//!
+//! `parse_words` gives what the words ask for exactly where the definition of the commands takes them. It stands on
+//! `clap`. Read `specs/Commands.antt` first: each command is one row, from which the command line and its usage line
+//! follow. Then `specs/Asked.antt` says what words that are taken ask for.
+#![tactic(auto)]
+
+mod definition;
+mod lines;
+mod matched;
+mod parse;
+mod request;
+
+pub use lines::usage;
+pub use parse::parse_words;
+pub use request::{Request, WordsFault};
+
+#[cfg(test)]
+mod tests;
