@@ -3,3 +3,5 @@ pub mod Types
 pub mod Instrs
 pub mod Shown
 pub mod ReadBack
+pub mod Limits
+pub mod Ranges

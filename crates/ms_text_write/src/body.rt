@@ -4,6 +4,7 @@ ghost use Rattle.std.specs.Prelude.{◌≡◌, ◌++◌, ◌≤◌, ◌^◌, OnO
 ghost use Rattle.ms_module.specs.Numbered.{HasAlign, IsPlain};
 ghost use Rattle.ms_flat.specs.Places.{item_of};
 ghost use Rattle.ms_text_write.specs.Parts.{spaced};
+ghost use Rattle.ms_text_write.specs.Ranges.{CodeFits, InstrFits, ItemFits, LinearFits, SegmentFits, TargetsFit};
 ghost use Rattle.ms_text_write.specs.Instrs.{ItemIsPlain, align_text, block_type_text, body_text, constant_text, item_text, kind_word, linear_operands, mem_arg_text, number_text, offset_text, operands, segment_operands};
 
 use crate::parts::{write_behind, write_indexed, write_number, write_signed};
@@ -77,7 +78,8 @@ fn write_mem_arg(natural: u32, arg: MemArg, out: &mut Vec<u8>) -> Result<(), All
 /// Writes the operands of an instruction on the linear memory.
 fn write_linear(instr: Linear, out: &mut Vec<u8>) -> Result<(), AllocError>
     requires { HasAlign instr }
-    ensures { OnOk result (out.new.items ≡ out.old.items ++ linear_operands instr) }
+    ensures written { OnOk result (out.new.items ≡ out.old.items ++ linear_operands instr) }
+    ensures within { LinearFits instr }
 {
     match instr {
         Linear::Load(op, arg) => write_mem_arg(op.bytes(), arg, out),
@@ -98,7 +100,8 @@ fn kind_word(kind: Kind) -> &'static [u8]
 
 /// Writes the operands of an instruction on handles or segments.
 fn write_segment(instr: Segment, out: &mut Vec<u8>) -> Result<(), AllocError>
-    ensures { OnOk result (out.new.items ≡ out.old.items ++ segment_operands instr) }
+    ensures written { OnOk result (out.new.items ≡ out.old.items ++ segment_operands instr) }
+    ensures within { SegmentFits instr }
 {
     match instr {
         Segment::New(kind) | Segment::Free(kind) => {
@@ -112,7 +115,8 @@ fn write_segment(instr: Segment, out: &mut Vec<u8>) -> Result<(), AllocError>
 
 /// Writes the labels of a `br_table`, the default one last.
 fn write_targets(alloc: Global, targets: &BrTable, out: &mut Vec<u8>) -> Result<(), AllocError>
-    ensures { OnOk result (out.new.items ≡ out.old.items ++ (spaced decimal targets.now.labels ++ number_text targets.now.default)) }
+    ensures written { OnOk result (out.new.items ≡ out.old.items ++ (spaced decimal targets.now.labels ++ number_text targets.now.default)) }
+    ensures within { OnOk result (TargetsFit targets.now) }
 {
     write_behind(alloc, b" ", targets.labels(), out)?;
     write_operand(targets.default(), out)
@@ -121,7 +125,8 @@ fn write_targets(alloc: Global, targets: &BrTable, out: &mut Vec<u8>) -> Result<
 /// Writes the operands of an instruction.
 fn write_operands(alloc: Global, instr: &Instr, out: &mut Vec<u8>) -> Result<(), AllocError>
     requires { IsPlain instr.now }
-    ensures { OnOk result (out.new.items ≡ out.old.items ++ operands instr.now) }
+    ensures written { OnOk result (out.new.items ≡ out.old.items ++ operands instr.now) }
+    ensures within { OnOk result (InstrFits instr.now) }
 {
     match instr {
         Instr::Br(number)
@@ -159,7 +164,8 @@ fn write_block_type(alloc: Global, ty: Option<ValType>, out: &mut Vec<u8>) -> Re
 #[tactic(auto, unfolding(crate::specs::Instrs::item_text))]
 fn write_step(alloc: Global, step: Step<'_>, out: &mut Vec<u8>) -> Result<(), AllocError>
     requires { ItemIsPlain (item_of step) }
-    ensures { OnOk result (out.new.items ≡ out.old.items ++ item_text (item_of step.entry)) }
+    ensures written { OnOk result (out.new.items ≡ out.old.items ++ item_text (item_of step.entry)) }
+    ensures within { OnOk result (ItemFits (item_of step.entry)) }
 {
     match step {
         Step::Plain(instr) => {
@@ -183,7 +189,8 @@ pub fn write_body(
     body: &Code,
     out: &mut Vec<u8>,
 ) -> Result<(), AllocError>
-    ensures { OnOk result (out.new.items ≡ out.old.items ++ body_text lead.now body.now) }
+    ensures written { OnOk result (out.new.items ≡ out.old.items ++ body_text lead.now body.now) }
+    ensures within { OnOk result (CodeFits body.now) }
 {
     let mut walk = Walk::new(alloc, body);
     while let Some(step) = walk.next()? {

@@ -1,19 +1,30 @@
 //! Writing the fields of a module (WebAssembly 1.0, 6.6), but for functions.
 
-ghost use Rattle.std.specs.Prelude.{◌≡◌, ◌++◌, OnOk};
+ghost use Rattle.std.specs.Prelude.{◌≡◌, ◌++◌, ◌<◌, ◌^◌, OnOk};
+ghost use Rattle.ms_text_write.specs.Parts.{string_text};
+ghost use Rattle.ms_text_write.specs.Ranges.{CodeFits, ElementFits, ExportDescFits, ExportFits, FillFits, GlobalFits, ImportDescFits, ImportFits, NameFits};
 ghost use Rattle.ms_text_write.specs.Shown.{element_text, export_desc_text, export_text, fill_text, global_text, import_desc_text, import_text, place_text};
 
 use crate::body::write_body;
 use crate::parts::{Show, write_behind, write_indexed, write_number, write_opened, write_string};
 use crate::types::{write_global_type, write_memory, write_table};
-use ms_module::{Code, Element, Export, ExportDesc, Fill, Import, ImportDesc};
+use ms_module::{Code, Element, Export, ExportDesc, Fill, Import, ImportDesc, Name};
 use ms_text_grammar::Word;
 use std::alloc::{AllocError, Global};
+
+/// Writes a name between quotes.
+fn write_name(name: &Name, out: &mut Vec<u8>) -> Result<(), AllocError>
+    ensures written { OnOk result (out.new.items ≡ out.old.items ++ string_text name.now) }
+    ensures within { OnOk result (NameFits name.now) }
+{
+    write_string(name.as_str().as_bytes(), out)
+}
 
 /// Writes what an import asks for.
 #[tactic(auto, unfolding(crate::specs::Shown::import_desc_text))]
 fn write_import_desc(desc: ImportDesc, out: &mut Vec<u8>) -> Result<(), AllocError>
-    ensures { OnOk result (out.new.items ≡ out.old.items ++ import_desc_text desc) }
+    ensures written { OnOk result (out.new.items ≡ out.old.items ++ import_desc_text desc) }
+    ensures within { ImportDescFits desc }
 {
     match desc {
         ImportDesc::Func(sig) => {
@@ -38,13 +49,15 @@ fn write_import_desc(desc: ImportDesc, out: &mut Vec<u8>) -> Result<(), AllocErr
 impl Show for Import {
     ghost text = { import_text };
 
+    ghost fits = { ImportFits };
+
     #[tactic(auto, unfolding(crate::specs::Shown::import_text))]
     fn show(&self, _alloc: Global, out: &mut Vec<u8>) -> Result<(), AllocError> {
         write_opened(Word::Import, out)?;
         out.push(b' ')?;
-        write_string(self.module.as_str().as_bytes(), out)?;
+        write_name(&self.module, out)?;
         out.push(b' ')?;
-        write_string(self.name.as_str().as_bytes(), out)?;
+        write_name(&self.name, out)?;
         out.push(b' ')?;
         write_import_desc(self.desc, out)?;
         out.push(b')')?;
@@ -54,7 +67,8 @@ impl Show for Import {
 
 /// Writes what an export gives.
 fn write_export_desc(desc: ExportDesc, out: &mut Vec<u8>) -> Result<(), AllocError>
-    ensures { OnOk result (out.new.items ≡ out.old.items ++ export_desc_text desc) }
+    ensures written { OnOk result (out.new.items ≡ out.old.items ++ export_desc_text desc) }
+    ensures within { ExportDescFits desc }
 {
     match desc {
         ExportDesc::Func(index) => write_indexed(Word::Func, index, out),
@@ -67,11 +81,13 @@ fn write_export_desc(desc: ExportDesc, out: &mut Vec<u8>) -> Result<(), AllocErr
 impl Show for Export {
     ghost text = { export_text };
 
+    ghost fits = { ExportFits };
+
     #[tactic(auto, unfolding(crate::specs::Shown::export_text))]
     fn show(&self, _alloc: Global, out: &mut Vec<u8>) -> Result<(), AllocError> {
         write_opened(Word::Export, out)?;
         out.push(b' ')?;
-        write_string(self.name.as_str().as_bytes(), out)?;
+        write_name(&self.name, out)?;
         out.push(b' ')?;
         write_export_desc(self.desc, out)?;
         out.push(b')')?;
@@ -81,6 +97,8 @@ impl Show for Export {
 
 impl Show for ms_module::Global {
     ghost text = { global_text };
+
+    ghost fits = { GlobalFits };
 
     #[tactic(auto, unfolding(crate::specs::Shown::global_text))]
     fn show(&self, alloc: Global, out: &mut Vec<u8>) -> Result<(), AllocError> {
@@ -101,7 +119,8 @@ fn write_place(
     offset: &Code,
     out: &mut Vec<u8>,
 ) -> Result<(), AllocError>
-    ensures { OnOk result (out.new.items ≡ out.old.items ++ place_text index offset.now) }
+    ensures written { OnOk result (out.new.items ≡ out.old.items ++ place_text index offset.now) }
+    ensures within { OnOk result ((index < 2 ^ 32) × CodeFits offset.now) }
 {
     out.push(b' ')?;
     write_number(index, out)?;
@@ -115,6 +134,8 @@ fn write_place(
 impl Show for Element {
     ghost text = { element_text };
 
+    ghost fits = { ElementFits };
+
     #[tactic(auto, unfolding(crate::specs::Shown::element_text))]
     fn show(&self, alloc: Global, out: &mut Vec<u8>) -> Result<(), AllocError> {
         write_opened(Word::Elem, out)?;
@@ -127,6 +148,8 @@ impl Show for Element {
 
 impl Show for Fill {
     ghost text = { fill_text };
+
+    ghost fits = { FillFits };
 
     #[tactic(auto, unfolding(crate::specs::Shown::fill_text))]
     fn show(&self, alloc: Global, out: &mut Vec<u8>) -> Result<(), AllocError> {

@@ -6,6 +6,7 @@ ghost use Rattle.ms_flat.specs.Keywords.{value_word};
 ghost use Rattle.ms_text_write.specs.Parts.{spaced};
 ghost use Rattle.ms_text_write.specs.Types.{group_text};
 ghost use Rattle.ms_text_write.specs.Shown.{func_text};
+ghost use Rattle.ms_text_write.specs.Ranges.{FuncFits};
 
 use crate::body::write_body;
 use crate::parts::{Show, write_indexed, write_opened};
@@ -44,6 +45,8 @@ fn write_locals(locals: &Locals, out: &mut Vec<u8>) -> Result<(), AllocError>
 
 impl Show for Func {
     ghost text = { func_text };
+
+    ghost fits = { FuncFits };
 
     #[tactic(auto, unfolding(crate::specs::Shown::func_text))]
     fn show(&self, alloc: Global, out: &mut Vec<u8>) -> Result<(), AllocError> {

@@ -4,10 +4,15 @@ ghost use Rattle.std.specs.Prelude.{◌≡◌, ◌<◌, ◌^◌, ℕ, List, All,
 ghost use Rattle.ms_types.specs.declared.types.ValType.{ValType};
 ghost use Rattle.ms_module.specs.declared.access.LoadOp.{LoadOp};
 ghost use Rattle.ms_module.specs.declared.access.StoreOp.{StoreOp};
+ghost use Rattle.ms_module.specs.declared.module.Module.{Module};
 ghost use Rattle.ms_module.specs.declared.numeric.Numeric.{Numeric};
 ghost use Rattle.ms_module.specs.Instructions.{by_word, load_rows, numeric_rows, segment_load_rows, segment_store_rows, store_rows, value_rows};
+ghost use Rattle.ms_bin_grammar.specs.Bounds.{usual};
+ghost use Rattle.ms_bin_grammar.specs.Module.{SpellsWithin};
+ghost use Rattle.ms_text_grammar.specs.TextSpells.{TextSpells};
 ghost use Rattle.ms_flat.specs.Keywords.{load_word, numeric_word, store_word, value_word};
 ghost use Rattle.ms_text_write.specs.ReadBack.{ConstantIsRead, IndexIsRead, StringIsRead};
+ghost use Rattle.ms_text_write.specs.Shown.{shown};
 
 /// Each index that is written is read as itself.
 pub fn indices_are_read_back()
@@ -33,4 +38,9 @@ pub fn keywords_are_read_back()
     ensures stores { (op : StoreOp) → by_word store_rows (store_word (codes "store") op) ≡ Some op }
     ensures segment_loads { (op : LoadOp) → by_word segment_load_rows (load_word (codes "segload") op) ≡ Some op }
     ensures segment_stores { (op : StoreOp) → by_word segment_store_rows (store_word (codes "segstore") op) ≡ Some op }
+{}
+
+/// What is written of a binary module that is read is read again as the same module.
+pub fn disassembled_modules_are_read_back()
+    ensures { (bytes : List ℕ) (m : Module) → All (λ b. b < 256) bytes → SpellsWithin usual bytes m → TextSpells (shown m) m }
 {}

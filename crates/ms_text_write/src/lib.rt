@@ -1,9 +1,10 @@
 //! The writer of texts (WebAssembly 1.0, chapter 6).
 //!
 //! `write` gives the one text of a module that `specs/Shown.antt`, to be read first, says: indices alone, flat instructions, a
-//! line a field. The functions below it write a part each at the end of bytes. It stands on `ms_flat`, which goes through
-//! bodies and has the keywords of instructions, and on `ms_text_grammar` for the other keywords. The functions of `laws.rt` say
-//! that indices, constants, strings and keywords that are written are read as what they are.
+//! line a field. Within the limits of texts (`specs/Limits.antt`) it spells that module and no other, by the grammar of
+//! `ms_text_grammar`. The functions below it write a part each at the end of bytes, on `ms_flat`, which goes through bodies and
+//! has the keywords of instructions. Those of `laws.rt` say that each part that is written is read as what it is, and that a
+//! module that bytes spell by `ms_bin_grammar` is the one that its text spells.
 #![tactic(auto)]
 
 mod body;
@@ -16,7 +17,8 @@ mod words;
 mod writer;
 
 pub use laws::{
-    constants_are_read_back, indices_are_read_back, keywords_are_read_back, strings_are_read_back,
+    constants_are_read_back, disassembled_modules_are_read_back, indices_are_read_back,
+    keywords_are_read_back, strings_are_read_back,
 };
 pub use writer::write;
 

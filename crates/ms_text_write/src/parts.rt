@@ -3,6 +3,7 @@
 ghost use Rattle.std.specs.Prelude.{◌≡◌, ◌++◌, ◌<◌, ℕ, List, OnOk, codes, decimal};
 ghost use Rattle.std.specs.Fmt.{signed_decimal};
 ghost use Rattle.ms_text_write.specs.Parts.{behind, byte_text, hex_digit, indexed, is_itself, opened, spaced, string_text};
+ghost use Rattle.ms_text_write.specs.Ranges.{AllFit, ByteFits, NumberFits};
 
 use itoa::Buffer;
 use ms_text_grammar::Word;
@@ -12,9 +13,12 @@ use std::alloc::{AllocError, Global};
 pub trait Show {
     ghost text: { Self → List ℕ };
 
+    ghost fits: { Self → Type 0 };
+
     /// Writes it at the end.
     fn show(&self, alloc: Global, out: &mut Vec<u8>) -> Result<(), AllocError>
-        ensures { OnOk result (out.new.items ≡ out.old.items ++ text self.now) };
+        ensures written { OnOk result (out.new.items ≡ out.old.items ++ text self.now) }
+        ensures within { OnOk result (fits self.now) };
 }
 
 /// Writes items, each behind a lead.
@@ -24,7 +28,8 @@ pub fn write_behind<T: Show>(
     items: &[T],
     out: &mut Vec<u8>,
 ) -> Result<(), AllocError>
-    ensures { OnOk result (out.new.items ≡ out.old.items ++ behind lead.now T.text items.now) }
+    ensures written { OnOk result (out.new.items ≡ out.old.items ++ behind lead.now T.text items.now) }
+    ensures within { OnOk result (AllFit T.fits items.now) }
 {
     for item in items {
         out.extend_from_slice(lead)?;
@@ -49,6 +54,8 @@ pub fn write_signed(number: i64, out: &mut Vec<u8>) -> Result<(), AllocError>
 
 impl Show for u32 {
     ghost text = { decimal };
+
+    ghost fits = { NumberFits };
 
     fn show(&self, _alloc: Global, out: &mut Vec<u8>) -> Result<(), AllocError> {
         write_number(*self, out)
@@ -111,7 +118,8 @@ fn write_byte(byte: u8, out: &mut Vec<u8>) -> Result<(), AllocError>
 /// Writes bytes between quotes.
 #[tactic(auto, unfolding(crate::specs::Parts::string_text))]
 pub fn write_string(bytes: &[u8], out: &mut Vec<u8>) -> Result<(), AllocError>
-    ensures { OnOk result (out.new.items ≡ out.old.items ++ string_text bytes.now) }
+    ensures written { OnOk result (out.new.items ≡ out.old.items ++ string_text bytes.now) }
+    ensures within { OnOk result (AllFit ByteFits bytes.now) }
 {
     out.push(b'"')?;
     for byte in bytes {

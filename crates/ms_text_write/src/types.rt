@@ -2,6 +2,7 @@
 
 ghost use Rattle.std.specs.Prelude.{◌≡◌, ◌++◌, ◌∷◌, [], OnOk};
 ghost use Rattle.ms_flat.specs.Keywords.{value_word};
+ghost use Rattle.ms_text_write.specs.Ranges.{LimitsFit};
 ghost use Rattle.ms_text_write.specs.Types.{func_type_text, global_type_text, group_text, limits_text, memory_text, table_text};
 
 use crate::parts::{Show, write_behind, write_number, write_opened};
@@ -12,6 +13,8 @@ use std::alloc::{AllocError, Global};
 
 impl Show for ValType {
     ghost text = { value_word };
+
+    ghost fits = { λ _. Unit {0} };
 
     fn show(&self, _alloc: Global, out: &mut Vec<u8>) -> Result<(), AllocError> {
         out.extend_from_slice(value_word(*self))
@@ -40,6 +43,8 @@ pub fn write_group(
 impl Show for FuncType {
     ghost text = { func_type_text };
 
+    ghost fits = { λ _. Unit {0} };
+
     #[tactic(auto, unfolding(crate::specs::Types::func_type_text))]
     fn show(&self, alloc: Global, out: &mut Vec<u8>) -> Result<(), AllocError> {
         write_opened(Word::Type, out)?;
@@ -53,7 +58,8 @@ impl Show for FuncType {
 
 /// Writes the least size, and the greatest one if there is one.
 fn write_limits(limits: Limits, out: &mut Vec<u8>) -> Result<(), AllocError>
-    ensures { OnOk result (out.new.items ≡ out.old.items ++ limits_text limits) }
+    ensures written { OnOk result (out.new.items ≡ out.old.items ++ limits_text limits) }
+    ensures within { LimitsFit limits }
 {
     write_number(limits.min, out)?;
     let Some(max) = limits.max else {
@@ -66,7 +72,8 @@ fn write_limits(limits: Limits, out: &mut Vec<u8>) -> Result<(), AllocError>
 /// Writes a table of so many entries.
 #[tactic(auto, unfolding(crate::specs::Types::table_text))]
 pub fn write_table(limits: Limits, out: &mut Vec<u8>) -> Result<(), AllocError>
-    ensures { OnOk result (out.new.items ≡ out.old.items ++ table_text limits) }
+    ensures written { OnOk result (out.new.items ≡ out.old.items ++ table_text limits) }
+    ensures within { LimitsFit limits }
 {
     write_opened(Word::Table, out)?;
     out.push(b' ')?;
@@ -80,7 +87,8 @@ pub fn write_table(limits: Limits, out: &mut Vec<u8>) -> Result<(), AllocError>
 /// Writes a memory of so many pages.
 #[tactic(auto, unfolding(crate::specs::Types::memory_text))]
 pub fn write_memory(limits: Limits, out: &mut Vec<u8>) -> Result<(), AllocError>
-    ensures { OnOk result (out.new.items ≡ out.old.items ++ memory_text limits) }
+    ensures written { OnOk result (out.new.items ≡ out.old.items ++ memory_text limits) }
+    ensures within { LimitsFit limits }
 {
     write_opened(Word::Memory, out)?;
     out.push(b' ')?;

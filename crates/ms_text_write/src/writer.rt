@@ -1,7 +1,11 @@
 //! Writing a module (WebAssembly 1.0, 6.6.13).
 
 ghost use Rattle.std.specs.Prelude.{◌≡◌, ◌++◌, OnOk, IfOk};
+ghost use Rattle.ms_module.specs.declared.module.Module.{Module};
+ghost use Rattle.ms_text_grammar.specs.TextSpells.{TextSpells};
+ghost use Rattle.ms_text_write.specs.Limits.{KeepsLimits};
 ghost use Rattle.ms_text_write.specs.Types.{memory_text, table_text};
+ghost use Rattle.ms_text_write.specs.Ranges.{AllFit, LimitsFit, NumberFitsIf, PartsFit, UsesFit};
 ghost use Rattle.ms_text_write.specs.Shown.{lines, parts_text, shown, start_line, uses_text};
 
 use crate::parts::{Show, write_behind, write_indexed, write_opened};
@@ -14,7 +18,8 @@ use std::alloc::{AllocError, Global};
 /// Writes fields, each behind the beginning of a line.
 #[tactic(auto, unfolding(crate::specs::Shown::lines))]
 fn write_lines<T: Show>(alloc: Global, fields: &[T], out: &mut Vec<u8>) -> Result<(), AllocError>
-    ensures { OnOk result (out.new.items ≡ out.old.items ++ lines T.text fields.now) }
+    ensures written { OnOk result (out.new.items ≡ out.old.items ++ lines T.text fields.now) }
+    ensures within { OnOk result (AllFit T.fits fields.now) }
 {
     write_behind(alloc, b"\n  ", fields, out)
 }
@@ -22,7 +27,8 @@ fn write_lines<T: Show>(alloc: Global, fields: &[T], out: &mut Vec<u8>) -> Resul
 /// Writes tables, a line each.
 #[tactic(auto, unfolding(crate::specs::Shown::lines))]
 fn write_tables(tables: &[Limits], out: &mut Vec<u8>) -> Result<(), AllocError>
-    ensures { OnOk result (out.new.items ≡ out.old.items ++ lines table_text tables.now) }
+    ensures written { OnOk result (out.new.items ≡ out.old.items ++ lines table_text tables.now) }
+    ensures within { OnOk result (AllFit LimitsFit tables.now) }
 {
     for limits in tables {
         out.extend_from_slice(b"\n  ")?;
@@ -34,7 +40,8 @@ fn write_tables(tables: &[Limits], out: &mut Vec<u8>) -> Result<(), AllocError>
 /// Writes memories, a line each.
 #[tactic(auto, unfolding(crate::specs::Shown::lines))]
 fn write_memories(memories: &[Limits], out: &mut Vec<u8>) -> Result<(), AllocError>
-    ensures { OnOk result (out.new.items ≡ out.old.items ++ lines memory_text memories.now) }
+    ensures written { OnOk result (out.new.items ≡ out.old.items ++ lines memory_text memories.now) }
+    ensures within { OnOk result (AllFit LimitsFit memories.now) }
 {
     for limits in memories {
         out.extend_from_slice(b"\n  ")?;
@@ -45,7 +52,8 @@ fn write_memories(memories: &[Limits], out: &mut Vec<u8>) -> Result<(), AllocErr
 
 /// Writes the line of the start function, if there is one.
 fn write_start(start: Option<u32>, out: &mut Vec<u8>) -> Result<(), AllocError>
-    ensures { OnOk result (out.new.items ≡ out.old.items ++ start_line start) }
+    ensures written { OnOk result (out.new.items ≡ out.old.items ++ start_line start) }
+    ensures within { NumberFitsIf start }
 {
     let Some(index) = start else {
         return Ok(());
@@ -57,7 +65,8 @@ fn write_start(start: Option<u32>, out: &mut Vec<u8>) -> Result<(), AllocError>
 /// Writes what the module is made of: types, imports, functions, tables, memories and globals.
 #[tactic(auto, unfolding(crate::specs::Shown::parts_text))]
 fn write_parts(alloc: Global, module: &Module, out: &mut Vec<u8>) -> Result<(), AllocError>
-    ensures { OnOk result (out.new.items ≡ out.old.items ++ parts_text «module».now) }
+    ensures written { OnOk result (out.new.items ≡ out.old.items ++ parts_text «module».now) }
+    ensures within { OnOk result (PartsFit «module».now) }
 {
     write_lines(alloc, module.sigs.as_slice(), out)?;
     write_lines(alloc, module.imports.as_slice(), out)?;
@@ -70,7 +79,8 @@ fn write_parts(alloc: Global, module: &Module, out: &mut Vec<u8>) -> Result<(), 
 /// Writes what the module gives, and what it begins with: exports, the start function, elements and data.
 #[tactic(auto, unfolding(crate::specs::Shown::uses_text))]
 fn write_uses(alloc: Global, module: &Module, out: &mut Vec<u8>) -> Result<(), AllocError>
-    ensures { OnOk result (out.new.items ≡ out.old.items ++ uses_text «module».now) }
+    ensures written { OnOk result (out.new.items ≡ out.old.items ++ uses_text «module».now) }
+    ensures within { OnOk result (UsesFit «module».now) }
 {
     write_lines(alloc, module.exports.as_slice(), out)?;
     write_start(module.start, out)?;
@@ -79,8 +89,14 @@ fn write_uses(alloc: Global, module: &Module, out: &mut Vec<u8>) -> Result<(), A
 }
 
 /// Writes a module as text, the same for the same module. The one error is want of memory.
+///
+/// With at most 500 blocks in one another in each body, and 50,000 locals in each function, the text is read as the module.
 pub fn write(alloc: Global, module: &Module) -> Result<Vec<u8>, AllocError>
-    ensures { IfOk result (λ text. text.items ≡ shown «module».now) }
+    ensures written { IfOk result (λ text. text.items ≡ shown «module».now) }
+    // Where the module keeps these limits, the text spells it.
+    ensures spelled { IfOk result (λ text. KeepsLimits «module».now → TextSpells text.items «module».now) }
+    // It then spells no other module.
+    ensures only { IfOk result (λ text. (other : Module) → KeepsLimits «module».now → TextSpells text.items other → other ≡ «module».now) }
 {
     let mut out = Vec::new(alloc);
     write_opened(Word::Module, &mut out)?;

@@ -2,8 +2,12 @@ use Rattle.std.proofs.Common.{◌≡◌, ◌++◌, drop}
 use Rattle.ms_text_write.specs.Types.{table_text}
 use Rattle.ms_text_write.specs.Shown.{lead}
 use Rattle.ms_text_write.specs.Parts.{behind}
+use Rattle.ms_text_write.specs.Ranges.{AllFit, LimitsFit}
 use Rattle.ms_text_write.proofs.writer.write_tables.Given as goal
 
 -- what is written and what is left are all of it
 abbrev pub invariant-loop-limits : goal.invariant-loop-limits
-invariant-loop-limits l = l.out.items ++ behind lead table_text (drop l.limits-index l.tables) ≡ l.initial.out.items ++ behind lead table_text l.tables
+invariant-loop-limits l = record {
+  written : l.out.items ++ behind lead table_text (drop l.limits-index l.tables) ≡ l.initial.out.items ++ behind lead table_text l.tables;
+  within : AllFit LimitsFit (drop l.limits-index l.tables) → AllFit LimitsFit l.tables;
+}
