@@ -1,1 +1,4 @@
+pub mod Params
+pub mod Stops
+pub mod Named
 pub mod Texts

@@ -15,8 +15,8 @@ use Rattle.ms_text_grammar.specs.Elaborating.{module_of}
 use Rattle.ms_text_grammar.specs.Scans.{first_stop}
 use Rattle.ms_text_grammar.specs.TextSpells.{FieldsSpelled, Stops, TextSpells, TextStop}
 use Rattle.ms_text_grammar.specs.TextSpells.TextStop.{lex, name, syntax}
-use Rattle.ms_text_fields.specs.Answers.{IsFirstStop}
-use Rattle.ms_text_fields.proofs.Stops.{no_stop, one_answer}
+use Rattle.ms_text_read.specs.Fields.{IsFirstStop}
+use Rattle.ms_text_read.proofs.Stops.{no_stop, one_answer}
 use Rattle.ms_text_resolve.specs.Answers.{Resolves}
 use Rattle.ms_text_read.specs.Answers.{Reads, Tells, lexing_fault, told}
 

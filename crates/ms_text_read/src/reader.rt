@@ -6,8 +6,8 @@ ghost use Rattle.ms_text_grammar.specs.declared.fault.TextFault.TheVariants.{Mem
 ghost use Rattle.ms_text_grammar.specs.TextSpells.{Stops, TextSpells, TextStop};
 ghost use Rattle.ms_text_read.specs.Answers.{Reads, Tells, lexing_fault, told};
 
+use crate::fields::fields;
 use ms_module::Module;
-use ms_text_fields::fields;
 use ms_text_grammar::TextFault;
 use ms_text_lex::{LexFault, lex};
 use ms_text_resolve::resolve;

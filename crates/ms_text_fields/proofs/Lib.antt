@@ -1,3 +1,0 @@
-pub mod Params
-pub mod Stops
-pub mod Named
