@@ -1,3 +1,4 @@
+pub mod Exchanged
 pub mod Frame
 pub mod Inserted
 pub mod LastLaw

@@ -190,7 +190,7 @@ few_taken a free new rest key room held there e =
 
 -- ---- what callers give
 
-some_is : (o : Option ℕ) → IsSome o → (x : ℕ) × (o ≡ Some x)
+pub some_is : (o : Option ℕ) → IsSome o → (x : ℕ) × (o ≡ Some x)
 some_is (Some x) h = (x, refl)
 some_is None h = let q : false ≡ true = h in absurd (cc)
 

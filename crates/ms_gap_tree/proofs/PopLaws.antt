@@ -83,7 +83,7 @@ apart_right d low i item left right s e q =
     let v = sym x ∙ w in absurd (cc)
 
 -- nothing is kept under the key of the root, on its side
-gone_at : (d low : ℕ) (key k : ℕ) (left right : Tree) → cond (nat_lt key (low + half d)) (look d low key left) (look d (low + half d) key right) ≡ None → nat_eq k key ≡ true → cond (nat_lt k (low + half d)) (look d low k left) (look d (low + half d) k right) ≡ None
+pub gone_at : (d low : ℕ) (key k : ℕ) (left right : Tree) → cond (nat_lt key (low + half d)) (look d low key left) (look d (low + half d) key right) ≡ None → nat_eq k key ≡ true → cond (nat_lt k (low + half d)) (look d low k left) (look d (low + half d) k right) ≡ None
 gone_at d low key k left right g e = subst (λ (n : ℕ). cond (nat_lt n (low + half d)) (look d low n left) (look d (low + half d) n right) ≡ None) (sym (test_eq k key e)) g
 
 pub look_pop : (d low : ℕ) (tree : Tree) (k : ℕ) → IsSound d low tree → PopLaw d low k tree

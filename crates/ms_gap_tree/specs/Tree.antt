@@ -1,5 +1,5 @@
 -- Trees by halves of a range of keys: the item with the most room stands at the root, the others in the half that their key lies in.
-use Rattle.std.specs.Prelude.{◌≡◌, ℕ, zero, suc, ◌+◌, ◌/◌, ◌^◌, ◌<◌, ◌≤◌, Bool, true, false, cond, ◌||◌, nat_eq, nat_lt, nat_le, Option, Some, None, ⊤, min}
+use Rattle.std.specs.Prelude.{◌≡◌, ℕ, zero, suc, ◌+◌, ◌/◌, ◌^◌, ◌<◌, ◌≤◌, Bool, true, false, cond, ◌&&◌, ◌||◌, nat_eq, nat_lt, nat_le, Option, Some, None, ⊤, min}
 use Rattle.ms_gap_tree.specs.declared.node.Item.{Item}
 use Rattle.ms_gap_tree.specs.declared.node.Link.{Link}
 
@@ -168,3 +168,23 @@ last zero low key tree = None
 last (suc d) low key Empty = None
 last (suc d) low key (Fork at item left right) =
     nearer key item (cond (nat_lt key (low + half d)) (last d low key left) (either (last d (low + half d) key right) (last d low key left)))
+
+-- whether the root has at most this room
+abbrev pub is_below : ℕ → Tree → Bool
+is_below most Empty = true
+is_below most (Fork at item left right) = nat_le item.room most
+
+abbrev pub link_below : ℕ → Option Link → Bool
+link_below most None = true
+link_below most (Some root) = nat_le root.item.room most
+
+-- whether the root's item has this key, and one with this room may stand in its place
+abbrev pub yields : ℕ → ℕ → ℕ → Tree → Bool
+yields zero key room tree = false
+yields (suc d) key room Empty = false
+yields (suc d) key room (Fork at item left right) = nat_eq item.key key && (is_below room left && is_below room right)
+
+-- the tree with another item at its root
+abbrev pub exchange : Item → Tree → Tree
+exchange new Empty = Empty
+exchange new (Fork at item left right) = Fork at new left right

@@ -1,6 +1,6 @@
-ghost use Rattle.std.specs.Prelude.{◌≡◌, ◌<◌, ◌≤◌, ◌+◌, ◌^◌, ◌++◌, ◌∷◌, ◌⊎◌, ℕ, List, [], cond, false, length, nat_eq, None, Some, IfOk, MatchOption, IsSome, vec_len, vec_capacity};
+ghost use Rattle.std.specs.Prelude.{◌≡◌, ◌<◌, ◌≤◌, ◌+◌, ◌^◌, ◌++◌, ◌∷◌, ◌⊎◌, ℕ, List, [], cond, false, true, length, nat_eq, None, Some, IfOk, MatchOption, IsSome, vec_len, vec_capacity};
 ghost use Rattle.ms_gap_tree.specs.Arena.{blank, tree_of};
-ghost use Rattle.ms_gap_tree.specs.Tree.{half, has, insert, remove, removed, IsApart, IsWithin};
+ghost use Rattle.ms_gap_tree.specs.Tree.{half, has, insert, remove, removed, yields, IsApart, IsWithin};
 ghost use Rattle.ms_gap_tree.specs.Rooms.{IsLast, IsLowest, nodes_looked_at, room_at, size_of};
 
 use crate::leftmost::lowest;
@@ -9,7 +9,7 @@ use crate::node::{BLANK, Item, Link, Node};
 use crate::removal::remove;
 use crate::slots::spare;
 use crate::steps::Steps;
-use crate::tree::{find, insert};
+use crate::tree::{exchange, find, insert};
 use std::alloc::{AllocError, Global};
 use std::marker::Model;
 use std::sync::ledger::Ledger;
@@ -154,5 +154,46 @@ impl Rooms {
     {
         self.remove(item.key);
         self.insert(item);
+    }
+
+    /// Another item in place of the one at the root, where that has this key, and neither half has more room than the
+    /// other item. Says whether it did.
+    fn exchange(&mut self, key: u64, item: Item) -> bool
+        requires below { item.key < half self.old.levels }
+        requires absent { room_at self.old item.key ≡ None }
+        ensures found { result ≡ yields self.old.levels key item.room (tree_of self.old.nodes self.old.levels self.old.root) }
+        ensures rooms { result ≡ true → (other : ℕ) → room_at self.new other ≡ cond (nat_eq other item.key) (Some item.room) (cond (nat_eq other key) None (room_at self.old other)) }
+        ensures same { result ≡ false → self.new ≡ self.old }
+        ensures size { size_of self.new ≡ size_of self.old }
+        ensures levels { self.new.levels ≡ self.old.levels }
+        ensures most { self.new.most ≡ self.old.most }
+        ensures inside { IsSome (room_at self.old key) → key < half self.old.levels }
+    {
+        let Some(root) = exchange(self.nodes.as_slice(), self.levels, self.root, key, item) else {
+            return false;
+        };
+        self.root = Some(root);
+        true
+    }
+
+    /// The room under a key becomes 0, and there is an item more, as where a gap is cut. Where the key is the one at the
+    /// root, and the new item has as much room as any other, that takes its place at once, and one item goes down.
+    pub fn cut(&mut self, key: u64, next: Item)
+        requires there { IsSome (room_at self.old key) }
+        requires below { next.key < half self.old.levels }
+        requires absent { room_at self.old next.key ≡ None }
+        requires few { size_of self.old < self.old.most }
+        ensures rooms { (other : ℕ) → room_at self.new other ≡ cond (nat_eq other next.key) (Some next.room) (cond (nat_eq other key) (Some 0) (room_at self.old other)) }
+        ensures size { size_of self.new ≡ 1 + size_of self.old }
+        ensures levels { self.new.levels ≡ self.old.levels }
+        ensures most { self.new.most ≡ self.old.most }
+    {
+        let rest = Item { key, room: 0 };
+        if self.exchange(key, next) {
+            self.insert(rest);
+            return;
+        }
+        self.replace(rest);
+        self.insert(next);
     }
 }

@@ -1,6 +1,6 @@
-ghost use Rattle.std.specs.Prelude.{◌≡◌, ◌+◌, ◌<◌, ◌≤◌, ◌^◌, ◌≢◌, ℕ, length, true, false};
+ghost use Rattle.std.specs.Prelude.{◌≡◌, ◌+◌, ◌<◌, ◌≤◌, ◌^◌, ◌≢◌, ℕ, length, true, false, MatchOption};
 ghost use Rattle.ms_gap_tree.specs.Arena.{at, tree_of};
-ghost use Rattle.ms_gap_tree.specs.Tree.{half, has, insert, look, lower, upper, IsApart, IsWithin};
+ghost use Rattle.ms_gap_tree.specs.Tree.{exchange, half, has, insert, link_below, look, lower, upper, yields, IsApart, IsWithin};
 
 use crate::node::{Item, Link, Node};
 
@@ -112,4 +112,40 @@ pub fn insert(
             }
         }
     }
+}
+
+/// Whether the root has at most this room.
+fn is_below(link: Option<Link>, room: u64) -> bool
+    ensures { result ≡ link_below room link }
+{
+    match link {
+        None => true,
+        Some(root) => root.item.room <= room,
+    }
+}
+
+/// The link to the tree with another item at its root, where the one that is there has this key, and neither half has
+/// more room than the other item.
+pub fn exchange(nodes: &[Node], level: u32, link: Option<Link>, key: u64, new: Item) -> Option<Link>
+    requires within { IsWithin (length nodes.now) (tree_of nodes.now level link) }
+    ensures { MatchOption result (yields level key new.room (tree_of nodes.now level link) ≡ false) (λ root. (yields level key new.room (tree_of nodes.now level link) ≡ true) × (tree_of nodes.now level (Some root) ≡ exchange new (tree_of nodes.now level link))) }
+{
+    if level == 0 {
+        return None;
+    }
+    let root = link?;
+    if root.item.key != key {
+        return None;
+    }
+    let node = nodes[root.at as usize];
+    if !is_below(node.left, new.room) {
+        return None;
+    }
+    if !is_below(node.right, new.room) {
+        return None;
+    }
+    Some(Link {
+        at: root.at,
+        item: new,
+    })
 }

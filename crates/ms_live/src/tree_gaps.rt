@@ -65,11 +65,13 @@ fn begin(rooms: &mut Rooms, segment: Live)
     };
     let next = behind(segment);
     let left = (STEP * key + room).saturating_sub(STEP * next);
-    rooms.replace(Item { key, room: 0 });
-    rooms.insert(Item {
-        key: next,
-        room: left,
-    });
+    rooms.cut(
+        key,
+        Item {
+            key: next,
+            room: left,
+        },
+    );
 }
 
 /// A segment ends: the gap before it and the one behind it are one. One of no bytes changes nothing.
