@@ -1,0 +1,5 @@
+pub mod Sums
+pub mod Falls
+pub mod Ways
+pub mod Stopping
+pub mod Parsing
