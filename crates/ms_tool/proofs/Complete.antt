@@ -1,149 +1,290 @@
--- The table gives one answer at most, so that what it gives for a known file is what was answered.
-use Rattle.std.proofs.Common.{◌≡◌, ◌<◌, ℕ, ◌⊎◌, inl, inr, List, [], length, refl, sym, ap, subst, ◌∙◌, arith}
-use Rattle.std.specs.Prelude.{⊤, MatchOption, Option, Some, None, IsSomeAnd, All, slice_get}
-use Rattle.std.proofs.lemmas.List.Elements.{All-get_or}
-use Rattle.std.proofs.lemmas.Bool.{cases_lt}
-use Rattle.std.proofs.lemmas.Option.{slice_get_cases}
-use Rattle.ms_bin_grammar.specs.declared.fault.ReadFault.{ReadFault as ReadingFault}
-use Rattle.ms_outside.specs.Files.{Files, bytes_of}
-use Rattle.ms_outside.specs.Shelf.{Told}
-use Rattle.ms_machine.specs.Running.{End, OutOfBudget, Result as Ended, Stuck, Trap}
-use Rattle.ms_module.specs.declared.module.Module.{Module}
-use Rattle.ms_bin_grammar.specs.Bounds.{usual}
-use Rattle.ms_bin_grammar.specs.Module.{SpellsWithin, Stops, module_format}
-use Rattle.ms_bin_grammar.proofs.Spelling.{one_module}
-use Rattle.ms_rules.specs.Context.{context_of}
-use Rattle.ms_rules.specs.Modules.{FuncTyped, IsFirstUntyped, WellTyped}
-use Rattle.ms_valid.specs.Refusals.{IsWrong}
-use Rattle.ms_valid.specs.declared.refusal.Part.{Part}
-use Rattle.ms_valid.specs.declared.refusal.Part.TheVariants as parts
-use Rattle.ms_tool.specs.Executions.{AnswersAs, EndsAs, Execution, Imports, Misfits, NoTask, Runs, execution_of}
-use Rattle.ms_tool.specs.Lines.{fault_line, part_line, usage_line}
-use Rattle.ms_tool.specs.Observed.{Reads, Report}
-use Rattle.ms_tool.specs.Reporting.{Reports, ReportsWords}
-use Rattle.ms_tool.specs.Top.{Answers, Contents, Executes, Fault, Found, Gives, Grows, IsFaulty, IsFound, IsKnown, answered, executed, invalid, read_fault, too_long, unread}
-use Rattle.ms_tool.specs.Words.{asked}
-use Rattle.ms_tool.specs.declared.status.Status.{Status}
-use Rattle.ms_tool.specs.declared.status.Status.TheVariants as statuses
-
-abbrev pub Same : Status → List ℕ → Status → List ℕ → Type 0
-Same s t s' t' = (s ≡ s') × (t ≡ t')
-
--- ---- bytes that spell no module
-
-one_fault : (bytes : List ℕ) (a b : ReadingFault) → Stops bytes a → Stops bytes b → a ≡ b
-one_fault bytes a b h k = let both = sym h ∙ k in cc
-
-never_both : (bytes : List ℕ) (fault : ReadingFault) (m : Module) → Stops bytes fault → SpellsWithin usual bytes m → ⊥
-never_both bytes fault m stops spelled = let both = sym ((module_format usual).again (length bytes) bytes m [] spelled) ∙ stops in cc
-
--- ---- the wrong part of a module
-
-some_is : {A : Type 0} (x y : A) → ◌≡◌ {A = Option A} (Some x) (Some y) → x ≡ y
-some_is x y e = cc
-
-got : {A : Type 0} (P : A → Type 0) (xs : List A) (i : ℕ) (x : A) → slice_get xs i ≡ Some x → All P xs → P x
-got P xs i x e all =
-    elim (slice_get_cases xs i).1 [
-      | inl h ↦ let same : h.0 ≡ x = some_is h.0 x (sym h.2 ∙ e) in subst P (h.3 ∙ same) (All-get_or P xs i h.0 h.1 all)
-      | inr h ↦ absurd (let n = h.1 in cc)
-    ]
-
-not_less : (m : Module) (a b : ℕ) (x : IsFirstUntyped m a) (y : IsFirstUntyped m b) → x.number < y.number → ⊥
-not_less m a b x y lt = x.untyped (y.least x.number x.func lt x.func_is)
-
-one_first : (m : Module) (a b : ℕ) → IsFirstUntyped m a → IsFirstUntyped m b → a ≡ b
-one_first m a b x y =
-    elim (cases_lt x.number y.number) [
-      | inl lt ↦ absurd (not_less m a b x y lt)
-      | inr le ↦ elim (cases_lt y.number x.number) [
-        | inl lt ↦ absurd (not_less m b a y x lt)
-        | inr other ↦ let e = x.index_is in let f = y.index_is in omega arith
-      ]
-    ]
-
-one_part : (m : Module) (a b : Part) → IsWrong m a → IsWrong m b → a ≡ b
-one_part m parts.Head parts.Head h k = refl
-one_part m parts.Head (parts.Function n) h k = absurd (h k.0)
-one_part m (parts.Function n) parts.Head h k = absurd (k h.0)
-one_part m (parts.Function n) (parts.Function o) h k = ap parts.Function (one_first m n o h.1 k.1)
-
-never_wrong : (m : Module) (part : Part) → WellTyped m → IsWrong m part → ⊥
-never_wrong m parts.Head well wrong = wrong well.head
-never_wrong m (parts.Function n) well wrong =
-    let first = wrong.1 in
-    first.untyped (got (FuncTyped (context_of m)) m.funcs first.number first.func first.func_is well.funcs)
-
--- ---- a run
-
-ends_once : (end : End) (s : Status) (t : List ℕ) (s' : Status) (t' : List ℕ) → EndsAs end s t → EndsAs end s' t' → Same s t s' t'
-ends_once (Ended value) s t s' t' h k = (h.0 ∙ sym k.0, h.1 ∙ sym k.1)
-ends_once (Trap trap) s t s' t' h k = (h.0 ∙ sym k.0, h.1 ∙ sym k.1)
-ends_once OutOfBudget s t s' t' h k = (h.0 ∙ sym k.0, h.1 ∙ sym k.1)
-ends_once Stuck s t s' t' h k = absurd h
-
-answers_once : (e : Execution) (s : Status) (t : List ℕ) (s' : Status) (t' : List ℕ) → AnswersAs e s t → AnswersAs e s' t' → Same s t s' t'
-answers_once Imports s t s' t' h k = (h.0 ∙ sym k.0, h.1 ∙ sym k.1)
-answers_once (Misfits fault) s t s' t' h k = (h.0 ∙ sym k.0, h.1 ∙ sym k.1)
-answers_once NoTask s t s' t' h k = (h.0 ∙ sym k.0, h.1 ∙ sym k.1)
-answers_once (Runs run) s t s' t' h k = ends_once run.end s t s' t' h k
+-- What the program did in one piece, as its clauses say it.
+use Rattle.std.proofs.Common.{◌≡◌, ◌∙◌, ◌<◌, ℕ, ◌⊎◌, inl, inr, List, [], false, refl, sym, ap, subst, arith, cond}
+use Rattle.std.specs.Prelude.{⊤, MatchOption, Option, Some, None, IsSomeAnd}
+use Rattle.std.specs.declared.cmp.Ordering.{Ordering}
+use Rattle.std.specs.declared.cmp.Ordering.TheVariants.{Less, Equal, Greater}
+use Rattle.std.specs.Cmp.Lexicographic.{nat_list_cmp_total}
+use Rattle.std.specs.FinMap.{get, insert, get-insert, nat_cmp-IsAntisymmetric, slice_cmp-IsAntisymmetric}
+use Rattle.std.specs.Ordering.{eq_by_cmp, is_eq}
+use Rattle.ms_outside.specs.Files.{Files, bytes_of, name_cmp}
+use Rattle.ms_outside.specs.Shelf.{SameCounts, Told, Writes}
+use Rattle.ms_outside.specs.declared.sink.Put.TheVariants as putting
+use Rattle.ms_words.specs.Asked.{Asked, Asm, Check, Dis, Exec, asked_of, is_taken}
+use Rattle.ms_words.specs.Commands.{usage_lines}
+use Rattle.ms_run.specs.Answers.{Answers, Command, Contents, Fault, File, Found, read_fault, too_long, within}
+use Rattle.ms_run.specs.Answers as table
+use Rattle.ms_run.specs.Observed.{Report, Shelved}
+use Rattle.ms_run.specs.Reporting.{CountsFound, Delivers, Did, Grows, HasFailed, HasWritten, IsFound, KeepsFiles, Reports, answered, failed, put, ran_out, starved}
+use Rattle.ms_run.specs.declared.status.Status.{Status}
+use Rattle.ms_run.specs.declared.status.Status.TheVariants as statuses
+use Rattle.ms_run.proofs.Once.{AllOrdinary, IsOnce, IsOrdinary, Same, answers_once, answers_ordinary, assembles_once, assembles_ordinary, checks_once, checks_ordinary, disassembles_once, disassembles_ordinary, executes_once, executes_ordinary}
+use Rattle.ms_tool.specs.Responding.{Responds, gave, nothing}
+use Rattle.ms_tool.specs.Top.{Gives, IsAnswer, IsCutOff, IsFaulty, IsKnown, IsPutFault, IsStarved, IsTarget, IsUnwritten, Stays, command_of, file_of}
 
 -- ---- the table
 
-module _ (bytes : List ℕ) where
-  -- what holds of one module that the bytes spell holds of the other
-  of_other : (P : Module → Type 0) (m n : Module) → SpellsWithin usual bytes m → SpellsWithin usual bytes n → P m → P n
-  of_other P m n h k p = subst P (one_module usual bytes m n h k) p
+once : (a : Asked) → IsOnce (command_of a)
+once (Exec file budget memory) = executes_once file budget memory
+once (Check file) = checks_once file
+once (Asm file out) = assembles_once out
+once (Dis file out) = disassembles_once out
 
-  one_execution : (s : Status) (t : List ℕ) (s' : Status) (t' : List ℕ) → Executes bytes s t → Executes bytes s' t' → Same s t s' t'
-  one_execution s t s' t' (unread a h) (unread b k) = (refl, ap fault_line (one_fault bytes a b h k))
-  one_execution s t s' t' (unread a h) (invalid m part k wrong) = absurd (never_both bytes a m h k)
-  one_execution s t s' t' (unread a h) (answered m k well gives) = absurd (never_both bytes a m h k)
-  one_execution s t s' t' (invalid m part h wrong) (unread a k) = absurd (never_both bytes a m k h)
-  one_execution s t s' t' (invalid m a h wrong) (invalid n b k wrong') = (refl, ap part_line (one_part n a b (of_other (λ x. IsWrong x a) m n h k wrong) wrong'))
-  one_execution s t s' t' (invalid m part h wrong) (answered n k well gives) = absurd (never_wrong n part well (of_other (λ x. IsWrong x part) m n h k wrong))
-  one_execution s t s' t' (answered m h well gives) (unread a k) = absurd (never_both bytes a m k h)
-  one_execution s t s' t' (answered m h well gives) (invalid n part k wrong) = absurd (never_wrong n part (of_other WellTyped m n h k well) wrong)
-  one_execution s t s' t' (answered m h well gives) (answered n k well' gives') = answers_once (execution_of n) s t s' t' (of_other (λ x. AnswersAs (execution_of x) s t) m n h k gives) gives'
+ordinary : (a : Asked) → AllOrdinary (command_of a)
+ordinary (Exec file budget memory) = executes_ordinary file budget memory
+ordinary (Check file) = checks_ordinary file
+ordinary (Asm file out) = assembles_ordinary out
+ordinary (Dis file out) = disassembles_ordinary out
 
-one_answer : (name bytes : List ℕ) (s : Status) (t : List ℕ) (s' : Status) (t' : List ℕ) → Answers name (Contents bytes) s t → Answers name (Contents bytes) s' t' → Same s t s' t'
-one_answer name bytes s t s' t' (too_long h) (too_long k) = (refl, refl)
-one_answer name bytes s t s' t' (too_long h) (executed k e) = absurd (omega arith)
-one_answer name bytes s t s' t' (executed h d) (too_long k) = absurd (omega arith)
-one_answer name bytes s t s' t' (executed h d) (executed k e) = one_execution bytes s t s' t' d e
+-- ---- the words
 
-fault_is : (name : List ℕ) (s : Status) (t : List ℕ) → Answers name Fault s t → s ≡ statuses.ReadFault
-fault_is name s t read_fault = refl
+asked_none : (words : List (List ℕ)) → is_taken words ≡ false → asked_of words ≡ None
+asked_none words h = rw h refl
 
--- what was read of a known file is the file
-known_is : (files : Option Files) (name b bytes : List ℕ) → Told files name (λ known. b ≡ known) → IsSomeAnd files (λ known. bytes ≡ bytes_of known name) → b ≡ bytes
-known_is None name b bytes told known = absurd known
-known_is (Some f) name b bytes told known = told ∙ sym known
+module _ (words : List (List ℕ)) (s : Shelved) (r : Report) where
+  pub usage_gave : (result : Status) → is_taken words ≡ false → SameCounts s.reads_old s.reads_new → KeepsFiles s → Reports statuses.Usage usage_lines r result → Responds words s r result
+  usage_gave result h same kept reports =
+      gave (Contents []) statuses.Usage usage_lines None (rw (asked_none words h) tt) (rw (asked_none words h) same) (rw (asked_none words h) (refl, refl, refl)) (put kept reports) (λ _. h) (λ _. refl)
 
--- an answer that is the one of the table, or a fault
-as_reported : (s : Status) (t : List ℕ) (s' : Status) (t' : List ℕ) (r : Report) (result : Status) → Same s' t' s t → Reports s' t' r result → ((result ≡ s) × Grows r t) ⊎ IsFaulty result
-as_reported s t s' t' r result same (inl h) = inl (h.0 ∙ same.0, subst (Grows r) same.1 h.1)
-as_reported s t s' t' r result same (inr (inl h)) = inr (inr (inl h.0))
-as_reported s t s' t' r result same (inr (inr h)) = inr (inr (inr h.0))
+  pub command_gave : (a : Asked) (result : Status) → asked_of words ≡ Some a → Did (file_of a) (command_of a) s r result → Responds words s r result
+  command_gave a result e (answered found status line file is counts answers delivers) =
+      let plain = answers_ordinary (file_of a) (command_of a) (ordinary a) found status line file answers in
+      gave found status line file (rw e is) (rw e counts) (rw e answers) delivers
+      (λ u. absurd (subst IsOrdinary u plain)) (λ h. absurd (let both = sym (asked_none words h) ∙ e in cc))
+  command_gave a result e (ran_out same kept report) = nothing same kept report
 
-as_fault : (s : Status) (t : List ℕ) (r : Report) (result : Status) → s ≡ statuses.ReadFault → Reports s t r result → IsFaulty result
-as_fault s t r result is (inl h) = inl (h.0 ∙ is)
-as_fault s t r result is (inr (inl h)) = inr (inl h.0)
-as_fault s t r result is (inr (inr h)) = inr (inr h.0)
+-- ---- what is given
 
-module _ (s : Reads) (r : Report) (result status : Status) (text bytes : List ℕ) where
-  of_file : (name : List ℕ) (found : Found) (s' : Status) (t' : List ℕ) → IsFound s name found → Answers name found s' t' → Reports s' t' r result
-      → IsSomeAnd s.files (λ known. bytes ≡ bytes_of known name) → Answers name (Contents bytes) status text → ((result ≡ status) × Grows r text) ⊎ IsFaulty result
-  of_file name (Contents b) s' t' found answers reports known gives =
-      let same = known_is s.files name b bytes found known in
-      as_reported status text s' t' r result (one_answer name bytes s' t' status text (subst (λ (x : List ℕ). Answers name (Contents x) s' t') same answers) gives) reports
-  of_file name Fault s' t' found answers reports known gives = inr (as_fault s' t' r result (fault_is name s' t' answers) reports)
+abbrev IsUnfaulty : Status → Type 0
+IsUnfaulty statuses.WriteFault = ⊥
+IsUnfaulty statuses.OutOfMemory = ⊥
+IsUnfaulty _ = Unit {0}
 
-  of_words : (a : Option (List ℕ)) (found : Found) (s' : Status) (t' : List ℕ) → MatchOption a ⊤ (λ name. IsFound s name found) → MatchOption a ((s' ≡ statuses.Usage) × (t' ≡ usage_line)) (λ name. Answers name found s' t') → Reports s' t' r result
-      → MatchOption a ⊤ (λ name. IsSomeAnd s.files (λ known. bytes ≡ bytes_of known name)) → MatchOption a ((status ≡ statuses.Usage) × (text ≡ usage_line)) (λ name. Answers name (Contents bytes) status text) → ((result ≡ status) × Grows r text) ⊎ IsFaulty result
-  of_words None found s' t' f g reports known gives = as_reported status text s' t' r result (g.0 ∙ sym gives.0, g.1 ∙ sym gives.1) reports
-  of_words (Some name) found s' t' f g reports known gives = of_file name found s' t' f g reports known gives
+of_ordinary : (s : Status) → IsOrdinary s → IsUnfaulty s
+of_ordinary statuses.Done h = tt
+of_ordinary statuses.Trapped h = tt
+of_ordinary statuses.Usage h = tt
+of_ordinary statuses.Refused h = tt
+of_ordinary statuses.OutOfBudget h = tt
+of_ordinary statuses.ReadFault h = tt
+of_ordinary statuses.WriteFault h = absurd h
+of_ordinary statuses.OutOfMemory h = absurd h
+of_ordinary statuses.TooLong h = tt
 
-  pub is_complete : (words : List (List ℕ)) → ReportsWords words s r result → IsKnown s.files words bytes → Gives words (Contents bytes) status text → ((result ≡ status) × Grows r text) ⊎ IsFaulty result
-  is_complete words (inl h) known gives = of_words (asked words) h.0 h.1 h.2 h.3 h.5 h.6 known gives
-  is_complete words (inr h) known gives = inr (inr (inr h.0.0))
+module _ (found : Found) (status : Status) (line : List ℕ) (file : Option File) where
+  abbrev GivesFor : Option Asked → Type 0
+  GivesFor o = MatchOption o ((status ≡ statuses.Usage) × (line ≡ usage_lines) × (file ≡ None)) (λ a. Answers (file_of a) (command_of a) found status line file)
+
+  unfaulty : (o : Option Asked) → GivesFor o → IsUnfaulty status
+  unfaulty None h = subst IsUnfaulty (sym h.0) tt
+  unfaulty (Some a) h = of_ordinary status (answers_ordinary (file_of a) (command_of a) (ordinary a) found status line file h)
+
+-- a fault of reading is answered as one
+fault_answer : (name : List ℕ) (Does : Command) (found : Found) (status : Status) (line : List ℕ) (file : Option File) → Answers name Does found status line file → found ≡ Fault → status ≡ statuses.ReadFault
+fault_answer name Does found status line file read_fault e = refl
+fault_answer name Does found status line file (too_long h) e = absurd cc
+fault_answer name Does found status line file (within h d) e = absurd cc
+
+-- what a written file is to the words
+target_of : (a : Asked) (bytes : List ℕ) (status : Status) (line : List ℕ) (file : File) (f : Option File) → f ≡ Some file → command_of a bytes status line f → IsTarget (Some a) file.name
+target_of (Exec name budget memory) bytes status line file f e h = absurd (let both = sym h.1 ∙ e in cc)
+target_of (Check name) bytes status line file f e h = absurd (let both = sym h.1 ∙ e in cc)
+target_of (Asm name out) bytes status line file f e (table.unread_text h) = absurd cc
+target_of (Asm name out) bytes status line file f e (table.large m h is) = absurd cc
+target_of (Asm name out) bytes status line file f e (table.assembled m h not) = let same = some_file _ file e in ap (λ (x : File). x.name) (sym same)
+  where
+    some_file : (x y : File) → ◌≡◌ {A = Option File} (Some x) (Some y) → x ≡ y
+    some_file x y e = cc
+target_of (Dis name out) bytes status line file f e (table.unread_binary h) = absurd cc
+target_of (Dis name out) bytes status line file f e (table.disassembled m h) = let same = some_file _ file e in ap (λ (x : File). x.name) (sym same)
+  where
+    some_file : (x y : File) → ◌≡◌ {A = Option File} (Some x) (Some y) → x ≡ y
+    some_file x y e = cc
+
+target_given : (o : Option Asked) (found : Found) (status : Status) (line : List ℕ) (file : File) (f : Option File) → f ≡ Some file → GivesFor found status line f o → IsTarget o file.name
+target_given None found status line file f e h = absurd (let both = sym h.2 ∙ e in cc)
+target_given (Some a) found status line file f e read_fault = absurd cc
+target_given (Some a) found status line file f e (too_long h) = absurd cc
+target_given (Some a) found status line file f e (within {bytes = bytes} h d) = target_of a bytes status line file f e d
+
+-- ---- names of files
+
+is_equal : (r : Ordering) → (is_eq r ≡ false) ⊎ (r ≡ Equal)
+is_equal Less = inl refl
+is_equal Equal = inr refl
+is_equal Greater = inl refl
+
+other_name : (name target : List ℕ) → ¬ (name ≡ target) → eq_by_cmp name_cmp name target ≡ false
+other_name name target not =
+    elim (is_equal (name_cmp name target)) [
+      | inl h ↦ h
+      | inr e ↦ absurd (not (slice_cmp-IsAntisymmetric nat_cmp-IsAntisymmetric name target e))
+    ]
+
+-- ---- the clauses
+
+less_than_itself : (a b : ℕ) → b ≡ a → a < b → ⊥
+less_than_itself a b e h = omega arith
+
+module _ (words : List (List ℕ)) (s : Shelved) (r : Report) where
+  pub answer_clause : (result : Status) → Responds words s r result → IsPutFault result ⊎ IsAnswer s words r result
+  answer_clause result (gave found status line file is counts gives (put written (inl h)) u v) =
+      inr (subst (λ (x : Status). IsAnswer s words r x) (sym h.0) (found, line, file, is, gives, h.1, written))
+  answer_clause result (gave found status line file is counts gives (put written (inr (inl h))) u v) = inl (inl h.0)
+  answer_clause result (gave found status line file is counts gives (put written (inr (inr h))) u v) = inl (inr h.0)
+  answer_clause result (gave found status line file is counts gives (failed f kept) u v) = inl (inl refl)
+  answer_clause result (gave found status line file is counts gives (starved files kept) u v) = inl (inr refl)
+  answer_clause result (nothing same files kept) = inl (inr refl)
+
+  pub usage_clause : (result : Status) → Responds words s r result → result ≡ statuses.Usage → is_taken words ≡ false
+  usage_clause result (gave found status line file is counts gives (put written (inl h)) u v) e = u (sym h.0 ∙ e)
+  usage_clause result (gave found status line file is counts gives (put written (inr (inl h))) u v) e = absurd (let both = sym h.0 ∙ e in cc)
+  usage_clause result (gave found status line file is counts gives (put written (inr (inr h))) u v) e = absurd (let both = sym h.0 ∙ e in cc)
+  usage_clause result (gave found status line file is counts gives (failed f kept) u v) e = absurd cc
+  usage_clause result (gave found status line file is counts gives (starved files kept) u v) e = absurd cc
+  usage_clause result (nothing same files kept) e = absurd cc
+
+  pub refused_clause : (result : Status) → Responds words s r result → is_taken words ≡ false → (result ≡ statuses.Usage) ⊎ IsPutFault result
+  refused_clause result (gave found status line file is counts gives (put written (inl h)) u v) e = inl (h.0 ∙ v e)
+  refused_clause result (gave found status line file is counts gives (put written (inr (inl h))) u v) e = inr (inl h.0)
+  refused_clause result (gave found status line file is counts gives (put written (inr (inr h))) u v) e = inr (inr h.0)
+  refused_clause result (gave found status line file is counts gives (failed f kept) u v) e = inr (inl refl)
+  refused_clause result (gave found status line file is counts gives (starved files kept) u v) e = inr (inr refl)
+  refused_clause result (nothing same files kept) e = inr (inr refl)
+
+  pub write_fault_clause : (result : Status) → Responds words s r result → result ≡ statuses.WriteFault → IsCutOff s words r ⊎ IsUnwritten s words r
+  write_fault_clause result (gave found status line file is counts gives (put written (inl h)) u v) e =
+      absurd (subst IsUnfaulty (sym h.0 ∙ e) (unfaulty found status line file (asked_of words) gives))
+  write_fault_clause result (gave found status line file is counts gives (put written (inr (inl h))) u v) e =
+      inl (found, status, line, file, h.1, is, gives, h.2, h.3, written, h.4.rose)
+  write_fault_clause result (gave found status line file is counts gives (put written (inr (inr h))) u v) e = absurd (let both = sym h.0 ∙ e in cc)
+  write_fault_clause result (gave found status line file is counts gives (failed f kept) u v) e = inr (found, status, line, file, is, gives, f, kept.0)
+  write_fault_clause result (gave found status line file is counts gives (starved files kept) u v) e = absurd cc
+  write_fault_clause result (nothing same files kept) e = absurd cc
+
+  pub memory_clause : (result : Status) → Responds words s r result → result ≡ statuses.OutOfMemory → IsStarved s words r
+  memory_clause result (gave found status line file is counts gives (put written (inl h)) u v) e =
+      absurd (subst IsUnfaulty (sym h.0 ∙ e) (unfaulty found status line file (asked_of words) gives))
+  memory_clause result (gave found status line file is counts gives (put written (inr (inl h))) u v) e = absurd (let both = sym h.0 ∙ e in cc)
+  memory_clause result (gave found status line file is counts gives (put written (inr (inr h))) u v) e = (h.1.0, inr (found, status, line, file, is, gives, written))
+  memory_clause result (gave found status line file is counts gives (failed f kept) u v) e = absurd cc
+  memory_clause result (gave found status line file is counts gives (starved files kept) u v) e = (kept.0, inl files)
+  memory_clause result (nothing same files kept) e = (kept.0, inl files)
+
+  -- ---- what the table gives for a known file
+
+  known_is : (files : Option Files) (name b bytes : List ℕ) → Told files name (λ known. b ≡ known) → IsSomeAnd files (λ known. bytes ≡ bytes_of known name) → b ≡ bytes
+  known_is None name b bytes told known = absurd known
+  known_is (Some f) name b bytes told known = told ∙ sym known
+
+  module _ (bytes : List ℕ) (status' : Status) (line' : List ℕ) (file' : Option File) where
+    abbrev Completes : Status → Type 0
+    Completes result = ((result ≡ status') × Grows r line' × HasWritten s file') ⊎ IsFaulty result
+
+    as_given : (result status : Status) (line : List ℕ) (file : Option File) → Same status line file status' line' file' → Delivers status line file s r result → Completes result
+    as_given result status line file same (put written (inl h)) = inl (h.0 ∙ same.status, subst (Grows r) same.line h.1, subst (HasWritten s) same.file written)
+    as_given result status line file same (put written (inr (inl h))) = inr (inr (inl h.0))
+    as_given result status line file same (put written (inr (inr h))) = inr (inr (inr h.0))
+    as_given result status line file same (failed f kept) = inr (inr (inl refl))
+    as_given result status line file same (starved files kept) = inr (inr (inr refl))
+
+    as_fault : (result status : Status) (line : List ℕ) (file : Option File) → status ≡ statuses.ReadFault → Delivers status line file s r result → IsFaulty result
+    as_fault result status line file e (put written (inl h)) = inl (h.0 ∙ e)
+    as_fault result status line file e (put written (inr (inl h))) = inr (inl h.0)
+    as_fault result status line file e (put written (inr (inr h))) = inr (inr h.0)
+    as_fault result status line file e (failed f kept) = inr (inl refl)
+    as_fault result status line file e (starved files kept) = inr (inr refl)
+
+    of_asked : (o : Option Asked) (result : Status) (found : Found) (status : Status) (line : List ℕ) (file : Option File)
+        → MatchOption o ⊤ (λ a. IsFound s (file_of a) found) → GivesFor found status line file o → Delivers status line file s r result
+        → MatchOption o ⊤ (λ a. IsSomeAnd s.old (λ known. bytes ≡ bytes_of known (file_of a))) → GivesFor (Contents bytes) status' line' file' o → Completes result
+    of_asked None result found status line file is gives delivers known gives' =
+        as_given result status line file (record { status = gives.0 ∙ sym gives'.0; line = gives.1 ∙ sym gives'.1; file = gives.2 ∙ sym gives'.2 }) delivers
+    of_asked (Some a) result (Contents b) status line file is gives delivers known gives' =
+        let same = known_is s.old (file_of a) b bytes is known in
+        let here : Answers (file_of a) (command_of a) (Contents bytes) status line file = subst (λ (x : List ℕ). Answers (file_of a) (command_of a) (Contents x) status line file) same gives in
+        as_given result status line file (answers_once (file_of a) (command_of a) (once a) (Contents bytes) status line file status' line' file' here gives') delivers
+    of_asked (Some a) result Fault status line file is gives delivers known gives' =
+        inr (as_fault result status line file (fault_answer (file_of a) (command_of a) Fault status line file gives refl) delivers)
+
+    pub complete_clause : (result : Status) → Responds words s r result → IsKnown s.old words bytes → Gives words (Contents bytes) status' line' file' → Completes result
+    complete_clause result (gave found status line file is counts gives delivers u v) known gives' = of_asked (asked_of words) result found status line file is gives delivers known gives'
+    complete_clause result (nothing same files kept) known gives' = inr (inr (inr refl))
+
+  -- ---- counted faults
+
+  reads_of : (o : Option Asked) (result : Status) (found : Found) (status : Status) (line : List ℕ) (file : Option File) (name : List ℕ)
+      → MatchOption o (SameCounts s.reads_old s.reads_new) (λ a. CountsFound (file_of a) s found) → GivesFor found status line file o → Delivers status line file s r result
+      → s.reads_old name < s.reads_new name → IsFaulty result
+  reads_of None result found status line file name counts gives delivers lt = absurd (less_than_itself (s.reads_old name) (s.reads_new name) (counts name) lt)
+  reads_of (Some a) result (Contents b) status line file name counts gives delivers lt = absurd (less_than_itself (s.reads_old name) (s.reads_new name) (counts name) lt)
+  reads_of (Some a) result Fault status line file name counts gives delivers lt =
+      as_fault [] status line file result status line file (fault_answer (file_of a) (command_of a) Fault status line file gives refl) delivers
+
+  pub reads_clause : (result : Status) → Responds words s r result → (name : List ℕ) → s.reads_old name < s.reads_new name → IsFaulty result
+  reads_clause result (gave found status line file is counts gives delivers u v) name lt = reads_of (asked_of words) result found status line file name counts gives delivers lt
+  reads_clause result (nothing same files kept) name lt = inr (inr refl)
+
+  same_writes : (file : Option File) → HasWritten s file → s.writes_new ≡ s.writes_old
+  same_writes None h = h.1
+  same_writes (Some file) h = h.1
+
+  writes_of : (result status : Status) (line : List ℕ) (file : Option File) → Delivers status line file s r result → s.writes_old < s.writes_new → IsPutFault result
+  writes_of result status line file (put written h) lt = absurd (less_than_itself s.writes_old s.writes_new (same_writes file written) lt)
+  writes_of result status line file (failed f kept) lt = inl refl
+  writes_of result status line file (starved files kept) lt = inr refl
+
+  pub writes_clause : (result : Status) → Responds words s r result → s.writes_old < s.writes_new → IsPutFault result
+  writes_clause result (gave found status line file is counts gives delivers u v) lt = writes_of result status line file delivers lt
+  writes_clause result (nothing same files kept) lt = inr refl
+
+  puts_of : (result status : Status) (line : List ℕ) (file : Option File) → Delivers status line file s r result → r.puts_old < r.puts_new → IsPutFault result
+  puts_of result status line file (put written (inl h)) lt = absurd (less_than_itself r.puts_old r.puts_new h.2 lt)
+  puts_of result status line file (put written (inr (inl h))) lt = inl h.0
+  puts_of result status line file (put written (inr (inr h))) lt = inr h.0
+  puts_of result status line file (failed f kept) lt = inl refl
+  puts_of result status line file (starved files kept) lt = inr refl
+
+  pub puts_clause : (result : Status) → Responds words s r result → r.puts_old < r.puts_new → IsPutFault result
+  puts_clause result (gave found status line file is counts gives delivers u v) lt = puts_of result status line file delivers lt
+  puts_clause result (nothing same files kept) lt = inr refl
+
+  -- ---- the files that stay
+
+  kept_stays : (name : List ℕ) (old new : Option Files) → new ≡ old → MatchOption old (new ≡ None) (λ known. IsSomeAnd new (λ after. get after name ≡ get known name))
+  kept_stays name None new e = e
+  kept_stays name (Some known) new e = subst (λ (x : Option Files). IsSomeAnd x (λ after. get after name ≡ get known name)) (sym e) refl
+
+  inserted_stays : (name target bytes : List ℕ) (known : Files) (new : Option Files) → ¬ (name ≡ target) → new ≡ Some (insert known target bytes) → IsSomeAnd new (λ after. get after name ≡ get known name)
+  inserted_stays name target bytes known new not e =
+      subst (λ (x : Option Files). IsSomeAnd x (λ after. get after name ≡ get known name)) (sym e)
+      (get-insert nat_list_cmp_total known target bytes name ∙ ap (λ b. cond b (Some bytes) (get known name)) (other_name name target not))
+
+  written_stays : (name target bytes : List ℕ) (old new : Option Files) → ¬ (name ≡ target) → Writes target bytes putting.Done old new → MatchOption old (new ≡ None) (λ known. IsSomeAnd new (λ after. get after name ≡ get known name))
+  written_stays name target bytes None new not h = h
+  written_stays name target bytes (Some known) new not h = inserted_stays name target bytes known new not h
+
+  cut_stays : (name target bytes : List ℕ) (old new : Option Files) → ¬ (name ≡ target) → Writes target bytes putting.Failed old new → MatchOption old (new ≡ None) (λ known. IsSomeAnd new (λ after. get after name ≡ get known name))
+  cut_stays name target bytes None new not h = h
+  cut_stays name target bytes (Some known) new not (inl h) = kept_stays name (Some known) new h
+  cut_stays name target bytes (Some known) new not (inr h) = inserted_stays name target h.0 known new not h.2
+
+  has_written_stays : (name : List ℕ) (file : Option File) → ((f : File) → file ≡ Some f → ¬ (name ≡ f.name)) → HasWritten s file → Stays s name
+  has_written_stays name None not h = kept_stays name s.old s.new h.0
+  has_written_stays name (Some f) not h = written_stays name f.name f.bytes s.old s.new (not f refl) h.0
+
+  has_failed_stays : (name : List ℕ) (file : Option File) → ((f : File) → file ≡ Some f → ¬ (name ≡ f.name)) → HasFailed s file → Stays s name
+  has_failed_stays name None not h = absurd h
+  has_failed_stays name (Some f) not h = cut_stays name f.name f.bytes s.old s.new (not f refl) h.0
+
+  not_target : (o : Option Asked) (name : List ℕ) (f : File) → ¬ IsTarget o name → IsTarget o f.name → ¬ (name ≡ f.name)
+  not_target o name f not is e = not (subst (IsTarget o) (sym e) is)
+
+  delivered_stays : (name : List ℕ) (status result : Status) (line : List ℕ) (file : Option File) → ((f : File) → file ≡ Some f → ¬ (name ≡ f.name)) → Delivers status line file s r result → Stays s name
+  delivered_stays name status result line file not (put written h) = has_written_stays name file not written
+  delivered_stays name status result line file not (failed f kept) = has_failed_stays name file not f
+  delivered_stays name status result line file not (starved files kept) = kept_stays name s.old s.new files.0
+
+  pub files_clause : (result : Status) → Responds words s r result → (name : List ℕ) → ¬ IsTarget (asked_of words) name → Stays s name
+  files_clause result (gave found status line file is counts gives delivers u v) name not =
+      delivered_stays name status result line file (λ f e. not_target (asked_of words) name f not (target_given (asked_of words) found status line f file e gives)) delivers
+  files_clause result (nothing same files kept) name not = kept_stays name s.old s.new files.0

@@ -1,5 +1,1 @@
-pub mod Outcomes
-pub mod Executed
-pub mod Files
 pub mod Complete
-pub mod Safe

@@ -1,8 +1,3 @@
-pub mod Tasks
-pub mod Words
-pub mod Lines
-pub mod Executions
-pub mod Observed
 pub mod Top
-pub mod Reporting
-pub mod Statuses
+pub mod Responding
+pub mod Ending

@@ -1,84 +1,90 @@
--- What the program answers: the table of its answers, each with its cause.
-use Rattle.std.specs.Prelude.{◌≡◌, ◌<◌, ◌≤◌, ◌⊎◌, ℕ, List, ◌++◌, length, Option, Some, None, MatchOption, IsSomeAnd, ⊤}
+-- What the program answers: what the words ask for (`Asked` of `ms_words`), and of each command the table of its answers
+-- (`Answers` of `ms_run`).
+use Rattle.std.specs.Prelude.{◌≡◌, ◌⊎◌, ℕ, List, Option, Some, None, MatchOption, IsSomeAnd, ⊤}
+use Rattle.std.specs.FinMap.{get}
 use Rattle.ms_outside.specs.Faults.{Rose}
 use Rattle.ms_outside.specs.Files.{Files, bytes_of}
-use Rattle.ms_outside.specs.Shelf.{Told}
 use Rattle.ms_outside.specs.Sink.{IsFront}
-use Rattle.ms_bin_grammar.specs.declared.fault.ReadFault.{ReadFault as ReadingFault}
-use Rattle.ms_module.specs.declared.module.Module.{Module}
-use Rattle.ms_bin_grammar.specs.Bounds.{usual}
-use Rattle.ms_bin_grammar.specs.Module.{SpellsWithin, Stops}
-use Rattle.ms_rules.specs.Modules.{WellTyped}
-use Rattle.ms_valid.specs.declared.refusal.Part.{Part}
-use Rattle.ms_valid.specs.Refusals.{IsWrong}
-use Rattle.ms_tool.specs.Executions.{AnswersAs, execution_of}
-use Rattle.ms_tool.specs.Observed.{Reads, Report}
-use Rattle.ms_tool.specs.Lines.{fault_line, part_line, read_fault_line, too_long_line, usage_line}
-use Rattle.ms_tool.specs.Words.{asked}
-use Rattle.ms_tool.specs.declared.status.Status.{Status}
-use Rattle.ms_tool.specs.declared.status.Status.TheVariants.{OutOfMemory, ReadFault, Refused, TooLong, Usage, WriteFault}
-
--- how many bytes a file may have
-abbrev pub most_bytes : ℕ
-most_bytes = 4194304
+use Rattle.ms_words.specs.Asked.{Asked, Asm, Check, Dis, Exec, asked_of}
+use Rattle.ms_words.specs.Commands.{usage_lines}
+use Rattle.ms_run.specs.Answers.{Answers, Assembles, Checks, Command, Disassembles, Executes, File, Found}
+use Rattle.ms_run.specs.Observed.{Report, Shelved}
+use Rattle.ms_run.specs.Reporting.{Grows, HasFailed, HasWritten, IsFound, KeepsFiles}
+use Rattle.ms_run.specs.declared.status.Status.{Status}
+use Rattle.ms_run.specs.declared.status.Status.TheVariants.{OutOfMemory, ReadFault, Usage, WriteFault}
 
 -- ---- the table
 
--- the bytes of a file of at most so many bytes, the status and the report
-pub data Executes (bytes : List ℕ) : Status → List ℕ → Type 0 where
-  -- they spell no module: the first fault, with its place
-  unread : (fault : ReadingFault) → Stops bytes fault → Executes bytes Refused (fault_line fault)
-  -- the module isn't well typed: the part
-  invalid : (m : Module) (part : Part) → SpellsWithin usual bytes m → IsWrong m part → Executes bytes Refused (part_line part)
-  answered : (m : Module) {status : Status} {report : List ℕ} → SpellsWithin usual bytes m → WellTyped m → AnswersAs (execution_of m) status report → Executes bytes status report
+-- the file that is read
+abbrev pub file_of : Asked → List ℕ
+file_of (Exec file budget memory) = file
+file_of (Check file) = file
+file_of (Asm file out) = file
+file_of (Dis file out) = file
 
--- what reading a file gave: its bytes, or a fault
-pub data Found : Type 0 where
-  Contents : List ℕ → Found
-  Fault : Found
+abbrev pub command_of : Asked → Command
+command_of (Exec file budget memory) = Executes file budget memory
+command_of (Check file) = Checks file
+command_of (Asm file out) = Assembles out
+command_of (Dis file out) = Disassembles out
 
--- the file of this name, and what was found of it
-pub data Answers (name : List ℕ) : Found → Status → List ℕ → Type 0 where
-  read_fault : Answers name Fault ReadFault (read_fault_line name)
-  too_long : {bytes : List ℕ} → most_bytes < length bytes → Answers name (Contents bytes) TooLong (too_long_line name)
-  executed : {bytes report : List ℕ} {status : Status} → length bytes ≤ most_bytes → Executes bytes status report → Answers name (Contents bytes) status report
-
--- The words, and what was found of the file that they name, give this status and this report.
-abbrev pub Gives : List (List ℕ) → Found → Status → List ℕ → Type 0
-Gives words found status report = MatchOption (asked words) ((status ≡ Usage) × (report ≡ usage_line)) (λ name. Answers name found status report)
+-- The words, and what was found of the file that they name, give this status, these lines, and this file that is written, if
+-- one is.
+abbrev pub Gives : List (List ℕ) → Found → Status → List ℕ → Option File → Type 0
+Gives words found status line file =
+    MatchOption (asked_of words) ((status ≡ Usage) × (line ≡ usage_lines) × (file ≡ None)) (λ a. Answers (file_of a) (command_of a) found status line file)
 
 -- ---- what the objects outside have to do with it
 
--- what was found is the file's bytes, where the shelf tells them; a fault only where the count of its reads rose
-abbrev pub IsFound : Reads → List ℕ → Found → Type 0
-IsFound s name (Contents bytes) = Told s.files name (λ known. bytes ≡ known)
-IsFound s name Fault = Rose (s.before name) (s.after name)
-
--- the same of the file that the words name, if they name one
-abbrev pub IsFoundFor : Reads → List (List ℕ) → Found → Type 0
-IsFoundFor s words found = MatchOption (asked words) ⊤ (λ name. IsFound s name found)
+-- what was found of the file that the words name, if they name one
+abbrev pub IsFoundFor : Shelved → List (List ℕ) → Found → Type 0
+IsFoundFor s words found = MatchOption (asked_of words) ⊤ (λ a. IsFound s (file_of a) found)
 
 -- the bytes are known: those of the file that the words name, if they name one
 abbrev pub IsKnown : Option Files → List (List ℕ) → List ℕ → Type 0
-IsKnown files words bytes = MatchOption (asked words) ⊤ (λ name. IsSomeAnd files (λ known. bytes ≡ bytes_of known name))
+IsKnown files words bytes = MatchOption (asked_of words) ⊤ (λ a. IsSomeAnd files (λ known. bytes ≡ bytes_of known (file_of a)))
 
--- what the report holds has grown by this, where it tells it
-abbrev pub Grows : Report → List ℕ → Type 0
-Grows r piece = MatchOption r.old (r.new ≡ None) (λ held. r.new ≡ Some (held ++ piece))
+-- This status is the answer: the report has grown by exactly its line, and exactly its file was written.
+abbrev pub IsAnswer : Shelved → List (List ℕ) → Report → Status → Type 0
+IsAnswer s words r status =
+    (found : Found) × (line : List ℕ) × (file : Option File) × IsFoundFor s words found × Gives words found status line file × Grows r line × HasWritten s file
 
--- This status is the answer, and the report has grown by exactly what it says.
-abbrev pub IsAnswer : Reads → List (List ℕ) → Report → Status → Type 0
-IsAnswer s words r status = (found : Found) × (text : List ℕ) × IsFoundFor s words found × Gives words found status text × Grows r text
-
--- The report could not be put: it has grown by a first part of what an answer says.
-abbrev pub IsCutOff : Reads → List (List ℕ) → Report → Type 0
+-- The report could not be put: it has grown by a first part of an answer's line, of which the file was written.
+abbrev pub IsCutOff : Shelved → List (List ℕ) → Report → Type 0
 IsCutOff s words r =
-    (found : Found) × (status : Status) × (text : List ℕ) × (front : List ℕ)
-    × IsFoundFor s words found × Gives words found status text × IsFront front text × Grows r front
+    (found : Found) × (status : Status) × (line : List ℕ) × (file : Option File) × (front : List ℕ)
+    × IsFoundFor s words found × Gives words found status line file × IsFront front line × Grows r front × HasWritten s file × Rose r.puts_old r.puts_new
 
--- The status is a fault of the outside, or want of memory.
+-- The file of an answer could not be written, and nothing was put.
+abbrev pub IsUnwritten : Shelved → List (List ℕ) → Report → Type 0
+IsUnwritten s words r =
+    (found : Found) × (status : Status) × (line : List ℕ) × (file : Option File)
+    × IsFoundFor s words found × Gives words found status line file × HasFailed s file × (r.new ≡ r.old)
+
+-- Memory ran out: nothing was put, and no file was written but that of an answer.
+abbrev pub IsStarved : Shelved → List (List ℕ) → Report → Type 0
+IsStarved s words r =
+    (r.new ≡ r.old)
+    × (KeepsFiles s ⊎ ((found : Found) × (status : Status) × (line : List ℕ) × (file : Option File) × IsFoundFor s words found × Gives words found status line file × HasWritten s file))
+
+-- The status is a fault of writing, or want of memory.
 abbrev pub IsPutFault : Status → Type 0
 IsPutFault status = (status ≡ WriteFault) ⊎ (status ≡ OutOfMemory)
 
+-- or one of reading
 abbrev pub IsFaulty : Status → Type 0
 IsFaulty status = (status ≡ ReadFault) ⊎ IsPutFault status
+
+-- ---- files that stay
+
+-- the words name this file to be written
+abbrev pub IsTarget : Option Asked → List ℕ → Type 0
+IsTarget None name = ⊥
+IsTarget (Some (Exec file budget memory)) name = ⊥
+IsTarget (Some (Check file)) name = ⊥
+IsTarget (Some (Asm file out)) name = name ≡ out
+IsTarget (Some (Dis file out)) name = name ≡ out
+
+-- the file of this name is as before, where the shelf tells its files
+abbrev pub Stays : Shelved → List ℕ → Type 0
+Stays s name = MatchOption s.old (s.new ≡ None) (λ known. IsSomeAnd s.new (λ after. get after name ≡ get known name))

@@ -1,27 +1,26 @@
 //! The program, over the objects outside.
 
-ghost use Rattle.std.specs.Prelude.{◌≡◌, ◌≢◌, ◌<◌, ◌≤◌, ◌⊎◌, ℕ, List, map};
-ghost use Rattle.ms_outside.specs.Faults.{Rose};
+ghost use Rattle.std.specs.Prelude.{◌≡◌, ◌≢◌, ◌<◌, ◌^◌, ◌⊎◌, ℕ, List, Option, false, map};
 ghost use Rattle.ms_event.specs.Monitor.{Accepts};
 ghost use Rattle.ms_machine.specs.Running.{Run, Stuck};
 ghost use Rattle.ms_module.specs.declared.module.Module.{Module};
-ghost use Rattle.ms_bin_grammar.specs.Bounds.{usual};
-ghost use Rattle.ms_bin_grammar.specs.Module.{SpellsWithin};
 ghost use Rattle.ms_rules.specs.Modules.{WellTyped};
-ghost use Rattle.ms_tool.specs.Executions.{Runs, default_capacity, execution_of};
-ghost use Rattle.ms_tool.specs.Reporting.{ReportsWords};
-ghost use Rattle.ms_tool.specs.Top.{Contents, Gives, Grows, IsAnswer, IsCutOff, IsFaulty, IsKnown, IsPutFault};
-ghost use Rattle.ms_tool.specs.declared.status.Status.{Status};
+ghost use Rattle.ms_run.specs.Answers.{Contents, File};
+ghost use Rattle.ms_run.specs.Executions.{Runs, execution_within};
+ghost use Rattle.ms_run.specs.Loading.{Spells, form_of};
+ghost use Rattle.ms_run.specs.Reporting.{Grows, HasWritten};
+ghost use Rattle.ms_run.specs.declared.status.Status.{Status};
+ghost use Rattle.ms_words.specs.Asked.{asked_of, is_taken};
+ghost use Rattle.ms_tool.specs.Responding.{Responds};
+ghost use Rattle.ms_tool.specs.Top.{Gives, IsAnswer, IsCutOff, IsFaulty, IsKnown, IsPutFault, IsStarved, IsTarget, IsUnwritten, Stays};
 
-use crate::exec::exec;
-use crate::report::answer;
-use crate::status::Status;
-use crate::words::asked;
 use ms_outside::{Shelf, Sink, Source};
+use ms_run::{Status, answer, asm_file, check_file, dis_file, exec};
+use ms_words::{Request, WordsFault, parse_words, usage};
 use std::alloc::Global;
 
-/// Does what the words of the command line ask for, of which the first is the program's name: `exec FILE` reads the
-/// file from the shelf, validates the module that its bytes spell, and runs its `main`.
+/// Does what the words of the command line ask for, of which the first is the program's name: `exec` reads a file from the
+/// shelf, validates the module that it spells and runs it; `check` validates it; `asm` and `dis` write it in the other form.
 ///
 /// The line of what came of it goes to the report. `input` and `out` are those of the module that is run.
 pub fn tool<F: Shelf, I: Source, O: Sink, R: Sink>(
@@ -32,67 +31,113 @@ pub fn tool<F: Shelf, I: Source, O: Sink, R: Sink>(
     out: &mut O,
     report: &mut R,
 ) -> Status
-    // The status is the one that the table of answers gives for the words and the file, and the report has grown by
-    // exactly its line. A read fault is one only where the count of reads of that file rose.
+    // The status is the one that the table of answers gives for the words and the file. The report has grown by exactly its
+    // line, and exactly its file was written. A read fault is one only where the count of reads of that file rose.
     ensures answer { IsPutFault result ⊎ IsAnswer
-        (record { files = F.files shelf.old; before = F.read_faults shelf.old; after = F.read_faults shelf.new })
-        (map (λ w. w.now) words.now)
         (record {
-          old = R.held report.old;
-          new = R.held report.new;
-          before = R.faults report.old;
-          after = R.faults report.new;
+          old = F.files shelf.old;
+          new = F.files shelf.new;
+          reads_old = F.read_faults shelf.old;
+          reads_new = F.read_faults shelf.new;
+          writes_old = F.write_faults shelf.old;
+          writes_new = F.write_faults shelf.new;
         })
+        (map (λ w. w.now) words.now)
+        (record { old = R.held report.old; new = R.held report.new; puts_old = R.faults report.old; puts_new = R.faults report.new })
         result }
 
-    // A write fault is one only where the count of the report rose. The report has then a first part of an answer's line.
-    ensures write_fault { result ≡ Status.WriteFault → Rose (R.faults report.old) (R.faults report.new) × IsCutOff
-        (record { files = F.files shelf.old; before = F.read_faults shelf.old; after = F.read_faults shelf.new })
-        (map (λ w. w.now) words.now)
-        (record {
-          old = R.held report.old;
-          new = R.held report.new;
-          before = R.faults report.old;
-          after = R.faults report.new;
-        }) }
+    // Usage is told exactly where the definition of the commands refuses the words, unless that can't be put.
+    ensures usage { result ≡ Status.Usage → is_taken (map (λ w. w.now) words.now) ≡ false }
+    ensures refused { is_taken (map (λ w. w.now) words.now) ≡ false → (result ≡ Status.Usage) ⊎ IsPutFault result }
 
-    // Where memory ran out the report is as before.
-    ensures memory { result ≡ Status.OutOfMemory → R.held report.new ≡ R.held report.old }
+    // A write fault is one only where the count of the report rose, or that of the shelf's writes. The report has then a
+    // first part of an answer's line, the file being written; or nothing, and the file a first part of its bytes at most.
+    ensures write_fault { result ≡ Status.WriteFault → IsCutOff
+        (record {
+          old = F.files shelf.old;
+          new = F.files shelf.new;
+          reads_old = F.read_faults shelf.old;
+          reads_new = F.read_faults shelf.new;
+          writes_old = F.write_faults shelf.old;
+          writes_new = F.write_faults shelf.new;
+        })
+        (map (λ w. w.now) words.now)
+        (record { old = R.held report.old; new = R.held report.new; puts_old = R.faults report.old; puts_new = R.faults report.new })
+        ⊎ IsUnwritten
+        (record {
+          old = F.files shelf.old;
+          new = F.files shelf.new;
+          reads_old = F.read_faults shelf.old;
+          reads_new = F.read_faults shelf.new;
+          writes_old = F.write_faults shelf.old;
+          writes_new = F.write_faults shelf.new;
+        })
+        (map (λ w. w.now) words.now)
+        (record { old = R.held report.old; new = R.held report.new; puts_old = R.faults report.old; puts_new = R.faults report.new }) }
+
+    // Where memory ran out the report is as before, and no file was written but that of an answer.
+    ensures memory { result ≡ Status.OutOfMemory → IsStarved
+        (record {
+          old = F.files shelf.old;
+          new = F.files shelf.new;
+          reads_old = F.read_faults shelf.old;
+          reads_new = F.read_faults shelf.new;
+          writes_old = F.write_faults shelf.old;
+          writes_new = F.write_faults shelf.new;
+        })
+        (map (λ w. w.now) words.now)
+        (record { old = R.held report.old; new = R.held report.new; puts_old = R.faults report.old; puts_new = R.faults report.new }) }
 
     // What the table gives for a known file is the answer, unless a fault is met or memory runs out.
-    ensures complete { (bytes : List ℕ) (status : Status) (text : List ℕ)
+    ensures complete { (bytes : List ℕ) (status : Status) (line : List ℕ) (file : Option File)
         → IsKnown (F.files shelf.old) (map (λ w. w.now) words.now) bytes
-        → Gives (map (λ w. w.now) words.now) (Contents bytes) status text
+        → Gives (map (λ w. w.now) words.now) (Contents bytes) status line file
         → ((result ≡ status) × Grows
+        (record { old = R.held report.old; new = R.held report.new; puts_old = R.faults report.old; puts_new = R.faults report.new })
+        line × HasWritten
         (record {
-          old = R.held report.old;
-          new = R.held report.new;
-          before = R.faults report.old;
-          after = R.faults report.new;
+          old = F.files shelf.old;
+          new = F.files shelf.new;
+          reads_old = F.read_faults shelf.old;
+          reads_new = F.read_faults shelf.new;
+          writes_old = F.write_faults shelf.old;
+          writes_new = F.write_faults shelf.new;
         })
-        text) ⊎ IsFaulty result }
+        file) ⊎ IsFaulty result }
 
     // The allocations, slices, reads, writes and frees of a run are a trace that the colour monitor accepts: for all bytes
     // that spell a valid module which is run, `run` being the one of which the answer tells.
-    ensures safe { (bytes : List ℕ) (m : Module) (run : Run)
-        → SpellsWithin usual bytes m → WellTyped m → execution_of m ≡ Runs run
-        → Accepts default_capacity run.events }
+    ensures safe { (name bytes : List ℕ) (budget capacity : ℕ) (m : Module) (run : Run)
+        → capacity < 2 ^ 32 → Spells (form_of name) bytes m → WellTyped m → execution_within budget capacity m ≡ Runs run
+        → Accepts capacity run.events }
 
     // And such a run has an end that the table answers: no task of it is ever stuck.
-    ensures never_stuck { (m : Module) (run : Run) → WellTyped m → execution_of m ≡ Runs run → run.end ≢ Stuck }
+    ensures never_stuck { (budget capacity : ℕ) (m : Module) (run : Run)
+        → WellTyped m → execution_within budget capacity m ≡ Runs run → run.end ≢ Stuck }
 
     // A fault that was counted is never passed over.
     ensures reads { (name : List ℕ) → F.read_faults shelf.old name < F.read_faults shelf.new name → IsFaulty result }
+    ensures writes { F.write_faults shelf.old < F.write_faults shelf.new → IsPutFault result }
     ensures puts { R.faults report.old < R.faults report.new → IsPutFault result }
 
-    // All else stays.
-    ensures files { F.files shelf.new ≡ F.files shelf.old }
+    // All files but the one that the words name to be written stay, and so do the input and the output.
+    ensures files { (name : List ℕ) → ¬ IsTarget (asked_of (map (λ w. w.now) words.now)) name → Stays
+        (record {
+          old = F.files shelf.old;
+          new = F.files shelf.new;
+          reads_old = F.read_faults shelf.old;
+          reads_new = F.read_faults shelf.new;
+          writes_old = F.write_faults shelf.old;
+          writes_new = F.write_faults shelf.new;
+        })
+        name }
     ensures input { (I.left input.new ≡ I.left input.old) × (I.faults input.new ≡ I.faults input.old) }
     ensures out { (O.held out.new ≡ O.held out.old) × (O.faults out.new ≡ O.faults out.old) }
 {
     respond(alloc, words, shelf, input, out, report)
 }
 
+/// Reads the words, and carries out what they ask for.
 fn respond<F: Shelf, I: Source, O: Sink, R: Sink>(
     alloc: Global,
     words: &[&str],
@@ -101,23 +146,37 @@ fn respond<F: Shelf, I: Source, O: Sink, R: Sink>(
     out: &mut O,
     report: &mut R,
 ) -> Status
-    ensures report { ReportsWords
-        (map (λ w. w.now) words.now)
-        (record { files = F.files shelf.old; before = F.read_faults shelf.old; after = F.read_faults shelf.new })
+    ensures responds { Responds (map (λ w. w.now) words.now)
         (record {
-          old = R.held report.old;
-          new = R.held report.new;
-          before = R.faults report.old;
-          after = R.faults report.new;
+          old = F.files shelf.old;
+          new = F.files shelf.new;
+          reads_old = F.read_faults shelf.old;
+          reads_new = F.read_faults shelf.new;
+          writes_old = F.write_faults shelf.old;
+          writes_new = F.write_faults shelf.new;
         })
+        (record { old = R.held report.old; new = R.held report.new; puts_old = R.faults report.old; puts_new = R.faults report.new })
         result }
-    ensures files { F.files shelf.new ≡ F.files shelf.old }
     ensures input { (I.left input.new ≡ I.left input.old) × (I.faults input.new ≡ I.faults input.old) }
     ensures out { (O.held out.new ≡ O.held out.old) × (O.faults out.new ≡ O.faults out.old) }
 {
-    match asked(words) {
-        Some(file) => exec(alloc, file, shelf, input, out, report),
-        None => answer(report, Status::Usage, b"usage: mswasm exec FILE\n"),
+    match parse_words(alloc, words) {
+        Ok(
+            Request::Exec {
+                file,
+                budget,
+                memory,
+            },
+        ) => { exec(alloc, file, budget, memory, shelf, input, out, report) }
+        Ok(Request::Check { file }) => check_file(alloc, file, shelf, input, out, report),
+        Ok(Request::Asm { file, out: target }) => {
+            asm_file(alloc, file, target, shelf, input, out, report)
+        }
+        Ok(Request::Dis { file, out: target }) => {
+            dis_file(alloc, file, target, shelf, input, out, report)
+        }
+        Err(WordsFault::Refused) => answer(report, Status::Usage, usage().as_bytes()),
+        Err(WordsFault::Memory) => Status::OutOfMemory,
     }
 }
 

@@ -5,22 +5,27 @@ use ms_outside::{Got, MemShelf, MemSink, MemSource};
 use std::process::Abort;
 use std::test::Fail;
 
-/// The markers with which a module begins, as pairs of hexadecimal digits.
-const MARKERS: &str = "00 61 73 6D 01 00 00 00";
+/// A module that gives 7.
+const SEVEN: &str = "(func (export \"main\") (result i32) i32.const 7)";
 
-/// A type `[] -> [i32]`, a function of it, and its export as `main`.
-const NUMBER: &str = "01 05 01 60 00 01 7F  03 02 01 00  07 08 01 04 6D 61 69 6E 00 00";
+/// The same in binary, as pairs of hexadecimal digits.
+const SEVEN_BINARY: &str =
+    "00 61 73 6D 01 00 00 00 01 05 01 60 00 01 7F 03 02 01 00 07 08 01 04 6D 61 69 6E \
+                            00 00 0A 06 01 04 00 41 07 0B";
 
-/// The same for `[] -> [i64]`.
-const WIDE: &str = "01 05 01 60 00 01 7E  03 02 01 00  07 08 01 04 6D 61 69 6E 00 00";
+/// The same as the writer of texts has it.
+const SEVEN_SHOWN: &str = "(module
+  (type (func (result i32)))
+  (func (type 0)
+    i32.const 7)
+  (export \"main\" (func 0)))
+";
 
-/// The same for `[] -> []`.
-const NOTHING: &str = "01 04 01 60 00 00  03 02 01 00  07 08 01 04 6D 61 69 6E 00 00";
-
-/// A function whose body is `i32.const 7`.
-const SEVEN: &str = "0A 06 01  04 00 41 07 0B";
-
-const EXEC: [&str; 3] = ["mswasm", "exec", "a.wasm"];
+const USAGE: &str = "usage: mswasm exec FILE [--budget N] [--memory N]
+usage: mswasm check FILE
+usage: mswasm asm FILE OUT
+usage: mswasm dis FILE OUT
+";
 
 /// What is outside.
 #[derive(Drop)]
@@ -31,10 +36,10 @@ struct Outside {
     report: MemSink,
 }
 
-/// The file `a.wasm` of these bytes.
-fn world(alloc: Global, bytes: &[u8]) -> Result<Outside, Fail> {
+/// The file of this name and these bytes.
+fn world(alloc: Global, name: &str, bytes: &[u8]) -> Result<Outside, Fail> {
     let mut shelf = MemShelf::new(alloc);
-    shelf.add(alloc, "a.wasm", Vec::from_slice(alloc, bytes)?)?;
+    shelf.add(alloc, name, Vec::from_slice(alloc, bytes)?)?;
     Ok(Outside {
         shelf,
         input: MemSource::new(alloc, Vec::from_slice(alloc, b"in")?),
@@ -43,152 +48,204 @@ fn world(alloc: Global, bytes: &[u8]) -> Result<Outside, Fail> {
     })
 }
 
-/// The markers, and the bytes of two texts.
-fn module(alloc: Global, head: &str, code: &str) -> Result<Vec<u8>, Fail> {
+/// The bytes of pairs of hexadecimal digits.
+fn bytes_of(alloc: Global, pairs: &str) -> Result<Vec<u8>, Fail> {
     let mut bytes = Vec::new(alloc);
-    for text in [MARKERS, head, code] {
-        for pair in text.split_whitespace() {
-            bytes.push(u8::from_str_radix(pair, 16)?)?;
-        }
+    for pair in pairs.split_whitespace() {
+        bytes.push(u8::from_str_radix(pair, 16)?)?;
     }
     Ok(bytes)
 }
 
-/// Runs the program, and compares its status, its output, its report, and that the input stays.
+/// Runs the program on the words of a line, and compares its status, its output, its report, what it wrote to the file
+/// `o`, and that the input stays.
 fn expect<R: Abort + AllocGlobal>(
     rt: &R,
-    words: &[&str],
+    line: &str,
     world: Outside,
     status: Status,
-    out: &str,
     report: &str,
-) {
+    written: Option<&[u8]>,
+) -> Result<(), Fail> {
+    let words: Vec<&str> = line.split_whitespace().collect(rt.alloc())?;
     let Outside {
         mut shelf,
         mut input,
-        out: mut output,
+        mut out,
         report: mut told,
     } = world;
     let given = tool(
         rt.alloc(),
-        words,
+        words.as_slice(),
         &mut shelf,
         &mut input,
-        &mut output,
+        &mut out,
         &mut told,
     );
-    assert_eq!(rt; given, status, "the status");
-    assert_eq!(rt; told.held(), report.as_bytes(), "the report");
-    assert_eq!(rt; output.held(), out.as_bytes(), "the output");
+    assert_eq!(rt; given, status, "{line}");
+    assert_eq!(rt; told.held(), report.as_bytes(), "the report of {line}");
+    assert_eq!(rt; out.held(), b"".as_slice(), "the output of {line}");
     assert_eq!(rt; input.take(), Got::Byte(b'i'));
+    assert!(rt; shelf.get("o") == written, "the file that {line} writes");
+    Ok(())
 }
 
 #[test]
-fn worked_rows(rt: HostRuntime) -> Result<(), Fail> {
+fn worked_rows_of_texts(rt: HostRuntime) -> Result<(), Fail> {
     let table = [
-        (NUMBER, SEVEN, Status::Done, "result 7\n"),
+        ("exec a.wat", SEVEN, Status::Done, "result 7\n"),
+        ("check a.wat", SEVEN, Status::Done, "valid\n"),
         (
-            WIDE,
-            "0A 0F 01  0D 00 42 80 80 80 80 80 80 80 80 80 7F 0B",
-            Status::Done,
-            "result -9223372036854775808\n",
-        ),
-        (NOTHING, "0A 04 01  02 00 0B", Status::Done, "done\n"),
-        // handle.null segment.free heap
-        (
-            NOTHING,
-            "0A 09 01  07 00 E0 00 E0 02 00 0B",
+            "exec a.wat",
+            "(func (export \"main\") handle.null segment.free heap)",
             Status::Trapped,
             "trap null\n",
         ),
-        // A segment keeps a handle to itself: a number over one byte of it, and its bytes as a number, and it at 8.
+        // A segment keeps a handle to itself, and a number is stored over one byte of it.
         (
-            NUMBER,
-            "0A 22 01  20 01 01 58 41 20 E0 01 00 22 00 20 00 E0 09 \
-             20 00 42 05 E0 03 01 41 00 E0 18 20 00 E0 08 E0 0A 0B",
+            "exec a.wat",
+            "(func (export \"main\") (result i32) (local $h handle)
+               i32.const 32 segment.new heap local.tee $h local.get $h handle.store
+               local.get $h i64.const 5 handle.add 1 i32.const 0 i32.segstore8
+               local.get $h handle.load i32.segload)",
             Status::Trapped,
             "trap invalid\n",
         ),
         (
-            NUMBER,
-            "0A 15 01  13 01 01 58 41 20 E0 01 00 22 00 20 00 E0 09 20 00 E0 0A 0B",
+            "exec a.wat",
+            "(func (export \"main\") (result i32) (local $h handle)
+               i32.const 32 segment.new heap local.tee $h local.get $h handle.store local.get $h i32.segload)",
             Status::Trapped,
             "trap provenance\n",
         ),
-        (
-            NUMBER,
-            "0A 1E 01  1C 01 01 58 41 20 E0 01 00 22 00 20 00 E0 09 \
-             20 00 42 08 E0 03 01 20 00 E0 09 41 00 0B",
-            Status::Trapped,
-            "trap misaligned\n",
-        ),
-        // The handle in a new segment is null.
-        (
-            NUMBER,
-            "0A 0D 01  0B 00 41 10 E0 01 00 E0 08 E0 06 0B",
-            Status::Done,
-            "result 1\n",
-        ),
         // In front of a slice, inside its segment.
         (
-            NUMBER,
-            "0A 16 01  14 00 41 08 E0 01 00 41 04 41 04 E0 04 42 7F E0 03 04 E0 0A 0B",
+            "exec a.wat",
+            "(func (export \"main\") (result i32) i32.const 8 segment.new heap i32.const 4 i32.const 4
+               handle.slice i64.const -1 handle.add 4 i32.segload)",
             Status::Trapped,
             "trap bounds\n",
         ),
+        ("exec a.wat --budget 2", SEVEN, Status::Done, "result 7\n"),
         (
-            NUMBER,
-            "0A 0B 01  09 00 03 40 0C 00 0B 41 00 0B",
+            "exec a.wat --budget 0",
+            SEVEN,
             Status::OutOfBudget,
             "out of budget\n",
         ),
-        ("", "01", Status::Refused, "refused malformed 9\n"),
-        // i32.const 0 i32.segload
+        ("exec a.wat", "(func)", Status::Refused, "refused task 0\n"),
         (
-            NUMBER,
-            "0A 08 01  06 00 41 00 E0 0A 0B",
-            Status::Refused,
-            "refused invalid function 0\n",
-        ),
-        ("", "", Status::Refused, "refused task 0\n"),
-        // An import of a function.
-        (
-            "01 04 01 60 00 00",
-            "02 07 01 01 63 01 66 00 00",
+            "exec a.wat",
+            "(import \"c\" \"f\" (func)) (func (export \"main\"))",
             Status::Refused,
             "refused link 0 0 noexport\n",
         ),
+        (
+            "check a.wat",
+            "(func (result i32) i32.const 0 i32.segload)",
+            Status::Refused,
+            "refused invalid function 0\n",
+        ),
+        (
+            "check a.wat",
+            "(func unreachable select drop)",
+            Status::Done,
+            "valid\n",
+        ),
+        (
+            "check a.wat",
+            "(func br 1)",
+            Status::Refused,
+            "refused invalid function 0\n",
+        ),
+        (
+            "check a.wat",
+            "(func call $f)",
+            Status::Refused,
+            "refused name 11\n",
+        ),
+        (
+            "check a.wat",
+            "(func f32.const 1 drop)",
+            Status::Refused,
+            "refused float 6\n",
+        ),
+        (
+            "asm a.wat o",
+            "(func br 1",
+            Status::Refused,
+            "refused syntax 10\n",
+        ),
+        (
+            "dis a.wat o",
+            SEVEN,
+            Status::Refused,
+            "refused malformed 0\n",
+        ),
+        ("exec b.wat", SEVEN, Status::ReadFault, "read fault b.wat\n"),
+        ("exec a.wat --memory 8", SEVEN, Status::Usage, USAGE),
+        ("mswasm", SEVEN, Status::Usage, USAGE),
     ];
-    for (head, code, status, report) in table {
-        let bytes = module(rt.alloc(), head, code)?;
-        let world = world(rt.alloc(), bytes.as_slice())?;
-        expect(&rt, &EXEC, world, status, "", report);
+    for (command, text, status, report) in table {
+        let world = world(rt.alloc(), "a.wat", text.as_bytes())?;
+        let line = format!(in rt.alloc(); "mswasm {command}")?;
+        expect(&rt, line.as_str(), world, status, report, None)?;
     }
     Ok(())
 }
 
-/// The word that is asked for, and which call of the shelf and of the report is to fail (0 for none).
 #[test]
-fn words_and_scripted_faults(rt: HostRuntime) -> Result<(), Fail> {
+fn both_forms_are_written(rt: HostRuntime) -> Result<(), Fail> {
+    let binary = bytes_of(rt.alloc(), SEVEN_BINARY)?;
     let table = [
-        ("a.wasm", 0, 0, Status::Done, "result 7\n"),
-        ("-a.wasm", 0, 0, Status::Usage, "usage: mswasm exec FILE\n"),
-        ("b.wasm", 0, 0, Status::ReadFault, "read fault b.wasm\n"),
-        ("a.wasm", 1, 0, Status::ReadFault, "read fault a.wasm\n"),
-        ("a.wasm", 0, 1, Status::WriteFault, ""),
-        ("-a.wasm", 0, 1, Status::WriteFault, ""),
-        ("b.wasm", 0, 1, Status::WriteFault, ""),
+        (
+            SEVEN.as_bytes(),
+            "mswasm asm a o",
+            "written 37\n",
+            binary.as_slice(),
+        ),
+        (
+            binary.as_slice(),
+            "mswasm dis a o",
+            "written 99\n",
+            SEVEN_SHOWN.as_bytes(),
+        ),
+        (
+            b"".as_slice(),
+            "mswasm asm a o",
+            "written 8\n",
+            b"\0asm\x01\0\0\0".as_slice(),
+        ),
     ];
-    for (name, read, put, status, report) in table {
-        let bytes = module(rt.alloc(), NUMBER, SEVEN)?;
-        let mut world = world(rt.alloc(), bytes.as_slice())?;
+    for (bytes, line, report, written) in table {
+        let world = world(rt.alloc(), "a", bytes)?;
+        expect(&rt, line, world, Status::Done, report, Some(written))?;
+    }
+    Ok(())
+}
+
+/// Which read, write and put is to fail (0 for none), and what the file `o` has then.
+#[test]
+fn scripted_faults(rt: HostRuntime) -> Result<(), Fail> {
+    let binary = bytes_of(rt.alloc(), SEVEN_BINARY)?;
+    let table = [
+        (1, 0, 0, Status::ReadFault, "read fault a\n", None),
+        (0, 1, 0, Status::WriteFault, "", None),
+        (0, 0, 1, Status::WriteFault, "", Some(binary.as_slice())),
+        (1, 0, 1, Status::WriteFault, "", None),
+    ];
+    for (read, write, put, status, report, written) in table {
+        let mut world = world(rt.alloc(), "a", SEVEN.as_bytes())?;
         if read > 0 {
-            world.shelf.fail_at(read)?;
+            world.shelf.fail_read_at(read)?;
+        }
+        if write > 0 {
+            world.shelf.fail_write_at(write)?;
         }
         if put > 0 {
             world.report.fail_at(put)?;
         }
-        expect(&rt, &["mswasm", "exec", name], world, status, "", report);
+        expect(&rt, "mswasm asm a o", world, status, report, written)?;
     }
     Ok(())
 }
@@ -196,7 +253,13 @@ fn words_and_scripted_faults(rt: HostRuntime) -> Result<(), Fail> {
 #[test]
 fn a_file_that_is_too_long(rt: HostRuntime) -> Result<(), Fail> {
     let zeros = vec![in rt.alloc(); 0u8; 4_194_305]?;
-    let world = world(rt.alloc(), zeros.as_slice())?;
-    expect(&rt, &EXEC, world, Status::TooLong, "", "too long a.wasm\n");
-    Ok(())
+    let world = world(rt.alloc(), "a.wasm", zeros.as_slice())?;
+    expect(
+        &rt,
+        "mswasm exec a.wasm",
+        world,
+        Status::TooLong,
+        "too long a.wasm\n",
+        None,
+    )
 }

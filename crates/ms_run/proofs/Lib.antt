@@ -1,0 +1,6 @@
+pub mod Executed
+pub mod Safe
+pub mod Once
+pub mod Told
+pub mod Written
+pub mod Done

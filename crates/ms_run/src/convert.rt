@@ -1,0 +1,171 @@
+//! `asm` and `dis`: a module is read in one form and written in the other.
+
+ghost use Rattle.std.specs.Prelude.{◌≡◌, Some, length};
+ghost use Rattle.ms_outside.specs.Shelf.{SameCounts};
+ghost use Rattle.ms_run.specs.Answers.{Assembles, Disassembles};
+ghost use Rattle.ms_run.specs.Lines.{written_line};
+ghost use Rattle.ms_run.specs.Reporting.{Delivers, Did, Makes};
+ghost use Rattle.ms_run.specs.declared.status.Status.{Status};
+
+use crate::fetch::fetch;
+use crate::lines::written_line;
+use crate::loading::{read_binary, read_text};
+use crate::report::{answer, answer_fault};
+use crate::status::Status;
+use ms_bin_write::BinFault;
+use ms_outside::{Put, Shelf, Sink, Source};
+use std::alloc::Global;
+
+/// Writes a file, and reports how many bytes it has.
+fn deliver<F: Shelf, R: Sink>(
+    alloc: Global,
+    name: &str,
+    bytes: &[u8],
+    shelf: &mut F,
+    report: &mut R,
+) -> Status
+    ensures delivered { Delivers Status.Done (written_line (length bytes.now)) (Some (record { name = name.now; bytes = bytes.now }))
+        (record {
+          old = F.files shelf.old;
+          new = F.files shelf.new;
+          reads_old = F.read_faults shelf.old;
+          reads_new = F.read_faults shelf.new;
+          writes_old = F.write_faults shelf.old;
+          writes_new = F.write_faults shelf.new;
+        })
+        (record { old = R.held report.old; new = R.held report.new; puts_old = R.faults report.old; puts_new = R.faults report.new })
+        result }
+    ensures reads { SameCounts (F.read_faults shelf.old) (F.read_faults shelf.new) }
+{
+    let Ok(line) = written_line(alloc, bytes.len()) else {
+        return Status::OutOfMemory;
+    };
+    match shelf.write(alloc, name, bytes) {
+        Put::Done => answer(report, Status::Done, line.as_bytes()),
+        Put::Failed => Status::WriteFault,
+        Put::Memory => Status::OutOfMemory,
+    }
+}
+
+fn asm_bytes<F: Shelf, R: Sink>(
+    alloc: Global,
+    bytes: &[u8],
+    target: &str,
+    shelf: &mut F,
+    report: &mut R,
+) -> Status
+    ensures makes { Makes (Assembles target.now) bytes.now
+        (record {
+          old = F.files shelf.old;
+          new = F.files shelf.new;
+          reads_old = F.read_faults shelf.old;
+          reads_new = F.read_faults shelf.new;
+          writes_old = F.write_faults shelf.old;
+          writes_new = F.write_faults shelf.new;
+        })
+        (record { old = R.held report.old; new = R.held report.new; puts_old = R.faults report.old; puts_new = R.faults report.new })
+        result }
+    ensures reads { SameCounts (F.read_faults shelf.old) (F.read_faults shelf.new) }
+{
+    let module = match read_text(alloc, bytes) {
+        Ok(module) => module,
+        Err(fault) => return answer_fault(alloc, fault, report),
+    };
+    match ms_bin_write::write(alloc, &module) {
+        Ok(binary) => deliver(alloc, target, binary.as_slice(), shelf, report),
+        Err(BinFault::Large) => answer(report, Status::Refused, b"refused large\n"),
+        Err(BinFault::Memory) => Status::OutOfMemory,
+    }
+}
+
+/// `asm FILE OUT`: reads a module in text, whatever the file's name, and writes it in binary to the file `target`, the
+/// module being valid or not. How many bytes were written goes to the report, or the first fault with its place.
+pub fn asm_file<F: Shelf, I: Source, O: Sink, R: Sink>(
+    alloc: Global,
+    file: &str,
+    target: &str,
+    shelf: &mut F,
+    _input: &mut I,
+    _out: &mut O,
+    report: &mut R,
+) -> Status
+    ensures did { Did file.now (Assembles target.now)
+        (record {
+          old = F.files shelf.old;
+          new = F.files shelf.new;
+          reads_old = F.read_faults shelf.old;
+          reads_new = F.read_faults shelf.new;
+          writes_old = F.write_faults shelf.old;
+          writes_new = F.write_faults shelf.new;
+        })
+        (record { old = R.held report.old; new = R.held report.new; puts_old = R.faults report.old; puts_new = R.faults report.new })
+        result }
+    ensures input { (I.left _input.new ≡ I.left _input.old) × (I.faults _input.new ≡ I.faults _input.old) }
+    ensures out { (O.held _out.new ≡ O.held _out.old) × (O.faults _out.new ≡ O.faults _out.old) }
+{
+    match fetch(alloc, file, shelf, report) {
+        Ok(bytes) => asm_bytes(alloc, bytes.as_slice(), target, shelf, report),
+        Err(status) => status,
+    }
+}
+
+fn dis_bytes<F: Shelf, R: Sink>(
+    alloc: Global,
+    bytes: &[u8],
+    target: &str,
+    shelf: &mut F,
+    report: &mut R,
+) -> Status
+    ensures makes { Makes (Disassembles target.now) bytes.now
+        (record {
+          old = F.files shelf.old;
+          new = F.files shelf.new;
+          reads_old = F.read_faults shelf.old;
+          reads_new = F.read_faults shelf.new;
+          writes_old = F.write_faults shelf.old;
+          writes_new = F.write_faults shelf.new;
+        })
+        (record { old = R.held report.old; new = R.held report.new; puts_old = R.faults report.old; puts_new = R.faults report.new })
+        result }
+    ensures reads { SameCounts (F.read_faults shelf.old) (F.read_faults shelf.new) }
+{
+    let module = match read_binary(alloc, bytes) {
+        Ok(module) => module,
+        Err(fault) => return answer_fault(alloc, fault, report),
+    };
+    match ms_text_write::write(alloc, &module) {
+        Ok(text) => deliver(alloc, target, text.as_slice(), shelf, report),
+        Err(_) => Status::OutOfMemory,
+    }
+}
+
+/// `dis FILE OUT`: reads a module in binary, whatever the file's name, and writes it in text to the file `target`, the
+/// module being valid or not. How many bytes were written goes to the report, or the first fault with its place.
+pub fn dis_file<F: Shelf, I: Source, O: Sink, R: Sink>(
+    alloc: Global,
+    file: &str,
+    target: &str,
+    shelf: &mut F,
+    _input: &mut I,
+    _out: &mut O,
+    report: &mut R,
+) -> Status
+    ensures did { Did file.now (Disassembles target.now)
+        (record {
+          old = F.files shelf.old;
+          new = F.files shelf.new;
+          reads_old = F.read_faults shelf.old;
+          reads_new = F.read_faults shelf.new;
+          writes_old = F.write_faults shelf.old;
+          writes_new = F.write_faults shelf.new;
+        })
+        (record { old = R.held report.old; new = R.held report.new; puts_old = R.faults report.old; puts_new = R.faults report.new })
+        result }
+    ensures input { (I.left _input.new ≡ I.left _input.old) × (I.faults _input.new ≡ I.faults _input.old) }
+    ensures out { (O.held _out.new ≡ O.held _out.old) × (O.faults _out.new ≡ O.faults _out.old) }
+{
+    match fetch(alloc, file, shelf, report) {
+        Ok(bytes) => dis_bytes(alloc, bytes.as_slice(), target, shelf, report),
+        Err(status) => status,
+    }
+}

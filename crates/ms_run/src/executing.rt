@@ -1,0 +1,87 @@
+//! `exec`: a file is read, validated and run.
+
+ghost use Rattle.std.specs.Prelude.{◌≡◌, ◌<◌, ◌^◌};
+ghost use Rattle.ms_run.specs.Answers.{Executes};
+ghost use Rattle.ms_run.specs.Reporting.{Did, Tells};
+
+use crate::execution::{answer_outcome, outcome_within};
+use crate::fetch::fetch;
+use crate::loading::load_module;
+use crate::report::answer_fault;
+use crate::status::Status;
+use ms_live::{Gaps, TreeGaps};
+use ms_outside::{Shelf, Sink, Source};
+use ms_tagged::{Granules, Tagged};
+use std::alloc::Global;
+
+/// Loads, runs and reports the module of a file's bytes, however its segments are kept.
+#[allow(clippy::too_many_arguments)]
+fn exec_bytes<G: Gaps, T: Tagged, I: Source, O: Sink, R: Sink>(
+    alloc: Global,
+    file: &str,
+    bytes: &[u8],
+    budget: u64,
+    memory: u32,
+    input: &mut I,
+    out: &mut O,
+    report: &mut R,
+) -> Status
+    requires few { budget < 2 ^ 63 }
+    ensures tells { Tells (Executes file.now budget memory) bytes.now
+        (record { old = R.held report.old; new = R.held report.new; puts_old = R.faults report.old; puts_new = R.faults report.new })
+        result }
+    ensures input { (I.left input.new ≡ I.left input.old) × (I.faults input.new ≡ I.faults input.old) }
+    ensures out { (O.held out.new ≡ O.held out.old) × (O.faults out.new ≡ O.faults out.old) }
+{
+    let valid = match load_module(alloc, file, bytes) {
+        Ok(valid) => valid,
+        Err(fault) => return answer_fault(alloc, fault, report),
+    };
+    match outcome_within::<G, T, I, O>(alloc, valid.into_module(), budget, memory, input, out) {
+        Ok(outcome) => answer_outcome(alloc, outcome, report),
+        Err(_) => Status::OutOfMemory,
+    }
+}
+
+/// `exec FILE`: reads a module from the shelf, validates it and runs its start function and then its `main`, at most
+/// `budget` steps (below 2^63) with `memory` bytes of segment memory. The end of the run goes to the report.
+#[allow(clippy::too_many_arguments)]
+pub fn exec<F: Shelf, I: Source, O: Sink, R: Sink>(
+    alloc: Global,
+    file: &str,
+    budget: u64,
+    memory: u32,
+    shelf: &mut F,
+    input: &mut I,
+    out: &mut O,
+    report: &mut R,
+) -> Status
+    requires few { budget < 2 ^ 63 }
+    ensures did { Did file.now (Executes file.now budget memory)
+        (record {
+          old = F.files shelf.old;
+          new = F.files shelf.new;
+          reads_old = F.read_faults shelf.old;
+          reads_new = F.read_faults shelf.new;
+          writes_old = F.write_faults shelf.old;
+          writes_new = F.write_faults shelf.new;
+        })
+        (record { old = R.held report.old; new = R.held report.new; puts_old = R.faults report.old; puts_new = R.faults report.new })
+        result }
+    ensures input { (I.left input.new ≡ I.left input.old) × (I.faults input.new ≡ I.faults input.old) }
+    ensures out { (O.held out.new ≡ O.held out.old) × (O.faults out.new ≡ O.faults out.old) }
+{
+    match fetch(alloc, file, shelf, report) {
+        Ok(bytes) => exec_bytes::<TreeGaps, Granules, I, O, R>(
+            alloc,
+            file,
+            bytes.as_slice(),
+            budget,
+            memory,
+            input,
+            out,
+            report,
+        ),
+        Err(status) => status,
+    }
+}

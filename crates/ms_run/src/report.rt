@@ -1,0 +1,51 @@
+//! Putting an answer into the report.
+
+ghost use Rattle.std.specs.Prelude.{◌≡◌, ℕ, List, IfOk, string_bytes};
+ghost use Rattle.ms_run.specs.Reporting.{Reports, ReportsFault};
+
+use crate::lines::load_line;
+use crate::loading::LoadFault;
+use crate::status::Status;
+use ms_outside::{Put, Sink};
+use std::alloc::{AllocError, Global};
+
+/// Puts the text, and gives the status, or that of a fault.
+pub fn answer<R: Sink>(report: &mut R, status: Status, text: &[u8]) -> Status
+    ensures { Reports status text.now
+        (record { old = R.held report.old; new = R.held report.new; puts_old = R.faults report.old; puts_new = R.faults report.new })
+        result }
+{
+    match report.put(text) {
+        Put::Done => status,
+        Put::Failed => Status::WriteFault,
+        Put::Memory => Status::OutOfMemory,
+    }
+}
+
+/// Puts a line, if there was memory for it, and gives the status, or that of a fault.
+pub fn answer_line<R: Sink>(
+    report: &mut R,
+    status: Status,
+    line: Result<String, AllocError>,
+) -> Status
+    ensures { (text : List ℕ) → IfOk line (λ t. string_bytes t ≡ text) → Reports status text
+        (record { old = R.held report.old; new = R.held report.new; puts_old = R.faults report.old; puts_new = R.faults report.new })
+        result }
+{
+    match line {
+        Ok(text) => answer(report, status, text.as_bytes()),
+        Err(_) => Status::OutOfMemory,
+    }
+}
+
+/// Puts why a file is no valid module, if it isn't want of memory, and gives the status, or that of a fault.
+pub fn answer_fault<R: Sink>(alloc: Global, fault: LoadFault, report: &mut R) -> Status
+    ensures { ReportsFault fault
+        (record { old = R.held report.old; new = R.held report.new; puts_old = R.faults report.old; puts_new = R.faults report.new })
+        result }
+{
+    match fault {
+        LoadFault::Memory => Status::OutOfMemory,
+        fault => answer_line(report, Status::Refused, load_line(alloc, fault)),
+    }
+}
