@@ -10,6 +10,9 @@ from typing import NamedTuple
 TOP = os.path.dirname(os.path.dirname(os.path.abspath(__file__)))
 SEVEN = os.path.join(TOP, "examples", "seven.wasm")
 
+# The greatest budget of steps, as words of the command line.
+PATIENT = ["--budget", "1000000000000"]
+
 MARKERS = b"\0asm\1\0\0\0"
 MOST_BYTES = 4_194_304
 
@@ -120,23 +123,20 @@ def newest_source():
     return max(times)
 
 
-def patient_program(budget=1_000_000_000_000):
-    """The program, proved and built once more in a copy with a greater budget: the constant and its definition are changed.
-
-    It is kept in `bench/out` until a source changes.
-    """
-    kept = os.path.join(TOP, "bench", "out", "patient")
+def changed_program(name, source, changes):
+    """The program with a source of `ms_run` changed, proved and built in a copy; kept in `bench/out` until a source changes."""
+    kept = os.path.join(TOP, "bench", "out", name)
     if os.path.exists(kept) and os.path.getmtime(kept) > newest_source():
         return kept
     with tempfile.TemporaryDirectory() as folder:
-        for name in ("crates.txt", "HANDLES"):
-            shutil.copy(os.path.join(TOP, name), folder)
+        for it in ("crates.txt", "HANDLES"):
+            shutil.copy(os.path.join(TOP, it), folder)
         skip = shutil.ignore_patterns("must-fail")
         shutil.copytree(os.path.join(TOP, "crates"), os.path.join(folder, "crates"), ignore=skip)
+        for old, new in changes.items():
+            change(os.path.join(folder, "crates", "ms_run", "src", source), old, new)
         tool = os.path.join(folder, "crates", "ms_tool")
-        change(os.path.join(tool, "src", "exec.rt"), "u64 = 1_000_000;", f"u64 = {budget};")
-        change(os.path.join(tool, "specs", "Executions.antt"), "default_budget = 1000000", f"default_budget = {budget}")
-        print("proving and building the program with a greater budget ..", file=sys.stderr)
+        print(f"proving and building the program as {name} ..", file=sys.stderr)
         done = subprocess.run(["rt", "run", "--", "exec", SEVEN], cwd=tool, capture_output=True, text=True)
         program = os.path.join(tool, "out", "ms_tool")
         if done.returncode != 0 or not os.path.exists(program):
