@@ -17,3 +17,17 @@ pub record Report : Type 0 where
   pub new : Option (List ℕ)
   pub puts_old : ℕ
   pub puts_new : ℕ
+
+-- the same of a shelf and of a report by their members, which are told before a call and after it
+abbrev pub shelved : {S : Type 0} → (S → Option Files) → (S → List ℕ → ℕ) → (S → ℕ) → S → S → Shelved
+shelved files read_faults write_faults old new = record {
+  old = files old;
+  new = files new;
+  reads_old = read_faults old;
+  reads_new = read_faults new;
+  writes_old = write_faults old;
+  writes_new = write_faults new;
+}
+
+abbrev pub reported : {S : Type 0} → (S → Option (List ℕ)) → (S → ℕ) → S → S → Report
+reported held faults old new = record { old = held old; new = held new; puts_old = faults old; puts_new = faults new }

@@ -6,6 +6,7 @@ ghost use Rattle.ms_run.specs.Answers.{Assembles, Disassembles};
 ghost use Rattle.ms_run.specs.Lines.{written_line};
 ghost use Rattle.ms_run.specs.Reporting.{Delivers, Did, Makes};
 ghost use Rattle.ms_run.specs.declared.status.Status.{Status};
+ghost use Rattle.ms_run.specs.Observed.{reported, shelved};
 
 use crate::fetch::fetch;
 use crate::lines::written_line;
@@ -24,16 +25,10 @@ fn deliver<F: Shelf, R: Sink>(
     shelf: &mut F,
     report: &mut R,
 ) -> Status
-    ensures delivered { Delivers Status.Done (written_line (length bytes.now)) (Some (record { name = name.now; bytes = bytes.now }))
-        (record {
-          old = F.files shelf.old;
-          new = F.files shelf.new;
-          reads_old = F.read_faults shelf.old;
-          reads_new = F.read_faults shelf.new;
-          writes_old = F.write_faults shelf.old;
-          writes_new = F.write_faults shelf.new;
-        })
-        (record { old = R.held report.old; new = R.held report.new; puts_old = R.faults report.old; puts_new = R.faults report.new })
+    ensures delivered { Delivers Status.Done (written_line (length bytes.now))
+        (Some (record { name = name.now; bytes = bytes.now }))
+        (shelved F.files F.read_faults F.write_faults shelf.old shelf.new)
+        (reported R.held R.faults report.old report.new)
         result }
     ensures reads { SameCounts (F.read_faults shelf.old) (F.read_faults shelf.new) }
 {
@@ -55,15 +50,8 @@ fn asm_bytes<F: Shelf, R: Sink>(
     report: &mut R,
 ) -> Status
     ensures makes { Makes (Assembles target.now) bytes.now
-        (record {
-          old = F.files shelf.old;
-          new = F.files shelf.new;
-          reads_old = F.read_faults shelf.old;
-          reads_new = F.read_faults shelf.new;
-          writes_old = F.write_faults shelf.old;
-          writes_new = F.write_faults shelf.new;
-        })
-        (record { old = R.held report.old; new = R.held report.new; puts_old = R.faults report.old; puts_new = R.faults report.new })
+        (shelved F.files F.read_faults F.write_faults shelf.old shelf.new)
+        (reported R.held R.faults report.old report.new)
         result }
     ensures reads { SameCounts (F.read_faults shelf.old) (F.read_faults shelf.new) }
 {
@@ -90,15 +78,8 @@ pub fn asm_file<F: Shelf, I: Source, O: Sink, R: Sink>(
     report: &mut R,
 ) -> Status
     ensures did { Did file.now (Assembles target.now)
-        (record {
-          old = F.files shelf.old;
-          new = F.files shelf.new;
-          reads_old = F.read_faults shelf.old;
-          reads_new = F.read_faults shelf.new;
-          writes_old = F.write_faults shelf.old;
-          writes_new = F.write_faults shelf.new;
-        })
-        (record { old = R.held report.old; new = R.held report.new; puts_old = R.faults report.old; puts_new = R.faults report.new })
+        (shelved F.files F.read_faults F.write_faults shelf.old shelf.new)
+        (reported R.held R.faults report.old report.new)
         result }
     ensures input { (I.left _input.new ≡ I.left _input.old) × (I.faults _input.new ≡ I.faults _input.old) }
     ensures out { (O.held _out.new ≡ O.held _out.old) × (O.faults _out.new ≡ O.faults _out.old) }
@@ -117,15 +98,8 @@ fn dis_bytes<F: Shelf, R: Sink>(
     report: &mut R,
 ) -> Status
     ensures makes { Makes (Disassembles target.now) bytes.now
-        (record {
-          old = F.files shelf.old;
-          new = F.files shelf.new;
-          reads_old = F.read_faults shelf.old;
-          reads_new = F.read_faults shelf.new;
-          writes_old = F.write_faults shelf.old;
-          writes_new = F.write_faults shelf.new;
-        })
-        (record { old = R.held report.old; new = R.held report.new; puts_old = R.faults report.old; puts_new = R.faults report.new })
+        (shelved F.files F.read_faults F.write_faults shelf.old shelf.new)
+        (reported R.held R.faults report.old report.new)
         result }
     ensures reads { SameCounts (F.read_faults shelf.old) (F.read_faults shelf.new) }
 {
@@ -151,15 +125,8 @@ pub fn dis_file<F: Shelf, I: Source, O: Sink, R: Sink>(
     report: &mut R,
 ) -> Status
     ensures did { Did file.now (Disassembles target.now)
-        (record {
-          old = F.files shelf.old;
-          new = F.files shelf.new;
-          reads_old = F.read_faults shelf.old;
-          reads_new = F.read_faults shelf.new;
-          writes_old = F.write_faults shelf.old;
-          writes_new = F.write_faults shelf.new;
-        })
-        (record { old = R.held report.old; new = R.held report.new; puts_old = R.faults report.old; puts_new = R.faults report.new })
+        (shelved F.files F.read_faults F.write_faults shelf.old shelf.new)
+        (reported R.held R.faults report.old report.new)
         result }
     ensures input { (I.left _input.new ≡ I.left _input.old) × (I.faults _input.new ≡ I.faults _input.old) }
     ensures out { (O.held _out.new ≡ O.held _out.old) × (O.faults _out.new ≡ O.faults _out.old) }

@@ -3,6 +3,7 @@
 ghost use Rattle.std.specs.Prelude.{◌≡◌, ◌<◌, ◌^◌};
 ghost use Rattle.ms_run.specs.Answers.{Executes};
 ghost use Rattle.ms_run.specs.Reporting.{Did, Tells};
+ghost use Rattle.ms_run.specs.Observed.{reported, shelved};
 
 use crate::execution::{answer_outcome, outcome_within};
 use crate::fetch::fetch;
@@ -28,7 +29,7 @@ fn exec_bytes<G: Gaps, T: Tagged, I: Source, O: Sink, R: Sink>(
 ) -> Status
     requires few { budget < 2 ^ 63 }
     ensures tells { Tells (Executes file.now budget memory) bytes.now
-        (record { old = R.held report.old; new = R.held report.new; puts_old = R.faults report.old; puts_new = R.faults report.new })
+        (reported R.held R.faults report.old report.new)
         result }
     ensures input { (I.left input.new ≡ I.left input.old) × (I.faults input.new ≡ I.faults input.old) }
     ensures out { (O.held out.new ≡ O.held out.old) × (O.faults out.new ≡ O.faults out.old) }
@@ -58,15 +59,8 @@ pub fn exec<F: Shelf, I: Source, O: Sink, R: Sink>(
 ) -> Status
     requires few { budget < 2 ^ 63 }
     ensures did { Did file.now (Executes file.now budget memory)
-        (record {
-          old = F.files shelf.old;
-          new = F.files shelf.new;
-          reads_old = F.read_faults shelf.old;
-          reads_new = F.read_faults shelf.new;
-          writes_old = F.write_faults shelf.old;
-          writes_new = F.write_faults shelf.new;
-        })
-        (record { old = R.held report.old; new = R.held report.new; puts_old = R.faults report.old; puts_new = R.faults report.new })
+        (shelved F.files F.read_faults F.write_faults shelf.old shelf.new)
+        (reported R.held R.faults report.old report.new)
         result }
     ensures input { (I.left input.new ≡ I.left input.old) × (I.faults input.new ≡ I.faults input.old) }
     ensures out { (O.held out.new ≡ O.held out.old) × (O.faults out.new ≡ O.faults out.old) }

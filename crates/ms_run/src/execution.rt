@@ -4,6 +4,7 @@ ghost use Rattle.std.specs.Prelude.{◌≡◌, ◌<◌, ◌^◌, IfOk};
 ghost use Rattle.ms_rules.specs.Modules.{WellTyped};
 ghost use Rattle.ms_run.specs.Executions.{DoesExecution, HasLine, IsOver, execution_within, run_line, status_of, status_of_run, text_of};
 ghost use Rattle.ms_run.specs.Reporting.{Reports};
+ghost use Rattle.ms_run.specs.Observed.{reported};
 
 use crate::lines::{misfit_line, result_line, trap_line};
 use crate::report::{answer, answer_line};
@@ -67,7 +68,7 @@ pub fn outcome_within<G: Gaps, T: Tagged, I: Source, O: Sink>(
 fn answer_run<R: Sink>(alloc: Global, ran: Ran, report: &mut R) -> Status
     requires { IsOver ran }
     ensures { Reports (status_of_run ran) (run_line ran)
-        (record { old = R.held report.old; new = R.held report.new; puts_old = R.faults report.old; puts_new = R.faults report.new })
+        (reported R.held R.faults report.old report.new)
         result }
 {
     match ran {
@@ -78,10 +79,11 @@ fn answer_run<R: Sink>(alloc: Global, ran: Ran, report: &mut R) -> Status
     }
 }
 
+/// Puts the line of an outcome, and gives its status, or that of a fault.
 pub fn answer_outcome<R: Sink>(alloc: Global, outcome: Outcome, report: &mut R) -> Status
     requires { HasLine outcome }
     ensures { Reports (status_of outcome) (text_of outcome)
-        (record { old = R.held report.old; new = R.held report.new; puts_old = R.faults report.old; puts_new = R.faults report.new })
+        (reported R.held R.faults report.old report.new)
         result }
 {
     match outcome {

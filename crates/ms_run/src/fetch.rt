@@ -2,6 +2,7 @@
 
 ghost use Rattle.std.specs.Prelude.{IfErr, IfOk};
 ghost use Rattle.ms_run.specs.Reporting.{Did, HasFetched, Nothing};
+ghost use Rattle.ms_run.specs.Observed.{reported, shelved};
 
 use crate::lines::file_line;
 use crate::report::answer_line;
@@ -20,25 +21,11 @@ pub fn fetch<F: Shelf, R: Sink>(
     report: &mut R,
 ) -> Result<Vec<u8>, Status>
     ensures bytes { IfOk result (λ bytes. HasFetched file.now bytes.items
-        (record {
-          old = F.files shelf.old;
-          new = F.files shelf.new;
-          reads_old = F.read_faults shelf.old;
-          reads_new = F.read_faults shelf.new;
-          writes_old = F.write_faults shelf.old;
-          writes_new = F.write_faults shelf.new;
-        })
-        (record { old = R.held report.old; new = R.held report.new; puts_old = R.faults report.old; puts_new = R.faults report.new })) }
+        (shelved F.files F.read_faults F.write_faults shelf.old shelf.new)
+        (reported R.held R.faults report.old report.new)) }
     ensures answered { IfErr result (Did file.now Nothing
-        (record {
-          old = F.files shelf.old;
-          new = F.files shelf.new;
-          reads_old = F.read_faults shelf.old;
-          reads_new = F.read_faults shelf.new;
-          writes_old = F.write_faults shelf.old;
-          writes_new = F.write_faults shelf.new;
-        })
-        (record { old = R.held report.old; new = R.held report.new; puts_old = R.faults report.old; puts_new = R.faults report.new })) }
+        (shelved F.files F.read_faults F.write_faults shelf.old shelf.new)
+        (reported R.held R.faults report.old report.new)) }
 {
     match shelf.read(alloc, file, MOST_BYTES) {
         Fetched::Bytes(bytes) => Ok(bytes),

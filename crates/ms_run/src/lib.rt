@@ -1,8 +1,8 @@
 //! The commands of the program: `exec`, `check`, `asm` and `dis`, each a call over a shelf, an input and two sinks.
 //!
-//! It stands on the readers and writers of both forms of modules, on validation (`ms_valid`), on the machine (`ms_machine`)
-//! and on the objects outside (`ms_outside`). Read `specs/Answers.antt` first, the table of answers, each with its cause; then
-//! `specs/Reporting.antt`, what the objects outside have to do with an answer.
+//! It stands on the readers and writers of both forms of modules, on validation (`ms_valid`), on the machine
+//! (`ms_machine`) and on the objects outside (`ms_outside`). Read `specs/Answers.antt` first, the table of answers, each
+//! with its cause; then `specs/Reporting.antt`, what the objects outside have to do with an answer.
 #![tactic(auto)]
 
 mod check;

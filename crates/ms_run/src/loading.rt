@@ -73,15 +73,17 @@ fn read_module(alloc: Global, name: &str, bytes: &[u8]) -> Result<Module, LoadFa
     }
 }
 
-/// Reads and validates the module of a file: a text of WebAssembly 1.0, chapter 6, where its name ends in `.wat`, else a
-/// binary module of chapter 5. At most 500 blocks may be in one another, 1,000 parentheses, and 50,000 locals in a function.
+/// Reads and validates the module of a file: a text (WebAssembly 1.0, chapter 6) where its name ends in `.wat`, else a
+/// binary module (chapter 5). At most 500 blocks may be in one another, 1,000 parentheses, and 50,000 locals in a
+/// function.
 ///
 /// An error says why the bytes are no valid module, with its place; `Memory` may stand in place of any answer.
 pub fn load_module(alloc: Global, name: &str, bytes: &[u8]) -> Result<Valid, LoadFault>
     // What is loaded is spelled so, and is well typed.
     ensures found { IfOk result (λ m. Spells (form_of name.now) bytes.now m × WellTyped m) }
     // What is spelled so and is well typed is loaded, unless memory runs out.
-    ensures only { (m : Module) → Spells (form_of name.now) bytes.now m → WellTyped m → (result ≡ Ok m) ⊎ (result ≡ Err Memory) }
+    ensures only { (m : Module) → Spells (form_of name.now) bytes.now m → WellTyped m
+        → (result ≡ Ok m) ⊎ (result ≡ Err Memory) }
     // An error is the cause that it names.
     ensures refused { IfErr result (Refuses (form_of name.now) bytes.now) }
 {

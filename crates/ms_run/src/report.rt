@@ -2,6 +2,7 @@
 
 ghost use Rattle.std.specs.Prelude.{◌≡◌, ℕ, List, IfOk, string_bytes};
 ghost use Rattle.ms_run.specs.Reporting.{Reports, ReportsFault};
+ghost use Rattle.ms_run.specs.Observed.{reported};
 
 use crate::lines::load_line;
 use crate::loading::LoadFault;
@@ -12,7 +13,7 @@ use std::alloc::{AllocError, Global};
 /// Puts the text, and gives the status, or that of a fault.
 pub fn answer<R: Sink>(report: &mut R, status: Status, text: &[u8]) -> Status
     ensures { Reports status text.now
-        (record { old = R.held report.old; new = R.held report.new; puts_old = R.faults report.old; puts_new = R.faults report.new })
+        (reported R.held R.faults report.old report.new)
         result }
 {
     match report.put(text) {
@@ -29,7 +30,7 @@ pub fn answer_line<R: Sink>(
     line: Result<String, AllocError>,
 ) -> Status
     ensures { (text : List ℕ) → IfOk line (λ t. string_bytes t ≡ text) → Reports status text
-        (record { old = R.held report.old; new = R.held report.new; puts_old = R.faults report.old; puts_new = R.faults report.new })
+        (reported R.held R.faults report.old report.new)
         result }
 {
     match line {
@@ -41,7 +42,7 @@ pub fn answer_line<R: Sink>(
 /// Puts why a file is no valid module, if it isn't want of memory, and gives the status, or that of a fault.
 pub fn answer_fault<R: Sink>(alloc: Global, fault: LoadFault, report: &mut R) -> Status
     ensures { ReportsFault fault
-        (record { old = R.held report.old; new = R.held report.new; puts_old = R.faults report.old; puts_new = R.faults report.new })
+        (reported R.held R.faults report.old report.new)
         result }
 {
     match fault {

@@ -13,14 +13,16 @@ ghost use Rattle.ms_run.specs.declared.status.Status.{Status};
 ghost use Rattle.ms_words.specs.Asked.{asked_of, is_taken};
 ghost use Rattle.ms_tool.specs.Responding.{Responds};
 ghost use Rattle.ms_tool.specs.Top.{Gives, IsAnswer, IsCutOff, IsFaulty, IsKnown, IsPutFault, IsStarved, IsTarget, IsUnwritten, Stays};
+ghost use Rattle.ms_run.specs.Observed.{reported, shelved};
 
 use ms_outside::{Shelf, Sink, Source};
 use ms_run::{Status, answer, asm_file, check_file, dis_file, exec};
 use ms_words::{Request, WordsFault, parse_words, usage};
 use std::alloc::Global;
 
-/// Does what the words of the command line ask for, of which the first is the program's name: `exec` reads a file from the
-/// shelf, validates the module that it spells and runs it; `check` validates it; `asm` and `dis` write it in the other form.
+/// Does what the words of the command line ask for, of which the first is the program's name: `exec` reads a file from
+/// the shelf, validates the module that it spells and runs it; `check` validates it; `asm` and `dis` write it in the
+/// other form.
 ///
 /// The line of what came of it goes to the report. `input` and `out` are those of the module that is run.
 pub fn tool<F: Shelf, I: Source, O: Sink, R: Sink>(
@@ -31,85 +33,48 @@ pub fn tool<F: Shelf, I: Source, O: Sink, R: Sink>(
     out: &mut O,
     report: &mut R,
 ) -> Status
-    // The status is the one that the table of answers gives for the words and the file. The report has grown by exactly its
-    // line, and exactly its file was written. A read fault is one only where the count of reads of that file rose.
+    // The status is the one that the table of answers gives for the words and the file. The report has grown by exactly
+    // its line, and exactly its file was written. A read fault is one only where the count of reads of that file rose.
     ensures answer { IsPutFault result ⊎ IsAnswer
-        (record {
-          old = F.files shelf.old;
-          new = F.files shelf.new;
-          reads_old = F.read_faults shelf.old;
-          reads_new = F.read_faults shelf.new;
-          writes_old = F.write_faults shelf.old;
-          writes_new = F.write_faults shelf.new;
-        })
+        (shelved F.files F.read_faults F.write_faults shelf.old shelf.new)
         (map (λ w. w.now) words.now)
-        (record { old = R.held report.old; new = R.held report.new; puts_old = R.faults report.old; puts_new = R.faults report.new })
+        (reported R.held R.faults report.old report.new)
         result }
 
     // Usage is told exactly where the definition of the commands refuses the words, unless that can't be put.
     ensures usage { result ≡ Status.Usage → is_taken (map (λ w. w.now) words.now) ≡ false }
     ensures refused { is_taken (map (λ w. w.now) words.now) ≡ false → (result ≡ Status.Usage) ⊎ IsPutFault result }
 
-    // A write fault is one only where the count of the report rose, or that of the shelf's writes. The report has then a
-    // first part of an answer's line, the file being written; or nothing, and the file a first part of its bytes at most.
+    // A write fault is one only where the count of the report rose, or that of the shelf's writes. The report has then
+    // a first part of an answer's line, the file being written; or nothing, and the file a first part of its bytes at
+    // most.
     ensures write_fault { result ≡ Status.WriteFault → IsCutOff
-        (record {
-          old = F.files shelf.old;
-          new = F.files shelf.new;
-          reads_old = F.read_faults shelf.old;
-          reads_new = F.read_faults shelf.new;
-          writes_old = F.write_faults shelf.old;
-          writes_new = F.write_faults shelf.new;
-        })
+        (shelved F.files F.read_faults F.write_faults shelf.old shelf.new)
         (map (λ w. w.now) words.now)
-        (record { old = R.held report.old; new = R.held report.new; puts_old = R.faults report.old; puts_new = R.faults report.new })
+        (reported R.held R.faults report.old report.new)
         ⊎ IsUnwritten
-        (record {
-          old = F.files shelf.old;
-          new = F.files shelf.new;
-          reads_old = F.read_faults shelf.old;
-          reads_new = F.read_faults shelf.new;
-          writes_old = F.write_faults shelf.old;
-          writes_new = F.write_faults shelf.new;
-        })
+        (shelved F.files F.read_faults F.write_faults shelf.old shelf.new)
         (map (λ w. w.now) words.now)
-        (record { old = R.held report.old; new = R.held report.new; puts_old = R.faults report.old; puts_new = R.faults report.new }) }
+        (reported R.held R.faults report.old report.new) }
 
     // Where memory ran out the report is as before, and no file was written but that of an answer.
     ensures memory { result ≡ Status.OutOfMemory → IsStarved
-        (record {
-          old = F.files shelf.old;
-          new = F.files shelf.new;
-          reads_old = F.read_faults shelf.old;
-          reads_new = F.read_faults shelf.new;
-          writes_old = F.write_faults shelf.old;
-          writes_new = F.write_faults shelf.new;
-        })
+        (shelved F.files F.read_faults F.write_faults shelf.old shelf.new)
         (map (λ w. w.now) words.now)
-        (record { old = R.held report.old; new = R.held report.new; puts_old = R.faults report.old; puts_new = R.faults report.new }) }
+        (reported R.held R.faults report.old report.new) }
 
     // What the table gives for a known file is the answer, unless a fault is met or memory runs out.
     ensures complete { (bytes : List ℕ) (status : Status) (line : List ℕ) (file : Option File)
         → IsKnown (F.files shelf.old) (map (λ w. w.now) words.now) bytes
         → Gives (map (λ w. w.now) words.now) (Contents bytes) status line file
-        → ((result ≡ status) × Grows
-        (record { old = R.held report.old; new = R.held report.new; puts_old = R.faults report.old; puts_new = R.faults report.new })
-        line × HasWritten
-        (record {
-          old = F.files shelf.old;
-          new = F.files shelf.new;
-          reads_old = F.read_faults shelf.old;
-          reads_new = F.read_faults shelf.new;
-          writes_old = F.write_faults shelf.old;
-          writes_new = F.write_faults shelf.new;
-        })
-        file) ⊎ IsFaulty result }
+        → ((result ≡ status) × Grows (reported R.held R.faults report.old report.new) line
+        × HasWritten (shelved F.files F.read_faults F.write_faults shelf.old shelf.new) file) ⊎ IsFaulty result }
 
-    // The allocations, slices, reads, writes and frees of a run are a trace that the colour monitor accepts: for all bytes
-    // that spell a valid module which is run, `run` being the one of which the answer tells.
+    // The allocations, slices, reads, writes and frees of a run are a trace that the colour monitor accepts: for all
+    // bytes that spell a valid module which is run, `run` being the one of which the answer tells.
     ensures safe { (name bytes : List ℕ) (budget capacity : ℕ) (m : Module) (run : Run)
-        → capacity < 2 ^ 32 → Spells (form_of name) bytes m → WellTyped m → execution_within budget capacity m ≡ Runs run
-        → Accepts capacity run.events }
+        → capacity < 2 ^ 32 → Spells (form_of name) bytes m → WellTyped m
+        → execution_within budget capacity m ≡ Runs run → Accepts capacity run.events }
 
     // And such a run has an end that the table answers: no task of it is ever stuck.
     ensures never_stuck { (budget capacity : ℕ) (m : Module) (run : Run)
@@ -121,16 +86,8 @@ pub fn tool<F: Shelf, I: Source, O: Sink, R: Sink>(
     ensures puts { R.faults report.old < R.faults report.new → IsPutFault result }
 
     // All files but the one that the words name to be written stay, and so do the input and the output.
-    ensures files { (name : List ℕ) → ¬ IsTarget (asked_of (map (λ w. w.now) words.now)) name → Stays
-        (record {
-          old = F.files shelf.old;
-          new = F.files shelf.new;
-          reads_old = F.read_faults shelf.old;
-          reads_new = F.read_faults shelf.new;
-          writes_old = F.write_faults shelf.old;
-          writes_new = F.write_faults shelf.new;
-        })
-        name }
+    ensures files { (name : List ℕ) → ¬ IsTarget (asked_of (map (λ w. w.now) words.now)) name
+        → Stays (shelved F.files F.read_faults F.write_faults shelf.old shelf.new) name }
     ensures input { (I.left input.new ≡ I.left input.old) × (I.faults input.new ≡ I.faults input.old) }
     ensures out { (O.held out.new ≡ O.held out.old) × (O.faults out.new ≡ O.faults out.old) }
 {
@@ -147,15 +104,8 @@ fn respond<F: Shelf, I: Source, O: Sink, R: Sink>(
     report: &mut R,
 ) -> Status
     ensures responds { Responds (map (λ w. w.now) words.now)
-        (record {
-          old = F.files shelf.old;
-          new = F.files shelf.new;
-          reads_old = F.read_faults shelf.old;
-          reads_new = F.read_faults shelf.new;
-          writes_old = F.write_faults shelf.old;
-          writes_new = F.write_faults shelf.new;
-        })
-        (record { old = R.held report.old; new = R.held report.new; puts_old = R.faults report.old; puts_new = R.faults report.new })
+        (shelved F.files F.read_faults F.write_faults shelf.old shelf.new)
+        (reported R.held R.faults report.old report.new)
         result }
     ensures input { (I.left input.new ≡ I.left input.old) × (I.faults input.new ≡ I.faults input.old) }
     ensures out { (O.held out.new ≡ O.held out.old) × (O.faults out.new ≡ O.faults out.old) }
