@@ -1,0 +1,534 @@
+-- Expressions (C11, 6.5).
+use Rattle.std.specs.Prelude.{ℕ, ◌+◌, ◌-◌, ◌==◌, ◌^◌, Bool, true, false, List, [], length, slice_get, Option, Some, None, if◌then◌else◌}
+use Rattle.c_types.specs.declared.integers.IntType.{IntType}
+use Rattle.c_types.specs.declared.integers.IntType.TheVariants.{Int, UnsignedInt, LongLong}
+use Rattle.c_types.specs.declared.types.Scalar.{Scalar}
+use Rattle.c_types.specs.Integers.{promoted, common}
+use Rattle.c_types.specs.Layout.{members_of}
+use Rattle.c_types.specs.Types.{Ty, void, integer, struct, pointer, function, Tys, no_types, types, is_function, scalar_of}
+use Rattle.c_tree.specs.declared.operators.Access.{Access}
+use Rattle.c_tree.specs.declared.operators.Access.TheVariants as accesses
+use Rattle.c_tree.specs.declared.operators.AssignOp.{AssignOp}
+use Rattle.c_tree.specs.declared.operators.AssignOp.TheVariants as assigns
+use Rattle.c_tree.specs.declared.operators.Infix.TheVariants.{Comma, Assign, Binary}
+use Rattle.c_tree.specs.declared.operators.StepOp.{StepOp}
+use Rattle.c_tree.specs.declared.operators.StepOp.TheVariants as steps
+use Rattle.c_tree.specs.declared.operators.UnaryOp.TheVariants as unaries
+use Rattle.c_tree.specs.Tree as tree
+use Rattle.c_tree.specs.Tree.{Expr, Exprs}
+use Rattle.c_typed.specs.declared.ops.BinaryOp.{BinaryOp}
+use Rattle.c_typed.specs.declared.ops.BinaryOp.TheVariants as ops
+use Rattle.c_typed.specs.declared.ops.RelOp.{RelOp}
+use Rattle.c_typed.specs.declared.ops.RelOp.TheVariants as relations
+use Rattle.c_typed.specs.declared.ops.UnaryOp.TheVariants as signs
+use Rattle.c_typed.specs.declared.ops.Variable.TheVariants as variables
+use Rattle.c_typed.specs.Tree as to
+use Rattle.c_typed.specs.Tree.{Place}
+use Rattle.c_check_types.specs.declared.entity.Entity.{Entity}
+use Rattle.c_check_types.specs.declared.entity.Entity.TheVariants as entities
+use Rattle.c_check_types.specs.declared.operators.Operator.{Operator}
+use Rattle.c_check_types.specs.declared.operators.Operator.TheVariants.{And, Or, Equality, Order, Arithmetic, Shift, Plus, Minus}
+use Rattle.c_check_types.specs.State.{Rule, ◌>>=◌, ◌>>◌, pure, none, given, only_if, state, followed, number_of}
+use Rattle.c_check_types.specs.Scopes.{Library, putchar, getchar, abort, malloc, free, null, eof, library, named_entity}
+use Rattle.c_check_types.specs.TypeEquality.{same_type}
+use Rattle.c_check_types.specs.Operators.{operator_of}
+use Rattle.c_check_types.specs.Constants.{constant_type, constant_bits, character_bits}
+use Rattle.c_check_types.specs.Types.{size_of, type_name}
+use Rattle.c_check.specs.Forms as form
+use Rattle.c_check.specs.Forms.{Form, place, value, designator, text, zero, allocation, operand, value_of, integer_of, pointer_of, place_of, at_type, condition_of, null_of, assigned_to, thrown_away}
+
+-- ---- names (6.5.1)
+
+abbrev pub slot_type : ℕ → Rule Ty
+slot_type n = do
+  s ← state
+  given (slice_get s.slots n)
+
+abbrev pub global_type : ℕ → Rule Ty
+global_type n = do
+  s ← state
+  given (slice_get s.globals n)
+
+abbrev pub function_type : ℕ → Rule Ty
+function_type n = do
+  s ← state
+  f ← given (slice_get s.functions n)
+  pure f.ty
+
+abbrev pub entity_form : Entity → Rule Form
+entity_form (entities.Local n) = do
+  t ← slot_type n
+  pure (place (to.of (variables.Local n)) t)
+entity_form (entities.Global n) = do
+  t ← global_type n
+  pure (place (to.of (variables.Global n)) t)
+entity_form (entities.Function n) = do
+  t ← function_type n
+  pure (designator (to.function n) t)
+
+-- EOF is -1; the functions of the library stand where they are called alone
+abbrev pub name_form : List ℕ → Option Library → Rule Form
+name_form name (Some null) = pure form.null
+name_form name (Some eof) = pure (value (to.number Int (2 ^ 32 - 1)) (integer Int))
+name_form name (Some _) = none
+name_form name None = do
+  e ← named_entity name
+  entity_form e
+
+-- ---- operators on integers
+
+abbrev pub promoted_value : to.Expr × IntType → to.Expr
+promoted_value (e, t) = at_type t (promoted t) e
+
+-- both operands at their common type (6.3.1.8)
+abbrev pub arithmetic : BinaryOp → to.Expr × IntType → to.Expr × IntType → Form
+arithmetic op (a, t) (b, u) =
+    let c = common t u in value (to.binary op c (at_type t c a) (at_type u c b)) (integer c)
+
+-- 6.5.7
+abbrev pub shift : BinaryOp → to.Expr × IntType → to.Expr × IntType → Form
+shift op (a, t) (b, u) =
+    let c = promoted t in value (to.binary op c (at_type t c a) (at_type u c b)) (integer c)
+
+abbrev pub compared : RelOp → to.Expr × IntType → to.Expr × IntType → Form
+compared op (a, t) (b, u) =
+    let c = common t u in value (to.compare op c (at_type t c a) (at_type u c b)) (integer Int)
+
+-- ---- operators on pointers (6.5.6, 6.5.8, 6.5.9)
+
+-- on, or back, by an integer; what the pointer leads to has a size
+abbrev pub moved : (back : Bool) → to.Expr × Ty → to.Expr × IntType → Rule Form
+moved back (p, t) (i, u) = do
+  size_of t
+  pure (value (to.move t back p (at_type u LongLong i)) (pointer t))
+
+abbrev pub moved_by : to.Expr × IntType → to.Expr × Ty → Rule Form
+moved_by (i, u) (p, t) = do
+  size_of t
+  pure (value (to.move_by t (at_type u LongLong i) p) (pointer t))
+
+abbrev pub difference : to.Expr × Ty → to.Expr × Ty → Rule Form
+difference (p, t) (q, u) = do
+  only_if (same_type t u)
+  size_of t
+  pure (value (to.difference t p q) (integer LongLong))
+
+abbrev pub is_equal : RelOp → Bool
+is_equal relations.Equal = true
+is_equal _ = false
+
+-- pointers to functions have equality alone
+abbrev pub equal_pointers : RelOp → (to_function : Bool) → to.Expr → to.Expr → Form
+equal_pointers op true p q = value (to.same_function (is_equal op) p q) (integer Int)
+equal_pointers op false p q = value (to.compare_pointers op p q) (integer Int)
+
+abbrev pub ordered_pointers : RelOp → (to_function : Bool) → to.Expr → to.Expr → Rule Form
+ordered_pointers op true p q = none
+ordered_pointers op false p q = pure (value (to.compare_pointers op p q) (integer Int))
+
+-- ---- operators on two operands
+
+abbrev pub sum : to.Expr × Ty → to.Expr × Ty → Rule Form
+sum (a, integer t) (b, integer u) = pure (arithmetic ops.Add (a, t) (b, u))
+sum (a, pointer t) (b, integer u) = moved false (a, t) (b, u)
+sum (a, integer t) (b, pointer u) = moved_by (a, t) (b, u)
+sum _ _ = none
+
+abbrev pub minus : to.Expr × Ty → to.Expr × Ty → Rule Form
+minus (a, integer t) (b, integer u) = pure (arithmetic ops.Sub (a, t) (b, u))
+minus (a, pointer t) (b, integer u) = moved true (a, t) (b, u)
+minus (a, pointer t) (b, pointer u) = difference (a, t) (b, u)
+minus _ _ = none
+
+abbrev pub order : RelOp → to.Expr × Ty → to.Expr × Ty → Rule Form
+order op (a, integer t) (b, integer u) = pure (compared op (a, t) (b, u))
+order op (a, pointer t) (b, pointer u) = do
+  only_if (same_type t u)
+  ordered_pointers op (is_function t) a b
+order op _ _ = none
+
+-- a null constant takes the type of the pointer beside it
+abbrev pub equality : RelOp → Form → Form → Rule Form
+equality op (value a (integer t)) (value b (integer u)) = pure (compared op (a, t) (b, u))
+equality op (value a (integer t)) (zero u) = pure (compared op (a, t) (to.number u 0, u))
+equality op (zero t) (value b (integer u)) = pure (compared op (to.number t 0, t) (b, u))
+equality op (zero t) (zero u) = pure (compared op (to.number t 0, t) (to.number u 0, u))
+equality op (value a (pointer t)) (value b (pointer u)) = do
+  only_if (same_type t u)
+  pure (equal_pointers op (is_function t) a b)
+equality op (value a (pointer t)) (zero u) = pure (equal_pointers op (is_function t) a (null_of t))
+equality op (value a (pointer t)) form.null = pure (equal_pointers op (is_function t) a (null_of t))
+equality op (zero t) (value b (pointer u)) = pure (equal_pointers op (is_function u) (null_of u) b)
+equality op form.null (value b (pointer u)) = pure (equal_pointers op (is_function u) (null_of u) b)
+equality op _ _ = none
+
+-- of two operands, the left one first
+abbrev pub operating : Operator → Form → Rule Form → Rule Form
+operating And x right = do
+  c ← condition_of x
+  y ← right
+  d ← condition_of y
+  pure (value (to.and c d) (integer Int))
+operating Or x right = do
+  c ← condition_of x
+  y ← right
+  d ← condition_of y
+  pure (value (to.or c d) (integer Int))
+operating (Equality op) x right = do
+  u ← operand x
+  y ← right
+  v ← operand y
+  equality op u v
+operating (Order op) x right = do
+  u ← value_of x
+  y ← right
+  v ← value_of y
+  order op u v
+operating (Arithmetic op) x right = do
+  u ← integer_of x
+  y ← right
+  v ← integer_of y
+  pure (arithmetic op u v)
+operating (Shift op) x right = do
+  u ← integer_of x
+  y ← right
+  v ← integer_of y
+  pure (shift op u v)
+operating Plus x right = do
+  u ← value_of x
+  y ← right
+  v ← value_of y
+  sum u v
+operating Minus x right = do
+  u ← value_of x
+  y ← right
+  v ← value_of y
+  minus u v
+
+-- ---- `c ? x : y` (6.5.15)
+
+abbrev pub chosen : to.Expr → (t : Ty) → to.Expr → to.Expr → Form
+chosen c t a b = value (to.choose (scalar_of t) c a b) t
+
+abbrev pub chosen_integer : to.Expr → to.Expr × IntType → to.Expr × IntType → Form
+chosen_integer c (a, t) (b, u) =
+    let v = common t u in chosen c (integer v) (at_type t v a) (at_type u v b)
+
+abbrev pub choice : to.Expr → Form → Form → Rule Form
+choice c (value a (integer t)) (value b (integer u)) = pure (chosen_integer c (a, t) (b, u))
+choice c (value a (integer t)) (zero u) = pure (chosen_integer c (a, t) (to.number u 0, u))
+choice c (zero t) (value b (integer u)) = pure (chosen_integer c (to.number t 0, t) (b, u))
+choice c (zero t) (zero u) = pure (chosen_integer c (to.number t 0, t) (to.number u 0, u))
+choice c (value a (pointer t)) (value b (pointer u)) = do
+  only_if (same_type t u)
+  pure (chosen c (pointer t) a b)
+choice c (value a (pointer t)) (zero u) = pure (chosen c (pointer t) a (null_of t))
+choice c (value a (pointer t)) form.null = pure (chosen c (pointer t) a (null_of t))
+choice c (zero t) (value b (pointer u)) = pure (chosen c (pointer u) (null_of u) b)
+choice c form.null (value b (pointer u)) = pure (chosen c (pointer u) (null_of u) b)
+choice c (value a void) (value b void) = pure (chosen c void a b)
+choice c _ _ = none
+
+-- ---- unary operators (6.5.3)
+
+-- a function, and what a pointer to one leads to, are that function
+abbrev pub led_to : to.Expr → Ty → Form
+led_to e (function r ps) = designator e (function r ps)
+led_to e t = place (to.deref e) t
+
+abbrev pub deref : Form → Rule Form
+deref f = do
+  v ← pointer_of f
+  pure (led_to v.0 v.1)
+
+abbrev pub address : Form → Rule Form
+address (place p t) = pure (value (to.address p) (pointer t))
+address (designator e t) = pure (value e (pointer t))
+address _ = none
+
+-- functions, void, NULL and malloc's call have no size
+abbrev pub size : Form → Rule Form
+size (place p t) = do
+  n ← size_of t
+  pure (value (to.size_of_place n p) (integer UnsignedInt))
+size (value e t) = do
+  n ← size_of t
+  pure (value (to.size_of_value n e) (integer UnsignedInt))
+size (text bytes) = pure (value (to.size_of_type (length bytes + 1)) (integer UnsignedInt))
+size (zero t) = do
+  n ← size_of (integer t)
+  pure (value (to.size_of_value n (to.number t 0)) (integer UnsignedInt))
+size _ = none
+
+-- what stands in sizeof isn't evaluated, and its literals aren't made: they are counted anew, and forgotten
+abbrev pub unevaluated : {A : Type 0} → Rule A → Rule A
+unevaluated rule = λ s. followed (rule (record s { made = []; literals = 0 })) (λ a after. Some (a, record after { made = s.made; literals = s.literals }))
+
+-- ---- assignments (6.5.16, 6.5.2.4, 6.5.3.1)
+
+abbrev pub copied : ℕ → Place → Place × Ty → Rule Form
+copied n p (q, t) = do
+  only_if (same_type (struct n) t)
+  size_of t
+  pure (value (to.copy n p q) void)
+
+-- a struct is assigned from a place, any other thing from a value
+abbrev pub assigned : Place × Ty → Form → Rule Form
+assigned (p, struct n) f = do
+  q ← place_of f
+  copied n p q
+assigned (p, t) f = do
+  s ← given (scalar_of t)
+  e ← assigned_to t f
+  pure (value (to.assign s p e) t)
+
+-- the type at which `op=` works, of that of the place and that of the operand
+abbrev pub worked : Operator → IntType → IntType → Option (BinaryOp × IntType)
+worked (Arithmetic op) t u = Some (op, common t u)
+worked (Shift op) t u = Some (op, promoted t)
+worked Plus t u = Some (ops.Add, common t u)
+worked Minus t u = Some (ops.Sub, common t u)
+worked _ t u = None
+
+abbrev pub goes_back : Operator → Option Bool
+goes_back Plus = Some false
+goes_back Minus = Some true
+goes_back _ = None
+
+abbrev pub updated : (old : Bool) → Operator → Place × Ty → to.Expr × IntType → Rule Form
+updated old op (p, integer t) (e, u) = do
+  w ← given (worked op t u)
+  pure (value (to.update old t w.0 w.1 p (at_type u w.1 e)) (integer t))
+updated old op (p, pointer t) (e, u) = do
+  back ← given (goes_back op)
+  size_of t
+  pure (value (to.advance old t back p (at_type u LongLong e)) (pointer t))
+updated old op _ v = none
+
+-- `=`, and `op=`
+abbrev pub assigning : Option Operator → Place × Ty → Form → Rule Form
+assigning None p f = assigned p f
+assigning (Some op) p f = do
+  v ← integer_of f
+  updated false op p v
+
+-- by 1
+abbrev pub stepped : (old : Bool) → Operator → Form → Rule Form
+stepped old op f = do
+  p ← place_of f
+  updated old op p (to.number Int 1, Int)
+
+abbrev pub step_operator : StepOp → Operator
+step_operator steps.Increment = Plus
+step_operator steps.Decrement = Minus
+
+abbrev pub assign_operator : AssignOp → Option Operator
+assign_operator assigns.Plain = None
+assign_operator assigns.Mul = Some (Arithmetic ops.Mul)
+assign_operator assigns.Div = Some (Arithmetic ops.Div)
+assign_operator assigns.Rem = Some (Arithmetic ops.Rem)
+assign_operator assigns.Add = Some Plus
+assign_operator assigns.Sub = Some Minus
+assign_operator assigns.ShiftLeft = Some (Shift ops.ShiftLeft)
+assign_operator assigns.ShiftRight = Some (Shift ops.ShiftRight)
+assign_operator assigns.BitAnd = Some (Arithmetic ops.And)
+assign_operator assigns.BitXor = Some (Arithmetic ops.Xor)
+assign_operator assigns.BitOr = Some (Arithmetic ops.Or)
+
+-- ---- members and elements (6.5.2.1, 6.5.2.3)
+
+abbrev pub member_in : Place → Ty → List ℕ → Rule Form
+member_in p (struct n) name = do
+  s ← state
+  names ← given (slice_get s.members n)
+  m ← given (number_of names name)
+  t ← given (slice_get (members_of s.structs (struct n)) m)
+  pure (place (to.member p n m) t)
+member_in p t name = none
+
+abbrev pub member : Access → Form → List ℕ → Rule Form
+member accesses.Dot f name = do
+  p ← place_of f
+  member_in p.0 p.1 name
+member accesses.Arrow f name = do
+  v ← pointer_of f
+  member_in (to.deref v.0) v.1 name
+
+abbrev pub element : to.Expr × Ty → to.Expr × IntType → Rule Form
+element (p, t) (i, u) = do
+  size_of t
+  pure (place (to.deref (to.move t false p (at_type u LongLong i))) t)
+
+-- ---- calls (6.5.2.2)
+
+abbrev pub call_of : to.Expr → Ty → Option Scalar → to.Exprs → to.Expr
+call_of (to.function n) t s es = to.call n s es
+call_of e t s es = to.call_through t s e es
+
+-- a call of what a value points to
+abbrev pub called : to.Expr × Ty → (Tys → Rule to.Exprs) → Rule Form
+called (e, function r ps) arguments = do
+  es ← arguments ps
+  pure (value (call_of e (function r ps) (scalar_of r) es) r)
+called _ arguments = none
+
+-- free takes a pointer to an object or a null constant
+abbrev pub freed : Form → Option to.Expr
+freed (value e (pointer t)) = if is_function t then None else Some (to.free e)
+freed (zero t) = Some (to.free to.null)
+freed form.null = Some (to.free to.null)
+freed _ = None
+
+abbrev pub no_arguments : Exprs → Bool
+no_arguments tree.no_exprs = true
+no_arguments (tree.expr_and e es) = false
+
+-- a call of the library: of which function, with which arguments, the form of the sole one
+abbrev pub library_call : Library → Exprs → Rule Form → Rule Form
+library_call putchar es only = do
+  x ← only
+  e ← assigned_to (integer Int) x
+  pure (value (to.putchar e) (integer Int))
+library_call getchar es only = do
+  only_if (no_arguments es)
+  pure (value to.getchar (integer Int))
+library_call abort es only = do
+  only_if (no_arguments es)
+  pure (value to.abort void)
+library_call malloc es only = do
+  x ← only
+  e ← assigned_to (integer UnsignedInt) x
+  pure (allocation e)
+library_call free es only = do
+  x ← only
+  v ← operand x
+  e ← given (freed v)
+  pure (value e void)
+library_call null es only = none
+library_call eof es only = none
+
+-- a call: of the library, or of a function or a pointer to one
+abbrev pub calling : Option Library → Rule Form → Exprs → Rule Form → (Tys → Rule to.Exprs) → Rule Form
+calling (Some l) callee es only arguments = library_call l es only
+calling None callee es only arguments = do
+  x ← callee
+  p ← pointer_of x
+  called p arguments
+
+-- a cast of a form (6.5.4)
+abbrev pub cast : Ty → Form → Rule Form
+cast void f = do
+  e ← thrown_away f
+  pure (value (to.discard e) void)
+cast (integer t) f = do
+  v ← integer_of f
+  pure (value (at_type v.1 t v.0) (integer t))
+cast (pointer t) f = do
+  e ← assigned_to (pointer t) f
+  pure (value e (pointer t))
+cast _ f = none
+
+-- ---- the rules
+
+abbrev called_library : Expr → Option Library
+called_library (tree.name n) = library n
+called_library _ = None
+
+abbrev constant_form : ℕ → IntType → Form
+constant_form n t = if n == 0 then zero t else value (to.number t n) (integer t)
+
+abbrev mutual
+  pub typing : Expr → Rule Form
+  typing (tree.name n) = name_form n (library n)
+  typing (tree.integer n t) =
+      pure (constant_form (constant_bits (constant_type t) n) (constant_type t))
+  typing (tree.character c) = pure (value (to.number Int (character_bits c)) (integer Int))
+  typing (tree.string bytes) = pure (text bytes)
+  typing (tree.paren e) = typing e
+  typing (tree.index a i) = do
+    x ← typing a
+    p ← pointer_of x
+    y ← typing i
+    j ← integer_of y
+    element p j
+  typing (tree.call f es) = calling (called_library f) (typing f) es (sole es) (arguments es)
+  typing (tree.member op e n) = do
+    x ← typing e
+    member op x n
+  typing (tree.after op e) = do
+    x ← typing e
+    stepped true (step_operator op) x
+  typing (tree.unary unaries.AddressOf e) = do
+    x ← typing e
+    address x
+  typing (tree.unary unaries.Deref e) = do
+    x ← typing e
+    deref x
+  typing (tree.unary unaries.Plus e) = do
+    x ← typing e
+    v ← integer_of x
+    pure (value (promoted_value v) (integer (promoted v.1)))
+  typing (tree.unary unaries.Minus e) = do
+    x ← typing e
+    v ← integer_of x
+    pure (value (to.unary signs.Negate (promoted v.1) (promoted_value v)) (integer (promoted v.1)))
+  typing (tree.unary unaries.Complement e) = do
+    x ← typing e
+    v ← integer_of x
+    pure (value (to.unary signs.Complement (promoted v.1) (promoted_value v)) (integer (promoted v.1)))
+  typing (tree.unary unaries.Not e) = do
+    x ← typing e
+    c ← condition_of x
+    pure (value (to.not c) (integer Int))
+  typing (tree.unary unaries.Increment e) = do
+    x ← typing e
+    stepped false Plus x
+  typing (tree.unary unaries.Decrement e) = do
+    x ← typing e
+    stepped false Minus x
+  typing (tree.unary unaries.SizeOf e) = unevaluated (typing e >>= (λ x. size x))
+  typing (tree.size_of_type s d) = do
+    t ← type_name s d
+    n ← size_of t
+    pure (value (to.size_of_type n) (integer UnsignedInt))
+  typing (tree.cast s d e) = do
+    t ← type_name s d
+    x ← typing e
+    cast t x
+  typing (tree.between Comma a b) = do
+    x ← typing a
+    e ← thrown_away x
+    y ← typing b
+    v ← value_of y
+    pure (value (to.comma e v.0) v.1)
+  typing (tree.between (Assign op) a b) = do
+    x ← typing a
+    p ← place_of x
+    y ← typing b
+    assigning (assign_operator op) p y
+  typing (tree.between (Binary op) a b) = do
+    x ← typing a
+    operating (operator_of op) x (typing b)
+  typing (tree.choice c a b) = do
+    x ← typing c
+    test ← condition_of x
+    y ← typing a
+    u ← operand y
+    z ← typing b
+    v ← operand z
+    choice test u v
+
+  -- the sole argument
+  pub sole : Exprs → Rule Form
+  sole (tree.expr_and e tree.no_exprs) = typing e
+  sole _ = none
+
+  -- arguments, converted to the types of parameters, as many as there are
+  pub arguments : Exprs → Tys → Rule to.Exprs
+  arguments tree.no_exprs no_types = pure to.none
+  arguments (tree.expr_and e es) (types t ts) = do
+    x ← typing e
+    v ← assigned_to t x
+    vs ← arguments es ts
+    pure (to.more v vs)
+  arguments _ _ = none

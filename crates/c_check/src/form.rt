@@ -1,0 +1,385 @@
+//! What an expression is before it is used, and how it is used (C11, 6.3).
+
+ghost use Rattle.std.specs.Prelude.{◌≡◌, IfOk, Some};
+ghost use Rattle.c_types.specs.Types.{integer, pointer, scalar_of, type_of};
+ghost use Rattle.c_typed.specs.Views.{expr_of, place_of};
+ghost use Rattle.c_check.specs.Forms as words;
+ghost use Rattle.c_check.specs.FormViews.{form_of, integer_pair, place_pair, value_pair};
+ghost use Rattle.c_check_types.specs.Views.{Answers, Gives, state_of};
+
+use c_check_types::{Checker, Stop, same_integer, same_type};
+use c_typed::{Expr, Made, Place, boxed};
+use c_types::{CType, IntType, Scalar};
+use std::alloc::{AllocError, Global};
+use std::rc::Rc;
+
+/// What an expression is before it is used.
+#[derive(Drop)]
+pub enum Form<'a> {
+    Place(Place, CType),
+    /// A value of an integer type or a pointer type, or a void expression.
+    Value(Expr, CType),
+    /// A function, by a pointer to it, and its type.
+    Designator(Expr, CType),
+    /// A string literal.
+    Text(&'a [u8]),
+    /// The integer constant 0, which is a null constant, too.
+    Zero(IntType),
+    /// `NULL`.
+    Null,
+    /// A call of malloc with this argument.
+    Allocation(Expr),
+}
+
+/// An integer at a type (C11, 6.3.1.3).
+pub fn at_type(alloc: Global, from: IntType, to: IntType, e: Expr) -> Result<Expr, AllocError>
+    ensures { IfOk result (λ r. expr_of r ≡ words.at_type from to (expr_of e)) }
+{
+    if same_integer(from, to) {
+        Ok(e)
+    } else {
+        Ok(Expr::Convert(from, to, boxed(alloc, e)?))
+    }
+}
+
+/// The null pointer to a type (C11, 6.3.2.3).
+pub fn null_of(t: &CType) -> Expr
+    ensures { expr_of result ≡ words.null_of (type_of t.now) }
+{
+    if t.is_function() {
+        Expr::NoFunction
+    } else {
+        Expr::Null
+    }
+}
+
+/// A value with its type; NULL has none.
+fn plain(f: Form) -> Result<(Expr, CType), Stop>
+    ensures { Gives value_pair (words.plain (form_of f.entry)) result }
+{
+    match f {
+        Form::Value(e, t) => Ok((e, t)),
+        Form::Zero(t) => Ok((Expr::Number(t, 0), CType::Int(t))),
+        Form::Place(_, _) => Err(Stop::NoTyping),
+        Form::Designator(_, _) => Err(Stop::NoTyping),
+        Form::Text(_) => Err(Stop::NoTyping),
+        Form::Null => Err(Stop::NoTyping),
+        Form::Allocation(_) => Err(Stop::NoTyping),
+    }
+}
+
+fn as_integer(v: (Expr, CType)) -> Result<(Expr, IntType), Stop>
+    ensures { Gives integer_pair (words.as_integer (expr_of v.0, type_of v.1)) result }
+{
+    let (e, t) = v;
+    match t {
+        CType::Int(t) => Ok((e, t)),
+        CType::Void => Err(Stop::NoTyping),
+        CType::Struct(_) => Err(Stop::NoTyping),
+        CType::Pointer(_) => Err(Stop::NoTyping),
+        CType::Array(_, _) => Err(Stop::NoTyping),
+        CType::Function(_) => Err(Stop::NoTyping),
+    }
+}
+
+/// A pointer, and what it leads to.
+fn as_pointer(v: (Expr, CType)) -> Result<(Expr, CType), Stop>
+    ensures { Gives value_pair (words.as_pointer (expr_of v.0, type_of v.1)) result }
+{
+    let (e, t) = v;
+    match t {
+        CType::Pointer(t) => Ok((e, t.share()?)),
+        CType::Int(_) => Err(Stop::NoTyping),
+        CType::Void => Err(Stop::NoTyping),
+        CType::Struct(_) => Err(Stop::NoTyping),
+        CType::Array(_, _) => Err(Stop::NoTyping),
+        CType::Function(_) => Err(Stop::NoTyping),
+    }
+}
+
+/// A place with its type.
+pub fn as_place(f: Form) -> Result<(Place, CType), Stop>
+    ensures { Gives place_pair (words.as_place (form_of f.entry)) result }
+{
+    match f {
+        Form::Place(p, t) => Ok((p, t)),
+        Form::Value(_, _) => Err(Stop::NoTyping),
+        Form::Designator(_, _) => Err(Stop::NoTyping),
+        Form::Text(_) => Err(Stop::NoTyping),
+        Form::Zero(_) => Err(Stop::NoTyping),
+        Form::Null => Err(Stop::NoTyping),
+        Form::Allocation(_) => Err(Stop::NoTyping),
+    }
+}
+
+/// A condition: an integer or a pointer (C11, 6.8.4.1).
+fn condition(alloc: Global, v: (Expr, CType)) -> Result<Expr, Stop>
+    ensures { Gives expr_of (words.condition (expr_of v.0, type_of v.1)) result }
+{
+    let (e, t) = v;
+    match t {
+        CType::Int(t) => Ok(integer_condition(alloc, e, t)?),
+        CType::Pointer(t) => Ok(Expr::Truth(pointer_scalar(&t), boxed(alloc, e)?)),
+        CType::Void => Err(Stop::NoTyping),
+        CType::Struct(_) => Err(Stop::NoTyping),
+        CType::Array(_, _) => Err(Stop::NoTyping),
+        CType::Function(_) => Err(Stop::NoTyping),
+    }
+}
+
+fn integer_condition(alloc: Global, e: Expr, t: IntType) -> Result<Expr, AllocError>
+    ensures { IfOk result (λ r. Some (expr_of r) ≡ words.condition (expr_of e, integer t)) }
+{
+    if t.bits() <= 32 {
+        Ok(e)
+    } else {
+        Ok(Expr::Truth(Scalar::Int(t), boxed(alloc, e)?))
+    }
+}
+
+/// What a pointer to a type is.
+fn pointer_scalar(t: &CType) -> Scalar
+    ensures { Some result ≡ scalar_of (pointer (type_of t.now)) }
+{
+    if t.is_function() {
+        Scalar::Function
+    } else {
+        Scalar::Pointer
+    }
+}
+
+/// A form as an integer type, as if by assignment (C11, 6.5.16.1).
+fn to_integer(alloc: Global, t: IntType, f: Form) -> Result<Expr, Stop>
+    ensures { Gives expr_of (words.to_integer t (form_of f.entry)) result }
+{
+    match f {
+        Form::Value(e, u) => value_to_integer(alloc, t, e, u),
+        Form::Zero(u) => Ok(at_type(alloc, u, t, Expr::Number(u, 0))?),
+        Form::Place(_, _) => Err(Stop::NoTyping),
+        Form::Designator(_, _) => Err(Stop::NoTyping),
+        Form::Text(_) => Err(Stop::NoTyping),
+        Form::Null => Err(Stop::NoTyping),
+        Form::Allocation(_) => Err(Stop::NoTyping),
+    }
+}
+
+fn value_to_integer(alloc: Global, t: IntType, e: Expr, u: CType) -> Result<Expr, Stop>
+    ensures { Gives expr_of (words.to_integer t (words.value (expr_of e) (type_of u))) result }
+{
+    match u {
+        CType::Int(u) => Ok(at_type(alloc, u, t, e)?),
+        CType::Void => Err(Stop::NoTyping),
+        CType::Struct(_) => Err(Stop::NoTyping),
+        CType::Pointer(_) => Err(Stop::NoTyping),
+        CType::Array(_, _) => Err(Stop::NoTyping),
+        CType::Function(_) => Err(Stop::NoTyping),
+    }
+}
+
+/// A form as a pointer to a type.
+fn to_pointer(t: &CType, f: Form) -> Result<Expr, Stop>
+    ensures { Gives expr_of (words.to_pointer (type_of t.now) (form_of f.entry)) result }
+{
+    match f {
+        Form::Value(e, u) => value_to_pointer(t, e, u),
+        Form::Zero(_) => Ok(null_of(t)),
+        Form::Null => Ok(null_of(t)),
+        Form::Place(_, _) => Err(Stop::NoTyping),
+        Form::Designator(_, _) => Err(Stop::NoTyping),
+        Form::Text(_) => Err(Stop::NoTyping),
+        Form::Allocation(_) => Err(Stop::NoTyping),
+    }
+}
+
+fn value_to_pointer(t: &CType, e: Expr, u: CType) -> Result<Expr, Stop>
+    ensures { Gives expr_of (words.to_pointer (type_of t.now) (words.value (expr_of e) (type_of u))) result }
+{
+    match u {
+        CType::Pointer(u) => {
+            if same_type(t, &u) {
+                Ok(e)
+            } else {
+                Err(Stop::NoTyping)
+            }
+        }
+        CType::Int(_) => Err(Stop::NoTyping),
+        CType::Void => Err(Stop::NoTyping),
+        CType::Struct(_) => Err(Stop::NoTyping),
+        CType::Array(_, _) => Err(Stop::NoTyping),
+        CType::Function(_) => Err(Stop::NoTyping),
+    }
+}
+
+/// A string literal that decays: it is made before `main` (C11, 6.4.5).
+fn literal_pointer<'a>(checker: &mut Checker<'a>, bytes: &[u8]) -> Result<Form<'a>, Stop>
+    ensures { Answers form_of (words.literal_pointer bytes.now) (state_of checker.old) (state_of checker.new) result }
+{
+    let number = checker.literals;
+    let next = number.checked_add(1).ok_or(Stop::Memory)?;
+    let mut kept = Vec::new(checker.alloc);
+    kept.extend_from_slice(bytes)?;
+    checker.made.push(Made::Literal(kept))?;
+    checker.literals = next;
+    Ok(Form::Value(
+        Expr::Literal(number),
+        CType::Pointer(Rc::new(checker.alloc, CType::Int(IntType::Char))?),
+    ))
+}
+
+/// What a place holds: an array decays, another place is read, a struct's isn't (C11, 6.3.2.1).
+fn read_place<'a>(checker: &mut Checker<'a>, p: Place, t: CType) -> Result<Form<'a>, Stop>
+    ensures { Answers form_of (words.read_place (place_of p) (type_of t)) (state_of checker.old) (state_of checker.new) result }
+{
+    let p = boxed(checker.alloc, p)?;
+    match t {
+        CType::Array(t, n) => Ok(Form::Value(Expr::Decay(t.share()?, n, p), CType::Pointer(t))),
+        CType::Int(t) => Ok(Form::Value(Expr::Read(Scalar::Int(t), p), CType::Int(t))),
+        CType::Pointer(t) => Ok(Form::Value(Expr::Read(pointer_scalar(&t), p), CType::Pointer(t))),
+        CType::Void => Err(Stop::NoTyping),
+        CType::Struct(_) => Err(Stop::NoTyping),
+        CType::Function(_) => Err(Stop::NoTyping),
+    }
+}
+
+/// An operand: a value, the constant 0 or NULL.
+pub fn operand<'a>(checker: &mut Checker<'a>, f: Form<'a>) -> Result<Form<'a>, Stop>
+    ensures { Answers form_of (words.operand (form_of f.entry)) (state_of checker.old) (state_of checker.new) result }
+{
+    match f {
+        Form::Place(p, t) => read_place(checker, p, t),
+        Form::Value(e, t) => Ok(Form::Value(e, t)),
+        Form::Designator(e, t) => Ok(Form::Value(e, CType::Pointer(Rc::new(checker.alloc, t)?))),
+        Form::Text(bytes) => literal_pointer(checker, bytes),
+        Form::Zero(t) => Ok(Form::Zero(t)),
+        Form::Null => Ok(Form::Null),
+        Form::Allocation(_) => Err(Stop::NoTyping),
+    }
+}
+
+/// A value and its type.
+pub fn value_of<'a>(checker: &mut Checker<'a>, f: Form<'a>) -> Result<(Expr, CType), Stop>
+    ensures { Answers value_pair (words.value_of (form_of f.entry)) (state_of checker.old) (state_of checker.new) result }
+{
+    let v = operand(checker, f)?;
+    plain(v)
+}
+
+/// An integer and its type.
+pub fn integer_of<'a>(checker: &mut Checker<'a>, f: Form<'a>) -> Result<(Expr, IntType), Stop>
+    ensures { Answers integer_pair (words.integer_of (form_of f.entry)) (state_of checker.old) (state_of checker.new) result }
+{
+    let v = value_of(checker, f)?;
+    as_integer(v)
+}
+
+/// A pointer, and what it leads to.
+pub fn pointer_of<'a>(checker: &mut Checker<'a>, f: Form<'a>) -> Result<(Expr, CType), Stop>
+    ensures { Answers value_pair (words.pointer_of (form_of f.entry)) (state_of checker.old) (state_of checker.new) result }
+{
+    let v = value_of(checker, f)?;
+    as_pointer(v)
+}
+
+/// A condition.
+pub fn condition_of<'a>(checker: &mut Checker<'a>, f: Form<'a>) -> Result<Expr, Stop>
+    ensures { Answers expr_of (words.condition_of (form_of f.entry)) (state_of checker.old) (state_of checker.new) result }
+{
+    let v = value_of(checker, f)?;
+    condition(checker.alloc, v)
+}
+
+/// A form as a type, as if by assignment (C11, 6.5.16.1).
+pub fn assigned_to<'a>(checker: &mut Checker<'a>, t: &CType, f: Form<'a>) -> Result<Expr, Stop>
+    ensures { Answers expr_of (words.assigned_to (type_of t.now) (form_of f.entry)) (state_of checker.old) (state_of checker.new) result }
+{
+    match t {
+        CType::Int(t) => {
+            let v = operand(checker, f)?;
+            to_integer(checker.alloc, *t, v)
+        }
+        CType::Pointer(t) => pointer_from(checker, t, f),
+        CType::Void => Err(Stop::NoTyping),
+        CType::Struct(_) => Err(Stop::NoTyping),
+        CType::Array(_, _) => Err(Stop::NoTyping),
+        CType::Function(_) => Err(Stop::NoTyping),
+    }
+}
+
+/// A form as a pointer to a type; malloc's call becomes one to a type with a size.
+fn pointer_from<'a>(checker: &mut Checker<'a>, t: &CType, f: Form<'a>) -> Result<Expr, Stop>
+    ensures { Answers expr_of (words.assigned_to (pointer (type_of t.now)) (form_of f.entry)) (state_of checker.old) (state_of checker.new) result }
+{
+    match f {
+        Form::Allocation(e) => {
+            checker.size_of(t)?;
+            Ok(Expr::Malloc(t.share()?, boxed(checker.alloc, e)?))
+        }
+        Form::Place(p, u) => {
+            let v = operand(checker, Form::Place(p, u))?;
+            to_pointer(t, v)
+        }
+        Form::Value(e, u) => to_pointer(t, Form::Value(e, u)),
+        Form::Designator(e, u) => {
+            let v = operand(checker, Form::Designator(e, u))?;
+            to_pointer(t, v)
+        }
+        Form::Text(bytes) => {
+            let v = operand(checker, Form::Text(bytes))?;
+            to_pointer(t, v)
+        }
+        Form::Zero(u) => to_pointer(t, Form::Zero(u)),
+        Form::Null => to_pointer(t, Form::Null),
+    }
+}
+
+/// A form that is thrown away (C11, 6.3.2.2).
+pub fn thrown_away<'a>(checker: &mut Checker<'a>, f: Form<'a>) -> Result<Expr, Stop>
+    ensures { Answers expr_of (words.thrown_away (form_of f.entry)) (state_of checker.old) (state_of checker.new) result }
+{
+    match f {
+        Form::Place(p, t) => place_thrown_away(checker, p, t),
+        Form::Value(e, t) => {
+            let v = value_of(checker, Form::Value(e, t))?;
+            Ok(v.0)
+        }
+        Form::Designator(e, t) => {
+            let v = value_of(checker, Form::Designator(e, t))?;
+            Ok(v.0)
+        }
+        Form::Text(bytes) => {
+            let v = value_of(checker, Form::Text(bytes))?;
+            Ok(v.0)
+        }
+        Form::Zero(t) => {
+            let v = value_of(checker, Form::Zero(t))?;
+            Ok(v.0)
+        }
+        Form::Null => Err(Stop::NoTyping),
+        Form::Allocation(_) => Err(Stop::NoTyping),
+    }
+}
+
+fn place_thrown_away<'a>(checker: &mut Checker<'a>, p: Place, t: CType) -> Result<Expr, Stop>
+    ensures { Answers expr_of (words.thrown_away (words.place (place_of p) (type_of t))) (state_of checker.old) (state_of checker.new) result }
+{
+    match t {
+        CType::Struct(n) => {
+            checker.size_of(&CType::Struct(n))?;
+            Ok(Expr::Visit(boxed(checker.alloc, p)?))
+        }
+        CType::Int(t) => {
+            let v = value_of(checker, Form::Place(p, CType::Int(t)))?;
+            Ok(v.0)
+        }
+        CType::Pointer(t) => {
+            let v = value_of(checker, Form::Place(p, CType::Pointer(t)))?;
+            Ok(v.0)
+        }
+        CType::Array(t, n) => {
+            let v = value_of(checker, Form::Place(p, CType::Array(t, n)))?;
+            Ok(v.0)
+        }
+        CType::Void => Err(Stop::NoTyping),
+        CType::Function(_) => Err(Stop::NoTyping),
+    }
+}

@@ -1,0 +1,4 @@
+pub mod Wide
+pub mod Rows
+pub mod Rules
+pub mod Parameters

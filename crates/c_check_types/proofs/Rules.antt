@@ -1,0 +1,12 @@
+-- What the answers of calls say of the rule around them.
+use Rattle.std.proofs.Common.{◌≡◌, ◌∙◌, sym, ap, Err}
+use Rattle.c_check_types.specs.declared.fault.Stop.{Stop}
+use Rattle.c_check_types.specs.declared.fault.Stop.TheVariants as stops
+use Rattle.c_check_types.specs.State.{Rule, State, followed}
+use Rattle.c_check_types.specs.Views.{Answers}
+
+-- a rule ends where a part of it has no answer
+pub stopped : {A B C D : Type 0} (view : B → A) (w : D → C) (rule : Rule A) (all : Rule C) (s t old new : State) (next : A → Rule C) (e : Stop)
+    → followed (rule s) next ≡ all old → Answers view rule s t (Err e) → Answers w all old new (Err e)
+stopped view w rule all s t old new next stops.NoTyping is gone = sym is ∙ ap (λ o. followed o next) gone
+stopped view w rule all s t old new next stops.Memory is gone = tt

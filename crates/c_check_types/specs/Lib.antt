@@ -1,0 +1,8 @@
+pub mod State
+pub mod TypeEquality
+pub mod Scopes
+pub mod Operators
+pub mod Constants
+pub mod Fits
+pub mod Types
+pub mod Views

@@ -1,0 +1,10 @@
+/// What a name stands for (C11, 6.2.3).
+#[derive(Clone, Copy, Debug, PartialEq, Eq)]
+pub enum Entity {
+    /// A parameter or a variable of a function, by its slot.
+    Local(u32),
+    /// A variable at file scope, by its number.
+    Global(u32),
+    /// A function, by its number.
+    Function(u32),
+}
