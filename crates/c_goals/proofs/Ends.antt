@@ -29,12 +29,12 @@ use Rattle.c_tree.specs.declared.external.OuterSpecifier.TheVariants as outers
 use Rattle.c_tree.specs.declared.external.ExternalForm.{ExternalForm}
 use Rattle.c_tree.specs.declared.external.ExternalForm.TheVariants as forms
 use Rattle.c_tree.specs.Grammar.{mark, keyword, spell_specifier, spell, spell_declarator, spell_head, spell_declarators, spell_piece, spell_members, FitsSpecifier, level, IsSomething, Fits, FitsDeclarator, FitDeclarators, FitMembers}
-use Rattle.c_goals.specs.declared.kind.Kind.{Kind}
-use Rattle.c_goals.specs.declared.kind.Kind.TheVariants as kinds
-use Rattle.c_goals.specs.declared.value.Value.{Value}
-use Rattle.c_goals.specs.declared.value.Value.TheVariants as values
-use Rattle.c_goals.specs.Table.{core_at, nothing_at, specifier_rests, inits_rest, rests, height, least, closed}
-use Rattle.c_goals.specs.Meaning.{written, IsAsked, TypeVal, an_expr, a_type, a_specifier, an_opening, Val, value_of, OfExpr, OfDeclarator, OfSpecifier, OfStatement, OfHead, IsStart, IsHand}
+use Rattle.c_rows.specs.declared.kind.Kind.{Kind}
+use Rattle.c_rows.specs.declared.kind.Kind.TheVariants as kinds
+use Rattle.c_rows.specs.declared.value.Value.{Value}
+use Rattle.c_rows.specs.declared.value.Value.TheVariants as values
+use Rattle.c_rows.specs.Table.{core_at, nothing_at, specifier_rests, inits_rest, rests, height, least, closed}
+use Rattle.c_rows.specs.Meaning.{written, IsAsked, TypeVal, an_expr, a_type, a_specifier, an_opening, Val, value_of, OfExpr, OfDeclarator, OfSpecifier, OfStatement, OfHead, IsStart, IsHand}
 use Rattle.c_goals.proofs.Lists.{inits_are, fit_inits_last, tallest_of_last}
 use Rattle.c_goals.proofs.Closed.{closed_same, closed_fits, closed_high}
 

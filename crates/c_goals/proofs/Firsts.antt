@@ -26,14 +26,14 @@ use Rattle.c_tree.specs.declared.tree.Core.{Core}
 use Rattle.c_tree.specs.declared.tree.Core.TheVariants as cores
 use Rattle.c_tree.specs.Tree.{Expr, name, integer, character, string, paren, index, call, member, after, unary, size_of_type, cast, between, choice, no_exprs, Declarator, named, nothing, pointer, array, sized, wrapped, function, function_void, no_parameters}
 use Rattle.c_tree.specs.Grammar.{mark, spell_specifier, spell, spell_arguments, spell_declarator, level, FitsDeclarator}
-use Rattle.c_goals.specs.declared.kind.Kind.{Kind}
-use Rattle.c_goals.specs.declared.kind.Kind.TheVariants as kinds
-use Rattle.c_goals.specs.declared.kind.Row.TheVariants as rows
-use Rattle.c_goals.specs.declared.kind.Punctuator.TheVariants as at
-use Rattle.c_goals.specs.declared.value.Value.TheVariants as values
-use Rattle.c_goals.specs.Classes.{infix_at, step_at, access_at, is_sizeof, begins_specifier, is_specifier, is_else, is_mark, is}
-use Rattle.c_goals.specs.Table.{Turn, joined, opens, begins, stuck, only, if_some, on_mark, level_at, operand, begin, statement_word}
-use Rattle.c_goals.specs.Meaning.{OfExpr}
+use Rattle.c_rows.specs.declared.kind.Kind.{Kind}
+use Rattle.c_rows.specs.declared.kind.Kind.TheVariants as kinds
+use Rattle.c_rows.specs.declared.kind.Row.TheVariants as rows
+use Rattle.c_rows.specs.declared.kind.Punctuator.TheVariants as at
+use Rattle.c_rows.specs.declared.value.Value.TheVariants as values
+use Rattle.c_rows.specs.Classes.{infix_at, step_at, access_at, is_sizeof, begins_specifier, is_specifier, is_else, is_mark, is}
+use Rattle.c_rows.specs.Table.{Turn, joined, opens, begins, stuck, only, if_some, on_mark, level_at, operand, begin, statement_word}
+use Rattle.c_rows.specs.Meaning.{OfExpr}
 use Rattle.c_goals.proofs.Reach.{IsStuck}
 
 -- ---- tests

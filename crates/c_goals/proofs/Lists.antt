@@ -16,7 +16,7 @@ use Rattle.c_tree.specs.Views.{with_expr, with_parameter}
 use Rattle.c_tree.specs.InitialiserViews.{with_initialiser}
 use Rattle.c_tree.specs.StatementViews.{with_item}
 use Rattle.c_tree.specs.Grammar.{mark, behind_commas, each, are_some, spell_specifier, spell, spell_arguments, spell_rest, spell_declarator, spell_parameters, spell_more, spell_initialiser, spell_initialisers, spell_values, spell_init, spell_inits, spell_statement, spell_items, spell_declarators, spell_piece, spell_members, FitsSpecifier, level, Fits, FitArguments, FitsDeclarator, FitParameters, FitsInitialiser, FitInitialisers, FitsInit, FitInits, FitItems}
-use Rattle.c_goals.specs.Meaning.{inits_then}
+use Rattle.c_rows.specs.Meaning.{inits_then}
 
 pub append_nil : {A : Type 0} → (xs : List A) → xs ++ [] ≡ xs
 append_nil [] = refl

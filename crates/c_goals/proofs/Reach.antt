@@ -3,18 +3,18 @@ use Rattle.std.proofs.Common.{◌≡◌, ◌≤◌, true, List, [], ◌∷◌, �
 use Rattle.c_token.specs.declared.word.Word.{Word}
 use Rattle.c_token.specs.declared.word.Word.TheVariants as words
 use Rattle.c_tree.specs.Grammar.{mark}
-use Rattle.c_goals.specs.declared.kind.Kind.{Kind}
-use Rattle.c_goals.specs.declared.kind.Row.{Row}
-use Rattle.c_goals.specs.declared.kind.Punctuator.{Punctuator}
-use Rattle.c_goals.specs.declared.kind.Punctuator.TheVariants as at
-use Rattle.c_goals.specs.declared.kind.Symbol.{Symbol}
-use Rattle.c_goals.specs.declared.kind.Symbol.TheVariants.{Part, Word as Said}
-use Rattle.c_goals.specs.declared.value.Value.{Value}
-use Rattle.c_goals.specs.declared.value.Value.TheVariants as values
-use Rattle.c_goals.specs.declared.frame.Frame.{Frame}
-use Rattle.c_goals.specs.Classes.{mark_of, is}
-use Rattle.c_goals.specs.Table.{joined, opens, begins, stuck, turn, rests, symbols, build, first_frame, with_part, with_rest, made, expects, State, opened, Move, takes, goes, stops, resumes, turned, step, settle}
-use Rattle.c_goals.specs.Meaning.{written, Val, value_of, Parts, onto, written_rest, Stands, lowest, Reaches, here, taking, going, settling}
+use Rattle.c_rows.specs.declared.kind.Kind.{Kind}
+use Rattle.c_rows.specs.declared.kind.Row.{Row}
+use Rattle.c_rows.specs.declared.kind.Punctuator.{Punctuator}
+use Rattle.c_rows.specs.declared.kind.Punctuator.TheVariants as at
+use Rattle.c_rows.specs.declared.kind.Symbol.{Symbol}
+use Rattle.c_rows.specs.declared.kind.Symbol.TheVariants.{Part, Word as Said}
+use Rattle.c_rows.specs.declared.value.Value.{Value}
+use Rattle.c_rows.specs.declared.value.Value.TheVariants as values
+use Rattle.c_rows.specs.declared.frame.Frame.{Frame}
+use Rattle.c_rows.specs.Classes.{mark_of, is}
+use Rattle.c_rows.specs.Table.{joined, opens, begins, stuck, turn, rests, symbols, build, first_frame, with_part, with_rest, made, expects, State, opened, Move, takes, goes, stops, resumes, turned, step, settle}
+use Rattle.c_rows.specs.Meaning.{written, Val, value_of, Parts, onto, written_rest, Stands, lowest, Reaches, here, taking, going, settling}
 use Rattle.c_goals.proofs.States.{Moves, moves, Settles, settles}
 
 pub followed : (s t u : State) (ws vs us : List Word) → Reaches s ws t vs → Reaches t vs u us → Reaches s ws u us

@@ -6,19 +6,19 @@ use Rattle.c_tree.specs.declared.operators.UnaryOp.{UnaryOp}
 use Rattle.c_tree.specs.declared.operators.UnaryOp.TheVariants as unaries
 use Rattle.c_tree.specs.Operators.{operand_of, a_unary}
 use Rattle.c_tree.specs.Grammar.{mark}
-use Rattle.c_goals.specs.declared.kind.Kind.{Kind}
-use Rattle.c_goals.specs.declared.kind.Kind.TheVariants as kinds
-use Rattle.c_goals.specs.declared.kind.Row.{Row}
-use Rattle.c_goals.specs.declared.kind.Row.TheVariants as rows
-use Rattle.c_goals.specs.declared.kind.Punctuator.{Punctuator}
-use Rattle.c_goals.specs.declared.kind.Symbol.{Symbol}
-use Rattle.c_goals.specs.declared.kind.Symbol.TheVariants.{Part, Word as Said}
-use Rattle.c_goals.specs.declared.value.Value.{Value}
-use Rattle.c_goals.specs.declared.value.Value.TheVariants as values
-use Rattle.c_goals.specs.declared.frame.Frame.{Frame}
-use Rattle.c_goals.specs.Classes.{mark_of, is}
-use Rattle.c_goals.specs.Table.{Turn, joined, opens, begins, stuck, turn, rests, symbols, build, height, least, rise, first_frame, with_part, with_rest, Goal, made, expects, State, opened, Move, takes, goes, stops, resumes, turned, step, settle}
-use Rattle.c_goals.specs.Meaning.{written, Val, value_of, IsStart, IsHand, Parts, onto, written_rest, highest, leasts, Text, Framed, AreStarts, Leads, bottom, waits, Stands, over, overs, lowest}
+use Rattle.c_rows.specs.declared.kind.Kind.{Kind}
+use Rattle.c_rows.specs.declared.kind.Kind.TheVariants as kinds
+use Rattle.c_rows.specs.declared.kind.Row.{Row}
+use Rattle.c_rows.specs.declared.kind.Row.TheVariants as rows
+use Rattle.c_rows.specs.declared.kind.Punctuator.{Punctuator}
+use Rattle.c_rows.specs.declared.kind.Symbol.{Symbol}
+use Rattle.c_rows.specs.declared.kind.Symbol.TheVariants.{Part, Word as Said}
+use Rattle.c_rows.specs.declared.value.Value.{Value}
+use Rattle.c_rows.specs.declared.value.Value.TheVariants as values
+use Rattle.c_rows.specs.declared.frame.Frame.{Frame}
+use Rattle.c_rows.specs.Classes.{mark_of, is}
+use Rattle.c_rows.specs.Table.{Turn, joined, opens, begins, stuck, turn, rests, symbols, build, height, least, rise, first_frame, with_part, with_rest, Goal, made, expects, State, opened, Move, takes, goes, stops, resumes, turned, step, settle}
+use Rattle.c_rows.specs.Meaning.{written, Val, value_of, IsStart, IsHand, Parts, onto, written_rest, highest, leasts, Text, Framed, AreStarts, Leads, bottom, waits, Stands, over, overs, lowest}
 use Rattle.c_goals.proofs.Words.{word_is}
 use Rattle.c_goals.proofs.Turns.{Turns, Opened, turns, right_small}
 use Rattle.c_goals.proofs.Ends.{Rested, Rests, rested, ends}

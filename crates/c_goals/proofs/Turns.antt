@@ -38,19 +38,19 @@ use Rattle.c_tree.specs.declared.external.Piece.TheVariants as pieces
 use Rattle.c_tree.specs.declared.external.OuterSpecifier.TheVariants as outers
 use Rattle.c_tree.specs.declared.external.ExternalForm.TheVariants as forms
 use Rattle.c_tree.specs.Grammar.{mark, keyword, spell_integer, spell_specifier, spell, spell_declarator, spell_items, spell_head, spell_members, level, IsDirect, may_name, may_be_nothing, FitsDeclarator, FitsInit, FitsClause, FitMembers}
-use Rattle.c_goals.specs.declared.kind.Kind.{Kind}
-use Rattle.c_goals.specs.declared.kind.Kind.TheVariants as kinds
-use Rattle.c_goals.specs.declared.kind.Row.{Row}
-use Rattle.c_goals.specs.declared.kind.Row.TheVariants as rows
-use Rattle.c_goals.specs.declared.kind.Punctuator.{Punctuator}
-use Rattle.c_goals.specs.declared.kind.Punctuator.TheVariants as at
-use Rattle.c_goals.specs.declared.value.Value.{Value}
-use Rattle.c_goals.specs.declared.value.Value.TheVariants as values
-use Rattle.c_goals.specs.Classes.{infix_at, prefix_at, step_at, access_at, integer_at, specifier_at, is_struct, is_sizeof, is_specifier, is_else, mark_of, is_mark, is}
-use Rattle.c_goals.specs.Table.{Turn, joined, opens, begins, stuck, only, if_some, on_mark, on_keyword, level_at, core_at, takes_type, operand_mark, operand, declarator_mark, declarator_word, specifier_keyword, statement_mark, statement_keyword, statement_word, first_word, begin, postfix, tail, type_in_parens, next_argument, access_name, direct_mark, declarator_tail, sole_void, closed, next_parameter, open_declarator, and_integer, struct_body, specifier_tail, tag_name, next_element, has_no_value, is_single, form_end, inits_tail, block_end, items_tail, members_end, members_tail, member_tail, turn, symbols, build, height, least_of, least, lift, rise, first_frame}
-use Rattle.c_goals.specs.Table as table
-use Rattle.c_goals.specs.Meaning.{inits_then, written, Val, OperandVal, an_expr, a_type, MemberVal, a_specifier, an_opening, value_of, OfExpr, OfSizeof, OfDeclarator, OfSpecifier, OfOuter, OfInitialiser, OfInits, OfStatement, OfBlock, MayComma, OfMembers, OfHead, IsHand, Parts, written_rest, highest, leasts, Text, Made, Framed}
-use Rattle.c_goals.specs.Meaning as meaning
+use Rattle.c_rows.specs.declared.kind.Kind.{Kind}
+use Rattle.c_rows.specs.declared.kind.Kind.TheVariants as kinds
+use Rattle.c_rows.specs.declared.kind.Row.{Row}
+use Rattle.c_rows.specs.declared.kind.Row.TheVariants as rows
+use Rattle.c_rows.specs.declared.kind.Punctuator.{Punctuator}
+use Rattle.c_rows.specs.declared.kind.Punctuator.TheVariants as at
+use Rattle.c_rows.specs.declared.value.Value.{Value}
+use Rattle.c_rows.specs.declared.value.Value.TheVariants as values
+use Rattle.c_rows.specs.Classes.{infix_at, prefix_at, step_at, access_at, integer_at, specifier_at, is_struct, is_sizeof, is_specifier, is_else, mark_of, is_mark, is}
+use Rattle.c_rows.specs.Table.{Turn, joined, opens, begins, stuck, only, if_some, on_mark, on_keyword, level_at, core_at, takes_type, operand_mark, operand, declarator_mark, declarator_word, specifier_keyword, statement_mark, statement_keyword, statement_word, first_word, begin, postfix, tail, type_in_parens, next_argument, access_name, direct_mark, declarator_tail, sole_void, closed, next_parameter, open_declarator, and_integer, struct_body, specifier_tail, tag_name, next_element, has_no_value, is_single, form_end, inits_tail, block_end, items_tail, members_end, members_tail, member_tail, turn, symbols, build, height, least_of, least, lift, rise, first_frame}
+use Rattle.c_rows.specs.Table as table
+use Rattle.c_rows.specs.Meaning.{inits_then, written, Val, OperandVal, an_expr, a_type, MemberVal, a_specifier, an_opening, value_of, OfExpr, OfSizeof, OfDeclarator, OfSpecifier, OfOuter, OfInitialiser, OfInits, OfStatement, OfBlock, MayComma, OfMembers, OfHead, IsHand, Parts, written_rest, highest, leasts, Text, Made, Framed}
+use Rattle.c_rows.specs.Meaning as meaning
 use Rattle.c_goals.proofs.Words.{infix_is, step_is, access_is, prefix_is, integer_is, specifier_is, struct_is, sizeof_is, else_is, mark_is, word_is}
 use Rattle.c_goals.proofs.Closed.{closed_same, closed_fits, closed_high}
 use Rattle.c_goals.proofs.Lists.{append_nil, arguments_last, fit_last, tallest_last, parameters_last, fit_parameters_last, tallest_parameter_last, initialisers_last, fit_initialisers_last, tallest_initialiser_last, inits_then_last, inits_are, each_last, tallest_of_last, fit_inits_last, items_last, fit_items_last, tallest_item_last, members_last, declarators_last, named_high}

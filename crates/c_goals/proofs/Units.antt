@@ -12,10 +12,10 @@ use Rattle.c_tree.specs.declared.external.OuterSpecifier.{OuterSpecifier}
 use Rattle.c_tree.specs.declared.external.OuterSpecifier.TheVariants as outers
 use Rattle.c_tree.specs.declared.external.ExternalForm.{ExternalForm}
 use Rattle.c_tree.specs.Grammar.{spell_outer, spell_form, FitsOuter, FitsForm}
-use Rattle.c_goals.specs.declared.kind.Kind.TheVariants as kinds
-use Rattle.c_goals.specs.declared.value.Value.TheVariants as values
-use Rattle.c_goals.specs.Table.{made, State, stops, step, settle}
-use Rattle.c_goals.specs.Meaning.{Text, Leads, bottom, Stands, lowest, first_state, Reaches, here, taking, going, settling}
+use Rattle.c_rows.specs.declared.kind.Kind.TheVariants as kinds
+use Rattle.c_rows.specs.declared.value.Value.TheVariants as values
+use Rattle.c_rows.specs.Table.{made, State, stops, step, settle}
+use Rattle.c_rows.specs.Meaning.{Text, Leads, bottom, Stands, lowest, first_state, Reaches, here, taking, going, settling}
 use Rattle.c_goals.proofs.Lists.{append_nil}
 use Rattle.c_goals.proofs.States.{Moves, moves, Settles, settles, completed, first_stands}
 use Rattle.c_goals.proofs.Reach.{followed, IsEnd, meets, end_stays, rises_on}

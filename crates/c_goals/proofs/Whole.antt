@@ -30,16 +30,16 @@ use Rattle.c_tree.specs.declared.external.ExternalForm.TheVariants as forms
 use Rattle.c_tree.specs.InitialiserViews.{with_initialiser}
 use Rattle.c_tree.specs.StatementViews.{with_item}
 use Rattle.c_tree.specs.Grammar.{mark, keyword, behind_commas, each, spell_specifier, spell, spell_declarator, spell_initialiser, spell_values, spell_init, spell_inits, spell_clause, spell_first, spell_statement, spell_items, spell_declarators, spell_members, spell_outer, spell_form, FitsSpecifier, level, IsSomething, Fits, FitsDeclarator, FitsInitialiser, FitInitialisers, FitsInit, FitInits, FitsClause, FitsFirst, FitsStatement, FitItems, FitDeclarators, FitMembers, FitsOuter, FitsForm}
-use Rattle.c_goals.specs.declared.kind.Kind.{Kind}
-use Rattle.c_goals.specs.declared.kind.Kind.TheVariants as kinds
-use Rattle.c_goals.specs.declared.kind.Row.TheVariants as rows
-use Rattle.c_goals.specs.declared.kind.Punctuator.TheVariants as at
-use Rattle.c_goals.specs.declared.value.Value.{Value}
-use Rattle.c_goals.specs.declared.value.Value.TheVariants as values
-use Rattle.c_goals.specs.declared.frame.Frame.{Frame}
-use Rattle.c_goals.specs.Classes.{begins_specifier, is_specifier, is_else, is}
-use Rattle.c_goals.specs.Table.{begins, begin, block_end, with_part, opened}
-use Rattle.c_goals.specs.Meaning.{inits_then, InitialiserVal, InitsVal, a_specifier, an_opening, OfInits, Reaches, first_state}
+use Rattle.c_rows.specs.declared.kind.Kind.{Kind}
+use Rattle.c_rows.specs.declared.kind.Kind.TheVariants as kinds
+use Rattle.c_rows.specs.declared.kind.Row.TheVariants as rows
+use Rattle.c_rows.specs.declared.kind.Punctuator.TheVariants as at
+use Rattle.c_rows.specs.declared.value.Value.{Value}
+use Rattle.c_rows.specs.declared.value.Value.TheVariants as values
+use Rattle.c_rows.specs.declared.frame.Frame.{Frame}
+use Rattle.c_rows.specs.Classes.{begins_specifier, is_specifier, is_else, is}
+use Rattle.c_rows.specs.Table.{begins, begin, block_end, with_part, opened}
+use Rattle.c_rows.specs.Meaning.{inits_then, InitialiserVal, InitsVal, a_specifier, an_opening, OfInits, Reaches, first_state}
 use Rattle.c_goals.proofs.Lists.{append_nil, inits_are}
 use Rattle.c_goals.proofs.Reach.{st, joins, row_said, row_begun, rests_reach, IsStuck, Reads}
 use Rattle.c_goals.proofs.Firsts.{le_test, less_test, first_strength, begins_with, operand_no_specifier, operand_no_semicolon, operand_no_close, operand_no_brace, operand_no_end, operand_no_else, operand_is_plain, EndsSpecifier, specifier_stops, EndsDeclarator, specifier_begins, name_first}

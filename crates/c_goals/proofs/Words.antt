@@ -14,9 +14,9 @@ use Rattle.c_tree.specs.declared.specifier.IntegerWord.{IntegerWord}
 use Rattle.c_tree.specs.declared.specifier.SpecifierNode.{SpecifierNode}
 use Rattle.c_tree.specs.Operators.{infix_mark, unary_word, step_mark, access_mark, integer_keyword}
 use Rattle.c_tree.specs.Grammar.{keyword, spell_specifier, FitsSpecifier}
-use Rattle.c_goals.specs.declared.kind.Punctuator.{Punctuator}
-use Rattle.c_goals.specs.declared.kind.Punctuator.TheVariants as at
-use Rattle.c_goals.specs.Classes.{infix_at, prefix_at, step_at, access_at, integer_at, specifier_at, is_struct, is_sizeof, is_else, mark_of, is_mark, is}
+use Rattle.c_rows.specs.declared.kind.Punctuator.{Punctuator}
+use Rattle.c_rows.specs.declared.kind.Punctuator.TheVariants as at
+use Rattle.c_rows.specs.Classes.{infix_at, prefix_at, step_at, access_at, integer_at, specifier_at, is_struct, is_sizeof, is_else, mark_of, is_mark, is}
 
 IsFor : {A : Type 0} → (A → Mark) → Mark → Option A → Type 0
 IsFor spelled m None = Unit {0}

@@ -1,12 +1,10 @@
 -- What the functions over the table give.
-use Rattle.std.specs.Prelude.{◌≡◌, List, [], ◌∷◌, ◌++◌, Result, Ok, Err}
+use Rattle.std.specs.Prelude.{◌≡◌, Result, Ok, Err}
 use Rattle.std.specs.declared.alloc.AllocError.{AllocError}
-use Rattle.c_tree.specs.declared.initialiser.Init.{Init}
-use Rattle.c_goals.specs.declared.value.Value.{Value}
-use Rattle.c_goals.specs.declared.value.Value.TheVariants as values
+use Rattle.c_rows.specs.declared.value.Value.{Value}
 use Rattle.c_goals.specs.declared.turning.Outcome.{Outcome}
 use Rattle.c_goals.specs.declared.turning.Outcome.TheVariants.{Joined, Opens, Begins, Stuck}
-use Rattle.c_goals.specs.Table.{Turn, joined, opens, begins, stuck}
+use Rattle.c_rows.specs.Table.{Turn, joined, opens, begins, stuck}
 
 -- what becomes of a value in hand, which is given back where a row stands open or the word doesn't belong to it
 abbrev pub Turned : Turn → Value → Result Outcome AllocError → Type 0
@@ -15,8 +13,3 @@ Turned t v (Ok (Opens r u)) = (t ≡ opens r) × (u ≡ v)
 Turned t v (Ok (Begins r u)) = (t ≡ begins r) × (u ≡ v)
 Turned t v (Ok (Stuck u)) = (t ≡ stuck) × (u ≡ v)
 Turned t v (Err e) = Unit {0}
-
--- all declarators of a declaration, and what lies before them
-abbrev pub AreInits : List Value → List Init → List Value → Type 0
-AreInits (values.Inits xs x ∷ vs) all rest = (all ≡ xs ++ x ∷ []) × (rest ≡ vs)
-AreInits _ all rest = ⊥

@@ -2,14 +2,12 @@
 
 ghost use Rattle.std.specs.Prelude.{◌≡◌, Ok};
 ghost use Rattle.c_goals.specs.Calls.{Turned};
-ghost use Rattle.c_goals.specs.Classes.{specifier_at};
-ghost use Rattle.c_goals.specs.Table.{begin, if_said, declarator_mark, declarator_word, first_word, on_keyword, operand, operand_mark, specifier_keyword, statement_keyword, statement_mark, statement_word};
+ghost use Rattle.c_rows.specs.Classes.{specifier_at};
+ghost use Rattle.c_rows.specs.Table.{begin, if_said, declarator_mark, declarator_word, first_word, on_keyword, operand, operand_mark, specifier_keyword, statement_keyword, statement_mark, statement_word};
 ghost use Rattle.c_tree.specs.Grammar.{may_be_nothing, may_name};
 
-use crate::classes::{is_sizeof, is_specifier, is_struct, prefix_at};
-use crate::kind::{Kind, Punctuator, Row};
 use crate::turning::Outcome;
-use crate::value::Value;
+use c_rows::{Kind, Punctuator, Row, Value, is_sizeof, is_specifier, is_struct, prefix_at};
 use c_token::{Keyword, Mark, Word};
 use c_tree::{
     Block, Core, Declarator, DeclaratorNode, Expr, ExprNode, ExternalForm, ForFirst, ForFirstNode,

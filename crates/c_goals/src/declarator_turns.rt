@@ -2,14 +2,12 @@
 
 ghost use Rattle.std.specs.Prelude.{◌≡◌, IfOk, Ok};
 ghost use Rattle.c_goals.specs.Calls.{Turned};
-ghost use Rattle.c_goals.specs.Table.{closed, core_at, declarator_tail, direct_mark, is_pointer, open_declarator, sole_void, turn};
+ghost use Rattle.c_rows.specs.Table.{closed, core_at, declarator_tail, direct_mark, is_pointer, open_declarator, sole_void, turn};
 ghost use Rattle.c_tree.specs.Tree.{function, nothing, no_parameters};
 
 use crate::begin::may_be_nothing;
-use crate::classes::is_specifier;
-use crate::kind::{Kind, Punctuator, Row};
 use crate::turning::Outcome;
-use crate::value::Value;
+use c_rows::{Kind, Punctuator, Row, Value, is_specifier};
 use c_token::{Mark, Word};
 use c_tree::{Core, Declarator, DeclaratorNode, Parameters, SpecifierNode};
 use std::alloc::{AllocError, Global};

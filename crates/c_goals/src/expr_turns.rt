@@ -2,12 +2,10 @@
 
 ghost use Rattle.std.specs.Prelude.{◌≡◌};
 ghost use Rattle.c_goals.specs.Calls.{Turned};
-ghost use Rattle.c_goals.specs.Table.{access_name, are_no_args, next_argument, level_at, on_mark, postfix, tail, takes_type, turn, type_in_parens};
+ghost use Rattle.c_rows.specs.Table.{access_name, are_no_args, next_argument, level_at, on_mark, postfix, tail, takes_type, turn, type_in_parens};
 
-use crate::classes::{access_at, infix_at, is_specifier, step_at};
-use crate::kind::{Kind, Punctuator, Row};
 use crate::turning::Outcome;
-use crate::value::Value;
+use c_rows::{Kind, Punctuator, Row, Value, access_at, infix_at, is_specifier, step_at};
 use c_token::{Mark, Word};
 use c_tree::{Access, Args, Expr, ExprNode};
 use std::alloc::{AllocError, Global};

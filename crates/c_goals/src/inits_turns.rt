@@ -2,11 +2,10 @@
 
 ghost use Rattle.std.specs.Prelude.{◌≡◌};
 ghost use Rattle.c_goals.specs.Calls.{Turned};
-ghost use Rattle.c_goals.specs.Table.{are_no_values, form_end, has_no_value, inits_tail, is_single, next_element};
+ghost use Rattle.c_rows.specs.Table.{are_no_values, form_end, has_no_value, inits_tail, is_single, next_element};
 
-use crate::kind::{Kind, Punctuator, Row};
 use crate::turning::Outcome;
-use crate::value::Value;
+use c_rows::{Kind, Punctuator, Row, Value};
 use c_token::Word;
 use c_tree::{Block, ExternalForm, Init, Initialiser, InitialiserNode, Initialisers, Inits};
 use std::alloc::{AllocError, Global};

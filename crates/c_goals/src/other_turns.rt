@@ -2,12 +2,10 @@
 
 ghost use Rattle.std.specs.Prelude.{◌≡◌, IfOk, Ok, true};
 ghost use Rattle.c_goals.specs.Calls.{Turned};
-ghost use Rattle.c_goals.specs.Table.{are_no, block_end, items_tail, member_tail, members_end, members_tail, turn};
+ghost use Rattle.c_rows.specs.Table.{are_no, block_end, items_tail, member_tail, members_end, members_tail, turn};
 
-use crate::classes::{is_else, is_specifier};
-use crate::kind::{Kind, Punctuator, Row};
 use crate::turning::Outcome;
-use crate::value::Value;
+use c_rows::{Kind, Punctuator, Row, Value, is_else, is_specifier};
 use c_token::{Bytes, Word};
 use c_tree::{
     Block, Declarator, Declarators, Expr, ExternalForm, Jump, MemberHead, Members, OuterSpecifier,

@@ -1,11 +1,10 @@
 //! Values that are complete, and how high the others will be.
 
 ghost use Rattle.std.specs.Prelude.{◌≡◌, None, IfOk};
-ghost use Rattle.c_goals.specs.Table.{inits_rest, least, nothing_at, rests, specifier_rests};
+ghost use Rattle.c_rows.specs.Table.{inits_rest, least, nothing_at, rests, specifier_rests};
 
 use crate::inits_turns::are_no_values;
-use crate::kind::Kind;
-use crate::value::Value;
+use c_rows::{Kind, Value};
 use c_tree::{
     Core, Declarator, DeclaratorNode, OuterSpecifier, Specifier, Statement, StatementNode, above,
 };

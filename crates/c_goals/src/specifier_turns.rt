@@ -2,12 +2,10 @@
 
 ghost use Rattle.std.specs.Prelude.{◌≡◌};
 ghost use Rattle.c_goals.specs.Calls.{Turned};
-ghost use Rattle.c_goals.specs.Table.{and_integer, is_structure, specifier_tail, struct_body, tag_name};
+ghost use Rattle.c_rows.specs.Table.{and_integer, is_structure, specifier_tail, struct_body, tag_name};
 
-use crate::classes::integer_at;
-use crate::kind::{Kind, Punctuator};
 use crate::turning::Outcome;
-use crate::value::Value;
+use c_rows::{Kind, Punctuator, Value, integer_at};
 use c_token::Word;
 use c_tree::{IntegerWord, Members, Specifier, SpecifierNode};
 use std::alloc::{AllocError, Global};

@@ -2,16 +2,15 @@
 
 ghost use Rattle.std.specs.Prelude.{◌≡◌};
 ghost use Rattle.c_goals.specs.Calls.{Turned};
-ghost use Rattle.c_goals.specs.Table.{turn};
+ghost use Rattle.c_rows.specs.Table.{turn};
 
 use crate::begin::begin;
 use crate::declarator_turns::{array_turn, declarator_tail, function_turn, open_declarator};
 use crate::expr_turns::{access_name, call_turn, paren_turn, tail};
 use crate::inits_turns::{element_turn, inits_tail};
-use crate::kind::{Kind, Row};
 use crate::other_turns::{if_turn, items_tail, jump_turn, member_tail, members_tail};
 use crate::specifier_turns::{specifier_tail, tag_name};
-use crate::value::Value;
+use c_rows::{Kind, Row, Value};
 use c_token::Word;
 use std::alloc::{AllocError, Global};
 

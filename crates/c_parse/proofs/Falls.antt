@@ -25,17 +25,17 @@ use Rattle.c_tree.specs.StatementHeights.{ends_open}
 use Rattle.c_tree.specs.Operators.{makes, left_of, extended, a_choice, an_or, a_cast, a_postfix}
 use Rattle.c_tree.specs.Grammar.{level, may_name, may_be_nothing}
 use Rattle.c_tree.specs.Views.{are_none}
-use Rattle.c_goals.specs.Classes.{infix_at, prefix_at, step_at, access_at, integer_at, specifier_at, is_specifier, is_struct, is_sizeof, is_else, is_mark, is}
-use Rattle.c_goals.specs.declared.kind.Punctuator.TheVariants as at
-use Rattle.c_goals.specs.declared.kind.Kind.{Kind}
-use Rattle.c_goals.specs.declared.kind.Kind.TheVariants as kinds
-use Rattle.c_goals.specs.declared.kind.Row.TheVariants as rows
-use Rattle.c_goals.specs.declared.kind.Symbol.{Symbol}
-use Rattle.c_goals.specs.declared.kind.Symbol.TheVariants.{Part, Word as Said}
-use Rattle.c_goals.specs.declared.value.Value.{Value}
-use Rattle.c_goals.specs.declared.value.Value.TheVariants as values
-use Rattle.c_goals.specs.declared.frame.Frame.{Frame}
-use Rattle.c_goals.specs.Table.{Turn, joined, opens, begins, stuck, only, if_some, on_mark, on_keyword, Goal as Wanted, made, expects, State, opened, with_part, first_frame, symbols, Move, takes, goes, stops, resumes, turned, rests, nothing_at, turn, step, is_pointer, are_no_args, are_no_values, are_no, has_no_value, is_single, takes_type, level_at, core_at, operand, declarator_word, specifier_keyword, statement_keyword, statement_word, begin, postfix, tail, type_in_parens, next_argument, access_name, direct_mark, closed, next_parameter, open_declarator, and_integer, struct_body, specifier_tail, tag_name, next_element, form_end, inits_tail, block_end, items_tail, members_end, members_tail, member_tail}
+use Rattle.c_rows.specs.Classes.{infix_at, prefix_at, step_at, access_at, integer_at, specifier_at, is_specifier, is_struct, is_sizeof, is_else, is_mark, is}
+use Rattle.c_rows.specs.declared.kind.Punctuator.TheVariants as at
+use Rattle.c_rows.specs.declared.kind.Kind.{Kind}
+use Rattle.c_rows.specs.declared.kind.Kind.TheVariants as kinds
+use Rattle.c_rows.specs.declared.kind.Row.TheVariants as rows
+use Rattle.c_rows.specs.declared.kind.Symbol.{Symbol}
+use Rattle.c_rows.specs.declared.kind.Symbol.TheVariants.{Part, Word as Said}
+use Rattle.c_rows.specs.declared.value.Value.{Value}
+use Rattle.c_rows.specs.declared.value.Value.TheVariants as values
+use Rattle.c_rows.specs.declared.frame.Frame.{Frame}
+use Rattle.c_rows.specs.Table.{Turn, joined, opens, begins, stuck, only, if_some, on_mark, on_keyword, Goal as Wanted, made, expects, State, opened, with_part, first_frame, symbols, Move, takes, goes, stops, resumes, turned, rests, nothing_at, turn, step, is_pointer, are_no_args, are_no_values, are_no, has_no_value, is_single, takes_type, level_at, core_at, operand, declarator_word, specifier_keyword, statement_keyword, statement_word, begin, postfix, tail, type_in_parens, next_argument, access_name, direct_mark, closed, next_parameter, open_declarator, and_integer, struct_body, specifier_tail, tag_name, next_element, form_end, inits_tail, block_end, items_tail, members_end, members_tail, member_tail}
 
 -- how much is left to be read of open rows: each row, and each word and part of it
 abbrev pub amount : List Frame → ℕ

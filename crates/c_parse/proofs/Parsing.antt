@@ -7,10 +7,10 @@ use Rattle.c_tree.specs.declared.external.External.{External}
 use Rattle.c_tree.specs.declared.external.OuterSpecifier.{OuterSpecifier}
 use Rattle.c_tree.specs.declared.external.ExternalForm.{ExternalForm}
 use Rattle.c_tree.specs.Grammar.{IsUnit, empty_unit}
-use Rattle.c_goals.specs.declared.kind.Kind.TheVariants as kinds
-use Rattle.c_goals.specs.declared.value.Value.TheVariants as values
-use Rattle.c_goals.specs.Table.{State}
-use Rattle.c_goals.specs.Meaning.{first_state, lowest}
+use Rattle.c_rows.specs.declared.kind.Kind.TheVariants as kinds
+use Rattle.c_rows.specs.declared.value.Value.TheVariants as values
+use Rattle.c_rows.specs.Table.{State}
+use Rattle.c_rows.specs.Meaning.{first_state, lowest}
 use Rattle.c_goals.proofs.Units.{At, at_first, at_next, closes, at_start, goes_on, refused, risen, unfinished as never}
 use Rattle.c_parse.specs.declared.fault.CParse.{CParse}
 use Rattle.c_parse.specs.declared.fault.CParse.TheVariants.{Syntax, TooDeep, Memory}

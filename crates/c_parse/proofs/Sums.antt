@@ -1,9 +1,9 @@
 -- Heights of what rows that stand open are part of.
 use Rattle.std.proofs.Common.{◌≡◌, ℕ, ◌+◌, max, List, [], ◌∷◌, ◌++◌, reverse, sym, ◌∙◌, ap, subst, arith}
 use Rattle.std.proofs.lemmas.List.{reverse-append}
-use Rattle.c_goals.specs.declared.frame.Frame.{Frame}
-use Rattle.c_goals.specs.Table.{rise}
-use Rattle.c_goals.specs.Meaning.{over, overs, leasts}
+use Rattle.c_rows.specs.declared.frame.Frame.{Frame}
+use Rattle.c_rows.specs.Table.{rise}
+use Rattle.c_rows.specs.Meaning.{over, overs, leasts}
 use Rattle.c_parse.specs.declared.waiting.Entry.{Entry}
 use Rattle.c_parse.specs.Waiting.{frames_of, rises, AreSummed}
 

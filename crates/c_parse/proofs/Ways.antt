@@ -3,8 +3,8 @@ use Rattle.std.proofs.Common.{◌≡◌, [], ◌∷◌, subst}
 use Rattle.c_token.specs.declared.word.Word.{Word}
 use Rattle.c_tree.specs.declared.external.OuterSpecifier.{OuterSpecifier}
 use Rattle.c_tree.specs.declared.external.ExternalForm.{ExternalForm}
-use Rattle.c_goals.specs.Table.{State, takes, goes, step, settle}
-use Rattle.c_goals.specs.Meaning.{Reaches, here, taking, going, settling}
+use Rattle.c_rows.specs.Table.{State, takes, goes, step, settle}
+use Rattle.c_rows.specs.Meaning.{Reaches, here, taking, going, settling}
 use Rattle.c_goals.proofs.Reach.{followed}
 use Rattle.c_parse.specs.Calls.{whole, Takes, Comes}
 

@@ -6,13 +6,13 @@ use Rattle.c_token.specs.declared.word.Token.{Token}
 use Rattle.c_tree.specs.declared.external.External.{External}
 use Rattle.c_tree.specs.declared.external.OuterSpecifier.{OuterSpecifier}
 use Rattle.c_tree.specs.declared.external.ExternalForm.{ExternalForm}
-use Rattle.c_goals.specs.declared.kind.Kind.{Kind}
-use Rattle.c_goals.specs.declared.kind.Kind.TheVariants as kinds
-use Rattle.c_goals.specs.declared.value.Value.{Value}
-use Rattle.c_goals.specs.declared.value.Value.TheVariants as values
-use Rattle.c_goals.specs.declared.frame.Frame.{Frame}
-use Rattle.c_goals.specs.Table.{Goal as Wanted, made, expects, State, rests, takes, goes, stops, resumes, step, settle}
-use Rattle.c_goals.specs.Meaning.{first_state, lowest, Reaches}
+use Rattle.c_rows.specs.declared.kind.Kind.{Kind}
+use Rattle.c_rows.specs.declared.kind.Kind.TheVariants as kinds
+use Rattle.c_rows.specs.declared.value.Value.{Value}
+use Rattle.c_rows.specs.declared.value.Value.TheVariants as values
+use Rattle.c_rows.specs.declared.frame.Frame.{Frame}
+use Rattle.c_rows.specs.Table.{Goal as Wanted, made, expects, State, rests, takes, goes, stops, resumes, step, settle}
+use Rattle.c_rows.specs.Meaning.{first_state, lowest, Reaches}
 use Rattle.c_parse.specs.declared.fault.CParse.{CParse}
 use Rattle.c_parse.specs.declared.fault.CParse.TheVariants.{Syntax, TooDeep, Memory}
 use Rattle.c_parse.specs.declared.steps.Goal.{Goal}

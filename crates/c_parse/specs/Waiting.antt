@@ -1,8 +1,8 @@
 -- Rows that stand open, and how high they make what they are part of.
 use Rattle.std.specs.Prelude.{◌≡◌, ℕ, ◌+◌, List, [], ◌∷◌}
-use Rattle.c_goals.specs.declared.frame.Frame.{Frame}
-use Rattle.c_goals.specs.Table.{rise}
-use Rattle.c_goals.specs.Meaning.{overs}
+use Rattle.c_rows.specs.declared.frame.Frame.{Frame}
+use Rattle.c_rows.specs.Table.{rise}
+use Rattle.c_rows.specs.Meaning.{overs}
 use Rattle.c_parse.specs.declared.waiting.Entry.{Entry}
 
 abbrev pub frames_of : List Entry → List Frame

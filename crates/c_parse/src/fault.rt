@@ -1,3 +1,5 @@
+//! Why tokens are no translation unit.
+
 ghost use Rattle.std.specs.Prelude.{◌≡◌};
 ghost use Rattle.c_parse.specs.declared.fault.CParse.TheVariants.{Memory};
 

@@ -2,7 +2,7 @@
 
 ghost use Rattle.std.specs.Prelude.{◌≡◌, ◌⊎◌, List, [], IfErr, IfOk, MatchResult, Ok, Err};
 ghost use Rattle.c_tree.specs.declared.external.External.{External};
-ghost use Rattle.c_goals.specs.Meaning.{lowest};
+ghost use Rattle.c_rows.specs.Meaning.{lowest};
 ghost use Rattle.c_parse.specs.Calls.{Finishes, IsLow, Reads, Starts, goal_of};
 ghost use Rattle.c_parse.specs.Units.{Answers, Parses, Stops, Tells};
 
@@ -10,7 +10,7 @@ use crate::fault::CParse;
 use crate::runs::{Taking, finish, take};
 use crate::steps::Goal;
 use crate::waiting::Waiting;
-use c_goals::{Kind, Value};
+use c_rows::{Kind, Value};
 use c_token::Token;
 use c_tree::{External, Unit};
 use std::alloc::{AllocError, Global};

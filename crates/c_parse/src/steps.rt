@@ -1,14 +1,13 @@
 //! Single steps of the table.
 
 ghost use Rattle.std.specs.Prelude.{◌≡◌, IfOk};
-ghost use Rattle.c_goals.specs.Table.{first_frame, opened, symbols, with_part};
-ghost use Rattle.c_goals.specs.Meaning.{lowest};
+ghost use Rattle.c_rows.specs.Table.{first_frame, opened, symbols, with_part};
+ghost use Rattle.c_rows.specs.Meaning.{lowest};
 ghost use Rattle.c_parse.specs.Calls.{IsLast, Resumes, Steps, Sticks, goal_of, state};
 
 use crate::waiting::{Waiting, higher, sum};
-use c_goals::{
-    Frame, Kind, Outcome, Parts, Punctuator, Row, Symbol, Value, build, least, rests, turn,
-};
+use c_goals::{Outcome, least, rests, turn};
+use c_rows::{Frame, Kind, Parts, Punctuator, Row, Symbol, Value, build};
 use c_token::Word;
 use c_tree::{ExternalForm, OuterSpecifier};
 use std::alloc::{AllocError, Global};

@@ -1,7 +1,9 @@
-ghost use Rattle.std.specs.Prelude.{◌≡◌, ◌+◌, [], ◌∷◌, max, IfSome, IfNone, OnOk, IfOk};
-ghost use Rattle.c_goals.specs.Meaning.{overs};
+//! The stack of rows that stand open.
 
-use c_goals::Frame;
+ghost use Rattle.std.specs.Prelude.{◌≡◌, ◌+◌, [], ◌∷◌, max, IfSome, IfNone, OnOk, IfOk};
+ghost use Rattle.c_rows.specs.Meaning.{overs};
+
+use c_rows::Frame;
 use std::alloc::{AllocError, Global};
 use std::marker::Model;
 
@@ -26,8 +28,8 @@ struct Entry {
 impl Model for Waiting {
     ghost use Rattle.std.specs.Prelude.{List, reverse};
     ghost use Rattle.std.specs.Coded.{coded_list};
-    ghost use Rattle.c_goals.specs.declared.frame.Frame.{Frame};
-    ghost use Rattle.c_goals.specs.contracts.frame.Frame as frame_row;
+    ghost use Rattle.c_rows.specs.declared.frame.Frame.{Frame};
+    ghost use Rattle.c_rows.specs.contracts.frame.Frame as frame_row;
 
     ghost Value = { List Frame };
 

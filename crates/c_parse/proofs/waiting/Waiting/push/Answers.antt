@@ -1,6 +1,6 @@
 use Rattle.std.proofs.Common.{◌≡◌, ◌+◌, max, reverse}
-use Rattle.c_goals.specs.Table.{rise}
-use Rattle.c_goals.specs.Meaning.{leasts, overs}
+use Rattle.c_rows.specs.Table.{rise}
+use Rattle.c_rows.specs.Meaning.{leasts, overs}
 use Rattle.c_parse.specs.Waiting.{frames_of}
 use Rattle.c_parse.proofs.Sums.{one_pushed}
 use Rattle.c_parse.proofs.waiting.Waiting.push.Goals as goal

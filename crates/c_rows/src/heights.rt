@@ -1,7 +1,7 @@
 //! How high a value in hand makes what it becomes.
 
 ghost use Rattle.std.specs.Prelude.{◌≡◌, IfOk};
-ghost use Rattle.c_goals.specs.Table.{height, least, least_braces, least_of, least_open, least_paren, option_height};
+ghost use Rattle.c_rows.specs.Table.{height, least, least_braces, least_of, least_open, least_paren, option_height};
 ghost use Rattle.c_tree.specs.StatementHeights.{clause_height};
 ghost use Rattle.c_tree.specs.Heights.{init_height, value_height};
 

@@ -21,8 +21,8 @@ use Rattle.c_tree.specs.declared.specifier.IntegerWord.TheVariants as integers
 use Rattle.c_tree.specs.declared.specifier.IntegerWords.TheVariants.{One}
 use Rattle.c_tree.specs.declared.specifier.SpecifierNode.{SpecifierNode}
 use Rattle.c_tree.specs.declared.specifier.SpecifierNode.TheVariants as specifiers
-use Rattle.c_goals.specs.declared.kind.Punctuator.{Punctuator}
-use Rattle.c_goals.specs.declared.kind.Punctuator.TheVariants as at
+use Rattle.c_rows.specs.declared.kind.Punctuator.{Punctuator}
+use Rattle.c_rows.specs.declared.kind.Punctuator.TheVariants as at
 
 -- the operator that stands between two operands
 abbrev pub infix_at : Mark → Option Infix

@@ -1,3 +1,5 @@
+//! What is in hand.
+
 use c_token::Bytes;
 use c_tree::{
     Access, Args, Block, Declarator, Declarators, Expr, ExternalForm, ForFirst, Init, Initialiser,

@@ -37,18 +37,18 @@ use Rattle.c_tree.specs.Views.{with_expr, with_parameter, are_none}
 use Rattle.c_tree.specs.InitialiserViews.{with_initialiser}
 use Rattle.c_tree.specs.StatementViews.{with_item}
 use Rattle.c_tree.specs.Grammar.{level, may_name, may_be_nothing}
-use Rattle.c_goals.specs.declared.kind.Kind.{Kind}
-use Rattle.c_goals.specs.declared.kind.Kind.TheVariants as kinds
-use Rattle.c_goals.specs.declared.kind.Row.{Row}
-use Rattle.c_goals.specs.declared.kind.Row.TheVariants as rows
-use Rattle.c_goals.specs.declared.kind.Punctuator.{Punctuator}
-use Rattle.c_goals.specs.declared.kind.Punctuator.TheVariants as at
-use Rattle.c_goals.specs.declared.kind.Symbol.{Symbol}
-use Rattle.c_goals.specs.declared.kind.Symbol.TheVariants.{Part, Word as Said}
-use Rattle.c_goals.specs.declared.value.Value.{Value}
-use Rattle.c_goals.specs.declared.value.Value.TheVariants as values
-use Rattle.c_goals.specs.declared.frame.Frame.{Frame}
-use Rattle.c_goals.specs.Classes.{infix_at, prefix_at, step_at, access_at, integer_at, specifier_at, is_struct, is_sizeof, is_specifier, is_else, is_mark, is}
+use Rattle.c_rows.specs.declared.kind.Kind.{Kind}
+use Rattle.c_rows.specs.declared.kind.Kind.TheVariants as kinds
+use Rattle.c_rows.specs.declared.kind.Row.{Row}
+use Rattle.c_rows.specs.declared.kind.Row.TheVariants as rows
+use Rattle.c_rows.specs.declared.kind.Punctuator.{Punctuator}
+use Rattle.c_rows.specs.declared.kind.Punctuator.TheVariants as at
+use Rattle.c_rows.specs.declared.kind.Symbol.{Symbol}
+use Rattle.c_rows.specs.declared.kind.Symbol.TheVariants.{Part, Word as Said}
+use Rattle.c_rows.specs.declared.value.Value.{Value}
+use Rattle.c_rows.specs.declared.value.Value.TheVariants as values
+use Rattle.c_rows.specs.declared.frame.Frame.{Frame}
+use Rattle.c_rows.specs.Classes.{infix_at, prefix_at, step_at, access_at, integer_at, specifier_at, is_struct, is_sizeof, is_specifier, is_else, is_mark, is}
 
 -- What becomes of a value in hand at a word.
 pub data Turn : Type 0 where

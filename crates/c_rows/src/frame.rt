@@ -1,5 +1,7 @@
+//! Rows that stand open: what each still wants, and the parts that it has.
+
 ghost use Rattle.std.specs.Prelude.{◌≡◌, [], ◌∷◌, IfSome, IfNone, OnOk, IfOk};
-ghost use Rattle.c_goals.specs.Meaning.{leasts};
+ghost use Rattle.c_rows.specs.Meaning.{leasts};
 
 use crate::kind::{Kind, Row, Symbol};
 use crate::value::Value;
@@ -28,11 +30,11 @@ enum Symbols {
 
 impl Model for Rest {
     ghost use Rattle.std.specs.Prelude.{List};
-    ghost use Rattle.c_goals.specs.declared.kind.Symbol.{Symbol};
+    ghost use Rattle.c_rows.specs.declared.kind.Symbol.{Symbol};
 
     ghost Value = { List Symbol };
 
-    ghost use Rattle.c_goals.specs.Listed.{listed};
+    ghost use Rattle.c_rows.specs.Listed.{listed};
 
     ghost view = { λ r. listed r.symbols };
 }
@@ -153,8 +155,8 @@ pub struct Parts {
 impl Model for Parts {
     ghost use Rattle.std.specs.Prelude.{List, reverse};
     ghost use Rattle.std.specs.Coded.{coded_list};
-    ghost use Rattle.c_goals.specs.declared.value.Value.{Value as Held};
-    ghost use Rattle.c_goals.specs.contracts.value.Value as value_row;
+    ghost use Rattle.c_rows.specs.declared.value.Value.{Value as Held};
+    ghost use Rattle.c_rows.specs.contracts.value.Value as value_row;
 
     ghost Value = { List Held };
 

@@ -1,8 +1,8 @@
 -- What a row still wants, as a list.
 use Rattle.std.specs.Prelude.{List, [], ◌∷◌}
-use Rattle.c_goals.specs.declared.kind.Symbol.{Symbol}
-use Rattle.c_goals.specs.declared.frame.Symbols.{Symbols}
-use Rattle.c_goals.specs.declared.frame.Symbols.TheVariants as symbols
+use Rattle.c_rows.specs.declared.kind.Symbol.{Symbol}
+use Rattle.c_rows.specs.declared.frame.Symbols.{Symbols}
+use Rattle.c_rows.specs.declared.frame.Symbols.TheVariants as symbols
 
 abbrev pub listed : Symbols → List Symbol
 listed symbols.None = []

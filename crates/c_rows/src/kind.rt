@@ -1,3 +1,5 @@
+//! The kinds of parts, the rows and the words that they want.
+
 use c_tree::{Core, Infix, UnaryOp};
 
 /// What a part may be: the nonterminals of the grammar.

@@ -1,8 +1,8 @@
 //! What is built of a row's parts, the latest of which is taken first.
 
 ghost use Rattle.std.specs.Prelude.{◌≡◌, ◌∷◌, IfOk};
-ghost use Rattle.c_goals.specs.Table.{argument_of, build, element_of, else_of, init_value_of, item_of, member_declarator_of, member_head_of, member_specifier_of, next_init_of, opened_of, parameter_of, returned, sized_of, sizeof_of};
-ghost use Rattle.c_goals.specs.Calls.{AreInits};
+ghost use Rattle.c_rows.specs.Table.{argument_of, build, element_of, else_of, init_value_of, item_of, member_declarator_of, member_head_of, member_specifier_of, next_init_of, opened_of, parameter_of, returned, sized_of, sizeof_of};
+ghost use Rattle.c_rows.specs.Built.{AreInits};
 
 use crate::frame::{Parts, unexpected};
 use crate::kind::Row;

@@ -20,15 +20,15 @@ use Rattle.c_tree.specs.declared.external.Piece.TheVariants as pieces
 use Rattle.c_tree.specs.declared.external.OuterSpecifier.{OuterSpecifier}
 use Rattle.c_tree.specs.declared.external.ExternalForm.{ExternalForm}
 use Rattle.c_tree.specs.Grammar.{mark, keyword, each, spell_specifier, spell, spell_arguments, spell_declarator, spell_parameters, spell_initialiser, spell_initialisers, spell_init, spell_clause, spell_first, jump_keyword, spell_statement, spell_items, spell_head, spell_declarators, spell_members, spell_outer, spell_form, FitsSpecifier, level, IsDirect, IsSomething, Fits, FitArguments, FitsDeclarator, FitParameters, FitsInitialiser, FitInitialisers, FitsInit, FitsClause, FitsFirst, FitsStatement, FitItems, FitDeclarators, FitMembers, FitsOuter, FitsForm}
-use Rattle.c_goals.specs.declared.kind.Kind.{Kind}
-use Rattle.c_goals.specs.declared.kind.Kind.TheVariants as kinds
-use Rattle.c_goals.specs.declared.kind.Symbol.{Symbol}
-use Rattle.c_goals.specs.declared.kind.Symbol.TheVariants.{Part, Word as Said}
-use Rattle.c_goals.specs.declared.value.Value.{Value}
-use Rattle.c_goals.specs.declared.value.Value.TheVariants as values
-use Rattle.c_goals.specs.declared.frame.Frame.{Frame}
-use Rattle.c_goals.specs.Classes.{mark_of}
-use Rattle.c_goals.specs.Table.{level_at, core_at, build, height, least_of, least, rise, Goal, made, expects, State, takes, goes, step, settle}
+use Rattle.c_rows.specs.declared.kind.Kind.{Kind}
+use Rattle.c_rows.specs.declared.kind.Kind.TheVariants as kinds
+use Rattle.c_rows.specs.declared.kind.Symbol.{Symbol}
+use Rattle.c_rows.specs.declared.kind.Symbol.TheVariants.{Part, Word as Said}
+use Rattle.c_rows.specs.declared.value.Value.{Value}
+use Rattle.c_rows.specs.declared.value.Value.TheVariants as values
+use Rattle.c_rows.specs.declared.frame.Frame.{Frame}
+use Rattle.c_rows.specs.Classes.{mark_of}
+use Rattle.c_rows.specs.Table.{level_at, core_at, build, height, least_of, least, rise, Goal, made, expects, State, takes, goes, step, settle}
 
 -- ---- the words that were read, and then these
 

@@ -1,7 +1,7 @@
 //! What rows want.
 
 ghost use Rattle.std.specs.Prelude.{◌≡◌};
-ghost use Rattle.c_goals.specs.Table.{lift, rise, symbols};
+ghost use Rattle.c_rows.specs.Table.{lift, rise, symbols};
 
 use crate::frame::Rest;
 use crate::kind::{Kind, Punctuator, Row, Symbol};
