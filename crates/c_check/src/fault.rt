@@ -1,3 +1,5 @@
+//! Why a unit has no typed tree.
+
 ghost use Rattle.std.specs.Prelude.{◌≡◌};
 ghost use Rattle.c_check.specs.declared.fault.CCheck.TheVariants.{Memory};
 

@@ -1,3 +1,5 @@
+//! What names stand for.
+
 /// What a name stands for (C11, 6.2.3).
 #[derive(Clone, Copy, Debug, PartialEq, Eq)]
 pub enum Entity {

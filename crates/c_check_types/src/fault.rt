@@ -1,3 +1,5 @@
+//! Why a rule has no answer.
+
 ghost use Rattle.std.specs.Prelude.{◌≡◌};
 
 use std::alloc::{AllocError, AllocFailed};

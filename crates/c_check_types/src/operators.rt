@@ -1,3 +1,5 @@
+//! Binary operators by the operands that they take.
+
 ghost use Rattle.std.specs.Prelude.{◌≡◌};
 ghost use Rattle.c_check_types.specs.Operators as words;
 

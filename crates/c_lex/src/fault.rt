@@ -1,3 +1,5 @@
+//! Why bytes are not a list of tokens.
+
 ghost use Rattle.std.specs.Prelude.{◌≡◌};
 ghost use Rattle.c_lex.specs.declared.fault.CLex.TheVariants.{Memory};
 

@@ -1,3 +1,5 @@
+//! The bytes of identifiers and string literals.
+
 ghost use Rattle.std.specs.Prelude.{◌≡◌, IfOk};
 
 use std::alloc::{AllocError, Global};

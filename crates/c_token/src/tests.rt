@@ -1,3 +1,5 @@
+//! The calls that take memory, with ample memory.
+
 use crate::Bytes;
 use std::test::Fail;
 

@@ -1,3 +1,5 @@
+//! What a token says: keywords, punctuators, identifiers and constants (C11, 6.4).
+
 use crate::bytes::Bytes;
 
 /// A keyword (C11, 6.4.1). `size_t` and `ptrdiff_t` are reserved like keywords.

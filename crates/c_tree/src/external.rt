@@ -1,3 +1,5 @@
+//! External declarations and structures (C11, 6.7.2.1, 6.9).
+
 ghost use Rattle.std.specs.Prelude.{◌≡◌, ◌+◌, [], ◌∷◌, ◌++◌, IfOk};
 ghost use Rattle.c_tree.specs.ExternalHeights.{external_height, form_height, outer_height, piece_height};
 ghost use Rattle.c_tree.specs.Heights.{declarator_height, tallest_of};

@@ -1,3 +1,5 @@
+//! Small parts of statements.
+
 ghost use Rattle.std.specs.Prelude.{◌≡◌, IfOk};
 ghost use Rattle.c_tree.specs.StatementHeights.{first_height};
 

@@ -1,3 +1,5 @@
+//! Initializers and the declarations that they stand in.
+
 ghost use Rattle.std.specs.Prelude.{◌≡◌, ◌+◌, [], ◌∷◌, ◌++◌, IfOk};
 ghost use Rattle.c_tree.specs.Heights.{init_height, initialiser_height, tallest_initialiser, tallest_of, value_height};
 ghost use Rattle.c_tree.specs.InitialiserViews.{initialiser_of, initialisers_of, with_initialiser};

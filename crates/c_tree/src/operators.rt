@@ -1,3 +1,5 @@
+//! The operators of expressions.
+
 ghost use Rattle.std.specs.Prelude.{◌≡◌, ◌≤◌};
 ghost use Rattle.c_tree.specs.Operators.{binary_level, left_of, makes, operand_of, right_of};
 

@@ -1,3 +1,5 @@
+//! Specifiers of types (C11, 6.7.2).
+
 ghost use Rattle.std.specs.Prelude.{◌≡◌, IfOk};
 ghost use Rattle.c_tree.specs.Operators.{combination, extended, extended_to, nothing_said, with_word};
 

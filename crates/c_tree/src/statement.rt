@@ -1,3 +1,5 @@
+//! Statements and blocks.
+
 ghost use Rattle.std.specs.Prelude.{◌≡◌, ◌+◌, IfOk};
 ghost use Rattle.c_tree.specs.Statements.{no_items};
 ghost use Rattle.c_tree.specs.StatementHeights.{clause_height, ends_open, statement_height, tallest_item};

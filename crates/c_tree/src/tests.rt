@@ -1,3 +1,5 @@
+//! Trees with ample memory.
+
 use crate::{
     Args, BinaryOp, Block, Declarator, DeclaratorNode, Declarators, Expr, ExprNode, External,
     ExternalForm, ForFirst, ForFirstNode, Infix, Init, Initialiser, InitialiserNode, Initialisers,

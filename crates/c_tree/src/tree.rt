@@ -1,3 +1,5 @@
+//! Expressions and declarators.
+
 ghost use Rattle.std.specs.Prelude.{◌≡◌, ◌+◌, IfOk};
 ghost use Rattle.c_tree.specs.Grammar.{level};
 ghost use Rattle.c_tree.specs.Heights.{declarator_height, expr_height, tallest, tallest_parameter};

@@ -1,3 +1,5 @@
+//! Small expressions, put together.
+
 ghost use Rattle.std.specs.Prelude.{◌≡◌, IfOk};
 ghost use Rattle.c_typed.specs.Tree as tree;
 ghost use Rattle.c_typed.specs.Views.{expr_of};

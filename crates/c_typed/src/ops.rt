@@ -1,3 +1,5 @@
+//! Operations of typed trees, at the types that they work at.
+
 /// An operation on two integers of one promoted type (C11, 6.5.5 to 6.5.12). A shift's count is converted to the type of
 /// what is shifted, which leaves it the same modulo the width.
 #[derive(Clone, Copy, Debug, PartialEq, Eq)]

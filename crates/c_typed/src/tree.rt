@@ -1,3 +1,5 @@
+//! Typed places, expressions and statements.
+
 use crate::ops::{BinaryOp, RelOp, UnaryOp, Variable};
 use c_types::{CType, IntType, Scalar};
 

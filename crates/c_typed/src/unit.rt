@@ -1,3 +1,5 @@
+//! A typed unit: its functions, and what is made before `main`.
+
 use crate::tree::Stmt;
 use c_token::Bytes;
 use c_types::{CType, Structs};

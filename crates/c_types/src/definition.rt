@@ -1,3 +1,5 @@
+//! A struct that is defined.
+
 ghost use Rattle.std.specs.Prelude.{◌≡◌, ◌<◌, ◌≤◌, length};
 ghost use Rattle.std.specs.Prelude.{ℕ};
 

@@ -1,3 +1,5 @@
+//! Integer types and their conversions.
+
 ghost use Rattle.std.specs.Prelude.{◌≡◌};
 ghost use Rattle.c_types.specs.Integers.{bits, common, greater, holds, is_signed, of_both_signs, promoted, rank, unsigned_of};
 

@@ -1,3 +1,5 @@
+//! Sizes, alignments and offsets.
+
 ghost use Rattle.std.specs.Prelude.{◌≡◌, ℕ, ◌+◌, ◌^◌, ◌<◌, ◌≤◌, IfOk, length, max};
 ghost use Rattle.std.specs.List.{All};
 ghost use Rattle.c_types.specs.Layout as words;

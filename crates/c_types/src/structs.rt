@@ -1,3 +1,5 @@
+//! The structs of a program.
+
 ghost use Rattle.std.specs.Prelude.{◌≡◌, ℕ, ◌^◌, ◌<◌, ◌≤◌, ◌↔◌, [], ◌∷◌, ◌++◌, IsTrue, MatchResult, length, slice_get, slice_set};
 ghost use Rattle.std.specs.List.{All};
 ghost use Rattle.c_types.specs.Layout as words;

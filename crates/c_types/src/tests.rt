@@ -1,3 +1,5 @@
+//! A struct laid out, with ample memory.
+
 use crate::{CType, IntType, Structs, align, offset, size};
 use std::rc::Rc;
 use std::test::Fail;

@@ -1,3 +1,5 @@
+//! Types of C (C11, 6.2.5).
+
 ghost use Rattle.std.specs.Prelude.{◌≡◌, IfOk};
 ghost use Rattle.c_types.specs.Types.{is_function, scalar_of, type_of};
 

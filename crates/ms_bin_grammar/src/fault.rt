@@ -1,3 +1,5 @@
+//! Why bytes are not read as a module.
+
 ghost use Rattle.std.specs.Prelude.{◌≡◌};
 ghost use Rattle.ms_bin_grammar.specs.declared.fault.ReadFault.TheVariants.{Memory};
 

@@ -1,3 +1,5 @@
+//! What the sections of a module say so far.
+
 use ms_module::{Element, Export, Fill, Func, Global, Import};
 use ms_types::{FuncType, Limits, Vector};
 

@@ -1,3 +1,5 @@
+//! Why a module has no bytes that are written.
+
 ghost use Rattle.std.specs.Prelude.{◌≡◌};
 ghost use Rattle.ms_bin_write.specs.declared.fault.BinFault.TheVariants.{Memory};
 

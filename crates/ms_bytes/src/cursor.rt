@@ -1,3 +1,5 @@
+//! Reading a slice from left to right.
+
 ghost use Rattle.std.specs.Prelude.{◌≡◌, ◌==◌, ◌≤◌, ◌<◌, ◌+◌, ◌-◌, ◌∷◌, [], length, drop, take, MatchOption, IfSome, is_some, if◌then◌else◌};
 ghost use Rattle.ms_bytes.specs.Spot.{Spot, TakesByte, first_is, over, part, place, start};
 

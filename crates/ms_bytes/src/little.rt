@@ -1,3 +1,5 @@
+//! Numbers as eight bytes, the lowest first.
+
 ghost use Rattle.std.specs.Prelude.{◌≡◌};
 ghost use Rattle.ms_bytes.specs.Little.{bytes_of, number_of};
 

@@ -1,3 +1,5 @@
+//! A body item by item, in the order in which it is written.
+
 ghost use Rattle.std.specs.Prelude.{◌≡◌, IfOk, OnErr};
 ghost use Rattle.ms_module.specs.Building.{IsNumbered};
 ghost use Rattle.ms_flat.specs.Flat.{flat};

@@ -1,3 +1,5 @@
+//! The least key with room enough.
+
 ghost use Rattle.std.specs.Prelude.{◌≡◌, ◌+◌, ◌≤◌, cond, length};
 ghost use Rattle.ms_gap_tree.specs.Arena.{tree_of};
 ghost use Rattle.ms_gap_tree.specs.Tree.{least, link_fits, looked, lowest, IsWithin};

@@ -1,3 +1,5 @@
+//! The greatest key up to one.
+
 ghost use Rattle.std.specs.Prelude.{◌≡◌, ◌+◌, ◌≤◌, ◌^◌, length};
 ghost use Rattle.ms_gap_tree.specs.Arena.{tree_of};
 ghost use Rattle.ms_gap_tree.specs.Tree.{last, nearer, IsWithin};

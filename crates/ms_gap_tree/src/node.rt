@@ -1,3 +1,5 @@
+//! The nodes of a tree of rooms.
+
 /// What a tree keeps.
 #[derive(Clone, Copy, Debug, PartialEq, Eq)]
 pub struct Item {

@@ -1,3 +1,5 @@
+//! Taking items out of a tree.
+
 ghost use Rattle.std.specs.Prelude.{◌≡◌, ◌+◌, ◌≤◌, ◌^◌, ℕ, length, Some, true, false};
 ghost use Rattle.ms_gap_tree.specs.Arena.{at, tree_of};
 ghost use Rattle.ms_gap_tree.specs.Tree.{freed, has, link_first, pop, remove, removed, IsApart, IsWithin};

@@ -1,3 +1,5 @@
+//! A tree of rooms in an arena that is reserved as a whole.
+
 ghost use Rattle.std.specs.Prelude.{◌≡◌, ◌<◌, ◌≤◌, ◌+◌, ◌^◌, ◌++◌, ◌∷◌, ◌⊎◌, ℕ, List, [], cond, false, true, length, nat_eq, None, Some, IfOk, MatchOption, IsSome, vec_len, vec_capacity};
 ghost use Rattle.ms_gap_tree.specs.Arena.{blank, tree_of};
 ghost use Rattle.ms_gap_tree.specs.Tree.{half, has, insert, remove, removed, yields, IsApart, IsWithin};

@@ -1,3 +1,5 @@
+//! The slots of an arena.
+
 ghost use Rattle.std.specs.Prelude.{◌≡◌, ◌<◌, ◌^◌, ◌++◌, ◌∷◌, ◌⊎◌, [], length, vec_len, vec_capacity};
 
 /// A slot of an arena that is not in use: the last one that was given back, or else a new one.

@@ -1,3 +1,5 @@
+//! A count of the nodes that are looked at.
+
 ghost use Rattle.std.specs.Prelude.{◌≡◌, ℕ, ◌+◌, ◌<◌};
 
 use std::marker::Model;

@@ -1,3 +1,5 @@
+//! The halves of a range, finding a key, and adding one.
+
 ghost use Rattle.std.specs.Prelude.{◌≡◌, ◌+◌, ◌<◌, ◌≤◌, ◌^◌, ◌≢◌, ℕ, length, true, false, MatchOption};
 ghost use Rattle.ms_gap_tree.specs.Arena.{at, tree_of};
 ghost use Rattle.ms_gap_tree.specs.Tree.{exchange, half, has, insert, link_below, look, lower, upper, yields, IsApart, IsWithin};

@@ -1,3 +1,5 @@
+//! Moving, slicing and comparing handles.
+
 ghost use Rattle.std.specs.Prelude.{◌≡◌, IsTrue, ◌↔◌, pos, negsuc, ◌+ℤ◌, ◌≤ℤ◌};
 ghost use Rattle.ms_handle.specs.Handle.{HasBounds, add, difference, eq, farthest, moved, slice};
 

@@ -1,3 +1,5 @@
+//! Handles as data.
+
 /// What a segment was made as; it is freed as the same.
 #[derive(Clone, Copy, Debug, PartialEq, Eq)]
 pub enum Kind {

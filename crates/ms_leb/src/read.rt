@@ -1,3 +1,5 @@
+//! Reading LEB128 numbers at a cursor (WebAssembly 1.0, 5.2.2).
+
 ghost use Rattle.std.specs.Prelude.{◌≡◌, ◌≤◌, ◌<◌, ◌^◌, ◌-◌, ◌↔◌, ℕ, ℤ, List, Ok, Err, IfOk, OnErr};
 ghost use Rattle.ms_leb.specs.Leb128.{IsWithin, SignedAt, UnsignedAt, signed_at, unsigned_at};
 ghost use Rattle.ms_leb.specs.Numbers.{IsShort, Reads};

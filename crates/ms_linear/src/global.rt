@@ -1,3 +1,5 @@
+//! Globals.
+
 ghost use Rattle.std.specs.Prelude.{◌≡◌};
 ghost use Rattle.ms_linear.specs.Values.{global_type_of};
 

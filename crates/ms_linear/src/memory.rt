@@ -1,3 +1,5 @@
+//! The linear memory.
+
 ghost use Rattle.std.specs.Prelude.{◌≡◌, ◌^◌, ◌<◌, ◌≤◌, ◌+◌, ◌*◌, ◌++◌, ◌↔◌, IfOk, IsTrue, MatchOption, MatchResult, OnErr, drop, length, replicate, take};
 ghost use Rattle.ms_linear.specs.Memory.{IsInside, IsWidth, MayGrow, grown, loaded, most_pages, page, pages, stored};
 

@@ -1,3 +1,5 @@
+//! Numbers of one, two, four and eight bytes at a place.
+
 ghost use Rattle.std.specs.Prelude.{◌≡◌, ◌+◌, ◌^◌, ◌<◌, ◌≤◌, ◌++◌, length, take, drop};
 ghost use Rattle.ms_bytes.specs.Little.{bytes_of, number_of};
 

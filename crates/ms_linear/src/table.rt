@@ -1,3 +1,5 @@
+//! Tables of functions.
+
 ghost use Rattle.std.specs.Prelude.{◌≡◌, ◌<◌, ◌≤◌, ◌↔◌, IfOk, IsTrue, length, None, replicate, slice_set, Some};
 ghost use Rattle.ms_linear.specs.Table.{IsTarget, most_entries, target_of, with_entry};
 

@@ -1,3 +1,5 @@
+//! Values.
+
 ghost use Rattle.std.specs.Prelude.{◌≡◌};
 ghost use Rattle.ms_linear.specs.Values.{default_of, type_of};
 

@@ -1,3 +1,5 @@
+//! The nodes of the tree by identities.
+
 use crate::gaps::Live;
 
 /// The way to a tree of segments: its oldest one, and how many it has.

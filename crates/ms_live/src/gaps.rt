@@ -1,3 +1,5 @@
+//! The contract of what keeps live segments and finds places for new ones.
+
 ghost use Rattle.std.specs.Prelude.{◌≡◌, ◌<◌, ◌≤◌, ◌++◌, ◌∷◌, ◌==◌, ℕ, List, [], Option, Some, All, IfOk, length, find, slice_get, true};
 
 use ms_handle::Kind;

@@ -1,3 +1,5 @@
+//! The live segments by their identities, in an arena.
+
 ghost use Rattle.std.specs.Prelude.{◌≡◌, ◌==◌, ◌+◌, ◌<◌, ◌≤◌, ◌^◌, ◌++◌, ◌∷◌, ℕ, [], Some, All, IfOk, IsSome, length, find, slice_get, true, false, vec_capacity};
 ghost use Rattle.ms_gap_tree.specs.Tree.{half};
 ghost use Rattle.ms_live.specs.Ordered.{has, push, remove, removed, segments, tree_of, IsApart, IsSound, IsWithin};

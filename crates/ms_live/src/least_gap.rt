@@ -1,3 +1,5 @@
+//! The least place for a segment, by going through a list.
+
 ghost use Rattle.std.specs.Prelude.{◌≡◌, ◌+◌, ◌<◌, ◌^◌, find};
 ghost use Rattle.ms_live.specs.Overlap.{overlaps};
 ghost use Rattle.ms_live.specs.Place.{IsPlace};

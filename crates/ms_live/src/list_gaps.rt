@@ -1,3 +1,5 @@
+//! Live segments as a list: the plain form.
+
 ghost use Rattle.std.specs.Prelude.{◌≤◌, vec_len, vec_capacity};
 ghost use Rattle.ms_live.specs.declared.gaps.TheConstants.{MOST_LIVE};
 

@@ -1,3 +1,5 @@
+//! A tree by identities: counting, searching, adding and taking out.
+
 ghost use Rattle.std.specs.Prelude.{◌≡◌, ◌≢◌, ◌+◌, ◌-◌, ◌<◌, ◌≤◌, ◌^◌, ℕ, List, length, true, false, Some};
 ghost use Rattle.ms_gap_tree.specs.Tree.{half};
 ghost use Rattle.ms_live.specs.declared.gaps.TheConstants.{MOST_LIVE};

@@ -1,3 +1,5 @@
+//! Calls in a row over both forms, every answer compared.
+
 ghost use Rattle.std.specs.Prelude.{◌≤◌, All};
 
 use crate::{Gaps, ListGaps, Live, MOST_LIVE, TreeGaps};

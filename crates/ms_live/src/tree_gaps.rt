@@ -1,3 +1,5 @@
+//! Live segments and gaps as trees.
+
 ghost use Rattle.std.specs.Prelude.{◌≡◌, ◌+◌, ◌*◌, ◌<◌, ◌≤◌, ◌^◌, ℕ, cond, nat_lt, length, IsSome, Some};
 ghost use Rattle.ms_gap_tree.specs.Rooms.{room_at, size_of};
 ghost use Rattle.ms_live.specs.Kept.{looked_at};

@@ -1,3 +1,5 @@
+//! Why an instruction was not carried out.
+
 ghost use Rattle.std.specs.Prelude.{◌≡◌};
 ghost use Rattle.ms_machine.specs.Doing.{fault_of};
 ghost use Rattle.ms_machine.specs.Segments.{trap_of as segment_trap_of};

@@ -1,3 +1,5 @@
+//! What came of a step.
+
 use crate::trap::TrapKind;
 use ms_event::Event;
 use ms_linear::Value;

@@ -1,3 +1,5 @@
+//! The store and its instances.
+
 ghost use Rattle.std.specs.Prelude.{◌≡◌, ◌≢◌, None, Some, slice_get};
 ghost use Rattle.ms_machine.specs.Store.{at, number_of_instance};
 

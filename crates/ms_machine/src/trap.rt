@@ -1,3 +1,5 @@
+//! The kinds of traps.
+
 ghost use Rattle.std.specs.Prelude.{◌≡◌};
 ghost use Rattle.ms_machine.specs.Words.{trap_word};
 

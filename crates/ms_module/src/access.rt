@@ -1,3 +1,5 @@
+//! Loads and stores, with their widths.
+
 ghost use Rattle.std.specs.Prelude.{◌≡◌};
 ghost use Rattle.ms_module.specs.Accesses.{load_bytes, store_bytes};
 

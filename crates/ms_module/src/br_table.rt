@@ -1,3 +1,5 @@
+//! The labels of a `br_table`.
+
 ghost use Rattle.std.specs.Prelude.{◌≡◌, IfOk};
 
 use ms_types::Vector;

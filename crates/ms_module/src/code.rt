@@ -1,3 +1,5 @@
+//! Bodies as numbered sequences of instructions.
+
 ghost use Rattle.std.specs.Prelude.{◌≡◌, ◌<◌, List, length};
 ghost use Rattle.ms_module.specs.Building.{IsNumbered};
 ghost use Rattle.ms_module.specs.Numbered.{AllNameWithin, sequence_at};

@@ -1,3 +1,5 @@
+//! Instructions.
+
 use crate::access::{Linear, Segment};
 use crate::br_table::BrTable;
 use crate::numeric::Numeric;

@@ -1,3 +1,5 @@
+//! The declared locals of a body, as runs of one type.
+
 ghost use Rattle.std.specs.Prelude.{◌≡◌, ◌==◌, ◌+◌, ◌<◌, ◌^◌, ◌++◌, List, [], length, replicate, slice_get, is_ok, nat_le, if◌then◌else◌};
 ghost use Rattle.ms_module.specs.Locals.{Differ, Rise, types_of};
 

@@ -1,3 +1,5 @@
+//! The parts of a module (WebAssembly 1.0, 2.5).
+
 use crate::code::Code;
 use crate::locals::Locals;
 use crate::name::Name;

@@ -1,3 +1,5 @@
+//! Numeric instructions (WebAssembly 1.0, 2.4.1).
+
 ghost use Rattle.std.specs.Prelude.{◌≡◌};
 ghost use Rattle.ms_module.specs.Accesses.{bits};
 

@@ -1,3 +1,5 @@
+//! The builder of bodies with ample memory.
+
 use super::*;
 use ms_types::{ValType, Vector};
 use std::test::Fail;

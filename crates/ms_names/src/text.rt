@@ -1,3 +1,5 @@
+//! Whether bytes are UTF-8.
+
 ghost use Rattle.std.specs.Prelude.{◌≡◌, MatchOption, false, true};
 ghost use Rattle.std.specs.Str.{is_utf8};
 

@@ -1,3 +1,5 @@
+//! Why a division has no result (WebAssembly 1.0, 4.3.2).
+
 /// Why a division has no result.
 #[derive(Clone, Copy, Debug, PartialEq, Eq)]
 pub enum Arith {

@@ -1,3 +1,5 @@
+//! Numbers as values of a width.
+
 ghost use Rattle.std.specs.Prelude.{◌≡◌, ◌≢◌, ◌^◌, ◌<◌, None, Some};
 ghost use Rattle.ms_module.specs.Accesses.{bits, load_bytes};
 ghost use Rattle.ms_operate.specs.Accesses as access;

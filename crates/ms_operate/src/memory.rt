@@ -1,3 +1,5 @@
+//! Carrying out instructions on the linear memory.
+
 ghost use Rattle.std.specs.Prelude.{◌≡◌, ◌≢◌};
 ghost use Rattle.ms_module.specs.declared.access.Linear.TheVariants.{Load, Store, Size, Grow};
 ghost use Rattle.ms_operate.specs.Memories.{linear_on};

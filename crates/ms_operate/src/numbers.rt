@@ -1,3 +1,5 @@
+//! Carrying out numeric instructions.
+
 ghost use Rattle.std.specs.Prelude.{◌≡◌, ◌≢◌, ◌^◌, ◌<◌, IfOk};
 ghost use Rattle.ms_num.specs.Integers.{IsWidth, truth};
 ghost use Rattle.ms_module.specs.declared.numeric.Numeric.TheVariants.{Eqz, Compare, Unary, Binary, Wrap, ExtendS, ExtendU};

@@ -1,3 +1,5 @@
+//! Why an instruction stops the program.
+
 ghost use Rattle.std.specs.Prelude.{◌≡◌};
 
 use std::alloc::AllocError;

@@ -1,3 +1,5 @@
+//! Counting faults.
+
 ghost use Rattle.std.specs.Prelude.{◌≡◌};
 ghost use Rattle.ms_outside.specs.Faults.{CountsFault};
 ghost use Rattle.ms_outside.specs.Script.{one_more};

@@ -1,3 +1,5 @@
+//! Failed reads, counted by name.
+
 ghost use Rattle.std.specs.Prelude.{◌≡◌, IfOk, OnErr, IsNone};
 ghost use Rattle.std.specs.FinMap.{empty, get, insert};
 ghost use Rattle.ms_outside.specs.Files.{count_of};

@@ -1,3 +1,5 @@
+//! A shelf of the files of a disk.
+
 ghost use Rattle.std.specs.Prelude.{◌≡◌, ℕ, List};
 ghost use Rattle.ms_outside.specs.Adapters.{ReadsFile, ReadsToEnd, WritesFile};
 ghost use Rattle.ms_outside.specs.Shelf.{CountsRead, Fetches, SameCounts, Writes};

@@ -1,3 +1,5 @@
+//! A shelf in memory whose calls fail by scripts.
+
 ghost use Rattle.std.specs.Prelude.{◌≡◌, ◌≤◌, IfOk, OnErr, IsTrue, ◌↔◌, length, option_copied};
 ghost use Rattle.std.specs.FinMap.{empty, get, insert};
 ghost use Rattle.ms_outside.specs.Files.{bytes_of, count_of};

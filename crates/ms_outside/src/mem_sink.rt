@@ -1,3 +1,5 @@
+//! A sink in memory whose calls fail by a script.
+
 ghost use Rattle.std.specs.Prelude.{◌≡◌, ◌≢◌, ◌≤◌, ◌-◌, [], IfOk, OnErr, IsTrue, ◌↔◌, length};
 ghost use Rattle.ms_outside.specs.Memory.{Output};
 ghost use Rattle.ms_outside.specs.Script.{also_failing, called, counted, next_fails, no_script};

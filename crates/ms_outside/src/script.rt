@@ -1,3 +1,5 @@
+//! Which calls of an object in memory fail.
+
 ghost use Rattle.std.specs.Prelude.{◌≡◌, IfOk, OnErr};
 ghost use Rattle.ms_outside.specs.Script.{also_failing, called, next_fails, no_script};
 

@@ -1,3 +1,5 @@
+//! The contract of a shelf of files.
+
 ghost use Rattle.std.specs.Prelude.{◌≡◌, ℕ, List, Option};
 ghost use Rattle.ms_outside.specs.Files.{Files};
 

@@ -1,3 +1,5 @@
+//! The contract of a sink of bytes.
+
 ghost use Rattle.std.specs.Prelude.{ℕ, List, Option};
 ghost use Rattle.ms_outside.specs.Sink.{CountsPut, Puts};
 

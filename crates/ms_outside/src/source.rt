@@ -1,3 +1,5 @@
+//! The contract of a source of bytes.
+
 ghost use Rattle.std.specs.Prelude.{ℕ, List, Option};
 ghost use Rattle.ms_outside.specs.Source.{CountsTake, Takes};
 

@@ -1,3 +1,5 @@
+//! A sink over a device.
+
 ghost use Rattle.std.specs.Prelude.{◌≡◌};
 ghost use Rattle.ms_outside.specs.Adapters.{Flushes, WritesPiece};
 ghost use Rattle.ms_outside.specs.Sink.{CountsPut, Puts};

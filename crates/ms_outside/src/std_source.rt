@@ -1,3 +1,5 @@
+//! A source over a device.
+
 ghost use Rattle.std.specs.Prelude.{◌≡◌};
 ghost use Rattle.ms_outside.specs.Adapters.{ReadsByte};
 ghost use Rattle.ms_outside.specs.Source.{CountsTake, Takes};

@@ -1,3 +1,5 @@
+//! A shelf that never fails.
+
 ghost use Rattle.std.specs.Prelude.{◌≡◌, ◌≢◌, ◌≤◌, IfOk, OnErr, length, option_copied};
 ghost use Rattle.std.specs.FinMap.{empty, get, insert};
 ghost use Rattle.ms_outside.specs.Files.{bytes_of};

@@ -1,3 +1,5 @@
+//! A sink that never fails.
+
 ghost use Rattle.std.specs.Prelude.{◌≡◌, ◌≢◌, ◌≤◌, ◌-◌, [], IfOk, length};
 ghost use Rattle.ms_outside.specs.Memory.{Held};
 ghost use Rattle.ms_outside.specs.Sink.{CountsPut, Puts};

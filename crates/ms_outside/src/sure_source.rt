@@ -1,3 +1,5 @@
+//! A source that never fails.
+
 ghost use Rattle.std.specs.Prelude.{◌≡◌, ◌≢◌};
 ghost use Rattle.ms_outside.specs.Source.{CountsTake, Takes};
 

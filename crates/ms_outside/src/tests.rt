@@ -1,3 +1,5 @@
+//! Sources, sinks and shelves that fail in the middle.
+
 use crate::{
     Fetched, FileShelf, Got, MemShelf, MemSink, MemSource, Put, Shelf, Sink, Source, StdSink,
     StdSource, SureShelf, SureSink, SureSource,

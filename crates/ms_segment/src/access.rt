@@ -1,3 +1,5 @@
+//! Where an access goes.
+
 ghost use Rattle.std.specs.Prelude.{◌≡◌, ◌+◌, ◌<◌, ◌≤◌, ◌^◌, MatchResult, negsuc, ◌≤ℤ◌};
 ghost use Rattle.ms_handle.specs.Handle.{farthest};
 ghost use Rattle.ms_segment.specs.Memory.{accessed, ends, read_event, write_event};

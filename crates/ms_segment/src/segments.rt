@@ -1,3 +1,5 @@
+//! The segment memory: making, accessing and freeing segments.
+
 ghost use Rattle.std.specs.Prelude.{◌≡◌, ◌+◌, ◌<◌, ◌≤◌, ◌^◌, ℕ, List, [], Some, IfOk, MatchResult, length, pos, replicate, slice_get};
 ghost use Rattle.ms_handle.specs.declared.handle.Handle.{Handle};
 ghost use Rattle.ms_live.specs.Place.{IsPlace};

@@ -1,3 +1,5 @@
+//! Why an access or a freeing is a trap.
+
 /// Why an access to the segment memory, or the end of a segment, is a trap. The first check that fails decides, in this
 /// order; `Whole` and `Kind` are of `free` alone, `Bounds` of accesses alone.
 #[derive(Clone, Copy, Debug, PartialEq, Eq)]

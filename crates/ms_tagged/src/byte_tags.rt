@@ -1,3 +1,5 @@
+//! A tag for each byte: the plain form of tagged bytes.
+
 ghost use Rattle.std.specs.Prelude.{◌≡◌, ◌≤◌, ◌-◌, ◌++◌, length, drop, replicate, take, vec_len, vec_capacity};
 ghost use Rattle.ms_tagged.specs.declared.tag.Tag.TheVariants as tag;
 

@@ -1,3 +1,5 @@
+//! Tagged bytes by sixteen: plain bytes, a mask and one handle.
+
 ghost use Rattle.std.specs.Prelude.{◌≡◌, ◌≤◌, ◌<◌, ◌+◌, ◌-◌, ◌*◌, ◌/◌, ◌^◌, ◌++◌, ℕ, IfSome, length, replicate, vec_len, vec_capacity};
 ghost use Rattle.ms_tagged.specs.Bytes.{number_at, range, shown_at};
 ghost use Rattle.ms_tagged.specs.Granules.{byte_at};

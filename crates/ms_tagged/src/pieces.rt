@@ -1,3 +1,5 @@
+//! The masks of granules: which bytes are pieces of a handle.
+
 ghost use Rattle.std.specs.Prelude.{◌≡◌, ◌↔◌, ◌≤◌, ◌<◌, ◌+◌, ◌*◌, ◌/◌, ◌%◌, ◌^◌, IsTrue, length};
 ghost use Rattle.ms_tagged.specs.Granules.{Clears, Forgets, HoldData, piece_bit};
 

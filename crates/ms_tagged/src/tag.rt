@@ -1,3 +1,5 @@
+//! The tag of one byte, and the numbers and handles that tags are.
+
 ghost use Rattle.std.specs.Prelude.{◌≡◌, ◌<◌, ◌≤◌, ◌^◌, ◌↔◌, IfSome, IsTrue, length, replicate};
 ghost use Rattle.ms_tagged.specs.Bytes.{Data, IsHandleAt, data_of, number_at, shown_at};
 ghost use Rattle.ms_tagged.specs.Tags.{bytes_of, filled, pieces_from};

@@ -1,3 +1,5 @@
+//! The contract of tagged bytes.
+
 ghost use Rattle.std.specs.Prelude.{◌≡◌, ◌<◌, ◌≤◌, ◌+◌, ◌^◌, ◌*◌, ℕ, List, IfOk, IfSome, length, slice_index, replicate};
 
 use ms_handle::Handle;

@@ -1,3 +1,5 @@
+//! Writes and reads over both forms of tagged bytes, by a table.
+
 ghost use Rattle.std.specs.Prelude.{◌≡◌, IfOk, length};
 
 use crate::lanes::{any_piece, wipe};

@@ -1,3 +1,5 @@
+//! Numbers in plain bytes.
+
 ghost use Rattle.std.specs.Prelude.{◌≡◌, ◌↔◌, ◌<◌, ◌^◌, IsTrue, length, map, replicate};
 ghost use Rattle.ms_tagged.specs.Bytes.{IsWidth, data_of};
 ghost use Rattle.ms_tagged.specs.Granules.{data_bytes, number_of};

@@ -1,3 +1,5 @@
+//! The locals of all calls that are open.
+
 // The locals of all frames, one frame's after another's.
 
 ghost use Rattle.std.specs.Prelude.{◌≡◌, ℕ, ◌+◌, ◌<◌, ◌≤◌, [], ◌∷◌, ◌++◌, length, drop, take, slice_get, slice_set, OnOk, OnErr, Some};

@@ -1,3 +1,5 @@
+//! Functions of the store.
+
 ghost use Rattle.std.specs.Prelude.{◌≡◌};
 ghost use Rattle.ms_task.specs.Thread.{result_of};
 

@@ -1,3 +1,5 @@
+//! The ends of open blocks and calls.
+
 // The marks of open blocks and calls.
 
 ghost use Rattle.std.specs.Prelude.{◌≡◌, ◌≢◌, ℕ, ◌+◌, ◌-◌, ◌<◌, ◌≤◌, List, [], ◌∷◌, length, drop, take, slice_get, OnOk, OnErr, Option, Some, IsTrue, ◌↔◌};

@@ -1,3 +1,5 @@
+//! Why a text is not read as a module.
+
 ghost use Rattle.std.specs.Prelude.{◌≡◌};
 ghost use Rattle.ms_text_grammar.specs.declared.fault.TextFault.TheVariants.{Memory};
 

@@ -1,3 +1,5 @@
+//! Type uses with their places.
+
 use crate::surface::TypeUse;
 
 /// A type use, and the place of its `(type`.

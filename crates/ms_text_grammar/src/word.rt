@@ -1,3 +1,5 @@
+//! The keywords that belong to no instruction.
+
 ghost use Rattle.std.specs.Prelude.{◌≡◌};
 ghost use Rattle.ms_text_grammar.specs.Keywords.{spelling};
 

@@ -1,3 +1,5 @@
+//! Why bytes are not a list of tokens.
+
 ghost use Rattle.std.specs.Prelude.{◌≡◌};
 ghost use Rattle.ms_text_lex.specs.declared.fault.LexFault.TheVariants.{Memory};
 

@@ -1,3 +1,5 @@
+//! A small module as text, with ample memory.
+
 use crate::write;
 use ms_module::{Builder, Export, ExportDesc, Func, Instr, Locals, Module, Name};
 use ms_types::{FuncType, ValType, Vector};

@@ -1,3 +1,5 @@
+//! Function types that are shared, not copied.
+
 ghost use Rattle.std.specs.Prelude.{◌≡◌, IfOk};
 
 use crate::types::{FuncType, ValType};

@@ -1,3 +1,5 @@
+//! Stacks.
+
 ghost use Rattle.std.specs.Prelude.{◌≡◌, ◌<◌, ◌≤◌, List, [], ◌∷◌, drop, length, reverse, slice_get, OnOk, OnErr, Some};
 
 use std::alloc::{AllocError, Global};

@@ -1,3 +1,5 @@
+//! Types of values, functions, globals and limits.
+
 use crate::vector::Vector;
 
 /// A value type (WebAssembly 1.0, 2.3.1), the type of handles among them.

@@ -1,3 +1,5 @@
+//! Items in order.
+
 ghost use Rattle.std.specs.Prelude.{◌≡◌, ◌==◌, List, [], ◌∷◌, ◌++◌, length, is_ok, IfErr, if◌then◌else◌};
 
 use std::alloc::{AllocError, AllocFailed, Global};

@@ -1,3 +1,5 @@
+//! Typing of whole bodies: blocks in one another, without recursion on them.
+
 ghost use Rattle.std.specs.Prelude.{◌≡◌, ◌∷◌, ◌<◌, [], false, true, length, IfOk, IsTrue, ◌↔◌, Ok, Some, None};
 ghost use Rattle.ms_module.specs.Numbered.{ElseWithin, NamesWithin};
 ghost use Rattle.ms_rules.specs.Modules.{FuncTyped};

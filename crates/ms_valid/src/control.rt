@@ -1,3 +1,5 @@
+//! Typing of instructions that have no sequence inside, branches and calls among them (WebAssembly 1.0, 3.3).
+
 ghost use Rattle.std.specs.Prelude.{IfOk};
 ghost use Rattle.ms_rules.specs.Typing.{InstrTyped, Typed};
 ghost use Rattle.ms_valid.specs.Shape.{Answers, IsSimple};

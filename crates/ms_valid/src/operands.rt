@@ -1,3 +1,5 @@
+//! The operands that an algorithm of typing keeps (WebAssembly 1.0, appendix A.3).
+
 ghost use Rattle.std.specs.Prelude.{◌≡◌, [], ◌∷◌, reverse, OnOk, IsTrue, ◌↔◌, false};
 ghost use Rattle.ms_rules.specs.Typing.{Drops, types};
 ghost use Rattle.ms_valid.specs.Shape.{shape, Admits, Allows, Answers, Becomes, Gives, Jumps, Takes, front, behind};

@@ -1,3 +1,5 @@
+//! Why a module is not taken.
+
 ghost use Rattle.std.specs.Prelude.{◌≡◌};
 ghost use Rattle.ms_valid.specs.declared.refusal.Refusal.TheVariants.{Memory};
 

@@ -1,3 +1,5 @@
+//! What the instructions of a body refer to.
+
 ghost use Rattle.std.specs.Prelude.{◌≡◌, ◌≢◌, ◌++◌, ◌<◌, length, slice_get, MatchOption, Some, None};
 ghost use Rattle.ms_types.specs.declared.types.FuncType.{FuncType};
 ghost use Rattle.ms_module.specs.Numbered.{AllNameWithin, sequence_at};

@@ -1,3 +1,5 @@
+//! A cursor over a slice with ample bytes, and at its end.
+
 use super::*;
 
 #[test]

@@ -1,3 +1,5 @@
+//! Locals with ample memory.
+
 ghost use Rattle.std.specs.Prelude.{◌+◌, ◌<◌, ◌^◌, IsTrue, length};
 
 use super::*;

@@ -1,3 +1,5 @@
+//! A table of names with ample memory.
+
 use super::*;
 use std::test::Fail;
 

@@ -1,3 +1,5 @@
+//! Bytes that are UTF-8, and others.
+
 use super::*;
 
 /// Characters of one and of four bytes, one that is cut off, and half of a pair.

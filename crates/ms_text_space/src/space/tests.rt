@@ -1,3 +1,5 @@
+//! A space of indices with ample memory.
+
 ghost use Rattle.std.specs.Prelude.{◌<◌};
 
 use super::*;

@@ -1,3 +1,5 @@
+//! A stack with ample memory.
+
 use super::*;
 use std::test::Fail;
 

@@ -1,3 +1,5 @@
+//! Vectors with ample memory, and with none.
+
 use super::*;
 use std::test::Fail;
 
