@@ -1,0 +1,4 @@
+pub mod LineParts
+pub mod NumberLaws
+pub mod PlacedWords
+pub mod TextsOf

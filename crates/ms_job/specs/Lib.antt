@@ -1,0 +1,4 @@
+pub mod Words
+pub mod Jobs
+pub mod Schedules
+pub mod Reading

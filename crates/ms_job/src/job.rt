@@ -1,0 +1,25 @@
+//! What a job says.
+
+use ms_module::Name;
+use ms_types::Vector;
+
+/// A job: the modules of a run, its tasks, and how they are run.
+#[derive(Debug, Drop)]
+pub struct Job {
+    /// The modules in the order in which they are linked, at most 64: the name of each, and its file.
+    pub modules: Vector<(Name, Name)>,
+    /// The tasks in order, at least 1 and at most 64: for each the number of its module, from 0, and an export's name.
+    pub tasks: Vector<(u32, Name)>,
+    /// How many entries in a row name one task where no file tells the schedule, 1 to 1,000,000.
+    pub turns: u32,
+    /// The file that tells the schedule.
+    pub schedule: Option<Name>,
+    /// How many entries are used at most, up to 10^12; with a trace up to 10^6.
+    pub budget: u64,
+    /// How many bytes the segment memory has, 16 to 16,777,216.
+    pub memory: u32,
+    /// The file that the events of the segment memory are written to.
+    pub trace: Option<Name>,
+    /// Whether the live segments are reported at the end.
+    pub dump: bool,
+}
