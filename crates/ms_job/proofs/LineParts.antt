@@ -8,7 +8,8 @@ use Rattle.std.proofs.lemmas.List.Sums.{fails_before_first}
 abbrev is_lf : ℕ → Bool
 is_lf b = b == 10
 
-more_parts : (x : List ℕ) (parts : List (List ℕ)) → 0 < length parts → lines_of_parts (x ∷ parts) ≡ strip_carriage_return x ∷ lines_of_parts parts
+more_parts : (x : List ℕ) (parts : List (List ℕ)) → 0 < length parts
+    → lines_of_parts (x ∷ parts) ≡ strip_carriage_return x ∷ lines_of_parts parts
 more_parts x [] h = absurd (omega arith)
 more_parts x (y ∷ more) h = refl
 
@@ -21,7 +22,8 @@ nowhere true n e = absurd (cc)
 nowhere false n e = refl
 
 -- where there is an LF
-pub lines-first : (text : List ℕ) (at : ℕ) → position is_lf text ≡ Some at → lines text ≡ strip_carriage_return (take at text) ∷ lines (drop (at + 1) text)
+pub lines-first : (text : List ℕ) (at : ℕ) → position is_lf text ≡ Some at
+    → lines text ≡ strip_carriage_return (take at text) ∷ lines (drop (at + 1) text)
 lines-first text at e =
     let n = position_or_len is_lf text in
     let f = found (nat_lt n (length text)) n at e in

@@ -5,13 +5,15 @@ abbrev Text : Type 0
 Text = Bor (List ℕ)
 
 -- those behind two, and behind three
-pub two_texts : (xs : List Text) (d e : Text) → 2 ≤ length xs → length xs < 3 → map (λ x. x.now) xs ≡ (get_or xs 0 d).now ∷ (get_or xs 1 e).now ∷ []
+pub two_texts : (xs : List Text) (d e : Text) → 2 ≤ length xs → length xs < 3
+    → map (λ x. x.now) xs ≡ (get_or xs 0 d).now ∷ (get_or xs 1 e).now ∷ []
 two_texts [] d e h k = absurd (omega arith)
 two_texts (a ∷ []) d e h k = absurd (omega arith)
 two_texts (a ∷ b ∷ []) d e h k = refl
 two_texts (a ∷ b ∷ c ∷ more) d e h k = absurd (omega arith)
 
-pub three_texts : (xs : List Text) (d e f : Text) → 3 ≤ length xs → length xs < 4 → map (λ x. x.now) xs ≡ (get_or xs 0 d).now ∷ (get_or xs 1 e).now ∷ (get_or xs 2 f).now ∷ []
+pub three_texts : (xs : List Text) (d e f : Text) → 3 ≤ length xs → length xs < 4
+    → map (λ x. x.now) xs ≡ (get_or xs 0 d).now ∷ (get_or xs 1 e).now ∷ (get_or xs 2 f).now ∷ []
 three_texts [] d e f h k = absurd (omega arith)
 three_texts (a ∷ []) d e f h k = absurd (omega arith)
 three_texts (a ∷ b ∷ []) d e f h k = absurd (omega arith)

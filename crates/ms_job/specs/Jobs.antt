@@ -11,7 +11,7 @@ use Rattle.ms_job.specs.declared.job.Job.{Job}
 use Rattle.ms_job.specs.declared.fault.JobFault.{JobFault}
 use Rattle.ms_job.specs.declared.fault.JobFault.TheVariants.{Budget, Line, NoTask}
 
--- ---- what a line says
+-- ---- what a line says: the job behind it, by the job so far
 
 -- a letter, a digit, `_`, `-` or `.`
 abbrev pub is_name_byte : ℕ → Bool
@@ -19,36 +19,53 @@ is_name_byte b = is_ascii_alphanumeric b || b == 95 || b == 45 || b == 46
 
 -- the name of a module: not those by which modules import from the host and from C
 abbrev pub is_name : List ℕ → Bool
-is_name word = not (length word == 0) && nat_le (length word) 64 && not (bytes_eq word (codes "env")) && not (bytes_eq word (codes "c")) && list_all is_name_byte word
+is_name word =
+    not (length word == 0) && nat_le (length word) 64 && not (bytes_eq word (codes "env")) && not (bytes_eq word (codes "c"))
+    && list_all is_name_byte word
 
 -- the number of the module of this name, from 0
 abbrev pub number_of : Draft → List ℕ → Option ℕ
 number_of d name = position (λ entry. bytes_eq entry.0 name) d.modules
 
+-- `module NAME FILE`: a new name, at most 64 such lines
 abbrev pub with_module : Draft → List ℕ → List ℕ → Option Draft
 with_module d name file =
-    if is_name name && is_none (number_of d name) && nat_lt (length d.modules) 64 then Some (record d { modules = d.modules ++ (name, file) ∷ [] }) else None
+    if is_name name && is_none (number_of d name) && nat_lt (length d.modules) 64
+    then Some (record d { modules = d.modules ++ (name, file) ∷ [] })
+    else None
 
+-- `task MODULE EXPORT`: of a module named above, at most 64 such lines
 abbrev pub with_task : Draft → List ℕ → List ℕ → Option Draft
 with_task d name export =
-    if nat_lt (length d.tasks) 64 then option_map (λ number. record d { tasks = d.tasks ++ (number, export) ∷ [] }) (number_of d name) else None
+    if nat_lt (length d.tasks) 64
+    then option_map (λ number. record d { tasks = d.tasks ++ (number, export) ∷ [] }) (number_of d name)
+    else None
 
+-- `turns Q`: once, and not beside a schedule
 abbrev pub with_turns : Draft → List ℕ → Option Draft
 with_turns d word =
-    if is_some d.turns || is_some d.schedule then None else option_map (λ n. record d { turns = Some n }) (number_within 1 1000000 word)
+    if is_some d.turns || is_some d.schedule then None
+    else option_map (λ n. record d { turns = Some n }) (number_within 1 1000000 word)
 
+-- `schedule FILE`: once, and not beside turns
 abbrev pub with_schedule : Draft → List ℕ → Option Draft
 with_schedule d file = if is_some d.turns || is_some d.schedule then None else Some (record d { schedule = Some file })
 
+-- `budget N`: once
 abbrev pub with_budget : Draft → List ℕ → Option Draft
-with_budget d word = if is_some d.budget then None else option_map (λ n. record d { budget = Some n }) (number_within 0 1000000000000 word)
+with_budget d word =
+    if is_some d.budget then None else option_map (λ n. record d { budget = Some n }) (number_within 0 1000000000000 word)
 
+-- `memory N`: once
 abbrev pub with_memory : Draft → List ℕ → Option Draft
-with_memory d word = if is_some d.memory then None else option_map (λ n. record d { memory = Some n }) (number_within 16 16777216 word)
+with_memory d word =
+    if is_some d.memory then None else option_map (λ n. record d { memory = Some n }) (number_within 16 16777216 word)
 
+-- `trace FILE`: once
 abbrev pub with_trace : Draft → List ℕ → Option Draft
 with_trace d file = if is_some d.trace then None else Some (record d { trace = Some file })
 
+-- `dump`: once
 abbrev pub with_dump : Draft → Option Draft
 with_dump d = if d.dump then None else Some (record d { dump = true })
 
@@ -56,7 +73,7 @@ with_dump d = if d.dump then None else Some (record d { dump = true })
 abbrev pub takes_traces : Bool
 takes_traces = false
 
--- the job behind a line of these words
+-- a line of these words; any other words break a rule
 abbrev pub with_words : Draft → List (List ℕ) → Option Draft
 with_words d (word ∷ []) = if bytes_eq word (codes "dump") && takes_traces then with_dump d else None
 with_words d (word ∷ x ∷ []) =
@@ -80,7 +97,7 @@ is_passed_over line = length line == 0 || slice_index line 0 == 35
 abbrev pub has_outer_space : List ℕ → Bool
 has_outer_space line = slice_index line 0 == 32 || slice_index line (length line - 1) == 32
 
--- the job behind a line, or `None` where the line breaks a rule
+-- a line; `None` where it isn't UTF-8 or breaks a rule
 abbrev pub with_line : Draft → List ℕ → Option Draft
 with_line d line =
     if not (is_utf8 line) then None
@@ -91,7 +108,16 @@ with_line d line =
 -- ---- a text
 
 abbrev pub no_lines : Draft
-no_lines = record { modules = []; tasks = []; turns = None; schedule = None; budget = None; memory = None; trace = None; dump = false }
+no_lines = record {
+  modules = [];
+  tasks = [];
+  turns = None;
+  schedule = None;
+  budget = None;
+  memory = None;
+  trace = None;
+  dump = false;
+}
 
 -- the job behind all lines, or the number of the first that breaks a rule, where n is that of the first one
 abbrev pub with_lines : ℕ → Draft → List (List ℕ) → Result Draft ℕ
@@ -111,6 +137,7 @@ job_of d = record {
   dump = d.dump;
 }
 
+-- the job of what all lines said, or the first fault: of a line, then that there is no task, then the budget
 abbrev pub checked : Result Draft ℕ → Result Job JobFault
 checked (Err n) = Err (Line n)
 checked (Ok d) =

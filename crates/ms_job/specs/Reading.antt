@@ -1,5 +1,6 @@
 -- What readers answer. Where memory runs out nothing is said.
-use Rattle.std.specs.Prelude.{◌≡◌, ℕ, List, Option, Some, None, Result, Ok, Err}
+use Rattle.std.specs.Prelude.{◌≡◌, ℕ, ◌+◌, ◌-◌, ◌*◌, ◌^◌, ◌≤◌, ◌⊎◌, true, false, List, Option, Some, None, Result, Ok, Err}
+use Rattle.std.specs.Char.{is_ascii_digit}
 use Rattle.ms_job.specs.declared.draft.Draft.{Draft}
 use Rattle.ms_job.specs.declared.draft.Stop.{Stop}
 use Rattle.ms_job.specs.declared.draft.Stop.TheVariants.{Broken, Memory}
@@ -32,3 +33,8 @@ ReadsLines answer (Ok d) = answer ≡ Ok d
 ReadsLines answer (Err (job_fault.Line n)) = answer ≡ Err n
 ReadsLines answer (Err job_fault.Memory) = Unit {0}
 ReadsLines answer (Err _) = ⊥
+
+-- a digit was put behind a number, or the byte is none, or the number isn't below 2^64
+abbrev pub AddsDigit : ℕ → ℕ → Option ℕ → Type 0
+AddsDigit value byte None = (is_ascii_digit byte ≡ false) ⊎ (2 ^ 64 ≤ value * 10 + (byte - 48))
+AddsDigit value byte (Some n) = (is_ascii_digit byte ≡ true) × (n ≡ value * 10 + (byte - 48))

@@ -26,7 +26,8 @@ placed_words inside at (b ∷ bs) =
 -- the numbers of these words, behind others, or the place of the first word that is no number below 2^32
 abbrev pub numbers_behind : List ℕ → List (ℕ × List ℕ) → Result (List ℕ) SchedFault
 numbers_behind ns [] = Ok ns
-numbers_behind ns (word ∷ more) = option_map_or (λ n. numbers_behind (ns ++ n ∷ []) more) (number_within 0 4294967295 word.1) (Err (At word.0))
+numbers_behind ns (word ∷ more) =
+    option_map_or (λ n. numbers_behind (ns ++ n ∷ []) more) (number_within 0 4294967295 word.1) (Err (At word.0))
 
 -- the numbers of a text, or its first fault
 abbrev pub schedule_in : List ℕ → Result (List ℕ) SchedFault

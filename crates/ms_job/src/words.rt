@@ -1,9 +1,9 @@
 //! Words and numbers.
 
-ghost use Rattle.std.specs.Prelude.{◌≡◌, ◌+◌, ◌-◌, ◌*◌, ◌^◌, ◌≤◌, ◌⊎◌, false, true, map, take, IfOk, IfSome, MatchOption};
-ghost use Rattle.std.specs.Char.{is_ascii_digit};
+ghost use Rattle.std.specs.Prelude.{◌≡◌, ◌≤◌, map, take, IfOk, IfSome};
 ghost use Rattle.std.specs.List.{list_all};
 ghost use Rattle.ms_job.specs.Jobs.{is_name, is_name_byte};
+ghost use Rattle.ms_job.specs.Reading.{AddsDigit};
 ghost use Rattle.ms_job.specs.Words.{number_within, words};
 
 use std::alloc::{AllocError, Global};
@@ -38,7 +38,7 @@ pub(crate) fn number(word: &[u8], low: u64, high: u64) -> Option<u64>
 
 /// The number with one digit more at its end. `None` where the byte is no digit, or the number isn't below 2^64.
 fn with_digit(value: u64, byte: u8) -> Option<u64>
-    ensures { MatchOption result ((is_ascii_digit byte ≡ false) ⊎ (2 ^ 64 ≤ value * 10 + (byte - 48))) (λ n. (is_ascii_digit byte ≡ true) × (n ≡ value * 10 + (byte - 48))) }
+    ensures { AddsDigit value byte result }
 {
     match byte {
         b'0'..=b'9' => value.checked_mul(10)?.checked_add(u64::from(byte - b'0')),

@@ -1,3 +1,4 @@
+-- What of the word was seen.
 use Rattle.std.proofs.Common.{◌≡◌, ◌++◌, take, drop}
 use Rattle.ms_job.specs.Schedules.{first_word}
 use Rattle.ms_job.proofs.entries.first_word.Given as goal

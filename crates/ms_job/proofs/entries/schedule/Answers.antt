@@ -1,3 +1,4 @@
+-- A byte that separates words is skipped, and a word gives its number.
 use Rattle.std.proofs.Common.{◌∙◌, ◌+◌, false, List, ℕ, length, drop, ap, sym, arith}
 use Rattle.ms_job.specs.Schedules.{first_word, is_apart, numbers_behind, placed_words}
 use Rattle.ms_job.proofs.PlacedWords.{left_is, numbers_more, word_fits, words_skip}
@@ -8,9 +9,10 @@ loop-at-preserved-then-is_apart c =
     let text = c.args.text.now in
     let at = c.loop-at.at in
     let apart = ap is_apart (sym (left_is at text)) ∙ sym c.is_apart.ensures ∙ c.if-is_apart.true in
+    let skipped = words_skip at text c.loop-at-test.true apart in
     record {
       inside = omega arith;
-      told = ap (numbers_behind c.loop-at.numbers) (sym (words_skip at text c.loop-at-test.true apart)) ∙ c.loop-at.invariant.told;
+      told = ap (numbers_behind c.loop-at.numbers) (sym skipped) ∙ c.loop-at.invariant.told;
     }
 
 pub loop-at-preserved : goal.loop-at-preserved
@@ -23,7 +25,8 @@ loop-at-preserved c =
     let number = sym c.number.ensures.value ∙ c.in-Some.is in
     let fits = (word_fits at text c.loop-at-test.true goes).1 in
     let more = numbers_more at text c.loop-at.numbers c.in-Some.number word c.loop-at-test.true goes is number in
+    let rest = placed_words false (at + length word) (drop (at + length word) text) in
     record {
       inside = omega (arith, fits, ap length is);
-      told = ap (λ (ns : List ℕ). numbers_behind ns (placed_words false (at + length word) (drop (at + length word) text))) c.in_ok-push.ensures.items ∙ sym more ∙ c.loop-at.invariant.told;
+      told = ap (λ (ns : List ℕ). numbers_behind ns rest) c.in_ok-push.ensures.items ∙ sym more ∙ c.loop-at.invariant.told;
     }

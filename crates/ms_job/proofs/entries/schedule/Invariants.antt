@@ -1,3 +1,4 @@
+-- What the words so far gave, and what is left.
 use Rattle.std.proofs.Common.{◌≡◌, ◌-◌, ◌≤◌, false, length, drop}
 use Rattle.ms_job.specs.Schedules.{numbers_behind, placed_words, schedule_in}
 use Rattle.ms_job.proofs.entries.schedule.Given as goal

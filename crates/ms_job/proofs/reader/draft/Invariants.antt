@@ -1,3 +1,4 @@
+-- What the lines so far said, and what is left.
 use Rattle.std.proofs.Common.{◌≡◌, ◌+◌, ◌≤◌, length}
 use Rattle.std.specs.Str.Lines.{lines}
 use Rattle.ms_job.specs.Jobs.{no_lines, with_lines}

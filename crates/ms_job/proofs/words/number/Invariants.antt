@@ -1,3 +1,4 @@
+-- What the digits so far said.
 use Rattle.std.proofs.Common.{◌≡◌, drop}
 use Rattle.ms_job.specs.Words.{number_behind}
 use Rattle.ms_job.proofs.words.number.Given as goal

@@ -1,3 +1,4 @@
+-- The chain from its last call back: the first four of the filled parts between spaces.
 use Rattle.std.proofs.Common.{◌==◌, not, length, lit<, rules, tests}
 use Rattle.std.proofs.lemmas.Iterator.{YieldsList-from_take}
 use Rattle.std.proofs.lemmas.Iterator.Consumers.{map_from_collect, YieldsList-at, YieldsList-from_filter}
@@ -10,5 +11,7 @@ returns c =
     (YieldsList-from_take 4
     (YieldsList-at c.take.ensures.source
     (YieldsList-from_filter _ (λ word. not (length word == 0))
-    (YieldsList-at c.filter.ensures.source (YieldsList-from_str_split 32 c.args.line.now (lit< tt) c.split.ensures.text c.split.ensures.has_more c.split.ensures.pattern)) c.filter.ensures.closure (λ x b q k. search (rules, tests))))
+    (YieldsList-at c.filter.ensures.source
+    (YieldsList-from_str_split 32 c.args.line.now (lit< tt) c.split.ensures.text c.split.ensures.has_more c.split.ensures.pattern))
+    c.filter.ensures.closure (λ x b q k. search (rules, tests))))
     c.take.ensures.count)
