@@ -1,0 +1,12 @@
+pub mod Accessed
+pub mod Allocated
+pub mod Begun
+pub mod Colouring
+pub mod Fields
+pub mod Filtering
+pub mod Freed
+pub mod Refusing
+pub mod Rooming
+pub mod Seen
+pub mod Slicing
+pub mod Splitting

@@ -1,0 +1,17 @@
+use Rattle.std.proofs.Common.{◌≡◌, ◌∙◌, ℕ, Some, None, cond, nat_eq, ap, arith}
+use Rattle.ms_gap_tree.specs.Rooms.{room_at, size_of}
+use Rattle.ms_live.proofs.Keeping.{key_below}
+use Rattle.ms_monitor.proofs.Begun.{begun_kept}
+use Rattle.ms_monitor.proofs.monitor.Monitor.new.Goals as goal
+
+pub insert-requires-clause-key : goal.insert-requires-clause-key
+insert-requires-clause-key c = key_below c.in_ok-rooms.rooms.levels 0 c.in_ok-rooms.ensures.levels (omega arith)
+
+pub invariant_of-result : goal.invariant_of-result
+invariant_of-result c =
+    let a = c.insert.new.self in
+    let rooms = λ (key : ℕ).
+    let was : cond (nat_eq key 0) (Some c.from.result) (room_at c.in_ok-rooms.rooms key) ≡ cond (nat_eq key 0) (Some c.from.result) None = ap (cond (nat_eq key 0) (Some c.from.result)) (c.in_ok-rooms.ensures.rooms key) in
+    c.insert.ensures.rooms key ∙ (was ∙ ap (λ (n : ℕ). cond (nat_eq key 0) (Some n) None) c.from.ensures) in
+    let size : size_of a ≡ 1 = let s = c.insert.ensures.size in let z = c.in_ok-rooms.ensures.size in omega arith in
+    begun_kept c.args.capacity c.new-2.result c.new-3.result a c.new-2.ensures (omega arith) rooms size (c.insert.ensures.levels ∙ c.in_ok-rooms.ensures.levels) (c.insert.ensures.most ∙ c.in_ok-rooms.ensures.most)

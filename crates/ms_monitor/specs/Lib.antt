@@ -1,0 +1,6 @@
+pub mod Colours
+pub mod Gaps
+pub mod Judging
+pub mod Kept
+pub mod Shades
+pub mod Showing
