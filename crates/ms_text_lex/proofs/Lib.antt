@@ -3,3 +3,4 @@ pub mod Digits
 pub mod Spans
 pub mod StringLaws
 pub mod StringValues
+pub mod StringRuns

@@ -87,6 +87,15 @@ escape = do
   e ← item broken escape_of
   behind_escape e
 
+-- the byte that an escape of two digits in front tells
+abbrev pub paired : Option ℕ → Option ℕ → Option ℕ
+paired (Some high) (Some low) = Some (high * 16 + low)
+paired _ _ = None
+
+abbrev pub hex_escape : List ℕ → Option ℕ
+hex_escape (a ∷ b ∷ c ∷ s) = if a == 92 then paired (hex b) (hex c) else None
+hex_escape _ = None
+
 -- ---- elements
 
 -- no control character
@@ -109,6 +118,21 @@ no_quote (b ∷ s) = not (b == 34)
 
 abbrev pub string_goes : {S : Type 0} → S → List ℕ → Bool
 string_goes st s = no_quote s
+
+-- what is made of an element
+unfoldable pub piece_step : {S : Type 0} → (S → Piece → S) → S → Format ℕ Fault S
+piece_step after st = do
+  p ← piece
+  pure (after st p)
+
+-- a byte that is an element by itself, and no quote
+abbrev pub is_plain : ℕ → Bool
+is_plain b = not (nat_lt b 32 || (b == 34) || (b == 92) || (b == 127))
+
+-- what is made of such bytes
+abbrev pub after_bytes : {S : Type 0} → (S → Piece → S) → S → List ℕ → S
+after_bytes after st [] = st
+after_bytes after st (b ∷ s) = after_bytes after (after st (Byte b)) s
 
 -- the elements of a string, of which only their being there counts
 unfoldable pub skip_piece : Elements → Format ℕ Fault Elements

@@ -1,17 +1,21 @@
 //! Strings (WebAssembly 1.0, 6.3.3).
 
-ghost use Rattle.std.specs.Prelude.{◌≡◌, ◌≤◌, ◌<◌, ℕ, IfOk, IfSome};
+ghost use Rattle.std.specs.Prelude.{◌≡◌, ◌≤◌, ◌<◌, ℕ, Ok, IfOk, IfSome, OnOk, drop, length};
 ghost use Rattle.ms_bytes.specs.Items.{item_at};
+ghost use Rattle.ms_bytes.specs.Runs.{run_at};
+ghost use Rattle.ms_bytes.specs.Texts.{run_len};
 ghost use Rattle.ms_text_lex.specs.Classes.{hex};
 ghost use Rattle.ms_text_lex.specs.Fault.{broken};
 ghost use Rattle.ms_bytes.specs.Spot.{place_of};
+ghost use Rattle.ms_text_lex.specs.declared.strings.Piece.TheVariants.{Byte};
 ghost use Rattle.ms_text_lex.specs.Readers.{Reads, fault_of, inside_of};
-ghost use Rattle.ms_text_lex.specs.Strings.{behind_escape, behind_first, code_digit, code_digits, code_goes, code_point, code_step, code_text, escape, escape_of, no_quote, piece, plain_byte, quoted, skip_piece, skip_pieces, string, string_goes, string_text};
+ghost use Rattle.ms_text_lex.specs.Strings.{after_bytes, behind_escape, behind_first, code_digit, code_digits, code_goes, code_point, code_step, code_text, escape, escape_of, hex_escape, is_plain, no_quote, piece, piece_step, plain_byte, quoted, skip_piece, skip_pieces, string, string_goes, string_text};
 
 use crate::class::{hex, is_utf8, may_be_utf8};
 use crate::fault::LexFault;
-use crate::steps::{Steps, run, text_before, this};
+use crate::steps::{Steps, broken, run, text_before, this};
 use ms_bytes::Cursor;
+use std::alloc::AllocError;
 
 /// What stands behind a backslash.
 #[derive(Clone, Copy)]
@@ -207,11 +211,30 @@ fn plain_byte(c: &mut Cursor) -> Result<u8, LexFault>
     }
 }
 
+/// The byte that an escape of two digits in front tells.
+fn hex_escape(bytes: &[u8]) -> Option<u8>
+    ensures { result ≡ hex_escape bytes.now }
+{
+    let [first, high, low, ..] = bytes else {
+        return None;
+    };
+    if *first != b'\\' {
+        return None;
+    }
+    let high = hex(*high)?;
+    let low = hex(*low)?;
+    Some(high * 16 + low)
+}
+
 /// Takes a byte or an escape.
 #[tactic(auto, unfolding(crate::specs::Strings::piece, crate::specs::Strings::behind_first))]
 pub fn next_piece(c: &mut Cursor) -> Result<Piece, LexFault>
     ensures { Reads c.old c.new result (piece.read c.old.end c.old.left) }
 {
+    if let Some(byte) = hex_escape(c.rest()) {
+        c.skip(3);
+        return Ok(Piece::Byte(byte));
+    }
     let byte = plain_byte(c)?;
     if byte == b'\\' {
         return escaped(c);
@@ -229,32 +252,84 @@ pub fn no_quote(c: &Cursor) -> bool
     }
 }
 
+/// How many bytes in front stand for themselves: no control character, quote or backslash is among them.
+fn plain_len(bytes: &[u8]) -> usize
+    ensures run { result ≡ run_len is_plain bytes.now }
+    ensures within { result ≤ length bytes.now }
+{
+    for (i, byte) in bytes.iter().enumerate() {
+        if !is_plain(*byte) {
+            return i;
+        }
+    }
+    bytes.len()
+}
+
+fn is_plain(byte: u8) -> bool
+    ensures { result ≡ is_plain byte }
+{
+    !(byte < 32 || byte == b'"' || byte == b'\\' || byte == 127)
+}
+
+/// What is made of the elements of a string.
+pub trait Pieces: Sized + Drop {
+    ghost use Rattle.ms_text_lex.specs.declared.strings.Piece.{Piece};
+
+    ghost after: { Self → Piece → Self };
+
+    /// Adds an element.
+    fn add(&mut self, piece: Piece) -> Result<(), AllocError>
+        ensures { OnOk result (self.new ≡ after self.old piece) };
+
+    /// Adds bytes that stand for themselves.
+    fn add_bytes(&mut self, bytes: &[u8]) -> Result<(), AllocError>
+        ensures { OnOk result (self.new ≡ after_bytes after self.old bytes.now) };
+}
+
+/// Takes all elements up to a quote, the bytes that stand for themselves a run at a time.
+pub fn take_pieces<S: Pieces>(first: S, c: &mut Cursor) -> Result<S, LexFault>
+    ensures { Reads c.old c.new result (run_at broken string_goes (piece_step S.after) (length c.old.left) first c.old.end c.old.left) }
+{
+    let mut state = first;
+    let most = c.len();
+    for _ in 0..most {
+        let text = c.rest();
+        let n = plain_len(text);
+        state.add_bytes(&text[..n])?;
+        c.skip(n);
+        if !no_quote(c) {
+            return Ok(state);
+        }
+        let piece = next_piece(c)?;
+        state.add(piece)?;
+    }
+    Err(broken(c))
+}
+
 /// The elements of a string, of which only their being there counts.
 #[derive(Clone, Copy)]
 pub struct Elements {}
 
-impl Steps for Elements {
-    ghost going = { string_goes };
+impl Pieces for Elements {
+    ghost after = { λ st _. st };
 
-    ghost step = { λ _. skip_piece };
-
-    fn goes(&self, c: &Cursor) -> bool {
-        no_quote(c)
+    fn add(&mut self, _piece: Piece) -> Result<(), AllocError> {
+        let _ = *self;
+        Ok(())
     }
 
-    #[tactic(auto, unfolding(crate::specs::Strings::skip_piece))]
-    fn step(&mut self, c: &mut Cursor) -> Result<(), LexFault> {
-        let _ = next_piece(c)?;
+    fn add_bytes(&mut self, _bytes: &[u8]) -> Result<(), AllocError> {
+        let _ = *self;
         Ok(())
     }
 }
 
 /// Goes over what stands between quotes.
-#[tactic(auto, unfolding(crate::specs::Strings::skip_pieces))]
+#[tactic(auto, unfolding(crate::specs::Strings::skip_pieces, crate::specs::Strings::skip_piece, crate::specs::Strings::piece_step))]
 fn skip_pieces(c: &mut Cursor) -> Result<Elements, LexFault>
     ensures { Reads c.old c.new result (skip_pieces.read c.old.end c.old.left) }
 {
-    run(Elements {}, c)
+    take_pieces(Elements {}, c)
 }
 
 /// Goes over a string in its quotes.

@@ -7,8 +7,8 @@ ghost use Rattle.ms_text_lex.specs.Tokens.{text_of};
 ghost use Rattle.ms_text_lex.specs.Values.{bytes_in, bytes_of, element, elements, string_bytes, value_of};
 
 use crate::fault::LexFault;
-use crate::steps::{Steps, run, this};
-use crate::strings::{Piece, next_piece, no_quote};
+use crate::steps::this;
+use crate::strings::{Piece, Pieces, take_pieces};
 use crate::token::{Token, text_of};
 use ms_bytes::Cursor;
 use std::alloc::{AllocError, Global};
@@ -28,11 +28,10 @@ impl Model for Bytes {
     ghost view = { λ b. b.items.items };
 }
 
-impl Bytes {
-    /// Adds what an element stands for.
-    fn add(&mut self, piece: Piece) -> Result<(), AllocError>
-        ensures { IfOk result (λ _. self.new ≡ self.old ++ bytes_of piece) }
-    {
+impl Pieces for Bytes {
+    ghost after = { λ bytes piece. bytes ++ bytes_of piece };
+
+    fn add(&mut self, piece: Piece) -> Result<(), AllocError> {
         match piece {
             Piece::Byte(byte) => self.items.push(byte)?,
             Piece::Scalar(character) => {
@@ -43,36 +42,19 @@ impl Bytes {
         }
         Ok(())
     }
-}
 
-impl Steps for Bytes {
-    ghost going = { string_goes };
-
-    ghost step = { λ _. element };
-
-    fn goes(&self, c: &Cursor) -> bool {
-        no_quote(c)
-    }
-
-    #[tactic(auto, unfolding(crate::specs::Values::element))]
-    fn step(&mut self, c: &mut Cursor) -> Result<(), LexFault> {
-        let next = next_piece(c)?;
-        self.add(next)?;
-        Ok(())
+    fn add_bytes(&mut self, bytes: &[u8]) -> Result<(), AllocError> {
+        self.items.extend_from_slice(bytes)
     }
 }
 
 /// Takes what stands between quotes.
-#[tactic(auto, unfolding(crate::specs::Values::elements))]
+#[tactic(auto, unfolding(crate::specs::Values::elements, crate::specs::Values::element, crate::specs::Strings::piece_step))]
 fn elements(alloc: Global, c: &mut Cursor) -> Result<Bytes, LexFault>
     ensures { Reads c.old c.new result (elements.read c.old.end c.old.left) }
 {
-    run(
-        Bytes {
-            items: Vec::new(alloc),
-        },
-        c,
-    )
+    let items = Vec::with_capacity(alloc, c.len())?;
+    take_pieces(Bytes { items }, c)
 }
 
 /// Takes a string in its quotes.
@@ -118,6 +100,10 @@ pub fn append_value(
     ensures { bytes.new.items ≡ (if is_ok result then bytes.old.items ++ value_of source.now token else bytes.old.items) }
 {
     let value = string_value(alloc, source, token)?;
+    if bytes.is_empty() {
+        *bytes = value;
+        return Ok(());
+    }
     bytes.extend_from_slice(value.as_slice())
 }
 
