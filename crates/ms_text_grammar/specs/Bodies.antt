@@ -8,7 +8,6 @@ use Rattle.ms_bytes.specs.RunLaws.{takes_least}
 use Rattle.ms_bytes.specs.Repetition.{run}
 use Rattle.ms_text_lex.specs.declared.token.Token.{Token}
 use Rattle.ms_text_grammar.specs.declared.fault.TextFault.{TextFault}
-use Rattle.ms_text_grammar.specs.declared.frame.Frame.{Frame}
 use Rattle.ms_text_grammar.specs.declared.surface.Body.{Body}
 use Rattle.ms_text_grammar.specs.Tokens.{closes}
 use Rattle.ms_text_grammar.specs.Faults.{Textual, bad}

@@ -1,6 +1,6 @@
 -- Instructions that are no blocks: a keyword, and what stands behind it (WebAssembly 1.0, 6.5.2 to 6.5.6). The keywords stand in
 -- the table of instructions (`Instructions` of `ms_module`).
-use Rattle.std.specs.Prelude.{◌==◌, ◌++◌, ◌||◌, ℕ, Bool, true, List, [], ◌∷◌, length, Option, Some, None, if◌then◌else◌}
+use Rattle.std.specs.Prelude.{◌==◌, ◌++◌, ◌||◌, ℕ, Bool, List, [], ◌∷◌, length, Option, Some, None, if◌then◌else◌}
 use Rattle.std.specs.Str.{bytes_eq}
 use Rattle.std.proofs.Common.{arith}
 use Rattle.ms_bytes.specs.Do.{◌>>=◌}

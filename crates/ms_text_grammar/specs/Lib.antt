@@ -9,6 +9,7 @@ pub mod Bounds
 pub mod Turns
 pub mod TurnLaws
 pub mod Bodies
+pub mod Balance
 pub mod Entries
 pub mod Fields
 pub mod Shapes

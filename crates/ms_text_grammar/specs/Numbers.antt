@@ -1,5 +1,5 @@
 -- Numbers and indices (WebAssembly 1.0, 6.3.1 and 6.6.1).
-use Rattle.std.specs.Prelude.{◌==◌, ◌-◌, ◌^◌, ◌&&◌, ◌≤◌, not, ℕ, ℤ, suc, zero, pos, ◌-ℤ◌, Bool, true, false, List, [], ◌∷◌, Option, Some, None, nat_lt, nat_le, length, drop, if◌then◌else◌}
+use Rattle.std.specs.Prelude.{◌==◌, ◌^◌, ◌&&◌, ◌≤◌, not, ℕ, ℤ, suc, zero, Bool, true, false, List, [], ◌∷◌, Option, Some, None, length, drop, if◌then◌else◌}
 use Rattle.std.proofs.Common.{arith}
 use Rattle.ms_bytes.specs.Do.{◌>>=◌}
 use Rattle.ms_bytes.specs.Parts.{choose, choose_least, item, pure}
@@ -15,7 +15,7 @@ use Rattle.ms_text_grammar.specs.declared.surface.Index.{Index}
 use Rattle.ms_text_grammar.specs.declared.surface.Index.TheVariants.{Name, Number}
 use Rattle.ms_text_grammar.specs.Keywords.{align_is, offset_is}
 use Rattle.ms_text_grammar.specs.Tokens.{begins_id, begins_index, is_keyword, is_number, next}
-use Rattle.ms_text_grammar.specs.Faults.{Textual, bad, kept}
+use Rattle.ms_text_grammar.specs.Faults.{Textual, bad}
 use Rattle.ms_text_grammar.specs.Parts.{identifier}
 
 abbrev pub if_so : {A : Type 0} → Bool → Option A → Option A

@@ -1,4 +1,3 @@
-pub mod Lists
+pub mod Blocks
 pub mod Parts
-pub mod Repeats
-pub mod Types
+pub mod Targets

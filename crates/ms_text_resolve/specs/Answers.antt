@@ -1,13 +1,9 @@
--- What code gives on the way: a value, and the places of wrong identifiers behind those so far; and what it gives in the end.
-use Rattle.std.specs.Prelude.{◌≡◌, ◌≤◌, ◌++◌, ℕ, List, [], Option, Some, None, Result, Ok, Err, All, Contains}
+-- What resolving gives in the end.
+use Rattle.std.specs.Prelude.{◌≡◌, ◌≤◌, ℕ, List, [], Option, Some, None, Result, Ok, Err, All, Contains}
 use Rattle.ms_module.specs.declared.module.Module.{Module}
 use Rattle.ms_text_grammar.specs.declared.fault.TextFault.{TextFault}
 use Rattle.ms_text_grammar.specs.declared.fault.TextFault.TheVariants.{Memory, Name}
 use Rattle.ms_text_grammar.specs.Elaborating.{With}
-
-pub record Adds {A : Type 0} (old new : List ℕ) (given : A) (x : With A) : Type 0 where
-  pub value_is : given ≡ x.value
-  pub wrong_is : new ≡ old ++ x.wrong
 
 -- the least of places, if there is one
 abbrev pub IsLeast : List ℕ → Option ℕ → Type 0

@@ -1,3 +1,3 @@
 pub mod Answers
-pub mod Keys
-pub mod Settings
+pub mod Assembled
+pub mod Steps

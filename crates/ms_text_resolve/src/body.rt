@@ -1,15 +1,17 @@
 //! Bodies: flat instructions to numbered sequences (WebAssembly 1.0, 6.5).
 
-ghost use Rattle.std.specs.Prelude.{◌≡◌, ◌++◌, ◌∷◌, [], IfOk, OnOk};
+ghost use Rattle.std.specs.Prelude.{◌≡◌, ◌<◌, ◌++◌, ◌∷◌, [], true, length, IfOk, OnOk};
+ghost use Rattle.ms_module.specs.Building.{may_turn};
+ghost use Rattle.ms_text_grammar.specs.Balance.{Balanced, IsWhole};
 ghost use Rattle.ms_text_grammar.specs.Elaborating.{built, code_of, each, instr_of, nothing_built, use_index, with_begin, with_else, with_end, with_instr, with_op};
-ghost use Rattle.ms_text_resolve.specs.Answers.{Adds};
+ghost use Rattle.ms_text_resolve.specs.Steps.{MayCome};
+ghost use Rattle.ms_text_space.specs.Answers.{Adds};
 
-use crate::context::Context;
 use crate::instrs::{Around, instr_of, is_plain};
-use crate::locals::LocalIds;
 use ms_module::{Builder, Code, Opening};
 use ms_text_grammar::{Body, Op, Plain, TypeUse};
 use ms_text_lex::Token;
+use ms_text_space::{Context, LocalIds};
 use ms_types::{Stack, ValType};
 use std::alloc::{AllocError, Global};
 use std::marker::Model;
@@ -68,24 +70,20 @@ impl Making {
         Ok(())
     }
 
-    /// An `else`. The grammar gives none outside of an `if`.
-    fn turn(&mut self) -> Result<(), AllocError>
-        ensures { OnOk result (self.new ≡ with_else self.old) }
+    /// An `else`.
+    fn turn(&mut self)
+        requires { may_turn self.old.st.blocks ≡ true }
+        ensures { self.new ≡ with_else self.old }
     {
-        if !self.builder.may_turn() {
-            return Err(AllocError);
-        }
         self.builder.turn();
-        Ok(())
     }
 
-    /// Ends the innermost block. The grammar gives no `end` without one.
+    /// Ends the innermost block.
     fn end(&mut self) -> Result<(), AllocError>
+        requires block { 0 < length self.old.st.blocks }
+        requires label { 0 < length self.old.labels }
         ensures { OnOk result (self.new ≡ with_end self.old) }
     {
-        if self.builder.depth() == 0 || self.labels.len() == 0 {
-            return Err(AllocError);
-        }
         self.builder.close()?;
         let _ = self.labels.pop();
         Ok(())
@@ -93,13 +91,17 @@ impl Making {
 
     /// A step of a body.
     fn step(&mut self, alloc: Global, around: Around, step: &Op) -> Result<(), AllocError>
-        requires { (around.locals.now).source ≡ (around.context.now).source }
+        requires may { MayCome self.old step.now }
+        requires source { (around.locals.now).source ≡ (around.context.now).source }
         ensures { OnOk result (self.new ≡ with_op (around.entry.context.now).source (around.entry.context.now).scope (around.entry.locals.now).ids around.entry.uses.now step.now self.old) }
     {
         match step {
             Op::Plain(plain) => self.plain(alloc, around, plain),
             Op::Begin { opening, label, ty } => self.begin(*opening, *label, *ty),
-            Op::Else => self.turn(),
+            Op::Else => {
+                self.turn();
+                Ok(())
+            }
             Op::End => self.end(),
         }
     }
@@ -107,8 +109,10 @@ impl Making {
 
 /// Builds a body of its steps.
 fn built(alloc: Global, around: Around, ops: &[Op]) -> Result<Making, AllocError>
-    requires { (around.locals.now).source ≡ (around.context.now).source }
-    ensures { IfOk result (λ m. m ≡ built (around.entry.context.now).source (around.entry.context.now).scope (around.entry.locals.now).ids around.entry.uses.now ops.now nothing_built) }
+    requires whole { Balanced [] ops.now }
+    requires source { (around.locals.now).source ≡ (around.context.now).source }
+    ensures closed { IfOk result (λ m. length m.st.blocks ≡ 0) }
+    ensures built { IfOk result (λ m. m ≡ built (around.entry.context.now).source (around.entry.context.now).scope (around.entry.locals.now).ids around.entry.uses.now ops.now nothing_built) }
 {
     let mut making = Making::new(alloc)?;
     for step in ops {
@@ -133,7 +137,7 @@ fn use_indices(
     Ok(indices)
 }
 
-/// The code of a body with these locals. In the grammar each block of a body has ended.
+/// The code of a body with these locals.
 pub fn code_of<'a>(
     alloc: Global,
     context: &Context<'a>,
@@ -141,7 +145,8 @@ pub fn code_of<'a>(
     body: &Body,
     wrong: &mut Vec<usize>,
 ) -> Result<Code, AllocError>
-    requires { locals.now.source ≡ context.now.source }
+    requires whole { IsWhole body.now }
+    requires source { locals.now.source ≡ context.now.source }
     ensures { IfOk result (λ code. Adds wrong.old.items wrong.new.items code (code_of context.now.source context.now.scope locals.now.ids body.now)) }
 {
     let uses = use_indices(alloc, context, body.uses.as_slice(), wrong)?;
@@ -155,9 +160,6 @@ pub fn code_of<'a>(
         labels: _,
         wrong: inside,
     } = built(alloc, around, body.ops.as_slice())?;
-    if builder.depth() > 0 {
-        return Err(AllocError);
-    }
     wrong.extend_from_slice(inside.as_slice())?;
     Ok(builder.finish())
 }

@@ -1,17 +1,28 @@
 //! Exports and the start function (WebAssembly 1.0, 6.6.9 and 6.6.10), exports of entries at their places.
 
 ghost use Rattle.std.specs.Prelude.{◌≡◌, ◌++◌, IfOk, OnOk};
-ghost use Rattle.ms_text_grammar.specs.Elaborating.{export_of, exports_from, inline_exports, no_entries, starts_in};
-ghost use Rattle.ms_text_resolve.specs.Answers.{Adds};
+ghost use Rattle.ms_text_grammar.specs.Elaborating.{export_desc, export_of, exports_from, inline_exports, no_entries, starts_in};
+ghost use Rattle.ms_text_space.specs.Answers.{Adds};
 
-use crate::context::Context;
-use crate::kinds::{Tally, export_desc, kind_of};
 use crate::texts::name_of;
 use ms_module::{Export, ExportDesc};
 use ms_text_grammar::{ExternKind, Field, Index};
 use ms_text_lex::Token;
+use ms_text_space::{Context, Tally, kind_of};
 use ms_types::Vector;
 use std::alloc::{AllocError, Global};
+
+/// What an export of this kind and index gives.
+fn export_desc(kind: ExternKind, index: u32) -> ExportDesc
+    ensures { result ≡ export_desc kind index }
+{
+    match kind {
+        ExternKind::Func => ExportDesc::Func(index),
+        ExternKind::Table => ExportDesc::Table(index),
+        ExternKind::Memory => ExportDesc::Memory(index),
+        ExternKind::Global => ExportDesc::Global(index),
+    }
+}
 
 /// Adds exports of these names, all of one entry.
 fn add_inline(

@@ -2,14 +2,14 @@
 
 ghost use Rattle.std.specs.Prelude.{◌≡◌, ◌++◌, IfOk, OnOk};
 ghost use Rattle.ms_text_grammar.specs.Elaborating.{defined, entries_in, func_of, funcs_of, global_of, globals_of};
+ghost use Rattle.ms_text_grammar.specs.Balance.{AreWhole, IsWhole};
 ghost use Rattle.ms_text_grammar.specs.Shapes.{param_types};
-ghost use Rattle.ms_text_resolve.specs.Answers.{Adds};
+ghost use Rattle.ms_text_space.specs.Answers.{Adds};
 
 use crate::body::code_of;
-use crate::context::Context;
-use crate::locals::LocalIds;
 use ms_module::{Func, Global as GlobalVar, Locals};
 use ms_text_grammar::{Body, Field, Item, Param, TypeUse};
+use ms_text_space::{Context, LocalIds};
 use ms_types::{GlobalType, Vector};
 use std::alloc::{AllocError, Global};
 
@@ -36,6 +36,7 @@ fn func_of(
     body: &Body,
     wrong: &mut Vec<usize>,
 ) -> Result<Func, AllocError>
+    requires { IsWhole body.now }
     ensures { IfOk result (λ f. Adds wrong.old.items wrong.new.items f (func_of context.now.source context.now.scope sig.now locals.now body.now)) }
 {
     let index = context.use_index(alloc, sig, wrong)?;
@@ -55,6 +56,7 @@ pub fn funcs_of(
     fields: &[Field],
     wrong: &mut Vec<usize>,
 ) -> Result<Vector<Func>, AllocError>
+    requires { AreWhole fields.now }
     ensures { IfOk result (λ funcs. Adds wrong.old.items wrong.new.items funcs (funcs_of context.now.source context.now.scope (defined (entries_in fields.now)))) }
 {
     let mut funcs = Vector::new(alloc);
@@ -81,6 +83,7 @@ fn global_of(
     init: &Body,
     wrong: &mut Vec<usize>,
 ) -> Result<GlobalVar, AllocError>
+    requires { IsWhole init.now }
     ensures { IfOk result (λ g. Adds wrong.old.items wrong.new.items g (global_of context.now.source context.now.scope ty init.now)) }
 {
     let none = LocalIds::none(alloc, context.source());
@@ -95,6 +98,7 @@ pub fn globals_of(
     fields: &[Field],
     wrong: &mut Vec<usize>,
 ) -> Result<Vector<GlobalVar>, AllocError>
+    requires { AreWhole fields.now }
     ensures { IfOk result (λ globals. Adds wrong.old.items wrong.new.items globals (globals_of context.now.source context.now.scope (defined (entries_in fields.now)))) }
 {
     let mut globals = Vector::new(alloc);

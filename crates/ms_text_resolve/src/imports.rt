@@ -2,15 +2,12 @@
 
 ghost use Rattle.std.specs.Prelude.{◌≡◌, ◌++◌, IfOk};
 ghost use Rattle.ms_text_grammar.specs.Elaborating.{defined, desc_of, entries_in, exactly, import_of, imports_of, limits_of, of_kind, pages, sizes_of};
-ghost use Rattle.ms_text_resolve.specs.Answers.{Adds};
+ghost use Rattle.ms_text_space.specs.Answers.{Adds};
 
-use crate::context::Context;
-use crate::kinds::{kind_of, same_kind};
-use crate::names::{enter_all, number};
 use crate::texts::{name_of, text_values};
 use ms_module::{Import, ImportDesc};
 use ms_text_grammar::{ExternKind, Field, ImportNames, Item};
-use ms_text_space::Space;
+use ms_text_space::{Context, Space, enter_all, kind_of, number, same_kind};
 use ms_types::{Limits, Vector};
 use std::alloc::{AllocError, Global};
 

@@ -6,14 +6,12 @@ ghost use Rattle.ms_module.specs.declared.br_table.Targets.{Targets};
 ghost use Rattle.ms_text_grammar.specs.declared.surface.Plain.TheVariants as written;
 ghost use Rattle.std.specs.Prelude.{Some};
 ghost use Rattle.ms_text_grammar.specs.Elaborating.{instr_of, number_at, targets_of};
-ghost use Rattle.ms_text_resolve.specs.Answers.{Adds};
+ghost use Rattle.ms_text_space.specs.Answers.{Adds};
 
-use crate::context::Context;
-use crate::labels::{label_identified, labels_resolved};
-use crate::locals::LocalIds;
 use ms_module::{BrTable, Instr, Linear, Targets};
 use ms_text_grammar::{ExternKind, Plain};
 use ms_text_lex::Token;
+use ms_text_space::{Context, LocalIds, label_identified, labels_resolved};
 use ms_types::{Stack, Vector};
 use std::alloc::{AllocError, Global};
 

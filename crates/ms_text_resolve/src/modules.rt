@@ -2,16 +2,18 @@
 
 ghost use Rattle.std.specs.Prelude.{◌≡◌, ◌++◌, [], IfOk};
 ghost use Rattle.ms_text_grammar.specs.Elaborating.{module_of, scope_of};
-ghost use Rattle.ms_text_resolve.specs.Answers.{Adds, IsLeast, Resolves};
-ghost use Rattle.ms_text_resolve.specs.Settings.{parts_of};
+ghost use Rattle.ms_text_grammar.specs.Balance.{AreWhole};
+ghost use Rattle.ms_text_resolve.specs.Answers.{IsLeast, Resolves};
+ghost use Rattle.ms_text_resolve.specs.Assembled.{parts_of};
+ghost use Rattle.ms_text_space.specs.Answers.{Adds};
 
-use crate::context::Context;
 use crate::exports::{exports_of, start_of};
 use crate::funcs::{funcs_of, globals_of};
 use crate::imports::{imports_of, sizes_of};
 use crate::segments::{elements_of, fills_of};
 use ms_module::Module;
 use ms_text_grammar::{ExternKind, Field, TextFault};
+use ms_text_space::Context;
 use ms_types::Vector;
 use std::alloc::{AllocError, Global};
 
@@ -22,6 +24,7 @@ fn parts_of(
     fields: &[Field],
     wrong: &mut Vec<usize>,
 ) -> Result<Module, AllocError>
+    requires { AreWhole fields.now }
     ensures { IfOk result (λ m. Adds wrong.old.items wrong.new.items m (parts_of context.now fields.now)) }
 {
     let imports = imports_of(alloc, context, fields, wrong)?;
@@ -54,6 +57,7 @@ fn module_of(
     fields: &[Field],
     wrong: &mut Vec<usize>,
 ) -> Result<Module, AllocError>
+    requires { AreWhole fields.now }
     ensures { IfOk result (λ m. Adds wrong.old.items wrong.new.items m (module_of source.now fields.now)) }
 {
     let context = Context::new(alloc, source, fields, wrong)?;
@@ -74,6 +78,8 @@ fn least(places: &[usize]) -> Option<usize>
 /// Where an identifier is unknown, or stands a second time in its index space, the fault is `Name`, at the least place of
 /// one. `Memory` where memory ran out. There are no other faults.
 pub fn resolve(alloc: Global, source: &[u8], fields: &[Field]) -> Result<Module, TextFault>
+    // Each body is balanced, as the grammar spells them.
+    requires { AreWhole fields.now }
     ensures { Resolves (module_of source.now fields.now) result }
 {
     let mut wrong = Vec::new(alloc);

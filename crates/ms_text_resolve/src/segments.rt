@@ -2,16 +2,15 @@
 
 ghost use Rattle.std.specs.Prelude.{◌≡◌, ◌++◌, [], IfOk};
 ghost use Rattle.ms_text_grammar.specs.Elaborating.{at_zero, code_of, element_at_zero, element_of, elements_from, fill_at_zero, fill_of, fills_from, no_entries};
-ghost use Rattle.ms_text_resolve.specs.Answers.{Adds};
+ghost use Rattle.ms_text_grammar.specs.Balance.{AreWhole, IsWhole};
+ghost use Rattle.ms_text_space.specs.Answers.{Adds};
 
 use crate::body::code_of;
-use crate::context::Context;
-use crate::kinds::{Tally, kind_of};
-use crate::locals::LocalIds;
 use crate::texts::text_values;
 use ms_module::{Builder, Code, Element, Fill, Instr};
 use ms_text_grammar::{Body, ExternKind, Field, Index, Item};
 use ms_text_lex::Token;
+use ms_text_space::{Context, LocalIds, Tally, kind_of};
 use ms_types::Vector;
 use std::alloc::{AllocError, Global};
 
@@ -31,6 +30,7 @@ fn offset_of(
     offset: &Body,
     wrong: &mut Vec<usize>,
 ) -> Result<Code, AllocError>
+    requires { IsWhole offset.now }
     ensures { IfOk result (λ code. Adds wrong.old.items wrong.new.items code (code_of context.now.source context.now.scope [] offset.now)) }
 {
     let none = LocalIds::none(alloc, context.source());
@@ -46,6 +46,7 @@ fn element_of(
     funcs: &[Index],
     wrong: &mut Vec<usize>,
 ) -> Result<Element, AllocError>
+    requires { IsWhole offset.now }
     ensures { IfOk result (λ e. Adds wrong.old.items wrong.new.items e (element_of context.now.source context.now.scope table offset.now funcs.now)) }
 {
     let table = context.resolved(ExternKind::Table, table, wrong)?;
@@ -83,6 +84,7 @@ pub fn elements_of(
     fields: &[Field],
     wrong: &mut Vec<usize>,
 ) -> Result<Vector<Element>, AllocError>
+    requires { AreWhole fields.now }
     ensures { IfOk result (λ elements. Adds wrong.old.items wrong.new.items elements (elements_from context.now.source context.now.scope no_entries fields.now)) }
 {
     let mut elements = Vector::new(alloc);
@@ -119,6 +121,7 @@ fn fill_of(
     strings: &[Token],
     wrong: &mut Vec<usize>,
 ) -> Result<Fill, AllocError>
+    requires { IsWhole offset.now }
     ensures { IfOk result (λ f. Adds wrong.old.items wrong.new.items f (fill_of context.now.source context.now.scope memory offset.now strings.now)) }
 {
     let memory = context.resolved(ExternKind::Memory, memory, wrong)?;
@@ -155,6 +158,7 @@ pub fn fills_of(
     fields: &[Field],
     wrong: &mut Vec<usize>,
 ) -> Result<Vector<Fill>, AllocError>
+    requires { AreWhole fields.now }
     ensures { IfOk result (λ fills. Adds wrong.old.items wrong.new.items fills (fills_from context.now.source context.now.scope no_entries fields.now)) }
 {
     let mut fills = Vector::new(alloc);

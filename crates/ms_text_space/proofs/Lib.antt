@@ -1,1 +1,4 @@
 pub mod Firsts
+pub mod Lists
+pub mod Repeats
+pub mod Types

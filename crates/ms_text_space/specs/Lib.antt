@@ -1,1 +1,4 @@
+pub mod Answers
+pub mod Keys
+pub mod Settings
 pub mod Spaces

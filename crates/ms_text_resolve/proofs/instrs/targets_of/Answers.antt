@@ -1,5 +1,5 @@
 use Rattle.std.proofs.Common.{refl}
-use Rattle.ms_text_resolve.proofs.Repeats.{targets_last}
+use Rattle.ms_text_resolve.proofs.Targets.{targets_last}
 use Rattle.ms_text_resolve.proofs.instrs.targets_of.Goals as goal
 
 pub returns-in-Some : goal.returns-in-Some
