@@ -18,13 +18,16 @@ use Rattle.ms_types.specs.declared.types.FuncType.{FuncType}
 use Rattle.ms_types.specs.declared.types.ValType.{ValType}
 use Rattle.ms_types.specs.declared.types.ValType.TheVariants as types
 use Rattle.ms_machine.specs.Holding.{Each, EachGlobal, EachKept, ThreadHolds}
-use Rattle.ms_machine.specs.Segments.{segment_on}
-use Rattle.ms_machine.specs.Step.{Next, Outcome, Stuck, Trap, act, begin, call, call_target, call_through, first, moved, exited, step_of}
+use Rattle.ms_machine.specs.Segments as segments
+use Rattle.ms_machine.specs.Segments.{Effect, segment_on}
+use Rattle.ms_host.specs.declared.host.Host.{Host}
+use Rattle.ms_host.specs.declared.host.Host.TheVariants as hosts
+use Rattle.ms_machine.specs.Step.{Calls, Next, Outcome, Stuck, Trap, act, begin, call, call_target, call_through, called, first, host_in, in_segments, moved, exited, step_of}
 use Rattle.ms_machine.specs.Store.{Store, at, func_address, global_address, instance_of, memory_address, table_address, type_at}
 use Rattle.ms_machine.proofs.HeldControl.{MovedHolds, block_holds, br_if_holds, br_table_holds, branch_holds, call_holds, if_holds, return_holds, exit_holds}
 use Rattle.ms_machine.proofs.HeldPlain.{OutcomeHolds, drop_holds, global_held, global_set_holds, goes_holds, linear_outcome_holds, local_set_holds, local_tee_holds, pushed_holds, select_holds, worked_holds}
 use Rattle.ms_machine.proofs.HeldSegments.{Fresh, FreshBy, in_segments_holds, segment_holds}
-use Rattle.ms_machine.proofs.HeldValues.{each_get, global_grows, thread_grows}
+use Rattle.ms_machine.proofs.HeldValues.{each_get, global_grows, holds, thread_grows}
 
 -- ---- one fact, before and after
 
@@ -41,7 +44,11 @@ module _ (P : Value → Type 0) (int32 : (n : ℕ) → P (values.I32 n)) (int64 
 
   called_holds : (s : Store) (address : Option ℕ) (fr : Frame) (vs : List Value) (w : List Item) → EachGlobal P s.globals → Each P vs → Each P fr.locals → EachKept P w → OutcomeHolds P (call s (thread fr vs w) address)
   called_holds s None fr vs w g a b d = tt
-  called_holds s (Some x) fr vs w g a b d = moved_holds s (call_on s.funcs x (thread fr vs w)) g (call_holds P default_holds s.funcs x fr vs w a b d)
+  called_holds s (Some x) fr vs w g a b d = by (host_in (slice_get s.funcs x)) where
+    by : (h : Option Host) → OutcomeHolds P (called s x (thread fr vs w) h)
+    by None = moved_holds s (call_on s.funcs x (thread fr vs w)) g (call_holds P default_holds s.funcs x fr vs w a b d)
+    by (Some hosts.Abort) = tt
+    by (Some h) = holds P fr vs w a b d
 
   target_holds : (s : Store) (f : Result FuncRef CallTrap) (fr : Frame) (vs : List Value) (w : List Item) → EachGlobal P s.globals → Each P vs → Each P fr.locals → EachKept P w → OutcomeHolds P (call_target s (thread fr vs w) f)
   target_holds s (Ok f) fr vs w g a b d = called_holds s (Some f.address) fr vs w g a b d
@@ -84,11 +91,34 @@ module _ (P : Value → Type 0) (int32 : (n : ℕ) → P (values.I32 n)) (int64 
 
   exited_holds : (o : Outcome) → OutcomeHolds P o → OutcomeHolds P (exited o)
   exited_holds (Next s t event) h = (h.0, exit_holds P t.frame t.operands t.work h.1.operands h.1.locals h.1.kept)
+  exited_holds (Calls host t) h = h
   exited_holds (Trap trap) h = tt
   exited_holds Stuck h = tt
 
   stepped_holds : (s : Store) (t : Thread) → EachGlobal P s.globals → ThreadHolds P t → Fresh P s.segments t.operands t.work → OutcomeHolds P (step_of s t)
   stepped_holds s t g h fresh = exited_holds (begin s t) (first_holds s t.frame t.operands t.work g h.operands h.locals h.kept fresh)
+
+-- ---- a call of the host
+
+segments_call_none : (s : Store) (t u : Thread) (e : Effect) (host : Host) → exited (in_segments s t e) ≡ Calls host u → ⊥
+segments_call_none s t u (segments.Gives vs m event) host is = cc
+segments_call_none s t u (segments.Trap trap) host is = cc
+segments_call_none s t u segments.Stuck host is = cc
+
+module _ (P : Value → Type 0) (s : Store) (u : Thread) (host : Host) where
+  fresh_call : (i : Instr) (fr : Frame) (vs : List Value) (w : List Item) → exited (act s i (thread fr vs w)) ≡ Calls host u → FreshBy P i s.segments vs
+  fresh_call (Segment i) fr vs w is = absurd (segments_call_none s (thread fr vs w) u (segment_on i s.segments vs) host is)
+  fresh_call i fr vs w is = tt
+
+  fresh_first : (fr : Frame) (vs : List Value) (w : List Item) → exited (first s fr vs w) ≡ Calls host u → Fresh P s.segments vs w
+  fresh_first fr vs [] is = tt
+  fresh_first fr vs (Do i ∷ w) is = fresh_call i fr vs w is
+  fresh_first fr vs (Label k h i ∷ w) is = tt
+  fresh_first fr vs (Activation k h caller ∷ w) is = tt
+
+-- what holds of each value of a thread holds of each behind a call of the host
+pub stepped_calls : (P : Value → Type 0) → ((n : ℕ) → P (values.I32 n)) → ((n : ℕ) → P (values.I64 n)) → P (values.Handle handles.Null) → (s : Store) (t u : Thread) (host : Host) → EachGlobal P s.globals → ThreadHolds P t → step_of s t ≡ Calls host u → ThreadHolds P u
+stepped_calls P int32 int64 null s t u host g h is = subst (OutcomeHolds P) is (stepped_holds P int32 int64 null s t g h (fresh_first P s u host t.frame t.operands t.work is))
 
 -- ---- a fact that grows: what held before holds afterwards
 

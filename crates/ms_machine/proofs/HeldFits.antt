@@ -1,5 +1,5 @@
 -- The handles of a store and of threads fit, and go on fitting.
-use Rattle.std.proofs.Common.{◌≡◌, ◌≢◌, ℕ, ◌+◌, ◌≤◌, List, [], ◌∷◌, Option, refl, sym, ap, subst, arith}
+use Rattle.std.proofs.Common.{◌≡◌, ℕ, ◌+◌, ◌≤◌, List, [], ◌∷◌, Option, ap, arith}
 use Rattle.ms_event.specs.declared.event.Event.{Event}
 use Rattle.ms_handle.specs.declared.handle.Handle.{Handle as H}
 use Rattle.ms_linear.specs.declared.value.Value.{Value}
@@ -17,10 +17,7 @@ use Rattle.ms_machine.specs.Holding.{Each, Fits, StoreFits, ThreadFits}
 use Rattle.ms_machine.specs.Segments as segments
 use Rattle.ms_machine.specs.Segments.{Effect, segment_on}
 use Rattle.ms_machine.specs.Step.{Next, first, in_segments, exited, step_of}
-use Rattle.ms_machine.specs.Stepped.{DoesStep}
 use Rattle.ms_machine.specs.Store.{Store}
-use Rattle.ms_machine.specs.declared.stepped.Stepped.{Stepped}
-use Rattle.ms_machine.specs.declared.stepped.Stepped.TheVariants as answers
 use Rattle.ms_machine.proofs.HeldActs.{step_holds}
 use Rattle.ms_machine.proofs.HeldControl.{exit_holds}
 use Rattle.ms_machine.proofs.HeldMemory.{Grows, segment_fresh, segment_grows, segment_sound}
@@ -90,25 +87,6 @@ step_keeps s s' t t' event store fits is =
     let made = fresh s s' t.frame t.operands t.work t' event store.segments fits.operands keeps is in
     let all = step_holds Fits (λ m n. tt) (λ m n. tt) (λ m. tt) s s' t t' event (fits_grows s.segments s'.segments keeps) made fits store.globals is in
     (record { globals = all.1; segments = step_sound s s' t t' event store.segments fits is }, all.0)
-
--- what the code answers, but for memory that ran out
-pub does_step_fits : (s s' : Store) (t t' : Thread) (r : Stepped) → DoesStep r (step_of s t) s t s' t' → r ≢ answers.Memory → StoreFits s → ThreadFits s t → StoreFits s' × ThreadFits s' t' × (s'.segments.made ≤ s.segments.made + 1) × ((h : H) → IsFit s.segments h → IsFit s'.segments h)
-does_step_fits s s' t t' (answers.On event) carries able store fits =
-    let kept = step_keeps s s' t t' event store fits carries.0 in
-    (kept.0, kept.1, (step_makes s s' t t' event carries.0).1, step_grows s s' t t' event carries.0)
-does_step_fits s s' t t' (answers.Ended value event) carries able store fits =
-    let kept = step_keeps s s' t t' event store fits carries.0 in
-    (kept.0, kept.1, (step_makes s s' t t' event carries.0).1, step_grows s s' t t' event carries.0)
-does_step_fits s s' t t' (answers.Trap trap) carries able store fits =
-    let same : s ≡ s' = sym carries.1 in (
-      subst StoreFits same store,
-      subst (λ x. ThreadFits s' x) (sym carries.2) (subst (λ x. ThreadFits x t) same fits),
-      subst (λ (x : Store). x.segments.made ≤ s.segments.made + 1) same (omega arith),
-      subst (λ (x : Store). (h : H) → IsFit s.segments h → IsFit x.segments h) same (λ h fit. fit),
-    )
-does_step_fits s s' t t' answers.ReadFault carries able store fits = absurd carries
-does_step_fits s s' t t' answers.WriteFault carries able store fits = absurd carries
-does_step_fits s s' t t' answers.Memory carries able store fits = absurd (able refl)
 
 -- ---- the start of a task
 

@@ -25,7 +25,7 @@ use Rattle.ms_operate.specs.Outcomes as operate
 use Rattle.ms_operate.specs.declared.trap.Trap.TheVariants as operate-traps
 use Rattle.ms_task.specs.Thread.{Frame, Item, thread}
 use Rattle.ms_machine.specs.Holding.{Each, EachGlobal, EachKept, ThreadHolds}
-use Rattle.ms_machine.specs.Step.{Next, Outcome, Stuck, Trap, choose, goes, in_memory, linear, on_memory, on_top, pushed, select, set_global, set_global_at, set_local, value_in, worked}
+use Rattle.ms_machine.specs.Step.{Calls, Next, Outcome, Stuck, Trap, choose, goes, in_memory, linear, on_memory, on_top, pushed, select, set_global, set_global_at, set_local, value_in, worked}
 use Rattle.ms_machine.specs.Store as stores
 use Rattle.ms_machine.specs.Store.{at}
 use Rattle.ms_machine.proofs.HeldValues.{OptionHolds, each_set, global_get, global_set, holds}
@@ -35,6 +35,7 @@ use Rattle.ms_machine.proofs.HeldValues.{OptionHolds, each_set, global_get, glob
 module _ (P : Value → Type 0) where
   abbrev pub OutcomeHolds : Outcome → Type 0
   OutcomeHolds (Next s t event) = EachGlobal P s.globals × ThreadHolds P t
+  OutcomeHolds (Calls h t) = ThreadHolds P t
   OutcomeHolds (Trap trap) = Unit {0}
   OutcomeHolds Stuck = Unit {0}
 

@@ -23,7 +23,9 @@ use Rattle.ms_task.specs.Thread.{Activation, Do, Frame, Item, Label, Thread, thr
 use Rattle.ms_types.specs.declared.types.FuncType.{FuncType}
 use Rattle.ms_machine.specs.Segments as segments
 use Rattle.ms_machine.specs.Segments.{Effect, segment_on}
-use Rattle.ms_machine.specs.Step.{Next, Outcome, Stuck, Trap, act, begin, call, call_target, call_through, first, in_memory, in_segments, linear, moved, on_memory, on_top, pushed, select, set_global, set_global_at, set_local, exited, step_of, value_in, worked}
+use Rattle.ms_host.specs.declared.host.Host.{Host}
+use Rattle.ms_host.specs.declared.host.Host.TheVariants as hosts
+use Rattle.ms_machine.specs.Step.{Calls, Next, Outcome, Stuck, Trap, act, begin, call, call_target, call_through, called, first, host_in, in_memory, in_segments, linear, moved, on_memory, on_top, pushed, select, set_global, set_global_at, set_local, exited, step_of, value_in, worked}
 use Rattle.ms_machine.specs.Store.{Store, at, func_address, global_address, instance_of, memory_address, table_address, type_at}
 
 -- it goes on behind itself
@@ -45,6 +47,7 @@ IsPlainInstr _ = Unit {0}
 module _ (R : Memory → List Item → Type 0) where
   abbrev OutcomeOver : Outcome → Type 0
   OutcomeOver (Next s t event) = R s.segments t.work
+  OutcomeOver (Calls h t) = Unit {0}
   OutcomeOver (Trap trap) = Unit {0}
   OutcomeOver Stuck = Unit {0}
 
@@ -132,6 +135,7 @@ plain_goes s s' i t t' event plain is =
 module _ (R : Memory → Type 0) where
   abbrev pub MemoryAfter : Outcome → Type 0
   MemoryAfter (Next s t event) = R s.segments
+  MemoryAfter (Calls h t) = Unit {0}
   MemoryAfter (Trap trap) = Unit {0}
   MemoryAfter Stuck = Unit {0}
 
@@ -145,12 +149,17 @@ module _ (R : Memory → Type 0) where
   moved_after s TooDeep r = tt
   moved_after s control.Stuck r = tt
 
+  called_after : (s : Store) (a : ℕ) (t : Thread) (h : Option Host) → R s.segments → MemoryAfter (called s a t h)
+  called_after s a t None r = moved_after s (call_on s.funcs a t) r
+  called_after s a t (Some hosts.Abort) r = tt
+  called_after s a t (Some h) r = tt
+
   call_after : (s : Store) (t : Thread) (address : Option ℕ) → R s.segments → MemoryAfter (call s t address)
   call_after s t None r = tt
-  call_after s t (Some x) r = moved_after s (call_on s.funcs x t) r
+  call_after s t (Some x) r = called_after s x t (host_in (slice_get s.funcs x)) r
 
   target_after : (s : Store) (t : Thread) (f : Result FuncRef CallTrap) → R s.segments → MemoryAfter (call_target s t f)
-  target_after s t (Ok f) r = moved_after s (call_on s.funcs f.address t) r
+  target_after s t (Ok f) r = called_after s f.address t (host_in (slice_get s.funcs f.address)) r
   target_after s t (Err e) r = tt
 
   through_after : (s : Store) (t : Thread) (table : Option Table) (sig : Option FuncType) (vs : List Value) → R s.segments → MemoryAfter (call_through s t table sig vs)
@@ -166,6 +175,7 @@ module _ (R : Memory → Type 0) where
 
     after : (o : Outcome) → OutcomeOver (λ m w. R m) o → MemoryAfter o
     after (Next s t event) y = y
+    after (Calls h t) y = tt
     after (Trap trap) y = tt
     after Stuck y = tt
 
@@ -190,6 +200,7 @@ module _ (R : Memory → Type 0) where
 
   exited_after : (o : Outcome) → MemoryAfter o → MemoryAfter (exited o)
   exited_after (Next s t event) r = r
+  exited_after (Calls h t) r = tt
   exited_after (Trap trap) r = tt
   exited_after Stuck r = tt
 

@@ -2,8 +2,6 @@ pub mod Branches
 pub mod Memories
 pub mod Performing
 pub mod Starts
-pub mod Runs
-pub mod Budgets
 pub mod Fitting
 pub mod TypedValues
 pub mod TypedWork
@@ -42,5 +40,12 @@ pub mod SafeSegments
 pub mod SafeSizes
 pub mod SafeSteps
 pub mod SafeStarts
-pub mod SafeRuns
 pub mod SafeAnswers
+pub mod Moving
+pub mod SafeMoves
+pub mod Asking
+pub mod Outsides
+pub mod Runs
+pub mod Budgets
+pub mod Coming
+pub mod SafeRuns

@@ -100,6 +100,7 @@ declared_typed m capacity head alone address g found h =
     let left = subst (λ (x : Option ValType). Typed (inside c (f.ty.params ++ g.locals) x) g.body (x ∷ []) 0 x) (sym k) own in
     record {
       instance = omega arith;
+      host = tt;
       results = results ∙ ap types (sym k);
       body = subst (λ (d : Context). Typed d g.body (result_of f ∷ []) 0 (result_of f)) (context_found m capacity address g found) left;
     }

@@ -23,13 +23,16 @@ use Rattle.ms_task.specs.Thread.{Activation, Do, Frame, Item, Label, Thread, thr
 use Rattle.ms_types.specs.declared.types.FuncType.{FuncType}
 use Rattle.ms_machine.specs.Segments as segments
 use Rattle.ms_machine.specs.Segments.{Effect, segment_on}
-use Rattle.ms_machine.specs.Step.{Next, Outcome, Stuck, Trap, act, begin, call, call_target, call_through, first, in_memory, in_segments, linear, moved, on_memory, on_top, pushed, select, set_global, set_global_at, set_local, exited, step_of, value_in, worked}
+use Rattle.ms_host.specs.declared.host.Host.{Host}
+use Rattle.ms_host.specs.declared.host.Host.TheVariants as hosts
+use Rattle.ms_machine.specs.Step.{Calls, Next, Outcome, Stuck, Trap, act, begin, call, call_target, call_through, called, first, host_in, in_memory, in_segments, linear, moved, on_memory, on_top, pushed, select, set_global, set_global_at, set_local, exited, step_of, value_in, worked}
 use Rattle.ms_machine.specs.Store.{Store, at, func_address, global_address, instance_of, memory_address, table_address, type_at}
 
 -- a fact about the event and the memory
 module _ (R : Option Event → Memory → Type 0) where
   abbrev pub ToldBy : Outcome → Type 0
   ToldBy (Next s t event) = R event s.segments
+  ToldBy (Calls h t) = Unit {0}
   ToldBy (Trap trap) = Unit {0}
   ToldBy Stuck = Unit {0}
 
@@ -88,12 +91,17 @@ module _ (R : Option Event → Memory → Type 0) where
     moved_tells TooDeep = tt
     moved_tells control.Stuck = tt
 
+    called_tells : (a : ℕ) (u : Thread) (h : Option Host) → ToldBy (called s a u h)
+    called_tells a u None = moved_tells (call_on s.funcs a u)
+    called_tells a u (Some hosts.Abort) = tt
+    called_tells a u (Some h) = tt
+
     call_tells : (address : Option ℕ) → ToldBy (call s t address)
     call_tells None = tt
-    call_tells (Some x) = moved_tells (call_on s.funcs x t)
+    call_tells (Some x) = called_tells x t (host_in (slice_get s.funcs x))
 
     target_tells : (vs : List Value) (f : Result FuncRef CallTrap) → ToldBy (call_target s (thread t.frame vs t.work) f)
-    target_tells vs (Ok f) = moved_tells (call_on s.funcs f.address (thread t.frame vs t.work))
+    target_tells vs (Ok f) = called_tells f.address (thread t.frame vs t.work) (host_in (slice_get s.funcs f.address))
     target_tells vs (Err e) = tt
 
     through_tells : (table : Option Table) (sig : Option FuncType) (vs : List Value) → ToldBy (call_through s t table sig vs)
@@ -140,6 +148,7 @@ module _ (R : Option Event → Memory → Type 0) where
 
   exited_tells : (o : Outcome) → ToldBy o → ToldBy (exited o)
   exited_tells (Next s t event) r = r
+  exited_tells (Calls h t) r = tt
   exited_tells (Trap trap) r = tt
   exited_tells Stuck r = tt
 

@@ -11,15 +11,18 @@ use Rattle.ms_operate.specs.Numbers.{numeric_on}
 use Rattle.ms_rules.specs.Instructions.{numeric_arrow, segment_arrow}
 use Rattle.ms_rules.specs.Typing.{Calls, CallsByTable, types}
 use Rattle.ms_task.specs.Control.{Moved, To, TooDeep, Stuck, block_on, br_if_on, br_table_on, branch, call_on, else_on, if_on, loop_on, return_on}
+use Rattle.ms_task.specs.declared.func.FuncInst.{FuncInst}
 use Rattle.ms_task.specs.Thread.{Frame, Item, thread}
 use Rattle.ms_types.specs.declared.types.FuncType.{FuncType}
 use Rattle.ms_types.specs.declared.types.ValType.{ValType}
 use Rattle.ms_types.specs.declared.types.ValType.TheVariants.{I32, I64}
 use Rattle.ms_machine.specs.Segments.{segment_on}
-use Rattle.ms_machine.specs.Step.{act, call, call_target, call_through, moved}
+use Rattle.ms_machine.specs.Step.{act, call, call_target, call_through, called, host_in, moved}
 use Rattle.ms_machine.specs.Store.{Store, at, func_address, table_address, type_at}
-use Rattle.ms_machine.specs.Typing.{FrameTyped, InstrTypedAt, StoreTyped, WorkTyped, context_at, labels_of, outline_of, types_of}
+use Rattle.ms_machine.specs.Typing.{FrameTyped, HostTyped, InstrTypedAt, StoreTyped, WorkTyped, context_at, host_type, labels_of, outline_of, types_of}
 use Rattle.ms_machine.proofs.TypedBlocks.{block_typed, else_typed, loop_typed, number_typed, table_takes}
+use Rattle.ms_host.specs.declared.host.Host.{Host}
+use Rattle.ms_host.specs.declared.host.Host.TheVariants as hosts
 use Rattle.ms_machine.proofs.TypedCalls.{call_typed, func_named, instance_at}
 use Rattle.ms_machine.proofs.TypedNumbers.{GivesTyped, numeric_typed}
 use Rattle.ms_machine.proofs.TypedPlain.{OutcomeTyped, drop_typed, global_get_typed, global_set_typed, goes_typed, in_segments_typed, linear_outcome, local_get_typed, local_set_typed, local_tee_typed, over_below, select_typed, worked_typed}
@@ -35,21 +38,39 @@ moved_typed s Stuck h = h
 
 -- ---- calls
 
+-- of a function, or of the host's
+called_typed : (s : Store) → StoreTyped (outline_of s) → (fr : Frame) (vs : List Value) (w : List Item) (f : ℕ) (g : FuncInst) (k : Option ValType) (r below : List ValType) → slice_get s.funcs f ≡ Some g → g.ty.results ≡ types k → FrameTyped (outline_of s) fr → types_of vs ≡ (reverse g.ty.params ++ r) ++ below → WorkTyped (outline_of s) fr.function w (types k ++ r) below → OutcomeTyped (outline_of s) (called s f (thread fr vs w) (host_in (slice_get s.funcs f)))
+called_typed s store fr vs w f g k r below found results frame operands work =
+    subst (λ x. OutcomeTyped (outline_of s) (called s f (thread fr vs w) (host_in x))) (sym found) (by g.host refl)
+  where
+    by : (h : Option Host) → g.host ≡ h → OutcomeTyped (outline_of s) (called s f (thread fr vs w) h)
+    by None is = moved_typed s (call_on s.funcs f (thread fr vs w)) (call_typed (outline_of s) store fr vs w f g k r below found results frame operands work)
+    by (Some hosts.Abort) is = tt
+    by (Some h) is =
+        let ty : g.ty ≡ host_type h = subst (λ x. HostTyped x g.ty) is (store.funcs f g found).host in
+        record {
+          k = k;
+          r = r;
+          below = below;
+          results = sym (ap (λ (y : FuncType). y.results) ty) ∙ results;
+          operands = operands ∙ ap (λ (y : FuncType). (reverse y.params ++ r) ++ below) ty;
+          frame = frame;
+          work = work;
+        }
+
 call_outcome : (s : Store) → StoreTyped (outline_of s) → (x : ℕ) (fr : Frame) (vs : List Value) (w : List Item) (ts t below : List ValType) → FrameTyped (outline_of s) fr → types_of vs ≡ ts ++ below → Calls (slice_get (context_at (outline_of s) fr.function).funcs x) ts t → WorkTyped (outline_of s) fr.function w t below → OutcomeTyped (outline_of s) (call s (thread fr vs w) (func_address (instance_at (outline_of s) fr.function) x))
 call_outcome s store x fr vs w ts t below frame operands (sig, there, (k, r, results, before, left)) work =
     let o = outline_of s in
     let f = func_named o fr.function x sig there in
     subst (λ a. OutcomeTyped o (call s (thread fr vs w) a)) (sym f.2)
-    (moved_typed s (call_on s.funcs f.0 (thread fr vs w))
-    (call_typed o store fr vs w f.0 f.1 k r below f.3 (ap (λ (y : FuncType). y.results) f.4 ∙ results) frame
+    (called_typed s store fr vs w f.0 f.1 k r below f.3 (ap (λ (y : FuncType). y.results) f.4 ∙ results) frame
     (operands ∙ ap (λ l. l ++ below) before ∙ ap (λ (y : FuncType). (reverse y.params ++ r) ++ below) (sym f.4))
-    (subst (λ l. WorkTyped o fr.function w l below) left work)))
+    (subst (λ l. WorkTyped o fr.function w l below) left work))
 
 target_outcome : (s : Store) → StoreTyped (outline_of s) → (sig : FuncType) (f : Result FuncRef CallTrap) → TargetTyped (outline_of s) sig f → (fr : Frame) (vs : List Value) (w : List Item) (k : Option ValType) (r below : List ValType) → sig.results ≡ types k → FrameTyped (outline_of s) fr → types_of vs ≡ (reverse sig.params ++ r) ++ below → WorkTyped (outline_of s) fr.function w (types k ++ r) below → OutcomeTyped (outline_of s) (call_target s (thread fr vs w) f)
 target_outcome s store sig (Ok f) (g, there, is) fr vs w k r below results frame operands work =
-    moved_typed s (call_on s.funcs f.address (thread fr vs w))
-    (call_typed (outline_of s) store fr vs w f.address g k r below there (ap (λ (y : FuncType). y.results) is ∙ results) frame
-    (operands ∙ ap (λ (y : FuncType). (reverse y.params ++ r) ++ below) (sym is)) work)
+    called_typed s store fr vs w f.address g k r below there (ap (λ (y : FuncType). y.results) is ∙ results) frame
+    (operands ∙ ap (λ (y : FuncType). (reverse y.params ++ r) ++ below) (sym is)) work
 target_outcome s store sig (Err trap) typed fr vs w k r below results frame operands work = tt
 
 call_through_outcome : (s : Store) → StoreTyped (outline_of s) → (x : ℕ) (fr : Frame) (vs : List Value) (w : List Item) (ts t below : List ValType) → FrameTyped (outline_of s) fr → types_of vs ≡ ts ++ below → CallsByTable (length (context_at (outline_of s) fr.function).tables) (slice_get (context_at (outline_of s) fr.function).sigs x) ts t → WorkTyped (outline_of s) fr.function w t below → OutcomeTyped (outline_of s) (call_through s (thread fr vs w) (at s.tables (table_address (instance_at (outline_of s) fr.function))) (type_at (instance_at (outline_of s) fr.function) x) vs)

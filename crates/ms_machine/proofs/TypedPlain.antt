@@ -2,6 +2,7 @@
 use Rattle.std.proofs.Common.{◌≡◌, ℕ, zero, suc, List, ◌∷◌, ◌++◌, length, reverse, slice_get, slice_set, Option, Some, None, cond, refl, sym, ap, ap₂, ◌∙◌, subst, append_assoc}
 use Rattle.std.proofs.lemmas.Bool.{lt-ltb}
 use Rattle.std.proofs.lemmas.Option.{slice_get_within}
+use Rattle.ms_host.specs.declared.host.Host.{Host}
 use Rattle.ms_linear.specs.declared.global.GlobalInst.{GlobalInst}
 use Rattle.ms_linear.specs.Values.{global_type_of, type_of}
 use Rattle.ms_linear.specs.declared.value.Value.{Value}
@@ -12,22 +13,33 @@ use Rattle.ms_operate.specs.Effects as effects
 use Rattle.ms_operate.specs.Outcomes as operate
 use Rattle.ms_rules.specs.Instructions.{linear_arrow}
 use Rattle.ms_rules.specs.Typing.{Accesses, Gets, GetsGlobal, Selects, Sets, SetsGlobal, Tees, types}
-use Rattle.ms_task.specs.Thread.{Frame, Item, thread}
+use Rattle.ms_task.specs.Thread.{Frame, Item, Thread, thread}
 use Rattle.ms_types.specs.declared.types.GlobalType.{GlobalType}
 use Rattle.ms_types.specs.declared.types.ValType.{ValType}
 use Rattle.ms_machine.specs.Segments as segments
-use Rattle.ms_machine.specs.Step.{Outcome, Next, Stuck, Trap, choose, goes, in_memory, in_segments, linear, on_memory, on_top, pushed, select, set_global, set_local, value_in, worked}
+use Rattle.ms_machine.specs.Step.{Calls, Outcome, Next, Stuck, Trap, choose, goes, in_memory, in_segments, linear, on_memory, on_top, pushed, select, set_global, set_local, value_in, worked}
 use Rattle.ms_machine.specs.Store.{Store, at, global_address, memory_address}
-use Rattle.ms_machine.specs.Typing.{FrameTyped, Outline, StoreTyped, ThreadTyped, WorkTyped, context_at, outline_of, types_of}
+use Rattle.ms_machine.specs.Typing.{FrameTyped, Outline, StoreTyped, ThreadTyped, WorkTyped, context_at, host_type, outline_of, types_of}
 use Rattle.ms_machine.proofs.TypedCalls.{instance_at}
 use Rattle.ms_machine.proofs.TypedNumbers.{GivesTyped, EffectTyped, linear_typed}
 use Rattle.ms_machine.proofs.TypedSegments.{EffectTyped as SegmentTyped}
 use Rattle.ms_machine.proofs.TypedStores.{global_named, memory_named, same_globals, same_memories}
 use Rattle.ms_machine.proofs.TypedValues.{get_mapped, get_within, i32_top, set_mapped, value_top}
 
+-- behind a call of the host, whose arguments are still there
+pub record CallTyped (o : Outline) (h : Host) (t : Thread) : Type 0 where
+  pub k : Option ValType
+  pub r : List ValType
+  pub below : List ValType
+  pub results : (host_type h).results ≡ types k
+  pub operands : types_of t.operands ≡ (reverse (host_type h).params ++ r) ++ below
+  pub frame : FrameTyped o t.frame
+  pub work : WorkTyped o t.frame.function t.work (types k ++ r) below
+
 -- it is not stuck, the outline stays, and the thread is typed
 abbrev pub OutcomeTyped : Outline → Outcome → Type 0
 OutcomeTyped o (Next s t event) = (outline_of s ≡ o) × ThreadTyped o t
+OutcomeTyped o (Calls h t) = CallTyped o h t
 OutcomeTyped o (Trap trap) = Unit {0}
 OutcomeTyped o Stuck = ⊥
 

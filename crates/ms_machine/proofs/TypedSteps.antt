@@ -9,32 +9,31 @@ use Rattle.ms_task.specs.Control.{nobody, exited as exited_thread, started}
 use Rattle.ms_task.specs.declared.func.FuncInst.{FuncInst}
 use Rattle.ms_task.specs.Thread.{Activation, Begins, Do, Frame, Item, Label, Thread, result_of, sequence}
 use Rattle.ms_types.specs.declared.types.ValType.{ValType}
-use Rattle.ms_machine.specs.Step.{Outcome, Next, Stuck, Trap, begin, first, exited, step_of}
-use Rattle.ms_machine.specs.Stepped.{DoesStep}
+use Rattle.ms_machine.specs.Step.{Calls, Outcome, Next, Stuck, Trap, begin, first, exited, step_of}
 use Rattle.ms_machine.specs.Store.{Store}
-use Rattle.ms_machine.specs.declared.stepped.Stepped.{Stepped}
-use Rattle.ms_machine.specs.declared.stepped.Stepped.TheVariants as answers
 use Rattle.ms_machine.specs.Typing.{FrameTyped, IsExited, Outline, StoreTyped, TaskTyped, ThreadTyped, WorkTyped, context_at, outline_of, types_of}
 use Rattle.ms_machine.proofs.TypedActs.{act_typed}
 use Rattle.ms_machine.proofs.TypedBlocks.{opened}
 use Rattle.ms_machine.proofs.TypedCalls.{body_typed, locals_of, no_locals, no_returns, returns_of}
-use Rattle.ms_machine.proofs.TypedPlain.{OutcomeTyped}
+use Rattle.ms_machine.proofs.TypedPlain.{CallTyped, OutcomeTyped}
 use Rattle.ms_machine.proofs.TypedValues.{defaults_typed}
 use Rattle.ms_machine.proofs.TypedWork.{sequence_typed, exit_typed}
 
 -- ---- a step
 
-exited_typed : (o : Outline) (t : Thread) → ThreadTyped o t → TaskTyped o (exited_thread t)
+pub exited_typed : (o : Outline) (t : Thread) → ThreadTyped o t → TaskTyped o (exited_thread t)
 exited_typed o t h = exit_typed o t.frame t.operands t.work h.ts h.below h.operands h.frame h.work
 
 -- the same of what a step has exited
-abbrev ExitedTyped : Outline → Outcome → Type 0
+abbrev pub ExitedTyped : Outline → Outcome → Type 0
 ExitedTyped o (Next s t event) = (outline_of s ≡ o) × TaskTyped o t
+ExitedTyped o (Calls h t) = CallTyped o h t
 ExitedTyped o (Trap trap) = Unit {0}
 ExitedTyped o Stuck = ⊥
 
 exits : (o : Outline) (r : Outcome) → OutcomeTyped o r → ExitedTyped o (exited r)
 exits o (Next s t event) h = (h.0, exited_typed o t h.1)
+exits o (Calls host t) h = h
 exits o (Trap trap) h = tt
 exits o Stuck h = h
 
@@ -52,19 +51,13 @@ begin_typed s t store task going =
 pub never_stuck : (s : Store) (t : Thread) → StoreTyped (outline_of s) → TaskTyped (outline_of s) t → t.work ≢ [] → begin s t ≢ Stuck
 never_stuck s t store task going e = subst (OutcomeTyped (outline_of s)) e (begin_typed s t store task going)
 
+pub step_typed : (s : Store) (t : Thread) → StoreTyped (outline_of s) → TaskTyped (outline_of s) t → t.work ≢ [] → ExitedTyped (outline_of s) (step_of s t)
+step_typed s t store task going = exits (outline_of s) (begin s t) (begin_typed s t store task going)
+
 pub stays_typed : (s s' : Store) (t t' : Thread) (event : Option Event) → StoreTyped (outline_of s) → TaskTyped (outline_of s) t → t.work ≢ [] → step_of s t ≡ Next s' t' event → (outline_of s' ≡ outline_of s) × TaskTyped (outline_of s') t'
 stays_typed s s' t t' event store task going is =
-    let h = subst (ExitedTyped (outline_of s)) is (exits (outline_of s) (begin s t) (begin_typed s t store task going)) in
+    let h = subst (ExitedTyped (outline_of s)) is (step_typed s t store task going) in
     (h.0, subst (λ o. TaskTyped o t') (sym h.0) h.1)
-
-pub does_step_typed : (s s' : Store) (t t' : Thread) (r : Stepped) → DoesStep r (step_of s t) s t s' t' → r ≢ answers.Memory → StoreTyped (outline_of s) → TaskTyped (outline_of s) t → t.work ≢ [] → (outline_of s' ≡ outline_of s) × TaskTyped (outline_of s') t'
-does_step_typed s s' t t' (answers.On event) h n store task going = stays_typed s s' t t' event store task going h.0
-does_step_typed s s' t t' (answers.Ended value event) h n store task going = stays_typed s s' t t' event store task going h.0
-does_step_typed s s' t t' (answers.Trap trap) h n store task going =
-    (ap outline_of h.1, subst (λ (x : Store). TaskTyped (outline_of x) t') (sym h.1) (subst (λ x. TaskTyped (outline_of s) x) (sym h.2) task))
-does_step_typed s s' t t' answers.ReadFault h n store task going = absurd h
-does_step_typed s s' t t' answers.WriteFault h n store task going = absurd h
-does_step_typed s s' t t' answers.Memory h n store task going = absurd (n refl)
 
 pub begins_well : (o : Outline) (t : Thread) → TaskTyped o t → t.work ≢ [] → Begins t.work
 begins_well o t task going = at t.work task.exited going where

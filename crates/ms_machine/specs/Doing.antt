@@ -1,6 +1,8 @@
 -- What the code of an instruction did, against what the definition says of the instruction.
 use Rattle.std.specs.Prelude.{◌≡◌, ◌≢◌, ℕ, Bool, List, Option, Result, Ok, Err}
 use Rattle.ms_event.specs.declared.event.Event.{Event}
+use Rattle.ms_host.specs.declared.host.Host.{Host}
+use Rattle.ms_host.specs.declared.host.Host.TheVariants as hosts
 use Rattle.ms_linear.specs.declared.value.Value.{Value}
 use Rattle.ms_module.specs.declared.instr.Instr.{Instr}
 use Rattle.ms_segment.specs.Memory.{Memory}
@@ -11,7 +13,7 @@ use Rattle.ms_task.specs.Thread.{Thread}
 use Rattle.ms_task.specs.View.{at_next, thread_of}
 use Rattle.ms_machine.specs.Segments as segments
 use Rattle.ms_machine.specs.Segments.{Effect}
-use Rattle.ms_machine.specs.Step.{Next, Outcome, Stuck, Trap, act, trap_of}
+use Rattle.ms_machine.specs.Step.{Calls, Next, Outcome, Stuck, Trap, act, trap_of}
 use Rattle.ms_machine.specs.Store.{Store}
 use Rattle.ms_machine.specs.declared.fault.Fault.{Fault}
 use Rattle.ms_machine.specs.declared.fault.Fault.TheVariants as faults
@@ -20,17 +22,24 @@ abbrev pub fault_of : OperateFault → Fault
 fault_of (operate.Trap trap) = faults.Trap (trap_of trap)
 fault_of operate.Memory = faults.Memory
 
+-- a function of the host that puts or takes
+abbrev pub IsAsking : Host → Type 0
+IsAsking hosts.Abort = ⊥
+IsAsking _ = Unit {0}
+
 -- The operands, the memory and the event are those; or it stopped, and all is as before. Where memory ran out nothing is
 -- said: such a task isn't run again.
 abbrev pub DoesInSegments : Effect → List Value → List Value → Memory → Memory → Result (Option Event) Fault → Type 0
 DoesInSegments effect old new old-memory new-memory (Ok event) = effect ≡ segments.Gives new new-memory event
 DoesInSegments effect old new old-memory new-memory (Err (faults.Trap kind)) = (effect ≡ segments.Trap kind) × (new ≡ old) × (new-memory ≡ old-memory)
+DoesInSegments effect old new old-memory new-memory (Err (faults.Host h)) = ⊥
 DoesInSegments effect old new old-memory new-memory (Err faults.Memory) = Unit {0}
 
 -- The same of a store and a thread.
 abbrev pub DoesOutcome : Outcome → Store → Thread → Store → Thread → Result (Option Event) Fault → Type 0
 DoesOutcome outcome old old-thread new new-thread (Ok event) = outcome ≡ Next new new-thread event
 DoesOutcome outcome old old-thread new new-thread (Err (faults.Trap kind)) = (outcome ≡ Trap kind) × (new ≡ old) × (new-thread ≡ old-thread)
+DoesOutcome outcome old old-thread new new-thread (Err (faults.Host h)) = (outcome ≡ Calls h new-thread) × (new ≡ old) × IsAsking h
 DoesOutcome outcome old old-thread new new-thread (Err faults.Memory) = Unit {0}
 
 -- The instruction, behind which a task goes on at a place, finds what it takes.
@@ -50,4 +59,5 @@ with_more (Err fault) more = Err fault
 abbrev pub DoesFirst : Outcome → Store → Thread → Store → Thread → Result (Option Event × Bool) Fault → Type 0
 DoesFirst outcome old old-thread new new-thread (Ok x) = outcome ≡ Next new new-thread x.0
 DoesFirst outcome old old-thread new new-thread (Err (faults.Trap kind)) = (outcome ≡ Trap kind) × (new ≡ old) × (new-thread ≡ old-thread)
+DoesFirst outcome old old-thread new new-thread (Err (faults.Host h)) = (outcome ≡ Calls h new-thread) × (new ≡ old) × IsAsking h
 DoesFirst outcome old old-thread new new-thread (Err faults.Memory) = Unit {0}

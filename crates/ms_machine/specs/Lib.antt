@@ -1,11 +1,13 @@
 pub mod Store
 pub mod Segments
 pub mod Step
+pub mod Hosting
+pub mod Moves
 pub mod Stepped
-pub mod Linking
 pub mod Running
+pub mod Parts
+pub mod Linking
 pub mod Safety
 pub mod Typing
 pub mod Holding
 pub mod Doing
-pub mod Words

@@ -63,7 +63,7 @@ abbrev pub no_type : FuncType
 no_type = record { params = []; results = [] }
 
 abbrev pub func_of : Module → Func → FuncInst
-func_of m f = record { instance = 0; ty = get_or m.sigs f.sig no_type; locals = f.locals; body = f.body }
+func_of m f = record { instance = 0; ty = get_or m.sigs f.sig no_type; host = None; locals = f.locals; body = f.body }
 
 abbrev pub global_of : Global → GlobalInst
 global_of g = record { value = constant_of [] g.init; mutable = g.ty.mutable }

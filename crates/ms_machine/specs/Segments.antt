@@ -20,8 +20,8 @@ use Rattle.ms_segment.specs.Calls.{Change, Made}
 use Rattle.ms_segment.specs.Memory.{Memory, loaded}
 use Rattle.ms_segment.specs.declared.trap.SegTrap.{SegTrap}
 use Rattle.ms_segment.specs.declared.trap.SegTrap.TheVariants as seg
-use Rattle.ms_machine.specs.declared.trap.TrapKind.{TrapKind}
-use Rattle.ms_machine.specs.declared.trap.TrapKind.TheVariants as traps
+use Rattle.ms_host.specs.declared.trap.TrapKind.{TrapKind}
+use Rattle.ms_host.specs.declared.trap.TrapKind.TheVariants as traps
 
 pub data Effect : Type 0 where
   -- these operands and this memory are there afterwards, and this has happened

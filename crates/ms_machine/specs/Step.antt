@@ -1,7 +1,9 @@
 -- One step of a thread on the store (WebAssembly 1.0, 4.4).
-use Rattle.std.specs.Prelude.{ℕ, zero, suc, List, [], ◌∷◌, length, nat_lt, if◌then◌else◌, slice_get, slice_set, Option, Some, None, Result, Ok, Err}
+use Rattle.std.specs.Prelude.{ℕ, zero, suc, List, [], ◌∷◌, drop, length, nat_lt, if◌then◌else◌, slice_get, slice_set, Option, Some, None, Result, Ok, Err}
 use Rattle.ms_num.specs.Integers.{wrapped}
 use Rattle.ms_event.specs.declared.event.Event.{Event}
+use Rattle.ms_host.specs.declared.host.Host.{Host}
+use Rattle.ms_host.specs.declared.host.Host.TheVariants as hosts
 use Rattle.ms_linear.specs.declared.global.GlobalInst.{GlobalInst}
 use Rattle.ms_linear.specs.declared.table.CallTrap.{CallTrap}
 use Rattle.ms_linear.specs.declared.table.CallTrap.TheVariants as targets
@@ -21,17 +23,20 @@ use Rattle.ms_operate.specs.declared.trap.Trap.{Trap as OperateTrap}
 use Rattle.ms_operate.specs.declared.trap.Trap.TheVariants as operate-traps
 use Rattle.ms_task.specs.Control as control
 use Rattle.ms_task.specs.Control.{Moved, To, TooDeep, block_on, br_if_on, br_table_on, branch, call_on, if_on, loop_on, return_on, exited as exited_thread}
+use Rattle.ms_task.specs.declared.func.FuncInst.{FuncInst}
 use Rattle.ms_task.specs.Thread.{Frame, Item, Do, Thread, thread}
 use Rattle.ms_types.specs.declared.types.FuncType.{FuncType}
 use Rattle.ms_machine.specs.Segments as segments
 use Rattle.ms_machine.specs.Segments.{segment_on}
 use Rattle.ms_machine.specs.Store.{Store, at, func_address, global_address, instance_of, memory_address, table_address, type_at, with_globals, with_memories, with_segments}
-use Rattle.ms_machine.specs.declared.trap.TrapKind.{TrapKind}
-use Rattle.ms_machine.specs.declared.trap.TrapKind.TheVariants as traps
+use Rattle.ms_host.specs.declared.trap.TrapKind.{TrapKind}
+use Rattle.ms_host.specs.declared.trap.TrapKind.TheVariants as traps
 
 pub data Outcome : Type 0 where
   -- this store and this thread are there afterwards, and this has happened
   Next : Store → Thread → Option Event → Outcome
+  -- the host is called; the thread goes on behind the call, with its arguments still on the operands
+  Calls : Host → Thread → Outcome
   -- the program is stopped, and nothing has changed
   Trap : TrapKind → Outcome
   -- what the instruction takes isn't there
@@ -118,9 +123,27 @@ in_segments s t segments.Stuck = Stuck
 
 -- ---- calls (4.4.5 and 4.4.7)
 
+abbrev pub host_in : Option FuncInst → Option Host
+host_in None = None
+host_in (Some f) = f.host
+
+-- what puts or takes is the host's
+abbrev pub asks : Host → Thread → Outcome
+asks hosts.Abort t = Trap traps.Abort
+asks h t = Calls h t
+
+-- the same behind an index that was topmost
+abbrev pub popped : Thread → Thread
+popped t = thread t.frame (drop 1 t.operands) t.work
+
+-- a call of the host's function is the host's, at any depth
+abbrev pub called : Store → ℕ → Thread → Option Host → Outcome
+called s a t None = moved s (call_on s.funcs a t)
+called s a t (Some h) = asks h t
+
 abbrev pub call : Store → Thread → Option ℕ → Outcome
 call s t None = Stuck
-call s t (Some a) = moved s (call_on s.funcs a t)
+call s t (Some a) = called s a t (host_in (slice_get s.funcs a))
 
 abbrev pub table_trap : CallTrap → TrapKind
 table_trap targets.Outside = traps.Table
@@ -129,7 +152,7 @@ table_trap targets.Signature = traps.Signature
 
 -- the target is looked at before the depth
 abbrev pub call_target : Store → Thread → Result FuncRef CallTrap → Outcome
-call_target s t (Ok f) = moved s (call_on s.funcs f.address t)
+call_target s t (Ok f) = called s f.address t (host_in (slice_get s.funcs f.address))
 call_target s t (Err e) = Trap (table_trap e)
 
 abbrev pub call_through : Store → Thread → Option Table → Option FuncType → List Value → Outcome
@@ -174,6 +197,7 @@ begin s t = first s t.frame t.operands t.work
 
 abbrev pub exited : Outcome → Outcome
 exited (Next s t event) = Next s (exited_thread t) event
+exited (Calls h t) = Calls h t
 exited (Trap kind) = Trap kind
 exited Stuck = Stuck
 

@@ -1,6 +1,8 @@
 -- Well-typed stores and threads, after the standard's appendix on soundness (WebAssembly 1.0, A.5). The judgement on
 -- instructions is that of validation.
 use Rattle.std.specs.Prelude.{◌≡◌, ◌<◌, ℕ, false, List, [], ◌∷◌, ◌++◌, length, map, slice_get, Option, Some, None, All}
+use Rattle.ms_host.specs.declared.host.Host.{Host}
+use Rattle.ms_host.specs.declared.host.Host.TheVariants as hosts
 use Rattle.ms_linear.specs.declared.table.Entry.{Entry}
 use Rattle.ms_linear.specs.declared.value.Value.{Value}
 use Rattle.ms_linear.specs.Table.{Table}
@@ -79,9 +81,21 @@ pub record InstanceTyped (o : Outline) (i : Instance) : Type 0 where
   pub memory : IsBelow o.memories i.memory
   pub globals : All (λ a. a < length o.globals) i.globals
 
+-- ---- the host's functions
+
+abbrev pub host_type : Host → FuncType
+host_type hosts.Putchar = record { params = I32 ∷ []; results = I32 ∷ [] }
+host_type hosts.Getchar = record { params = []; results = I32 ∷ [] }
+host_type hosts.Abort = record { params = []; results = [] }
+
+abbrev pub HostTyped : Option Host → FuncType → Type 0
+HostTyped None t = Unit {0}
+HostTyped (Some h) t = t ≡ host_type h
+
 -- the body leaves the function's result
 pub record FuncTyped (o : Outline) (address : ℕ) (f : FuncInst) : Type 0 where
   pub instance : f.instance < length o.instances
+  pub host : HostTyped f.host f.ty
   pub results : f.ty.results ≡ types (result_of f)
   pub body : Typed (context_at o address) f.body (result_of f ∷ []) 0 (result_of f)
 

@@ -1,15 +1,16 @@
 //! Control instructions on the store (WebAssembly 1.0, 4.4.5).
 
-ghost use Rattle.std.specs.Prelude.{◌≡◌, Some};
-ghost use Rattle.ms_machine.specs.Doing.{DoesInstr, Can};
-ghost use Rattle.ms_machine.specs.Step.{table_trap};
+ghost use Rattle.std.specs.Prelude.{◌≡◌, ◌≢◌, ◌<◌, None, Some, length, slice_get};
+ghost use Rattle.ms_machine.specs.Doing.{DoesInstr, DoesOutcome, Can};
+ghost use Rattle.ms_machine.specs.Step.{Stuck, asks, called, host_in, popped, table_trap};
+ghost use Rattle.ms_machine.specs.Store.{Store as Spec, func_address, instance_of};
 ghost use Rattle.ms_module.specs.declared.instr.Instr.TheVariants as instr;
-ghost use Rattle.ms_task.specs.View.{before};
+ghost use Rattle.ms_task.specs.View.{at_next, before, frame_of, thread_of};
 
 use crate::fault::Fault;
 use crate::store::Store;
-use crate::trap::TrapKind;
 use ms_event::Event;
+use ms_host::{Host, TrapKind};
 use ms_linear::{CallTrap, Value, target};
 use ms_live::Gaps;
 use ms_tagged::Tagged;
@@ -114,6 +115,42 @@ pub(crate) fn return_<G: Gaps, T: Tagged>(
     Ok(None)
 }
 
+/// A call of the host's function: it goes on behind the call, or stops.
+fn ask(task: &mut Task, host: Host, next: usize) -> Result<Option<Event>, Fault>
+    ensures { (store : Spec) → DoesOutcome (asks host (at_next store.funcs task.old next)) store (thread_of store.funcs task.old) store (thread_of store.funcs task.new) result }
+{
+    match host {
+        Host::Abort => Err(Fault::Trap(TrapKind::Abort)),
+        _ => {
+            task.go_to(next);
+            Err(Fault::Host(host))
+        }
+    }
+}
+
+/// The same, where the index into the table is topmost.
+fn ask_by_table(task: &mut Task, host: Host, next: usize) -> Result<Option<Event>, Fault>
+    requires { 0 < length task.old.operands }
+    ensures { (store : Spec) → DoesOutcome (asks host (popped (at_next store.funcs task.old next))) store (thread_of store.funcs task.old) store (thread_of store.funcs task.new) result }
+{
+    match host {
+        Host::Abort => Err(Fault::Trap(TrapKind::Abort)),
+        _ => {
+            task.operands.cut(1);
+            task.go_to(next);
+            Err(Fault::Host(host))
+        }
+    }
+}
+
+/// The address of the function of an index.
+fn address_of<G: Gaps, T: Tagged>(store: &Store<G, T>, task: &Task, x: u32) -> u32
+    requires { func_address (instance_of store.now (frame_of task.now)) x ≢ None }
+    ensures { func_address (instance_of store.now (frame_of task.now)) x ≡ Some result }
+{
+    store.instance(task.function()).funcs.as_slice()[x as usize]
+}
+
 /// `call`.
 pub(crate) fn call<G: Gaps, T: Tagged>(
     store: &Store<G, T>,
@@ -124,11 +161,38 @@ pub(crate) fn call<G: Gaps, T: Tagged>(
     requires { Can (instr.Call x) next store.now task.old }
     ensures { DoesInstr (instr.Call x) next store.now task.old store.now task.new result }
 {
-    let address = store.instance(task.function()).funcs.as_slice()[x as usize];
+    let address = address_of(store, task, x);
+    if let Some(host) = store.host(address) {
+        return ask(task, host, next);
+    }
     match task.call(&store.funcs, address, next) {
         Ok(()) => Ok(None),
         Err(CallFault::TooDeep) => Err(Fault::Trap(TrapKind::Depth)),
         Err(CallFault::Memory) => Err(Fault::Memory),
+    }
+}
+
+/// A call of the function of an address, where the index into the table is topmost.
+fn call_at<G: Gaps, T: Tagged>(
+    store: &Store<G, T>,
+    task: &mut Task,
+    address: u32,
+    next: usize,
+) -> Result<Option<Event>, Fault>
+    requires index { 0 < length task.old.operands }
+    requires can { called store.now address (popped (at_next store.now.funcs task.old next)) (host_in (slice_get store.now.funcs address)) ≢ Stuck }
+    ensures { DoesOutcome (called store.now address (popped (at_next store.now.funcs task.old next)) (host_in (slice_get store.now.funcs address))) store.now (thread_of store.now.funcs task.old) store.now (thread_of store.now.funcs task.new) result }
+{
+    if let Some(host) = store.host(address) {
+        return ask_by_table(task, host, next);
+    }
+    if !task.may_call() {
+        return Err(Fault::Trap(TrapKind::Depth));
+    }
+    task.operands.cut(1);
+    match task.call(&store.funcs, address, next) {
+        Ok(()) => Ok(None),
+        Err(_) => Err(Fault::Memory),
     }
 }
 
@@ -154,16 +218,7 @@ pub(crate) fn call_indirect<G: Gaps, T: Tagged>(
         i,
         instance.types.as_slice()[x as usize].ty(),
     ) {
-        Ok(func) => {
-            if !task.may_call() {
-                return Err(Fault::Trap(TrapKind::Depth));
-            }
-            task.operands.cut(1);
-            match task.call(&store.funcs, func.address, next) {
-                Ok(()) => Ok(None),
-                Err(_) => Err(Fault::Memory),
-            }
-        }
+        Ok(func) => { call_at(store, task, func.address, next) }
         Err(trap) => Err(Fault::Trap(of_target(trap))),
     }
 }

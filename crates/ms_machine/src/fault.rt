@@ -5,7 +5,7 @@ ghost use Rattle.ms_machine.specs.Doing.{fault_of};
 ghost use Rattle.ms_machine.specs.Segments.{trap_of as segment_trap_of};
 ghost use Rattle.ms_machine.specs.Step.{trap_of};
 
-use crate::trap::TrapKind;
+use ms_host::{Host, TrapKind};
 use ms_operate::{Fault as OperateFault, Trap};
 use ms_segment::SegTrap;
 use std::alloc::AllocError;
@@ -15,6 +15,8 @@ use std::alloc::AllocError;
 pub(crate) enum Fault {
     /// It stops the program.
     Trap(TrapKind),
+    /// The host is called; the task goes on behind the call.
+    Host(Host),
     /// Memory has run out.
     Memory,
 }

@@ -1,13 +1,15 @@
 //! One step of a task.
 
-ghost use Rattle.std.specs.Prelude.{◌≡◌, ◌≢◌, ◌+◌, ◌<◌, ◌≤◌, ◌^◌, ◌++◌, List, [], ◌∷◌, IfOk, IsTrue};
+ghost use Rattle.std.specs.Prelude.{◌≡◌, ◌≢◌, ℕ, ◌+◌, ◌<◌, ◌≤◌, ◌^◌, ◌++◌, List, [], ◌∷◌, length, IfOk, IsTrue, Option, None};
 ghost use Rattle.ms_handle.specs.declared.handle.Handle.{Handle};
 ghost use Rattle.ms_machine.specs.Doing.{DoesFirst, with_more};
 ghost use Rattle.ms_machine.specs.Holding.{Each, Fits, StoreFits, ThreadFits};
-ghost use Rattle.ms_machine.specs.Step.{Stuck, begin, step_of};
+ghost use Rattle.ms_machine.specs.Moves as moves;
+ghost use Rattle.ms_machine.specs.Moves.{move_for};
+ghost use Rattle.ms_machine.specs.Step.{Stuck, begin};
 ghost use Rattle.ms_machine.specs.Running.{with_event};
 ghost use Rattle.ms_machine.specs.Safety.{Sound};
-ghost use Rattle.ms_machine.specs.Stepped.{DoesStep, event_of};
+ghost use Rattle.ms_machine.specs.Stepped.{CountsInput, CountsOut, DoesStep, IsWell, event_of};
 ghost use Rattle.ms_machine.specs.Typing.{StoreTyped, TaskTyped, outline_of};
 ghost use Rattle.ms_segment.specs.Memory.{IsFit};
 ghost use Rattle.ms_event.specs.declared.event.Event.{Event};
@@ -15,11 +17,12 @@ ghost use Rattle.ms_task.specs.Thread.{Begins, Thread};
 ghost use Rattle.ms_task.specs.View.{thread_of};
 
 use crate::fault::Fault;
+use crate::hosting::ask_host;
 use crate::stepped::Stepped;
 use crate::store::Store;
-use crate::trap::TrapKind;
 use crate::{control, memory, plain};
 use ms_event::Event;
+use ms_host::TrapKind;
 use ms_live::Gaps;
 use ms_module::Instr;
 use ms_outside::{Sink, Source};
@@ -90,12 +93,19 @@ fn perform<G: Gaps, T: Tagged>(
 }
 
 /// One step of a task that is not stuck.
-fn advance<G: Gaps, T: Tagged>(store: &mut Store<G, T>, task: &mut Task) -> Stepped
+fn advance<G: Gaps, T: Tagged, I: Source, O: Sink>(
+    store: &mut Store<G, T>,
+    task: &mut Task,
+    input: &mut I,
+    out: &mut O,
+) -> Stepped
     requires begins { Begins (thread_of store.old.funcs task.old).work }
-    requires can { begin store.old (thread_of store.old.funcs task.old) ≢ Stuck }
+    requires can { move_for store.old (thread_of store.old.funcs task.old) None ≢ moves.Stuck }
     requires few { store.old.segments.made < 2 ^ 63 }
     requires fit { Each (Fits store.old.segments) task.old.operands }
-    ensures { DoesStep result (step_of store.old (thread_of store.old.funcs task.old)) store.old (thread_of store.old.funcs task.old) store.new (thread_of store.new.funcs task.new) }
+    ensures step { DoesStep result (move_for store.old (thread_of store.old.funcs task.old)) store.old (thread_of store.old.funcs task.old) store.new (thread_of store.new.funcs task.new) (I.left input.old) (I.left input.new) (O.held out.old) (O.held out.new) }
+    ensures input_faults { CountsInput result (I.faults input.old) (I.faults input.new) }
+    ensures out_faults { CountsOut result (O.faults out.old) (O.faults out.new) }
 {
     match perform(store, task) {
         Ok((event, more)) => {
@@ -108,17 +118,22 @@ fn advance<G: Gaps, T: Tagged>(store: &mut Store<G, T>, task: &mut Task) -> Step
             Stepped::On(event)
         }
         Err(Fault::Trap(kind)) => Stepped::Trap(kind),
+        Err(Fault::Host(host)) => ask_host(store, task, host, input, out),
         Err(Fault::Memory) => Stepped::Memory,
     }
 }
 
-/// One step of a task that has not ended: it carries out one instruction, and exits the blocks and calls that are then at
-/// their ends.
+/// One step of a task that has not ended: it carries out one instruction, or a call of the host, and exits the blocks and
+/// calls that are then at their ends.
 ///
 /// A well-typed task of a well-typed store is never stuck, and stays well typed; handles that fit go on fitting, those of
 /// other tasks too; and each handle that the colour monitor knows it goes on knowing, after the step's event (`sound`). A
-/// trap changes nothing. No instruction takes from the input or puts to the output yet.
-#[tactic(auto, using(crate::proofs::TypedSteps::never_stuck, crate::proofs::Unstuck::step_unstuck, crate::proofs::TypedSteps::begins_well, crate::proofs::TypedSteps::does_step_typed, crate::proofs::HeldFits::does_step_fits))]
+/// trap changes nothing. The step is that for what the take from the input gave, if it takes.
+///
+/// `ReadFault` comes only where the input's count of faults rose, `WriteFault` only where that of the output did. After
+/// them, and after `Memory`, the task is not to be run again; the output then has the byte of this step at most, and the
+/// input is as before.
+#[tactic(auto, using(crate::proofs::Moving::move_unstuck, crate::proofs::TypedSteps::begins_well, crate::proofs::Moving::does_step_typed, crate::proofs::Moving::does_step_fits))]
 pub fn step<G: Gaps, T: Tagged, I: Source, O: Sink>(
     store: &mut Store<G, T>,
     task: &mut Task,
@@ -131,19 +146,17 @@ pub fn step<G: Gaps, T: Tagged, I: Source, O: Sink>(
     requires few { store.old.segments.made < 2 ^ 63 }
     requires store_fits { StoreFits store.old }
     requires task_fits { ThreadFits store.old (thread_of store.old.funcs task.old) }
-    ensures never_stuck { step_of store.old (thread_of store.old.funcs task.old) ≢ Stuck }
-    ensures step { DoesStep result (step_of store.old (thread_of store.old.funcs task.old)) store.old (thread_of store.old.funcs task.old) store.new (thread_of store.new.funcs task.new) }
-    ensures outline { result ≢ Stepped.Memory → outline_of store.new ≡ outline_of store.old }
-    ensures task { result ≢ Stepped.Memory → TaskTyped (outline_of store.new) (thread_of store.new.funcs task.new) }
-    ensures store_fits { result ≢ Stepped.Memory → StoreFits store.new }
-    ensures task_fits { result ≢ Stepped.Memory → ThreadFits store.new (thread_of store.new.funcs task.new) }
-    ensures others { result ≢ Stepped.Memory → (h : Handle) → IsFit store.old.segments h → IsFit store.new.segments h }
-    ensures sound { result ≢ Stepped.Memory → (events : List Event) (threads : List Thread) → Sound events store.old (thread_of store.old.funcs task.old ∷ threads) → Sound (events ++ with_event (event_of result) []) store.new (thread_of store.new.funcs task.new ∷ threads) }
-    ensures made { result ≢ Stepped.Memory → store.new.segments.made ≤ store.old.segments.made + 1 }
-    ensures input { (I.left input.new ≡ I.left input.old) × (I.faults input.new ≡ I.faults input.old) }
-    ensures out { (O.held out.new ≡ O.held out.old) × (O.faults out.new ≡ O.faults out.old) }
+    ensures never_stuck { (got : Option ℕ) → move_for store.old (thread_of store.old.funcs task.old) got ≢ moves.Stuck }
+    ensures step { DoesStep result (move_for store.old (thread_of store.old.funcs task.old)) store.old (thread_of store.old.funcs task.old) store.new (thread_of store.new.funcs task.new) (I.left input.old) (I.left input.new) (O.held out.old) (O.held out.new) }
+    ensures input_faults { CountsInput result (I.faults input.old) (I.faults input.new) }
+    ensures out_faults { CountsOut result (O.faults out.old) (O.faults out.new) }
+    ensures outline { IsWell result → outline_of store.new ≡ outline_of store.old }
+    ensures task { IsWell result → TaskTyped (outline_of store.new) (thread_of store.new.funcs task.new) }
+    ensures store_fits { IsWell result → StoreFits store.new }
+    ensures task_fits { IsWell result → ThreadFits store.new (thread_of store.new.funcs task.new) }
+    ensures others { IsWell result → (h : Handle) → IsFit store.old.segments h → IsFit store.new.segments h }
+    ensures sound { IsWell result → (events : List Event) (threads : List Thread) → Sound events store.old (thread_of store.old.funcs task.old ∷ threads) → Sound (events ++ with_event (event_of result) []) store.new (thread_of store.new.funcs task.new ∷ threads) × (length store.new.segments.bytes ≡ length store.old.segments.bytes) }
+    ensures made { IsWell result → store.new.segments.made ≤ store.old.segments.made + 1 }
 {
-    let _ = &input;
-    let _ = &out;
-    advance(store, task)
+    advance(store, task, input, out)
 }

@@ -8,9 +8,9 @@ ghost use Rattle.ms_machine.specs.Segments.{Stuck, is_null, segment_on, slice_ev
 ghost use Rattle.ms_module.specs.declared.access.Segment.TheVariants as instr;
 
 use crate::fault::{Fault, of_segment};
-use crate::trap::TrapKind;
 use ms_event::Event;
 use ms_handle::{Handle, Kind, add, diff, eq, slice};
+use ms_host::TrapKind;
 use ms_linear::Value;
 use ms_live::Gaps;
 use ms_module::{LoadOp, Segment, StoreOp};

@@ -1,7 +1,7 @@
 //! What came of a step.
 
-use crate::trap::TrapKind;
 use ms_event::Event;
+use ms_host::TrapKind;
 use ms_linear::Value;
 
 /// What came of a step.

@@ -1,8 +1,10 @@
 //! The store and its instances.
 
 ghost use Rattle.std.specs.Prelude.{◌≡◌, ◌≢◌, None, Some, slice_get};
+ghost use Rattle.ms_machine.specs.Step.{host_in};
 ghost use Rattle.ms_machine.specs.Store.{at, number_of_instance};
 
+use ms_host::Host;
 use ms_linear::{GlobalInst, Linear, Table};
 use ms_live::Gaps;
 use ms_segment::Segments;
@@ -46,6 +48,16 @@ impl<G: Gaps, T: Tagged> Model for Store<G, T> {
 }
 
 impl<G: Gaps, T: Tagged> Store<G, T> {
+    /// The function of the host that a call of an address is, if it is one.
+    pub(crate) fn host(&self, address: u32) -> Option<Host>
+        ensures { result ≡ host_in (slice_get self.now.funcs address) }
+    {
+        match self.funcs.get(address as usize) {
+            Some(f) => f.host,
+            None => None,
+        }
+    }
+
     /// The instance of the function of an address.
     pub(crate) fn instance(&self, function: usize) -> &Instance
         requires { at self.now.instances (number_of_instance (slice_get self.now.funcs function)) ≢ None }

@@ -3,6 +3,7 @@
 ghost use Rattle.std.specs.Prelude.{◌≡◌};
 ghost use Rattle.ms_task.specs.Thread.{result_of};
 
+use ms_host::Host;
 use ms_module::{Code, Locals};
 use ms_types::{SharedType, ValType};
 
@@ -13,6 +14,8 @@ pub struct FuncInst {
     pub instance: u32,
     /// Its type.
     pub ty: SharedType,
+    /// The function of the host that a call of it is, if it is one.
+    pub host: Option<Host>,
     /// The types of the locals that it declares, its parameters not among them.
     pub locals: Locals,
     /// Its body.

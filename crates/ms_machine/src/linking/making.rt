@@ -51,6 +51,7 @@ fn function(types: &[SharedType], func: Func) -> Result<FuncInst, AllocError>
     Ok(FuncInst {
         instance: 0,
         ty,
+        host: None,
         locals,
         body,
     })

@@ -33,6 +33,7 @@ fn func(alloc: Global) -> Result<FuncInst, AllocError> {
     Ok(FuncInst {
         instance: 0,
         ty: SharedType::new(alloc, ty)?,
+        host: None,
         locals,
         body,
     })

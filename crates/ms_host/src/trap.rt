@@ -1,7 +1,7 @@
 //! The kinds of traps.
 
 ghost use Rattle.std.specs.Prelude.{◌≡◌};
-ghost use Rattle.ms_machine.specs.Words.{trap_word};
+ghost use Rattle.ms_host.specs.Words.{trap_word};
 
 /// Why a program was stopped.
 #[derive(Clone, Copy, Debug, PartialEq, Eq)]
@@ -22,7 +22,7 @@ pub enum TrapKind {
     Signature,
     /// A call that would be too deep.
     Depth,
-    /// A call of the host's `abort`. There are no host functions yet, so no step answers this.
+    /// A call of the host's `abort`.
     Abort,
     /// An access through the null handle.
     Null,

@@ -1,7 +1,7 @@
 -- The words of traps, as reports have them.
 use Rattle.std.specs.Prelude.{ℕ, List, codes}
-use Rattle.ms_machine.specs.declared.trap.TrapKind.{TrapKind}
-use Rattle.ms_machine.specs.declared.trap.TrapKind.TheVariants as traps
+use Rattle.ms_host.specs.declared.trap.TrapKind.{TrapKind}
+use Rattle.ms_host.specs.declared.trap.TrapKind.TheVariants as traps
 
 abbrev pub trap_word : TrapKind → List ℕ
 trap_word traps.Unreachable = codes "unreachable"
