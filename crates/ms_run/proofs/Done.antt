@@ -7,7 +7,8 @@ use Rattle.ms_outside.specs.Shelf.{CountsReadFault, SameCounts, Told, Writes}
 use Rattle.ms_outside.specs.declared.sink.Put.TheVariants.{Memory}
 use Rattle.ms_run.specs.Answers.{Answers, Command, Contents, Fault, File, Found, most_bytes, read_fault, too_long, within}
 use Rattle.ms_run.specs.Lines.{read_fault_line, too_long_line}
-use Rattle.ms_run.specs.Observed.{Report, Shelved}
+use Rattle.ms_run.specs.Flows.{Cuts, DidRun, TellsRun, cut, cuts, did, tells}
+use Rattle.ms_run.specs.Observed.{Flow, Report, Shelved}
 use Rattle.ms_run.specs.Reporting.{Delivers, Did, HasFetched, KeepsFiles, Makes, Nothing, Reports, Tells, answered, failed, made, made_none, put, ran_out, starved, told, told_none}
 use Rattle.ms_run.specs.declared.status.Status.{Status}
 use Rattle.ms_run.specs.declared.status.Status.TheVariants.{ReadFault, TooLong}
@@ -58,9 +59,19 @@ module _ (name : List ℕ) (Does : Command) where
 
     -- the report stays while the file is read
     pub did_tell : (result : Status) → HasFetched name bytes s first → Tells Does bytes (second mid puts_mid) result → Did name Does s (second old puts) result
-    did_tell result h tells =
-        let at : Tells Does bytes (second old puts_mid) result = subst (λ (x : Option (List ℕ)). Tells Does bytes (second x puts_mid) result) h.report.0 tells in
+    did_tell result h t =
+        let at : Tells Does bytes (second old puts_mid) result = subst (λ (x : Option (List ℕ)). Tells Does bytes (second x puts_mid) result) h.report.0 t in
         of_tell result h (subst (λ (n : ℕ). Tells Does bytes (second old n) result) h.report.1 at)
+
+    of_cut : (f : Flow) (result : Status) → HasFetched name bytes s first → Cuts (second old puts) f result → DidRun name Does s (second old puts) f result
+    of_cut f result h c = cut bytes h.found h.counts h.files c
+
+    -- the same of a run, which may be cut short
+    pub did_run : (f : Flow) (result : Status) → HasFetched name bytes s first → TellsRun Does bytes (second mid puts_mid) f result → DidRun name Does s (second old puts) f result
+    did_run f result h (tells t) = did (did_tell result h t)
+    did_run f result h (cuts c) =
+        let at : Cuts (second old puts_mid) f result = subst (λ (x : Option (List ℕ)). Cuts (second x puts_mid) f result) h.report.0 c in
+        of_cut f result h (subst (λ (n : ℕ). Cuts (second old n) f result) h.report.1 at)
 
     module _ (last : Option Files) (reads_last : List ℕ → ℕ) (writes_last : ℕ) where
       -- the shelf while bytes are written, and all in all

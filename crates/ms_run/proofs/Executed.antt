@@ -7,11 +7,10 @@ use Rattle.std.proofs.lemmas.Option.{get_or_from_slice_get}
 use Rattle.ms_bytes.specs.ResultLaws.{chosen}
 use Rattle.ms_machine.proofs.LinkedStores.{linked_func, linked_func_typed, linked_is}
 use Rattle.ms_machine.specs.Linking.{func_of, linked, misfit, no_type, store_of}
-use Rattle.ms_machine.specs.Running.{IsAlone, Run, DoesWholeRun, DoesEnd, run_from}
+use Rattle.ms_machine.specs.Running.{CountsInput, CountsOut, DoesWholeRun, IsAlone, run_from}
 use Rattle.ms_machine.specs.Store.{Store}
 use Rattle.ms_machine.specs.Typing.{outline_of}
 use Rattle.ms_machine.specs.declared.running.Ran.{Ran as Ending}
-use Rattle.ms_machine.specs.declared.running.Ran.TheVariants as endings
 use Rattle.ms_module.specs.declared.module.Export.{Export}
 use Rattle.ms_module.specs.declared.module.ExportDesc.{ExportDesc}
 use Rattle.ms_module.specs.declared.module.ExportDesc.TheVariants as exports
@@ -19,7 +18,8 @@ use Rattle.ms_module.specs.declared.module.Func.{Func}
 use Rattle.ms_module.specs.declared.module.Module.{Module}
 use Rattle.ms_rules.specs.Modules.{StartTyped, WellTyped}
 use Rattle.ms_types.specs.declared.types.FuncType.{FuncType}
-use Rattle.ms_run.specs.Executions.{DoesExecution, IsOver, Runs, execution_within, with_fit, with_imports, with_task}
+use Rattle.ms_run.specs.Executions.{DoesOutcome, Runs, execution_within, with_fit, with_imports, with_task}
+use Rattle.ms_run.specs.Observed.{Flow}
 use Rattle.ms_run.specs.Tasks.{exported_task, is_task_result, is_task_type, main_name, of_task_type, task_index}
 use Rattle.ms_run.specs.declared.execution.Outcome.TheVariants.{Ran}
 
@@ -33,26 +33,18 @@ empty_is b xs e true_is = of_no_length xs (sym e ∙ true_is)
 
 -- ---- what executing the module comes to, where it is run
 
-runs_main : (budget capacity : ℕ) (m : Module) (main : ℕ) → m.imports ≡ [] → misfit m ≡ None → task_index m main_name ≡ Some main → execution_within budget capacity m ≡ Runs (run_from budget (store_of m capacity) m.start main)
-runs_main budget capacity m main alone fits some = ap (with_imports budget capacity m) alone ∙ ap (with_fit budget capacity m) fits ∙ ap (with_task budget capacity m) some
+runs_main : (budget capacity : ℕ) (given : List (Option ℕ)) (m : Module) (main : ℕ) → m.imports ≡ [] → misfit m ≡ None → task_index m main_name ≡ Some main → execution_within budget capacity given m ≡ Runs (run_from budget (store_of m capacity) m.start main given)
+runs_main budget capacity given m main alone fits some = ap (with_imports budget capacity given m) alone ∙ ap (with_fit budget capacity given m) fits ∙ ap (with_task budget capacity given m) some
 
 -- ---- what running the module answered
 
-pub run_comes : (m : Module) (budget capacity : ℕ) (s after : Store) (main : ℕ) (ran : Ending) → m.imports ≡ [] → linked m capacity ≡ Ok s → task_index m main_name ≡ Some main → ran ≢ endings.Memory
-    → DoesWholeRun ran after (run_from budget s m.start main) → DoesExecution (execution_within budget capacity m) (Ran ran)
-run_comes m budget capacity s after main ran alone links some not runs =
+pub run_comes : (m : Module) (budget capacity : ℕ) (s after : Store) (main : ℕ) (ran : Ending) (f : Flow) → m.imports ≡ [] → linked m capacity ≡ Ok s → task_index m main_name ≡ Some main → CountsInput ran f.takes_old f.takes_new → CountsOut ran f.puts_old f.puts_new
+    → (given : List (Option ℕ)) × DoesWholeRun ran after f.left_old f.left_new f.held_old f.held_new given (run_from budget s m.start main given) → DoesOutcome budget capacity m f (Ok (Ran ran))
+run_comes m budget capacity s after main ran f alone links some takes puts (given, runs) =
     let is = linked_is m capacity s links in
-    let run = run_from budget (store_of m capacity) m.start main in
-    let does = does_end run ran not (subst (λ (x : Store). DoesWholeRun ran after (run_from budget x m.start main)) is.1 runs) in
-    (does.0, run, runs_main budget capacity m main alone is.0 some, does.1)
-  where
-    does_end : (run : Run) (ran : Ending) → ran ≢ endings.Memory → DoesWholeRun ran after run → IsOver ran × DoesEnd ran run.end
-    does_end run (endings.Result value) not h = (tt, h.0)
-    does_end run (endings.Trap trap) not h = (tt, h.0)
-    does_end run endings.Budget not h = (tt, h.0)
-    does_end run endings.ReadFault not h = absurd h.0
-    does_end run endings.WriteFault not h = absurd h.0
-    does_end run endings.Memory not h = absurd (not refl)
+    let run = run_from budget (store_of m capacity) m.start main given in
+    let does = subst (λ (x : Store). DoesWholeRun ran after f.left_old f.left_new f.held_old f.held_new given (run_from budget x m.start main given)) is.1 runs in
+    (given, run, after, runs_main budget capacity given m main alone is.0 some, takes, puts, does)
 
 -- ---- the functions that are run have no parameters
 

@@ -4,3 +4,4 @@ pub mod Once
 pub mod Told
 pub mod Written
 pub mod Done
+pub mod Flowing

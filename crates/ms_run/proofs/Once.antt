@@ -119,9 +119,9 @@ execution_once (Misfits fault) s t s' t' h k = (h.0 ∙ sym k.0, h.1 ∙ sym k.1
 execution_once NoTask s t s' t' h k = (h.0 ∙ sym k.0, h.1 ∙ sym k.1)
 execution_once (Runs run) s t s' t' h k = ends_once run.end s t s' t' h k
 
-pub executes_once : (name : List ℕ) (budget capacity : ℕ) → IsOnce (Executes name budget capacity)
-executes_once name budget capacity bytes s t f s' t' f' h k =
-    let same = loads_once (form_of name) bytes (λ m s l. AnswersAs (execution_within budget capacity m) s l) (λ m. execution_once (execution_within budget capacity m)) s t s' t' h.0 k.0 in
+pub executes_once : (name : List ℕ) (budget capacity : ℕ) (given : List (Option ℕ)) → IsOnce (Executes name budget capacity given)
+executes_once name budget capacity given bytes s t f s' t' f' h k =
+    let same = loads_once (form_of name) bytes (λ m s l. AnswersAs (execution_within budget capacity given m) s l) (λ m. execution_once (execution_within budget capacity given m)) s t s' t' h.0 k.0 in
     record { status = same.0; line = same.1; file = h.1 ∙ sym k.1 }
 
 pub checks_once : (name : List ℕ) → IsOnce (Checks name)
@@ -192,9 +192,9 @@ execution_ordinary (Misfits fault) s t h = ordinary_as s statuses.Refused h.0 tt
 execution_ordinary NoTask s t h = ordinary_as s statuses.Refused h.0 tt
 execution_ordinary (Runs run) s t h = ends_ordinary run.end s t h
 
-pub executes_ordinary : (name : List ℕ) (budget capacity : ℕ) → AllOrdinary (Executes name budget capacity)
-executes_ordinary name budget capacity bytes s t f h =
-    loads_ordinary (form_of name) bytes (λ m s l. AnswersAs (execution_within budget capacity m) s l) (λ m s t a. execution_ordinary (execution_within budget capacity m) s t a) s t h.0
+pub executes_ordinary : (name : List ℕ) (budget capacity : ℕ) (given : List (Option ℕ)) → AllOrdinary (Executes name budget capacity given)
+executes_ordinary name budget capacity given bytes s t f h =
+    loads_ordinary (form_of name) bytes (λ m s l. AnswersAs (execution_within budget capacity given m) s l) (λ m s t a. execution_ordinary (execution_within budget capacity given m) s t a) s t h.0
 
 pub checks_ordinary : (name : List ℕ) → AllOrdinary (Checks name)
 checks_ordinary name bytes s t f h = loads_ordinary (form_of name) bytes (λ m s l. (s ≡ statuses.Done) × (l ≡ valid_line)) (λ m s t a. ordinary_as s statuses.Done a.0 tt) s t h.0

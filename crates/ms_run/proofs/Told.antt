@@ -6,21 +6,15 @@ use Rattle.ms_bin_grammar.specs.Module.{Stops as BinaryStops}
 use Rattle.ms_text_grammar.specs.declared.fault.TextFault.{TextFault}
 use Rattle.ms_text_grammar.specs.TextSpells.{Stops as TextStops, TextStop}
 use Rattle.ms_text_read.specs.Answers.{told as told_of}
-use Rattle.ms_machine.specs.Running.{DoesEnd, End}
-use Rattle.ms_machine.specs.declared.running.Ran.{Ran as Ending}
-use Rattle.ms_machine.specs.declared.running.Ran.TheVariants as endings
 use Rattle.ms_module.specs.declared.module.Module.{Module}
 use Rattle.ms_rules.specs.Modules.{WellTyped}
 use Rattle.ms_valid.specs.declared.refusal.Refusal.{Refusal}
 use Rattle.ms_valid.specs.declared.refusal.Refusal.TheVariants as refusals
 use Rattle.ms_run.specs.Answers.{Command, Loads, invalid, unread, valid}
-use Rattle.ms_run.specs.Executions.{AnswersAs, DoesExecution, EndsAs, Execution, HasLine, IsOver, run_line, status_of, status_of_run, text_of}
-use Rattle.ms_run.specs.Lines.{fault_line, misfit_line, no_export_line, no_task_line, text_fault_line}
+use Rattle.ms_run.specs.Lines.{fault_line, text_fault_line}
 use Rattle.ms_run.specs.Loading.{Binary, Form, IsInvalid, IsRead, Refuses, Spells, Text, Unread, binary, load_line, text}
 use Rattle.ms_run.specs.Observed.{Report}
 use Rattle.ms_run.specs.Reporting.{IsStarved, Reports, ReportsFault, Tells, told, told_none}
-use Rattle.ms_run.specs.declared.execution.Outcome.{Outcome}
-use Rattle.ms_run.specs.declared.execution.Outcome.TheVariants.{Imports, Misfit, NoTask, Ran}
 use Rattle.ms_run.specs.declared.loading.LoadFault.{LoadFault}
 use Rattle.ms_run.specs.declared.loading.LoadFault.TheVariants as faults
 use Rattle.ms_run.specs.declared.status.Status.{Status}
@@ -60,29 +54,6 @@ module _ (After : Module → Status → List ℕ → Type 0) (bytes : List ℕ) 
 
   pub valid_told : (form : Form) (m : Module) (status : Status) (line : List ℕ) → Spells form bytes m → WellTyped m → After m status line → Reports status line r result → Tells (Does form) bytes r result
   valid_told form m status line spelled well after reports = told status line (valid m spelled well after, refl) reports
-
--- ---- an execution
-
-ends_as : (ran : Ending) (end : End) → IsOver ran → DoesEnd ran end → EndsAs end (status_of_run ran) (run_line ran)
-ends_as (endings.Result value) end over tells = subst (λ (e : End). EndsAs e (status_of_run (endings.Result value)) (run_line (endings.Result value))) (sym tells) (refl, refl)
-ends_as (endings.Trap trap) end over tells = subst (λ (e : End). EndsAs e (status_of_run (endings.Trap trap)) (run_line (endings.Trap trap))) (sym tells) (refl, refl)
-ends_as endings.Budget end over tells = subst (λ (e : End). EndsAs e (status_of_run endings.Budget) (run_line endings.Budget)) (sym tells) (refl, refl)
-ends_as endings.ReadFault end over tells = absurd over
-ends_as endings.WriteFault end over tells = absurd over
-ends_as endings.Memory end over tells = absurd over
-
--- the answer of an execution that is known
-pub outcome_answers : (e : Execution) (o : Outcome) → DoesExecution e o → AnswersAs e (status_of o) (text_of o)
-outcome_answers e Imports h = subst (λ (x : Execution). AnswersAs x Refused no_export_line) (sym h) (refl, refl)
-outcome_answers e (Misfit fault) h = subst (λ (x : Execution). AnswersAs x Refused (misfit_line fault)) (sym h) (refl, refl)
-outcome_answers e NoTask h = subst (λ (x : Execution). AnswersAs x Refused no_task_line) (sym h) (refl, refl)
-outcome_answers e (Ran ran) h = subst (λ (x : Execution). AnswersAs x (status_of_run ran) (run_line ran)) (sym h.2) (ends_as ran h.1.end h.0 h.3)
-
-pub has_line : (e : Execution) (o : Outcome) → DoesExecution e o → HasLine o
-has_line e Imports h = tt
-has_line e (Misfit fault) h = tt
-has_line e NoTask h = tt
-has_line e (Ran ran) h = h.0
 
 -- ---- why there is no module, and that it was put
 

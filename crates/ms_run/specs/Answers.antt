@@ -33,9 +33,9 @@ pub data Loads (form : Form) (bytes : List ℕ) (After : Module → Status → L
   invalid : (m : Module) (part : Part) → Spells form bytes m → IsWrong m part → Loads form bytes After Refused (part_line part)
   valid : (m : Module) {status : Status} {line : List ℕ} → Spells form bytes m → WellTyped m → After m status line → Loads form bytes After status line
 
--- `exec`: the end of the run within so many steps, with a segment memory of so many bytes
-abbrev pub Executes : (name : List ℕ) (budget capacity : ℕ) → Command
-Executes name budget capacity bytes status line file = Loads (form_of name) bytes (λ m s l. AnswersAs (execution_within budget capacity m) s l) status line × (file ≡ None)
+-- `exec`: the end of the run within so many steps, with a segment memory of so many bytes, over what the input gives
+abbrev pub Executes : (name : List ℕ) (budget capacity : ℕ) → (given : List (Option ℕ)) → Command
+Executes name budget capacity given bytes status line file = Loads (form_of name) bytes (λ m s l. AnswersAs (execution_within budget capacity given m) s l) status line × (file ≡ None)
 
 -- `check`
 abbrev pub Checks : (name : List ℕ) → Command

@@ -1,13 +1,15 @@
 -- What executing a well-typed module comes to, and the answer of it.
-use Rattle.std.specs.Prelude.{◌≡◌, ℕ, List, [], ◌∷◌, Option, Some, None}
+use Rattle.std.specs.Prelude.{◌≡◌, ℕ, List, [], ◌∷◌, Option, Some, None, Result, Ok, Err}
+use Rattle.std.specs.declared.alloc.AllocError.{AllocError}
 use Rattle.ms_module.specs.declared.module.Import.{Import}
 use Rattle.ms_module.specs.declared.module.Module.{Module}
 use Rattle.ms_machine.specs.declared.linking.Misfit.{Misfit}
-use Rattle.ms_machine.specs.declared.running.Ran.{Ran}
-use Rattle.ms_machine.specs.declared.running.Ran.TheVariants as endings
 use Rattle.ms_machine.specs.Linking.{misfit, store_of}
-use Rattle.ms_machine.specs.Running.{DoesEnd, End, OutOfBudget as BudgetEnd, Result, Run, Stuck, Trap, run_from}
+use Rattle.ms_machine.specs.Running as running
+use Rattle.ms_machine.specs.Running.{CountsInput, CountsOut, DoesWholeRun, End, HasBegun, HasRun, OutOfBudget as BudgetEnd, Run, Stuck, Trap, run_from}
+use Rattle.ms_machine.specs.Store.{Store}
 use Rattle.ms_run.specs.Lines.{budget_line, misfit_line, no_export_line, no_task_line, result_line, trap_line}
+use Rattle.ms_run.specs.Observed.{Flow}
 use Rattle.ms_run.specs.Tasks.{main_name, task_index}
 use Rattle.ms_run.specs.declared.execution.Outcome.{Outcome}
 use Rattle.ms_run.specs.declared.execution.Outcome.TheVariants as outcomes
@@ -24,26 +26,26 @@ pub data Execution : Type 0 where
   -- it was run, its start function first
   Runs : Run → Execution
 
--- within so many steps, with a segment memory of so many bytes
-abbrev pub with_task : (budget capacity : ℕ) → Module → Option ℕ → Execution
-with_task budget capacity m None = NoTask
-with_task budget capacity m (Some main) = Runs (run_from budget (store_of m capacity) m.start main)
+-- within so many steps, with a segment memory of so many bytes, over what the input gives: a byte or the end for each take
+abbrev pub with_task : (budget capacity : ℕ) → (given : List (Option ℕ)) → Module → Option ℕ → Execution
+with_task budget capacity given m None = NoTask
+with_task budget capacity given m (Some main) = Runs (run_from budget (store_of m capacity) m.start main given)
 
-abbrev pub with_fit : (budget capacity : ℕ) → Module → Option Misfit → Execution
-with_fit budget capacity m (Some fault) = Misfits fault
-with_fit budget capacity m None = with_task budget capacity m (task_index m main_name)
+abbrev pub with_fit : (budget capacity : ℕ) → (given : List (Option ℕ)) → Module → Option Misfit → Execution
+with_fit budget capacity given m (Some fault) = Misfits fault
+with_fit budget capacity given m None = with_task budget capacity given m (task_index m main_name)
 
-abbrev pub with_imports : (budget capacity : ℕ) → Module → List Import → Execution
-with_imports budget capacity m (i ∷ is) = Imports
-with_imports budget capacity m [] = with_fit budget capacity m (misfit m)
+abbrev pub with_imports : (budget capacity : ℕ) → (given : List (Option ℕ)) → Module → List Import → Execution
+with_imports budget capacity given m (i ∷ is) = Imports
+with_imports budget capacity given m [] = with_fit budget capacity given m (misfit m)
 
 -- in this order
-abbrev pub execution_within : (budget capacity : ℕ) → Module → Execution
-execution_within budget capacity m = with_imports budget capacity m m.imports
+abbrev pub execution_within : (budget capacity : ℕ) → (given : List (Option ℕ)) → Module → Execution
+execution_within budget capacity given m = with_imports budget capacity given m m.imports
 
 -- the status and the report of how a run ended
 abbrev pub EndsAs : End → Status → List ℕ → Type 0
-EndsAs (Result value) status report = (status ≡ Done) × (report ≡ result_line value)
+EndsAs (running.Result value) status report = (status ≡ Done) × (report ≡ result_line value)
 EndsAs (Trap trap) status report = (status ≡ Trapped) × (report ≡ trap_line trap)
 EndsAs BudgetEnd status report = (status ≡ OutOfBudget) × (report ≡ budget_line)
 EndsAs Stuck status report = ⊥
@@ -54,45 +56,29 @@ AnswersAs (Misfits fault) status report = (status ≡ Refused) × (report ≡ mi
 AnswersAs NoTask status report = (status ≡ Refused) × (report ≡ no_task_line)
 AnswersAs (Runs run) status report = EndsAs run.end status report
 
+-- ---- the input and the output
+
+-- they are as before, and no call of theirs has failed
+abbrev pub IsQuiet : Flow → Type 0
+IsQuiet f = (f.left_new ≡ f.left_old) × (f.takes_new ≡ f.takes_old) × (f.held_new ≡ f.held_old) × (f.puts_new ≡ f.puts_old)
+
+-- they are so after a whole run
+abbrev pub RunsWhole : (given : List (Option ℕ)) → Flow → Run → Type 0
+RunsWhole given f run = (f.takes_new ≡ f.takes_old) × (f.puts_new ≡ f.puts_old) × HasRun f.left_old f.left_new f.held_old f.held_new given run
+
+-- and so after a part of it
+abbrev pub RunsPart : (given : List (Option ℕ)) → Flow → Run → Type 0
+RunsPart given f run = HasBegun f.left_old f.left_new f.held_old f.held_new given run
+
 -- ---- what the code comes to, against that
 
--- memory didn't run out in a run, and nothing outside failed
-abbrev pub IsOver : Ran → Type 0
-IsOver (endings.Result value) = Unit {0}
-IsOver (endings.Trap trap) = Unit {0}
-IsOver endings.Budget = Unit {0}
-IsOver _ = ⊥
-
-abbrev pub DoesExecution : Execution → Outcome → Type 0
-DoesExecution e outcomes.Imports = e ≡ Imports
-DoesExecution e (outcomes.Misfit fault) = e ≡ Misfits fault
-DoesExecution e outcomes.NoTask = e ≡ NoTask
-DoesExecution e (outcomes.Ran ran) = IsOver ran × (run : Run) × (e ≡ Runs run) × DoesEnd ran run.end
-
--- ---- the same in words
-
--- the outcome has a line
-abbrev pub HasLine : Outcome → Type 0
-HasLine (outcomes.Ran ran) = IsOver ran
-HasLine _ = Unit {0}
-
-abbrev pub status_of_run : Ran → Status
-status_of_run (endings.Trap trap) = Trapped
-status_of_run endings.Budget = OutOfBudget
-status_of_run _ = Done
-
-abbrev pub run_line : Ran → List ℕ
-run_line (endings.Result value) = result_line value
-run_line (endings.Trap trap) = trap_line trap
-run_line endings.Budget = budget_line
-run_line _ = []
-
-abbrev pub status_of : Outcome → Status
-status_of (outcomes.Ran ran) = status_of_run ran
-status_of _ = Refused
-
-abbrev pub text_of : Outcome → List ℕ
-text_of outcomes.Imports = no_export_line
-text_of (outcomes.Misfit fault) = misfit_line fault
-text_of outcomes.NoTask = no_task_line
-text_of (outcomes.Ran ran) = run_line ran
+-- Where nothing is run, it is the same over whatever the input gives.
+abbrev pub DoesOutcome : (budget capacity : ℕ) → Module → Flow → Result Outcome AllocError → Type 0
+DoesOutcome budget capacity m f (Ok outcomes.Imports) = ((given : List (Option ℕ)) → execution_within budget capacity given m ≡ Imports) × IsQuiet f
+DoesOutcome budget capacity m f (Ok (outcomes.Misfit fault)) = ((given : List (Option ℕ)) → execution_within budget capacity given m ≡ Misfits fault) × IsQuiet f
+DoesOutcome budget capacity m f (Ok outcomes.NoTask) = ((given : List (Option ℕ)) → execution_within budget capacity given m ≡ NoTask) × IsQuiet f
+DoesOutcome budget capacity m f (Ok (outcomes.Ran ran)) =
+    (given : List (Option ℕ)) × (run : Run) × (s : Store) × (execution_within budget capacity given m ≡ Runs run)
+    × CountsInput ran f.takes_old f.takes_new × CountsOut ran f.puts_old f.puts_new
+    × DoesWholeRun ran s f.left_old f.left_new f.held_old f.held_new given run
+DoesOutcome budget capacity m f (Err fault) = IsQuiet f

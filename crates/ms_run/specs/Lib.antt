@@ -6,3 +6,4 @@ pub mod Loading
 pub mod Executions
 pub mod Answers
 pub mod Reporting
+pub mod Flows

@@ -9,8 +9,8 @@ use Rattle.ms_linear.specs.declared.value.Value.{Value}
 use Rattle.ms_linear.specs.declared.value.Value.TheVariants as values
 use Rattle.ms_machine.specs.declared.linking.Misfit.{Misfit}
 use Rattle.ms_machine.specs.declared.linking.Misfit.TheVariants.{Outside, TooLarge}
-use Rattle.ms_machine.specs.declared.trap.TrapKind.{TrapKind}
-use Rattle.ms_machine.specs.Words.{trap_word}
+use Rattle.ms_host.specs.declared.trap.TrapKind.{TrapKind}
+use Rattle.ms_host.specs.Words.{trap_word}
 use Rattle.ms_num.specs.Integers.{signed}
 use Rattle.ms_text_grammar.specs.declared.fault.Counted.{Counted as TextCounted}
 use Rattle.ms_text_grammar.specs.declared.fault.Counted.TheVariants as counted
@@ -27,6 +27,10 @@ line text = text ++ 10 ∷ []
 
 abbrev pub read_fault_line : List ℕ → List ℕ
 read_fault_line name = line (codes "read fault " ++ name)
+
+-- the input of a program failed
+abbrev pub input_fault_line : List ℕ
+input_fault_line = line (codes "read fault")
 
 abbrev pub too_long_line : List ℕ → List ℕ
 too_long_line name = line (codes "too long " ++ name)

@@ -3,14 +3,19 @@ use Rattle.std.specs.Prelude.{◌≡◌, ◌≤◌, ◌⊎◌, ℕ, List, ◌++�
 use Rattle.ms_outside.specs.Faults.{CountsFault, Rose}
 use Rattle.ms_outside.specs.Shelf.{CountsReadFault, SameCounts, Told, Writes}
 use Rattle.ms_outside.specs.Sink.{IsFront}
-use Rattle.ms_outside.specs.declared.sink.Put.TheVariants.{Done, Failed}
+use Rattle.ms_outside.specs.declared.sink.Put.TheVariants as puts
 use Rattle.ms_run.specs.Answers.{Answers, Command, Contents, Fault, File, Found, most_bytes}
+use Rattle.ms_machine.specs.declared.running.Ran.{Ran}
+use Rattle.ms_machine.specs.declared.running.Ran.TheVariants as endings
+use Rattle.ms_run.specs.Lines.{budget_line, input_fault_line, misfit_line, no_export_line, no_task_line, result_line, trap_line}
 use Rattle.ms_run.specs.Loading.{load_line}
 use Rattle.ms_run.specs.Observed.{Report, Shelved}
+use Rattle.ms_run.specs.declared.execution.Outcome.{Outcome}
+use Rattle.ms_run.specs.declared.execution.Outcome.TheVariants as outcomes
 use Rattle.ms_run.specs.declared.loading.LoadFault.{LoadFault}
 use Rattle.ms_run.specs.declared.loading.LoadFault.TheVariants.{Memory}
 use Rattle.ms_run.specs.declared.status.Status.{Status}
-use Rattle.ms_run.specs.declared.status.Status.TheVariants.{OutOfMemory, Refused, WriteFault}
+use Rattle.ms_run.specs.declared.status.Status.TheVariants.{Done, OutOfBudget, OutOfMemory, ReadFault, Refused, Trapped, WriteFault}
 
 -- ---- the report
 
@@ -55,12 +60,12 @@ KeepsFiles s = (s.new ≡ s.old) × (s.writes_new ≡ s.writes_old)
 -- this one was, whole, and no other
 abbrev pub HasWritten : Shelved → Option File → Type 0
 HasWritten s None = KeepsFiles s
-HasWritten s (Some file) = Writes file.name file.bytes Done s.old s.new × (s.writes_new ≡ s.writes_old)
+HasWritten s (Some file) = Writes file.name file.bytes puts.Done s.old s.new × (s.writes_new ≡ s.writes_old)
 
 -- Writing it failed: it has a first part of its bytes, or is as before.
 abbrev pub HasFailed : Shelved → Option File → Type 0
 HasFailed s None = ⊥
-HasFailed s (Some file) = Writes file.name file.bytes Failed s.old s.new × CountsFault s.writes_old s.writes_new
+HasFailed s (Some file) = Writes file.name file.bytes puts.Failed s.old s.new × CountsFault s.writes_old s.writes_new
 
 -- ---- an answer, and what became of it
 
@@ -105,3 +110,19 @@ pub data Tells (Does : Command) (bytes : List ℕ) (r : Report) : Status → Typ
 abbrev pub ReportsFault : LoadFault → Report → Status → Type 0
 ReportsFault Memory r result = IsStarved r result
 ReportsFault fault r result = Reports Refused (load_line fault) r result
+
+-- what was put of the end of a run
+abbrev pub AnswersRun : Ran → Report → Status → Type 0
+AnswersRun (endings.Result value) r result = Reports Done (result_line value) r result
+AnswersRun (endings.Trap kind) r result = Reports Trapped (trap_line kind) r result
+AnswersRun endings.Budget r result = Reports OutOfBudget budget_line r result
+AnswersRun endings.ReadFault r result = Reports ReadFault input_fault_line r result
+AnswersRun endings.WriteFault r result = (result ≡ WriteFault) × IsKept r
+AnswersRun endings.Memory r result = IsStarved r result
+
+-- and of an outcome
+abbrev pub AnswersOutcome : Outcome → Report → Status → Type 0
+AnswersOutcome outcomes.Imports r result = Reports Refused no_export_line r result
+AnswersOutcome (outcomes.Misfit fault) r result = Reports Refused (misfit_line fault) r result
+AnswersOutcome outcomes.NoTask r result = Reports Refused no_task_line r result
+AnswersOutcome (outcomes.Ran ran) r result = AnswersRun ran r result

@@ -1,10 +1,10 @@
 //! Running a well-typed module, and the answer of how it ended.
 
-ghost use Rattle.std.specs.Prelude.{◌≡◌, ◌<◌, ◌^◌, IfOk};
+ghost use Rattle.std.specs.Prelude.{◌<◌, ◌^◌};
 ghost use Rattle.ms_rules.specs.Modules.{WellTyped};
-ghost use Rattle.ms_run.specs.Executions.{DoesExecution, HasLine, IsOver, execution_within, run_line, status_of, status_of_run, text_of};
-ghost use Rattle.ms_run.specs.Reporting.{Reports};
-ghost use Rattle.ms_run.specs.Observed.{reported};
+ghost use Rattle.ms_run.specs.Executions.{DoesOutcome};
+ghost use Rattle.ms_run.specs.Reporting.{AnswersOutcome, AnswersRun};
+ghost use Rattle.ms_run.specs.Observed.{flowed, reported};
 
 use crate::lines::{misfit_line, result_line, trap_line};
 use crate::report::{answer, answer_line};
@@ -31,7 +31,8 @@ pub enum Outcome {
 }
 
 /// Runs the `main` of a well-typed module, after its start function: so many steps at most, with a segment memory of so
-/// many bytes, however that is kept.
+/// many bytes, however that is kept. The run is that over what the input gives; where it is not run, the input and the output
+/// are as before.
 pub fn outcome_within<G: Gaps, T: Tagged, I: Source, O: Sink>(
     alloc: Global,
     module: Module,
@@ -42,9 +43,9 @@ pub fn outcome_within<G: Gaps, T: Tagged, I: Source, O: Sink>(
 ) -> Result<Outcome, AllocError>
     requires typed { WellTyped «module» }
     requires few { budget < 2 ^ 63 }
-    ensures outcome { IfOk result (DoesExecution (execution_within budget capacity «module»)) }
-    ensures input { (I.left input.new ≡ I.left input.old) × (I.faults input.new ≡ I.faults input.old) }
-    ensures out { (O.held out.new ≡ O.held out.old) × (O.faults out.new ≡ O.faults out.old) }
+    ensures outcome { DoesOutcome budget capacity «module»
+        (flowed I.left I.faults O.held O.faults input.old input.new out.old out.new)
+        result }
 {
     if !module.imports.is_empty() {
         return Ok(Outcome::Imports);
@@ -59,15 +60,11 @@ pub fn outcome_within<G: Gaps, T: Tagged, I: Source, O: Sink>(
     let Some(main) = task else {
         return Ok(Outcome::NoTask);
     };
-    match run(alloc, &mut store, first, main, budget, input, out) {
-        Ran::Memory => Err(AllocError),
-        ran => Ok(Outcome::Ran(ran)),
-    }
+    Ok(Outcome::Ran(run(alloc, &mut store, first, main, budget, input, out)))
 }
 
 fn answer_run<R: Sink>(alloc: Global, ran: Ran, report: &mut R) -> Status
-    requires { IsOver ran }
-    ensures { Reports (status_of_run ran) (run_line ran)
+    ensures { AnswersRun ran
         (reported R.held R.faults report.old report.new)
         result }
 {
@@ -75,14 +72,16 @@ fn answer_run<R: Sink>(alloc: Global, ran: Ran, report: &mut R) -> Status
         Ran::Result(value) => answer_line(report, Status::Done, result_line(alloc, value)),
         Ran::Trap(kind) => answer_line(report, Status::Trapped, trap_line(alloc, kind)),
         Ran::Budget => answer(report, Status::OutOfBudget, b"out of budget\n"),
-        Ran::ReadFault | Ran::WriteFault | Ran::Memory => unreachable!(),
+        Ran::ReadFault => answer(report, Status::ReadFault, b"read fault\n"),
+        Ran::WriteFault => Status::WriteFault,
+        Ran::Memory => Status::OutOfMemory,
     }
 }
 
-/// Puts the line of an outcome, and gives its status, or that of a fault.
+/// Puts the line of an outcome, and gives its status, or that of a fault. Where the output failed, and where memory ran out,
+/// nothing is put.
 pub fn answer_outcome<R: Sink>(alloc: Global, outcome: Outcome, report: &mut R) -> Status
-    requires { HasLine outcome }
-    ensures { Reports (status_of outcome) (text_of outcome)
+    ensures { AnswersOutcome outcome
         (reported R.held R.faults report.old report.new)
         result }
 {

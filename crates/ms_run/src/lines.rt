@@ -8,8 +8,9 @@ ghost use Rattle.ms_run.specs.Loading.{load_line, refusal_line};
 
 use crate::loading::LoadFault;
 use ms_bin_read::{Counted, ReadFault};
+use ms_host::TrapKind;
 use ms_linear::Value;
-use ms_machine::{Misfit, TrapKind};
+use ms_machine::Misfit;
 use ms_text_grammar::{Counted as TextCounted, TextFault};
 use ms_text_lex::LexFault;
 use ms_valid::{Part, Refusal};

@@ -11,46 +11,55 @@ use Rattle.ms_outside.specs.Shelf.{SameCounts, Told, Writes}
 use Rattle.ms_outside.specs.declared.sink.Put.TheVariants as putting
 use Rattle.ms_words.specs.Asked.{Asked, Asm, Check, Dis, Exec, asked_of, is_taken}
 use Rattle.ms_words.specs.Commands.{usage_lines}
-use Rattle.ms_run.specs.Answers.{Answers, Command, Contents, Fault, File, Found, read_fault, too_long, within}
+use Rattle.ms_run.specs.Answers.{Answers, Command, Contents, Executes, Fault, File, Found, read_fault, too_long, within}
 use Rattle.ms_run.specs.Answers as table
-use Rattle.ms_run.specs.Observed.{Report, Shelved}
+use Rattle.ms_run.specs.Observed.{Flow, Report, Shelved}
 use Rattle.ms_run.specs.Reporting.{CountsFound, Delivers, Did, Grows, HasFailed, HasWritten, IsFound, KeepsFiles, Reports, answered, failed, put, ran_out, starved}
 use Rattle.ms_run.specs.declared.status.Status.{Status}
 use Rattle.ms_run.specs.declared.status.Status.TheVariants as statuses
 use Rattle.ms_run.proofs.Once.{AllOrdinary, IsOnce, IsOrdinary, Same, answers_once, answers_ordinary, assembles_once, assembles_ordinary, checks_once, checks_ordinary, disassembles_once, disassembles_ordinary, executes_once, executes_ordinary}
-use Rattle.ms_tool.specs.Responding.{Responds, gave, nothing}
-use Rattle.ms_tool.specs.Top.{Gives, IsAnswer, IsCutOff, IsFaulty, IsKnown, IsPutFault, IsStarved, IsTarget, IsUnwritten, Stays, command_of, file_of}
+use Rattle.ms_run.specs.Executions.{IsQuiet}
+use Rattle.ms_run.specs.Flows.{DidRun, Flowed, cut, did, input_failed, out_failed, quiet, ran}
+use Rattle.ms_run.specs.Lines.{input_fault_line}
+use Rattle.ms_machine.specs.Running.{MayGive}
+use Rattle.ms_tool.specs.Responding.{Responds, gave, nothing, stopped}
+use Rattle.ms_tool.specs.Top.{FlowsFor, Gives, IsAnswer, IsCutOff, IsExec, IsFaulty, IsKnown, IsOutFault, IsPutFault, IsStarved, IsTarget, IsUnwritten, Stays, command_of, file_of}
 
 -- ---- the table
 
-once : (a : Asked) → IsOnce (command_of a)
-once (Exec file budget memory) = executes_once file budget memory
-once (Check file) = checks_once file
-once (Asm file out) = assembles_once out
-once (Dis file out) = disassembles_once out
+once : (given : List (Option ℕ)) (a : Asked) → IsOnce (command_of given a)
+once given (Exec file budget memory) = executes_once file budget memory given
+once given (Check file) = checks_once file
+once given (Asm file out) = assembles_once out
+once given (Dis file out) = disassembles_once out
 
-ordinary : (a : Asked) → AllOrdinary (command_of a)
-ordinary (Exec file budget memory) = executes_ordinary file budget memory
-ordinary (Check file) = checks_ordinary file
-ordinary (Asm file out) = assembles_ordinary out
-ordinary (Dis file out) = disassembles_ordinary out
+ordinary : (given : List (Option ℕ)) (a : Asked) → AllOrdinary (command_of given a)
+ordinary given (Exec file budget memory) = executes_ordinary file budget memory given
+ordinary given (Check file) = checks_ordinary file
+ordinary given (Asm file out) = assembles_ordinary out
+ordinary given (Dis file out) = disassembles_ordinary out
 
 -- ---- the words
 
-asked_none : (words : List (List ℕ)) → is_taken words ≡ false → asked_of words ≡ None
+pub asked_none : (words : List (List ℕ)) → is_taken words ≡ false → asked_of words ≡ None
 asked_none words h = rw h refl
 
-module _ (words : List (List ℕ)) (s : Shelved) (r : Report) where
-  pub usage_gave : (result : Status) → is_taken words ≡ false → SameCounts s.reads_old s.reads_new → KeepsFiles s → Reports statuses.Usage usage_lines r result → Responds words s r result
+module _ (words : List (List ℕ)) (given : List (Option ℕ)) (s : Shelved) (r : Report) (f : Flow) where
+  pub usage_gave : (result : Status) → is_taken words ≡ false → SameCounts s.reads_old s.reads_new → KeepsFiles s → Reports statuses.Usage usage_lines r result → Responds words given s r f result
   usage_gave result h same kept reports =
       gave (Contents []) statuses.Usage usage_lines None (rw (asked_none words h) tt) (rw (asked_none words h) same) (rw (asked_none words h) (refl, refl, refl)) (put kept reports) (λ _. h) (λ _. refl)
 
-  pub command_gave : (a : Asked) (result : Status) → asked_of words ≡ Some a → Did (file_of a) (command_of a) s r result → Responds words s r result
+  pub command_gave : (a : Asked) (result : Status) → asked_of words ≡ Some a → Did (file_of a) (command_of given a) s r result → Responds words given s r f result
   command_gave a result e (answered found status line file is counts answers delivers) =
-      let plain = answers_ordinary (file_of a) (command_of a) (ordinary a) found status line file answers in
+      let plain = answers_ordinary (file_of a) (command_of given a) (ordinary given a) found status line file answers in
       gave found status line file (rw e is) (rw e counts) (rw e answers) delivers
       (λ u. absurd (subst IsOrdinary u plain)) (λ h. absurd (let both = sym (asked_none words h) ∙ e in cc))
   command_gave a result e (ran_out same kept report) = nothing same kept report
+
+  -- a run, which may be cut short
+  pub run_gave : (file : List ℕ) (budget memory : ℕ) (result : Status) → asked_of words ≡ Some (Exec file budget memory) → DidRun file (Executes file budget memory given) s r f result → Responds words given s r f result
+  run_gave file budget memory result e (did d) = command_gave (Exec file budget memory) result e d
+  run_gave file budget memory result e (cut bytes found same files c) = stopped (Contents bytes) (rw e tt) (rw e found) same files c
 
 -- ---- what is given
 
@@ -70,13 +79,13 @@ of_ordinary statuses.WriteFault h = absurd h
 of_ordinary statuses.OutOfMemory h = absurd h
 of_ordinary statuses.TooLong h = tt
 
-module _ (found : Found) (status : Status) (line : List ℕ) (file : Option File) where
+module _ (given : List (Option ℕ)) (found : Found) (status : Status) (line : List ℕ) (file : Option File) where
   abbrev GivesFor : Option Asked → Type 0
-  GivesFor o = MatchOption o ((status ≡ statuses.Usage) × (line ≡ usage_lines) × (file ≡ None)) (λ a. Answers (file_of a) (command_of a) found status line file)
+  GivesFor o = MatchOption o ((status ≡ statuses.Usage) × (line ≡ usage_lines) × (file ≡ None)) (λ a. Answers (file_of a) (command_of given a) found status line file)
 
   unfaulty : (o : Option Asked) → GivesFor o → IsUnfaulty status
   unfaulty None h = subst IsUnfaulty (sym h.0) tt
-  unfaulty (Some a) h = of_ordinary status (answers_ordinary (file_of a) (command_of a) (ordinary a) found status line file h)
+  unfaulty (Some a) h = of_ordinary status (answers_ordinary (file_of a) (command_of given a) (ordinary given a) found status line file h)
 
 -- a fault of reading is answered as one
 fault_answer : (name : List ℕ) (Does : Command) (found : Found) (status : Status) (line : List ℕ) (file : Option File) → Answers name Does found status line file → found ≡ Fault → status ≡ statuses.ReadFault
@@ -85,26 +94,26 @@ fault_answer name Does found status line file (too_long h) e = absurd cc
 fault_answer name Does found status line file (within h d) e = absurd cc
 
 -- what a written file is to the words
-target_of : (a : Asked) (bytes : List ℕ) (status : Status) (line : List ℕ) (file : File) (f : Option File) → f ≡ Some file → command_of a bytes status line f → IsTarget (Some a) file.name
-target_of (Exec name budget memory) bytes status line file f e h = absurd (let both = sym h.1 ∙ e in cc)
-target_of (Check name) bytes status line file f e h = absurd (let both = sym h.1 ∙ e in cc)
-target_of (Asm name out) bytes status line file f e (table.unread_text h) = absurd cc
-target_of (Asm name out) bytes status line file f e (table.large m h is) = absurd cc
-target_of (Asm name out) bytes status line file f e (table.assembled m h not) = let same = some_file _ file e in ap (λ (x : File). x.name) (sym same)
+target_of : (given : List (Option ℕ)) (a : Asked) (bytes : List ℕ) (status : Status) (line : List ℕ) (file : File) (f : Option File) → f ≡ Some file → command_of given a bytes status line f → IsTarget (Some a) file.name
+target_of given (Exec name budget memory) bytes status line file f e h = absurd (let both = sym h.1 ∙ e in cc)
+target_of given (Check name) bytes status line file f e h = absurd (let both = sym h.1 ∙ e in cc)
+target_of given (Asm name out) bytes status line file f e (table.unread_text h) = absurd cc
+target_of given (Asm name out) bytes status line file f e (table.large m h is) = absurd cc
+target_of given (Asm name out) bytes status line file f e (table.assembled m h not) = let same = some_file _ file e in ap (λ (x : File). x.name) (sym same)
   where
     some_file : (x y : File) → ◌≡◌ {A = Option File} (Some x) (Some y) → x ≡ y
     some_file x y e = cc
-target_of (Dis name out) bytes status line file f e (table.unread_binary h) = absurd cc
-target_of (Dis name out) bytes status line file f e (table.disassembled m h) = let same = some_file _ file e in ap (λ (x : File). x.name) (sym same)
+target_of given (Dis name out) bytes status line file f e (table.unread_binary h) = absurd cc
+target_of given (Dis name out) bytes status line file f e (table.disassembled m h) = let same = some_file _ file e in ap (λ (x : File). x.name) (sym same)
   where
     some_file : (x y : File) → ◌≡◌ {A = Option File} (Some x) (Some y) → x ≡ y
     some_file x y e = cc
 
-target_given : (o : Option Asked) (found : Found) (status : Status) (line : List ℕ) (file : File) (f : Option File) → f ≡ Some file → GivesFor found status line f o → IsTarget o file.name
-target_given None found status line file f e h = absurd (let both = sym h.2 ∙ e in cc)
-target_given (Some a) found status line file f e read_fault = absurd cc
-target_given (Some a) found status line file f e (too_long h) = absurd cc
-target_given (Some a) found status line file f e (within {bytes = bytes} h d) = target_of a bytes status line file f e d
+target_given : (given : List (Option ℕ)) (o : Option Asked) (found : Found) (status : Status) (line : List ℕ) (file : File) (f : Option File) → f ≡ Some file → GivesFor given found status line f o → IsTarget o file.name
+target_given given None found status line file f e h = absurd (let both = sym h.2 ∙ e in cc)
+target_given given (Some a) found status line file f e read_fault = absurd cc
+target_given given (Some a) found status line file f e (too_long h) = absurd cc
+target_given given (Some a) found status line file f e (within {bytes = bytes} h d) = target_of given a bytes status line file f e d
 
 -- ---- names of files
 
@@ -125,50 +134,69 @@ other_name name target not =
 less_than_itself : (a b : ℕ) → b ≡ a → a < b → ⊥
 less_than_itself a b e h = omega arith
 
-module _ (words : List (List ℕ)) (s : Shelved) (r : Report) where
-  pub answer_clause : (result : Status) → Responds words s r result → IsPutFault result ⊎ IsAnswer s words r result
-  answer_clause result (gave found status line file is counts gives (put written (inl h)) u v) =
-      inr (subst (λ (x : Status). IsAnswer s words r x) (sym h.0) (found, line, file, is, gives, h.1, written))
-  answer_clause result (gave found status line file is counts gives (put written (inr (inl h))) u v) = inl (inl h.0)
-  answer_clause result (gave found status line file is counts gives (put written (inr (inr h))) u v) = inl (inr h.0)
-  answer_clause result (gave found status line file is counts gives (failed f kept) u v) = inl (inl refl)
-  answer_clause result (gave found status line file is counts gives (starved files kept) u v) = inl (inr refl)
-  answer_clause result (nothing same files kept) = inl (inr refl)
+module _ (words : List (List ℕ)) (given : List (Option ℕ)) (s : Shelved) (r : Report) (f : Flow) where
+  pub answer_clause : (result : Status) → MayGive f.left_old given → Responds words given s r f result → FlowsFor s (asked_of words) given f result → IsPutFault result ⊎ IsAnswer s words r f result
+  answer_clause result may (gave found status line file is counts gives (put written (inl h)) u v) flows =
+      inr (subst (λ (x : Status). IsAnswer s words r f x) (sym h.0) (given, found, line, file, may, is, inl gives, h.1, written, subst (FlowsFor s (asked_of words) given f) h.0 flows))
+  answer_clause result may (gave found status line file is counts gives (put written (inr (inl h))) u v) flows = inl (inl h.0)
+  answer_clause result may (gave found status line file is counts gives (put written (inr (inr h))) u v) flows = inl (inr h.0)
+  answer_clause result may (gave found status line file is counts gives (failed f kept) u v) flows = inl (inl refl)
+  answer_clause result may (gave found status line file is counts gives (starved files kept) u v) flows = inl (inr refl)
+  answer_clause result may (stopped found exec is same files (input_failed rose (inl h))) flows =
+      inr (given, found, input_fault_line, None, may, is, inr (exec, h.0, refl, refl, rose), h.1, files, flows)
+  answer_clause result may (stopped found exec is same files (input_failed rose (inr (inl h)))) flows = inl (inl h.0)
+  answer_clause result may (stopped found exec is same files (input_failed rose (inr (inr h)))) flows = inl (inr h.0)
+  answer_clause result may (stopped found exec is same files (out_failed rose kept)) flows = inl (inl refl)
+  answer_clause result may (nothing same files kept) flows = inl (inr refl)
 
-  pub usage_clause : (result : Status) → Responds words s r result → result ≡ statuses.Usage → is_taken words ≡ false
+  pub usage_clause : (result : Status) → Responds words given s r f result → result ≡ statuses.Usage → is_taken words ≡ false
   usage_clause result (gave found status line file is counts gives (put written (inl h)) u v) e = u (sym h.0 ∙ e)
   usage_clause result (gave found status line file is counts gives (put written (inr (inl h))) u v) e = absurd (let both = sym h.0 ∙ e in cc)
   usage_clause result (gave found status line file is counts gives (put written (inr (inr h))) u v) e = absurd (let both = sym h.0 ∙ e in cc)
   usage_clause result (gave found status line file is counts gives (failed f kept) u v) e = absurd cc
   usage_clause result (gave found status line file is counts gives (starved files kept) u v) e = absurd cc
+  usage_clause result (stopped found exec is same files (input_failed rose (inl h))) e = absurd (let both = sym h.0 ∙ e in cc)
+  usage_clause result (stopped found exec is same files (input_failed rose (inr (inl h)))) e = absurd (let both = sym h.0 ∙ e in cc)
+  usage_clause result (stopped found exec is same files (input_failed rose (inr (inr h)))) e = absurd (let both = sym h.0 ∙ e in cc)
+  usage_clause result (stopped found exec is same files (out_failed rose kept)) e = absurd cc
   usage_clause result (nothing same files kept) e = absurd cc
 
-  pub refused_clause : (result : Status) → Responds words s r result → is_taken words ≡ false → (result ≡ statuses.Usage) ⊎ IsPutFault result
+  pub refused_clause : (result : Status) → Responds words given s r f result → is_taken words ≡ false → (result ≡ statuses.Usage) ⊎ IsPutFault result
   refused_clause result (gave found status line file is counts gives (put written (inl h)) u v) e = inl (h.0 ∙ v e)
   refused_clause result (gave found status line file is counts gives (put written (inr (inl h))) u v) e = inr (inl h.0)
   refused_clause result (gave found status line file is counts gives (put written (inr (inr h))) u v) e = inr (inr h.0)
   refused_clause result (gave found status line file is counts gives (failed f kept) u v) e = inr (inl refl)
   refused_clause result (gave found status line file is counts gives (starved files kept) u v) e = inr (inr refl)
+  refused_clause result (stopped found exec is same files c) e = absurd (subst IsExec (asked_none words e) exec)
   refused_clause result (nothing same files kept) e = inr (inr refl)
 
-  pub write_fault_clause : (result : Status) → Responds words s r result → result ≡ statuses.WriteFault → IsCutOff s words r ⊎ IsUnwritten s words r
-  write_fault_clause result (gave found status line file is counts gives (put written (inl h)) u v) e =
-      absurd (subst IsUnfaulty (sym h.0 ∙ e) (unfaulty found status line file (asked_of words) gives))
-  write_fault_clause result (gave found status line file is counts gives (put written (inr (inl h))) u v) e =
-      inl (found, status, line, file, h.1, is, gives, h.2, h.3, written, h.4.rose)
-  write_fault_clause result (gave found status line file is counts gives (put written (inr (inr h))) u v) e = absurd (let both = sym h.0 ∙ e in cc)
-  write_fault_clause result (gave found status line file is counts gives (failed f kept) u v) e = inr (found, status, line, file, is, gives, f, kept.0)
-  write_fault_clause result (gave found status line file is counts gives (starved files kept) u v) e = absurd cc
-  write_fault_clause result (nothing same files kept) e = absurd cc
+  pub write_fault_clause : (result : Status) → MayGive f.left_old given → Responds words given s r f result → result ≡ statuses.WriteFault → IsCutOff s words r f ⊎ (IsUnwritten s words r f ⊎ IsOutFault s words r f)
+  write_fault_clause result may (gave found status line file is counts gives (put written (inl h)) u v) e =
+      absurd (subst IsUnfaulty (sym h.0 ∙ e) (unfaulty given found status line file (asked_of words) gives))
+  write_fault_clause result may (gave found status line file is counts gives (put written (inr (inl h))) u v) e =
+      inl (given, found, status, line, file, h.1, may, is, inl gives, h.2, h.3, written, h.4.rose)
+  write_fault_clause result may (gave found status line file is counts gives (put written (inr (inr h))) u v) e = absurd (let both = sym h.0 ∙ e in cc)
+  write_fault_clause result may (gave found status line file is counts gives (failed cut kept) u v) e = inr (inl (given, found, status, line, file, may, is, gives, cut, kept.0))
+  write_fault_clause result may (gave found status line file is counts gives (starved files kept) u v) e = absurd cc
+  write_fault_clause result may (stopped found exec is same files (input_failed rose (inl h))) e = absurd (let both = sym h.0 ∙ e in cc)
+  write_fault_clause result may (stopped found exec is same files (input_failed rose (inr (inl h)))) e =
+      inl (given, found, statuses.ReadFault, input_fault_line, None, h.1, may, is, inr (exec, refl, refl, refl, rose), h.2, h.3, files, h.4.rose)
+  write_fault_clause result may (stopped found exec is same files (input_failed rose (inr (inr h)))) e = absurd (let both = sym h.0 ∙ e in cc)
+  write_fault_clause result may (stopped found exec is same files (out_failed rose kept)) e = inr (inr (exec, rose, kept.0, files))
+  write_fault_clause result may (nothing same files kept) e = absurd cc
 
-  pub memory_clause : (result : Status) → Responds words s r result → result ≡ statuses.OutOfMemory → IsStarved s words r
-  memory_clause result (gave found status line file is counts gives (put written (inl h)) u v) e =
-      absurd (subst IsUnfaulty (sym h.0 ∙ e) (unfaulty found status line file (asked_of words) gives))
-  memory_clause result (gave found status line file is counts gives (put written (inr (inl h))) u v) e = absurd (let both = sym h.0 ∙ e in cc)
-  memory_clause result (gave found status line file is counts gives (put written (inr (inr h))) u v) e = (h.1.0, inr (found, status, line, file, is, gives, written))
-  memory_clause result (gave found status line file is counts gives (failed f kept) u v) e = absurd cc
-  memory_clause result (gave found status line file is counts gives (starved files kept) u v) e = (kept.0, inl files)
-  memory_clause result (nothing same files kept) e = (kept.0, inl files)
+  pub memory_clause : (result : Status) → MayGive f.left_old given → Responds words given s r f result → result ≡ statuses.OutOfMemory → IsStarved s words r f
+  memory_clause result may (gave found status line file is counts gives (put written (inl h)) u v) e =
+      absurd (subst IsUnfaulty (sym h.0 ∙ e) (unfaulty given found status line file (asked_of words) gives))
+  memory_clause result may (gave found status line file is counts gives (put written (inr (inl h))) u v) e = absurd (let both = sym h.0 ∙ e in cc)
+  memory_clause result may (gave found status line file is counts gives (put written (inr (inr h))) u v) e = (h.1.0, inr (given, found, status, line, file, may, is, gives, written))
+  memory_clause result may (gave found status line file is counts gives (failed f kept) u v) e = absurd cc
+  memory_clause result may (gave found status line file is counts gives (starved files kept) u v) e = (kept.0, inl files)
+  memory_clause result may (stopped found exec is same files (input_failed rose (inl h))) e = absurd (let both = sym h.0 ∙ e in cc)
+  memory_clause result may (stopped found exec is same files (input_failed rose (inr (inl h)))) e = absurd (let both = sym h.0 ∙ e in cc)
+  memory_clause result may (stopped found exec is same files (input_failed rose (inr (inr h)))) e = (h.1.0, inl files)
+  memory_clause result may (stopped found exec is same files (out_failed rose kept)) e = absurd cc
+  memory_clause result may (nothing same files kept) e = (kept.0, inl files)
 
   -- ---- what the table gives for a known file
 
@@ -195,33 +223,38 @@ module _ (words : List (List ℕ)) (s : Shelved) (r : Report) where
     as_fault result status line file e (starved files kept) = inr (inr refl)
 
     of_asked : (o : Option Asked) (result : Status) (found : Found) (status : Status) (line : List ℕ) (file : Option File)
-        → MatchOption o ⊤ (λ a. IsFound s (file_of a) found) → GivesFor found status line file o → Delivers status line file s r result
-        → MatchOption o ⊤ (λ a. IsSomeAnd s.old (λ known. bytes ≡ bytes_of known (file_of a))) → GivesFor (Contents bytes) status' line' file' o → Completes result
+        → MatchOption o ⊤ (λ a. IsFound s (file_of a) found) → GivesFor given found status line file o → Delivers status line file s r result
+        → MatchOption o ⊤ (λ a. IsSomeAnd s.old (λ known. bytes ≡ bytes_of known (file_of a))) → GivesFor given (Contents bytes) status' line' file' o → Completes result
     of_asked None result found status line file is gives delivers known gives' =
         as_given result status line file (record { status = gives.0 ∙ sym gives'.0; line = gives.1 ∙ sym gives'.1; file = gives.2 ∙ sym gives'.2 }) delivers
     of_asked (Some a) result (Contents b) status line file is gives delivers known gives' =
         let same = known_is s.old (file_of a) b bytes is known in
-        let here : Answers (file_of a) (command_of a) (Contents bytes) status line file = subst (λ (x : List ℕ). Answers (file_of a) (command_of a) (Contents x) status line file) same gives in
-        as_given result status line file (answers_once (file_of a) (command_of a) (once a) (Contents bytes) status line file status' line' file' here gives') delivers
+        let here : Answers (file_of a) (command_of given a) (Contents bytes) status line file = subst (λ (x : List ℕ). Answers (file_of a) (command_of given a) (Contents x) status line file) same gives in
+        as_given result status line file (answers_once (file_of a) (command_of given a) (once given a) (Contents bytes) status line file status' line' file' here gives') delivers
     of_asked (Some a) result Fault status line file is gives delivers known gives' =
-        inr (as_fault result status line file (fault_answer (file_of a) (command_of a) Fault status line file gives refl) delivers)
+        inr (as_fault result status line file (fault_answer (file_of a) (command_of given a) Fault status line file gives refl) delivers)
 
-    pub complete_clause : (result : Status) → Responds words s r result → IsKnown s.old words bytes → Gives words (Contents bytes) status' line' file' → Completes result
+    pub complete_clause : (result : Status) → Responds words given s r f result → IsKnown s.old words bytes → Gives words given (Contents bytes) status' line' file' → Completes result
     complete_clause result (gave found status line file is counts gives delivers u v) known gives' = of_asked (asked_of words) result found status line file is gives delivers known gives'
+    complete_clause result (stopped found exec is same files (input_failed rose (inl h))) known gives' = inr (inl h.0)
+    complete_clause result (stopped found exec is same files (input_failed rose (inr (inl h)))) known gives' = inr (inr (inl h.0))
+    complete_clause result (stopped found exec is same files (input_failed rose (inr (inr h)))) known gives' = inr (inr (inr h.0))
+    complete_clause result (stopped found exec is same files (out_failed rose kept)) known gives' = inr (inr (inl refl))
     complete_clause result (nothing same files kept) known gives' = inr (inr (inr refl))
 
   -- ---- counted faults
 
   reads_of : (o : Option Asked) (result : Status) (found : Found) (status : Status) (line : List ℕ) (file : Option File) (name : List ℕ)
-      → MatchOption o (SameCounts s.reads_old s.reads_new) (λ a. CountsFound (file_of a) s found) → GivesFor found status line file o → Delivers status line file s r result
+      → MatchOption o (SameCounts s.reads_old s.reads_new) (λ a. CountsFound (file_of a) s found) → GivesFor given found status line file o → Delivers status line file s r result
       → s.reads_old name < s.reads_new name → IsFaulty result
   reads_of None result found status line file name counts gives delivers lt = absurd (less_than_itself (s.reads_old name) (s.reads_new name) (counts name) lt)
   reads_of (Some a) result (Contents b) status line file name counts gives delivers lt = absurd (less_than_itself (s.reads_old name) (s.reads_new name) (counts name) lt)
   reads_of (Some a) result Fault status line file name counts gives delivers lt =
-      as_fault [] status line file result status line file (fault_answer (file_of a) (command_of a) Fault status line file gives refl) delivers
+      as_fault [] status line file result status line file (fault_answer (file_of a) (command_of given a) Fault status line file gives refl) delivers
 
-  pub reads_clause : (result : Status) → Responds words s r result → (name : List ℕ) → s.reads_old name < s.reads_new name → IsFaulty result
+  pub reads_clause : (result : Status) → Responds words given s r f result → (name : List ℕ) → s.reads_old name < s.reads_new name → IsFaulty result
   reads_clause result (gave found status line file is counts gives delivers u v) name lt = reads_of (asked_of words) result found status line file name counts gives delivers lt
+  reads_clause result (stopped found exec is same files c) name lt = absurd (less_than_itself (s.reads_old name) (s.reads_new name) (same name) lt)
   reads_clause result (nothing same files kept) name lt = inr (inr refl)
 
   same_writes : (file : Option File) → HasWritten s file → s.writes_new ≡ s.writes_old
@@ -233,8 +266,9 @@ module _ (words : List (List ℕ)) (s : Shelved) (r : Report) where
   writes_of result status line file (failed f kept) lt = inl refl
   writes_of result status line file (starved files kept) lt = inr refl
 
-  pub writes_clause : (result : Status) → Responds words s r result → s.writes_old < s.writes_new → IsPutFault result
+  pub writes_clause : (result : Status) → Responds words given s r f result → s.writes_old < s.writes_new → IsPutFault result
   writes_clause result (gave found status line file is counts gives delivers u v) lt = writes_of result status line file delivers lt
+  writes_clause result (stopped found exec is same files c) lt = absurd (less_than_itself s.writes_old s.writes_new files.1 lt)
   writes_clause result (nothing same files kept) lt = inr refl
 
   puts_of : (result status : Status) (line : List ℕ) (file : Option File) → Delivers status line file s r result → r.puts_old < r.puts_new → IsPutFault result
@@ -244,8 +278,12 @@ module _ (words : List (List ℕ)) (s : Shelved) (r : Report) where
   puts_of result status line file (failed f kept) lt = inl refl
   puts_of result status line file (starved files kept) lt = inr refl
 
-  pub puts_clause : (result : Status) → Responds words s r result → r.puts_old < r.puts_new → IsPutFault result
+  pub puts_clause : (result : Status) → Responds words given s r f result → r.puts_old < r.puts_new → IsPutFault result
   puts_clause result (gave found status line file is counts gives delivers u v) lt = puts_of result status line file delivers lt
+  puts_clause result (stopped found exec is same files (input_failed rose (inl h))) lt = absurd (less_than_itself r.puts_old r.puts_new h.2 lt)
+  puts_clause result (stopped found exec is same files (input_failed rose (inr (inl h)))) lt = inl h.0
+  puts_clause result (stopped found exec is same files (input_failed rose (inr (inr h)))) lt = inr h.0
+  puts_clause result (stopped found exec is same files (out_failed rose kept)) lt = absurd (less_than_itself r.puts_old r.puts_new kept.1 lt)
   puts_clause result (nothing same files kept) lt = inr refl
 
   -- ---- the files that stay
@@ -284,7 +322,58 @@ module _ (words : List (List ℕ)) (s : Shelved) (r : Report) where
   delivered_stays name status result line file not (failed f kept) = has_failed_stays name file not f
   delivered_stays name status result line file not (starved files kept) = kept_stays name s.old s.new files.0
 
-  pub files_clause : (result : Status) → Responds words s r result → (name : List ℕ) → ¬ IsTarget (asked_of words) name → Stays s name
+  pub files_clause : (result : Status) → Responds words given s r f result → (name : List ℕ) → ¬ IsTarget (asked_of words) name → Stays s name
   files_clause result (gave found status line file is counts gives delivers u v) name not =
-      delivered_stays name status result line file (λ f e. not_target (asked_of words) name f not (target_given (asked_of words) found status line f file e gives)) delivers
+      delivered_stays name status result line file (λ f e. not_target (asked_of words) name f not (target_given given (asked_of words) found status line f file e gives)) delivers
+  files_clause result (stopped found exec is same files c) name not = kept_stays name s.old s.new files.0
   files_clause result (nothing same files kept) name not = kept_stays name s.old s.new files.0
+
+-- ---- the input and the output
+
+module _ (s : Shelved) (given : List (Option ℕ)) (f : Flow) where
+  -- what is left by what the words ask for
+  pub flows_as : (words : List (List ℕ)) (o : Option Asked) (result : Status) → asked_of words ≡ o → FlowsFor s o given f result → FlowsFor s (asked_of words) given f result
+  flows_as words o result e flows = subst (λ (x : Option Asked). FlowsFor s x given f result) (sym e) flows
+
+  pub quiet_for : (o : Option Asked) → IsQuiet f → FlowsFor s o given f statuses.OutOfMemory
+  quiet_for None still = still
+  quiet_for (Some (Exec file budget memory)) still = quiet tt still
+  quiet_for (Some (Check file)) still = still
+  quiet_for (Some (Asm file out)) still = still
+  quiet_for (Some (Dis file out)) still = still
+
+  pub takes_clause : (o : Option Asked) (result : Status) → FlowsFor s o given f result → f.takes_old < f.takes_new → IsFaulty result
+  takes_clause None result still lt = absurd (less_than_itself f.takes_old f.takes_new still.1 lt)
+  takes_clause (Some (Check file)) result still lt = absurd (less_than_itself f.takes_old f.takes_new still.1 lt)
+  takes_clause (Some (Asm file out)) result still lt = absurd (less_than_itself f.takes_old f.takes_new still.1 lt)
+  takes_clause (Some (Dis file out)) result still lt = absurd (less_than_itself f.takes_old f.takes_new still.1 lt)
+  takes_clause (Some (Exec file budget memory)) result (quiet unrun still) lt = absurd (less_than_itself f.takes_old f.takes_new still.1 lt)
+  takes_clause (Some (Exec file budget memory)) result (ran bytes m run has spelled well e flowed) lt = by result flowed where
+    by : (x : Status) → Flowed given f run x → IsFaulty x
+    by statuses.Done h = absurd (less_than_itself f.takes_old f.takes_new h.0 lt)
+    by statuses.Trapped h = absurd (less_than_itself f.takes_old f.takes_new h.0 lt)
+    by statuses.OutOfBudget h = absurd (less_than_itself f.takes_old f.takes_new h.0 lt)
+    by statuses.ReadFault h = inl refl
+    by statuses.WriteFault h = inr (inl refl)
+    by statuses.OutOfMemory h = inr (inr refl)
+    by statuses.Usage h = absurd h
+    by statuses.Refused h = absurd h
+    by statuses.TooLong h = absurd h
+
+  pub outs_clause : (o : Option Asked) (result : Status) → FlowsFor s o given f result → f.puts_old < f.puts_new → IsPutFault result
+  outs_clause None result still lt = absurd (less_than_itself f.puts_old f.puts_new still.3 lt)
+  outs_clause (Some (Check file)) result still lt = absurd (less_than_itself f.puts_old f.puts_new still.3 lt)
+  outs_clause (Some (Asm file out)) result still lt = absurd (less_than_itself f.puts_old f.puts_new still.3 lt)
+  outs_clause (Some (Dis file out)) result still lt = absurd (less_than_itself f.puts_old f.puts_new still.3 lt)
+  outs_clause (Some (Exec file budget memory)) result (quiet unrun still) lt = absurd (less_than_itself f.puts_old f.puts_new still.3 lt)
+  outs_clause (Some (Exec file budget memory)) result (ran bytes m run has spelled well e flowed) lt = by result flowed where
+    by : (x : Status) → Flowed given f run x → IsPutFault x
+    by statuses.Done h = absurd (less_than_itself f.puts_old f.puts_new h.1 lt)
+    by statuses.Trapped h = absurd (less_than_itself f.puts_old f.puts_new h.1 lt)
+    by statuses.OutOfBudget h = absurd (less_than_itself f.puts_old f.puts_new h.1 lt)
+    by statuses.ReadFault h = absurd (less_than_itself f.puts_old f.puts_new h.0 lt)
+    by statuses.WriteFault h = inl refl
+    by statuses.OutOfMemory h = inr refl
+    by statuses.Usage h = absurd h
+    by statuses.Refused h = absurd h
+    by statuses.TooLong h = absurd h

@@ -2,7 +2,7 @@
 
 ghost use Rattle.std.specs.Prelude.{◌≡◌, ◌≢◌, ◌<◌, ◌^◌, ◌⊎◌, ℕ, List, Option, false, map};
 ghost use Rattle.ms_event.specs.Monitor.{Accepts};
-ghost use Rattle.ms_machine.specs.Running.{Run, Stuck};
+ghost use Rattle.ms_machine.specs.Running.{MayGive, Run, Stuck};
 ghost use Rattle.ms_module.specs.declared.module.Module.{Module};
 ghost use Rattle.ms_rules.specs.Modules.{WellTyped};
 ghost use Rattle.ms_run.specs.Answers.{Contents, File};
@@ -12,8 +12,8 @@ ghost use Rattle.ms_run.specs.Reporting.{Grows, HasWritten};
 ghost use Rattle.ms_run.specs.declared.status.Status.{Status};
 ghost use Rattle.ms_words.specs.Asked.{asked_of, is_taken};
 ghost use Rattle.ms_tool.specs.Responding.{Responds};
-ghost use Rattle.ms_tool.specs.Top.{Gives, IsAnswer, IsCutOff, IsFaulty, IsKnown, IsPutFault, IsStarved, IsTarget, IsUnwritten, Stays};
-ghost use Rattle.ms_run.specs.Observed.{reported, shelved};
+ghost use Rattle.ms_tool.specs.Top.{FlowsFor, Gives, IsAnswer, IsCutOff, IsFaulty, IsKnown, IsOutFault, IsPutFault, IsStarved, IsTarget, IsUnwritten, Stays};
+ghost use Rattle.ms_run.specs.Observed.{flowed, reported, shelved};
 
 use ms_outside::{Shelf, Sink, Source};
 use ms_run::{Status, answer, asm_file, check_file, dis_file, exec};
@@ -33,63 +33,83 @@ pub fn tool<F: Shelf, I: Source, O: Sink, R: Sink>(
     out: &mut O,
     report: &mut R,
 ) -> Status
-    // The status is the one that the table of answers gives for the words and the file. The report has grown by exactly
-    // its line, and exactly its file was written. A read fault is one only where the count of reads of that file rose.
+    // The status is the one that the table of answers gives for the words, the file and what the input gives. The report
+    // has grown by exactly its line, exactly its file was written, and the input and the output are as the run leaves
+    // them. A read fault is one only where the count of reads of that file rose, or that of the input.
     ensures answer { IsPutFault result ⊎ IsAnswer
         (shelved F.files F.read_faults F.write_faults shelf.old shelf.new)
         (map (λ w. w.now) words.now)
         (reported R.held R.faults report.old report.new)
+        (flowed I.left I.faults O.held O.faults input.old input.new out.old out.new)
         result }
 
     // Usage is told exactly where the definition of the commands refuses the words, unless that can't be put.
     ensures usage { result ≡ Status.Usage → is_taken (map (λ w. w.now) words.now) ≡ false }
     ensures refused { is_taken (map (λ w. w.now) words.now) ≡ false → (result ≡ Status.Usage) ⊎ IsPutFault result }
 
-    // A write fault is one only where the count of the report rose, or that of the shelf's writes. The report has then
-    // a first part of an answer's line, the file being written; or nothing, and the file a first part of its bytes at
-    // most.
+    // A write fault is one only where the count of the report rose, or that of the shelf's writes, or that of the output.
+    // The report has then a first part of an answer's line, the file being written; or nothing, and the file a first part
+    // of its bytes at most.
     ensures write_fault { result ≡ Status.WriteFault → IsCutOff
         (shelved F.files F.read_faults F.write_faults shelf.old shelf.new)
         (map (λ w. w.now) words.now)
         (reported R.held R.faults report.old report.new)
-        ⊎ IsUnwritten
+        (flowed I.left I.faults O.held O.faults input.old input.new out.old out.new)
+        ⊎ (IsUnwritten
         (shelved F.files F.read_faults F.write_faults shelf.old shelf.new)
         (map (λ w. w.now) words.now)
-        (reported R.held R.faults report.old report.new) }
+        (reported R.held R.faults report.old report.new)
+        (flowed I.left I.faults O.held O.faults input.old input.new out.old out.new)
+        ⊎ IsOutFault
+        (shelved F.files F.read_faults F.write_faults shelf.old shelf.new)
+        (map (λ w. w.now) words.now)
+        (reported R.held R.faults report.old report.new)
+        (flowed I.left I.faults O.held O.faults input.old input.new out.old out.new)) }
 
     // Where memory ran out the report is as before, and no file was written but that of an answer.
     ensures memory { result ≡ Status.OutOfMemory → IsStarved
         (shelved F.files F.read_faults F.write_faults shelf.old shelf.new)
         (map (λ w. w.now) words.now)
-        (reported R.held R.faults report.old report.new) }
+        (reported R.held R.faults report.old report.new)
+        (flowed I.left I.faults O.held O.faults input.old input.new out.old out.new) }
 
-    // What the table gives for a known file is the answer, unless a fault is met or memory runs out.
+    // What the table gives for a known file, whatever the input may give, is the answer, unless a fault is met or memory
+    // runs out. An input that tells its bytes gives these.
     ensures complete { (bytes : List ℕ) (status : Status) (line : List ℕ) (file : Option File)
         → IsKnown (F.files shelf.old) (map (λ w. w.now) words.now) bytes
-        → Gives (map (λ w. w.now) words.now) (Contents bytes) status line file
+        → ((given : List (Option ℕ)) → MayGive (I.left input.old) given → Gives (map (λ w. w.now) words.now) given (Contents bytes) status line file)
         → ((result ≡ status) × Grows (reported R.held R.faults report.old report.new) line
         × HasWritten (shelved F.files F.read_faults F.write_faults shelf.old shelf.new) file) ⊎ IsFaulty result }
 
     // The allocations, slices, reads, writes and frees of a run are a trace that the colour monitor accepts: for all
     // bytes that spell a valid module which is run, `run` being the one of which the answer tells.
-    ensures safe { (name bytes : List ℕ) (budget capacity : ℕ) (m : Module) (run : Run)
+    ensures safe { (name bytes : List ℕ) (budget capacity : ℕ) (given : List (Option ℕ)) (m : Module) (run : Run)
         → capacity < 2 ^ 32 → Spells (form_of name) bytes m → WellTyped m
-        → execution_within budget capacity m ≡ Runs run → Accepts capacity run.events }
+        → execution_within budget capacity given m ≡ Runs run → Accepts capacity run.events }
 
     // And such a run has an end that the table answers: no task of it is ever stuck.
-    ensures never_stuck { (budget capacity : ℕ) (m : Module) (run : Run)
-        → WellTyped m → execution_within budget capacity m ≡ Runs run → run.end ≢ Stuck }
+    ensures never_stuck { (budget capacity : ℕ) (given : List (Option ℕ)) (m : Module) (run : Run)
+        → WellTyped m → execution_within budget capacity given m ≡ Runs run → run.end ≢ Stuck }
 
     // A fault that was counted is never passed over.
     ensures reads { (name : List ℕ) → F.read_faults shelf.old name < F.read_faults shelf.new name → IsFaulty result }
     ensures writes { F.write_faults shelf.old < F.write_faults shelf.new → IsPutFault result }
     ensures puts { R.faults report.old < R.faults report.new → IsPutFault result }
+    ensures takes { I.faults input.old < I.faults input.new → IsFaulty result }
+    ensures outs { O.faults out.old < O.faults out.new → IsPutFault result }
 
-    // All files but the one that the words name to be written stay, and so do the input and the output.
+    // All files but the one that the words name to be written stay.
     ensures files { (name : List ℕ) → ¬ IsTarget (asked_of (map (λ w. w.now) words.now)) name
         → Stays (shelved F.files F.read_faults F.write_faults shelf.old shelf.new) name }
-    ensures input { (I.left input.new ≡ I.left input.old) × (I.faults input.new ≡ I.faults input.old) }
-    ensures out { (O.held out.new ≡ O.held out.old) × (O.faults out.new ≡ O.faults out.old) }
+
+    // The input and the output are as before, but for a run: after its end the output has grown by exactly its bytes, and
+    // the input has lost exactly those that it takes; after a fault the output has got a front of them, and the input
+    // has lost no others.
+    ensures flows { (given : List (Option ℕ)) × MayGive (I.left input.old) given × FlowsFor
+        (shelved F.files F.read_faults F.write_faults shelf.old shelf.new)
+        (asked_of (map (λ w. w.now) words.now)) given
+        (flowed I.left I.faults O.held O.faults input.old input.new out.old out.new)
+        result }
 {
     respond(alloc, words, shelf, input, out, report)
 }
@@ -103,12 +123,17 @@ fn respond<F: Shelf, I: Source, O: Sink, R: Sink>(
     out: &mut O,
     report: &mut R,
 ) -> Status
-    ensures responds { Responds (map (λ w. w.now) words.now)
+    ensures { (given : List (Option ℕ)) × MayGive (I.left input.old) given
+        × Responds (map (λ w. w.now) words.now) given
         (shelved F.files F.read_faults F.write_faults shelf.old shelf.new)
         (reported R.held R.faults report.old report.new)
+        (flowed I.left I.faults O.held O.faults input.old input.new out.old out.new)
+        result
+        × FlowsFor
+        (shelved F.files F.read_faults F.write_faults shelf.old shelf.new)
+        (asked_of (map (λ w. w.now) words.now)) given
+        (flowed I.left I.faults O.held O.faults input.old input.new out.old out.new)
         result }
-    ensures input { (I.left input.new ≡ I.left input.old) × (I.faults input.new ≡ I.faults input.old) }
-    ensures out { (O.held out.new ≡ O.held out.old) × (O.faults out.new ≡ O.faults out.old) }
 {
     match parse_words(alloc, words) {
         Ok(

@@ -1,37 +1,60 @@
 use Rattle.std.proofs.Common.{◌∙◌, ap, refl, subst}
-use Rattle.std.specs.Prelude.{Err, Some, map}
+use Rattle.std.specs.Prelude.{Err, None, Some, map}
+use Rattle.ms_machine.proofs.Outsides.{some_input}
 use Rattle.ms_words.specs.Asked.{Answers, Asm, Check, Dis, Exec, view}
 use Rattle.ms_words.specs.declared.request.Request.{Request}
 use Rattle.ms_words.specs.declared.request.WordsFault.{WordsFault}
 use Rattle.ms_tool.specs.Responding.{nothing}
-use Rattle.ms_tool.proofs.Complete.{command_gave, usage_gave}
+use Rattle.ms_tool.proofs.Complete.{asked_none, command_gave, flows_as, quiet_for, run_gave, usage_gave}
 use Rattle.ms_tool.proofs.tool.respond.Goals as goal
 
-pub returns-in-Ok-Exec-clause-responds : goal.returns-in-Ok-Exec-clause-responds
-returns-in-Ok-Exec-clause-responds g c =
+pub returns-in-Ok-Exec : goal.returns-in-Ok-Exec
+returns-in-Ok-Exec g c =
     let it = c.in-Ok-Exec in
-    command_gave (map (λ w. w.now) c.args.words.now) _ _ (Exec it.file.now it.budget it.memory) c.exec.result (it.ensures.answers ∙ ap (λ (r : Request). Some (view r)) it.field-0-is) c.exec.ensures.did
-
-pub returns-in-Ok-Check-clause-responds : goal.returns-in-Ok-Check-clause-responds
-returns-in-Ok-Check-clause-responds g c =
-    let it = c.in-Ok-Check in
-    command_gave (map (λ w. w.now) c.args.words.now) _ _ (Check it.file.now) c.check_file.result (it.ensures.answers ∙ ap (λ (r : Request). Some (view r)) it.field-0-is) c.check_file.ensures.did
-
-pub returns-in-Ok-Asm-clause-responds : goal.returns-in-Ok-Asm-clause-responds
-returns-in-Ok-Asm-clause-responds g c =
-    let it = c.in-Ok-Asm in
-    command_gave (map (λ w. w.now) c.args.words.now) _ _ (Asm it.file.now it.target.now) c.asm_file.result (it.ensures.answers ∙ ap (λ (r : Request). Some (view r)) it.field-0-is) c.asm_file.ensures.did
-
-pub returns-in-Ok-Dis-clause-responds : goal.returns-in-Ok-Dis-clause-responds
-returns-in-Ok-Dis-clause-responds g c =
-    let it = c.in-Ok-Dis in
-    command_gave (map (λ w. w.now) c.args.words.now) _ _ (Dis it.file.now it.target.now) c.dis_file.result (it.ensures.answers ∙ ap (λ (r : Request). Some (view r)) it.field-0-is) c.dis_file.ensures.did
-
-pub returns-in-Err-Refused-clause-responds : goal.returns-in-Err-Refused-clause-responds
-returns-in-Err-Refused-clause-responds g c =
     let words = map (λ w. w.now) c.args.words.now in
-    usage_gave words _ _ c.answer.result (subst (λ (e : WordsFault). Answers words (Err e)) c.in-Err-Refused.field-0-is c.in-Err-Refused.ensures.answers) (λ n. refl) (refl, refl)
-    (rw (c.as_bytes.ensures.value, c.usage.ensures) at c.answer.ensures)
+    let asked = it.ensures.answers ∙ ap (λ (r : Request). Some (view r)) it.field-0-is in
+    let e = c.exec.ensures in
+    (e.0, e.1, run_gave words e.0 _ _ _ it.file.now it.budget it.memory c.exec.result asked e.2, flows_as _ e.0 _ words (Some (Exec it.file.now it.budget it.memory)) c.exec.result asked e.3)
 
-pub returns-in-Err-Memory-clause-responds : goal.returns-in-Err-Memory-clause-responds
-returns-in-Err-Memory-clause-responds g c = nothing (λ n. refl) (refl, refl) (refl, refl)
+pub returns-in-Ok-Check : goal.returns-in-Ok-Check
+returns-in-Ok-Check g c =
+    let it = c.in-Ok-Check in
+    let words = map (λ w. w.now) c.args.words.now in
+    let asked = it.ensures.answers ∙ ap (λ (r : Request). Some (view r)) it.field-0-is in
+    let input = some_input (g.I.Source.left c.args.input.now) in
+    let e = c.check_file.ensures in
+    (input.0, input.1, command_gave words input.0 _ _ _ (Check it.file.now) c.check_file.result asked e.did, flows_as _ input.0 _ words (Some (Check it.file.now)) c.check_file.result asked (e.input.0, e.input.1, e.out.0, e.out.1))
+
+pub returns-in-Ok-Asm : goal.returns-in-Ok-Asm
+returns-in-Ok-Asm g c =
+    let it = c.in-Ok-Asm in
+    let words = map (λ w. w.now) c.args.words.now in
+    let asked = it.ensures.answers ∙ ap (λ (r : Request). Some (view r)) it.field-0-is in
+    let input = some_input (g.I.Source.left c.args.input.now) in
+    let e = c.asm_file.ensures in
+    (input.0, input.1, command_gave words input.0 _ _ _ (Asm it.file.now it.target.now) c.asm_file.result asked e.did, flows_as _ input.0 _ words (Some (Asm it.file.now it.target.now)) c.asm_file.result asked (e.input.0, e.input.1, e.out.0, e.out.1))
+
+pub returns-in-Ok-Dis : goal.returns-in-Ok-Dis
+returns-in-Ok-Dis g c =
+    let it = c.in-Ok-Dis in
+    let words = map (λ w. w.now) c.args.words.now in
+    let asked = it.ensures.answers ∙ ap (λ (r : Request). Some (view r)) it.field-0-is in
+    let input = some_input (g.I.Source.left c.args.input.now) in
+    let e = c.dis_file.ensures in
+    (input.0, input.1, command_gave words input.0 _ _ _ (Dis it.file.now it.target.now) c.dis_file.result asked e.did, flows_as _ input.0 _ words (Some (Dis it.file.now it.target.now)) c.dis_file.result asked (e.input.0, e.input.1, e.out.0, e.out.1))
+
+pub returns-in-Err-Refused : goal.returns-in-Err-Refused
+returns-in-Err-Refused g c =
+    let words = map (λ w. w.now) c.args.words.now in
+    let refused = subst (λ (e : WordsFault). Answers words (Err e)) c.in-Err-Refused.field-0-is c.in-Err-Refused.ensures.answers in
+    let input = some_input (g.I.Source.left c.args.input.now) in (
+      input.0,
+      input.1,
+      usage_gave words input.0 _ _ _ c.answer.result refused (λ n. refl) (refl, refl) (rw (c.as_bytes.ensures.value, c.usage.ensures) at c.answer.ensures),
+      flows_as _ input.0 _ words None c.answer.result (asked_none words refused) (refl, refl, refl, refl),
+    )
+
+pub returns-in-Err-Memory : goal.returns-in-Err-Memory
+returns-in-Err-Memory g c =
+    let input = some_input (g.I.Source.left c.args.input.now) in
+    (input.0, input.1, nothing (λ n. refl) (refl, refl) (refl, refl), quiet_for _ input.0 _ _ (refl, refl, refl, refl))
