@@ -57,6 +57,13 @@ impl Linear {
         (self.bytes.len() / PAGE) as u32
     }
 
+    /// The greatest number of pages that it may have, if one is set.
+    pub fn max(&self) -> Option<u32>
+        ensures { result ≡ self.now.max }
+    {
+        self.max
+    }
+
     /// The number of `width` bytes that stands at the address, the lowest first.
     pub fn load(&self, address: u64, width: u32) -> Result<u64, Outside>
         requires { IsWidth width }

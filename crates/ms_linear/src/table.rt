@@ -79,6 +79,13 @@ impl Table {
         self.entries.len() as u32
     }
 
+    /// The greatest number of entries that it may have, if one is set.
+    pub fn max(&self) -> Option<u32>
+        ensures { result ≡ self.now.max }
+    {
+        self.max
+    }
+
     /// Puts a function at an index.
     pub fn set(&mut self, i: u32, entry: Entry)
         requires { i < length self.old.entries }

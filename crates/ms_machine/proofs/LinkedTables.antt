@@ -16,7 +16,7 @@ use Rattle.ms_machine.proofs.TypedValues.{all_at}
 
 -- ---- how many there are
 
-length-element : (tables : List Table) (a : ℕ) (o : Option Table) (at : ℕ) (entries : List (Option Entry)) → length (element_in tables a o at entries) ≡ length tables
+pub length-element : (tables : List Table) (a : ℕ) (o : Option Table) (at : ℕ) (entries : List (Option Entry)) → length (element_in tables a o at entries) ≡ length tables
 length-element tables a None at entries = refl
 length-element tables a (Some t) at entries = length-set tables a (with_entries t at entries)
 
@@ -28,7 +28,7 @@ length-elements funcs globals tables (e ∷ es) =
     let entries = map (entry_for funcs) e.funcs in
     length-elements funcs globals (element_in tables e.table o at entries) es ∙ length-element tables e.table o at entries
 
-length-fill : (memories : List Linear) (a : ℕ) (o : Option Linear) (at : ℕ) (bytes : List ℕ) → length (fill_in memories a o at bytes) ≡ length memories
+pub length-fill : (memories : List Linear) (a : ℕ) (o : Option Linear) (at : ℕ) (bytes : List ℕ) → length (fill_in memories a o at bytes) ≡ length memories
 length-fill memories a None at bytes = refl
 length-fill memories a (Some m) at bytes = length-set memories a (with_data m at bytes)
 
@@ -44,7 +44,7 @@ length-fills globals memories (f ∷ fs) =
 abbrev pub TableTyped : Outline → Table → Type 0
 TableTyped o t = All (EntryTyped o) t.entries
 
-entry_typed : (o : Outline) (f : ℕ) → EntryTyped o (entry_for o.funcs f)
+pub entry_typed : (o : Outline) (f : ℕ) → EntryTyped o (entry_for o.funcs f)
 entry_typed o f = named (slice_get o.funcs f) refl where
   named : (g : Option FuncInst) → slice_get o.funcs f ≡ g → EntryTyped o (entry_at o.funcs f g)
   named None e = tt
@@ -62,7 +62,7 @@ written_typed o at new old fresh kept =
     let start = take at old in
     All-append P (start ++ new) (drop (at + length new) old) (All-append P start new (All-take P at old kept) fresh) (All-drop P (at + length new) old kept)
 
-element_typed : (o : Outline) (tables : List Table) (a : ℕ) (t : Option Table) (at : ℕ) (entries : List (Option Entry)) → slice_get tables a ≡ t → All (EntryTyped o) entries → All (TableTyped o) tables → All (TableTyped o) (element_in tables a t at entries)
+pub element_typed : (o : Outline) (tables : List Table) (a : ℕ) (t : Option Table) (at : ℕ) (entries : List (Option Entry)) → slice_get tables a ≡ t → All (EntryTyped o) entries → All (TableTyped o) tables → All (TableTyped o) (element_in tables a t at entries)
 element_typed o tables a None at entries e new old = old
 element_typed o tables a (Some t) at entries e new old =
     All-set (TableTyped o) tables a (with_entries t at entries) (written_typed o at entries t.entries new (all_at (TableTyped o) tables a t old e)) old

@@ -7,6 +7,8 @@ pub mod Stepped
 pub mod Running
 pub mod Parts
 pub mod Linking
+pub mod Externs
+pub mod Linked
 pub mod Safety
 pub mod Typing
 pub mod Holding

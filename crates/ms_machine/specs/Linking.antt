@@ -79,6 +79,8 @@ instance_for m = record {
   table = first_address m.tables;
   memory = first_address m.memories;
   globals = numbers 0 (length m.globals);
+  exports = m.exports;
+  start = m.start;
 }
 
 -- the values that offsets may name

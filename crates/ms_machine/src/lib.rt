@@ -6,6 +6,7 @@
 #![tactic(auto)]
 
 mod control;
+mod externs;
 mod fault;
 mod hosting;
 mod laws;
@@ -19,6 +20,7 @@ mod starting;
 mod stepped;
 mod store;
 
+pub use externs::{Extern, Why};
 pub use laws::{budgets_agree, fitting_is_no_misfit};
 pub use linking::{LinkFault, Misfit, instantiate};
 pub use machine::step;

@@ -101,7 +101,16 @@ fn store_for<G: Gaps, T: Tagged>(
     let memories = module.memories.as_slice();
     let elements = module.elements.as_slice();
     let fills = module.fills.as_slice();
-    let instance = instance(alloc, types, func_count, tables, memories, global_count)?;
+    let instance = instance(
+        alloc,
+        types,
+        func_count,
+        tables,
+        memories,
+        global_count,
+        module.exports,
+        module.start,
+    )?;
     let mut instances = Vec::with_capacity(alloc, 1)?;
     instances.push(instance)?;
     Ok(Store {

@@ -7,6 +7,7 @@ ghost use Rattle.ms_machine.specs.Store.{at, number_of_instance};
 use ms_host::Host;
 use ms_linear::{GlobalInst, Linear, Table};
 use ms_live::Gaps;
+use ms_module::Export;
 use ms_segment::Segments;
 use ms_tagged::Tagged;
 use ms_task::FuncInst;
@@ -26,6 +27,10 @@ pub struct Instance {
     pub memory: Option<u32>,
     /// The addresses of the globals.
     pub globals: Vector<u32>,
+    /// What the module exports, by its indices.
+    pub exports: Vector<Export>,
+    /// The index of the start function, if there is one.
+    pub start: Option<u32>,
 }
 
 /// What tasks share (WebAssembly 1.0, 4.2.3), with the segment memory.
@@ -55,6 +60,27 @@ impl<G: Gaps, T: Tagged> Store<G, T> {
         match self.funcs.get(address as usize) {
             Some(f) => f.host,
             None => None,
+        }
+    }
+
+    /// The store of these parts.
+    pub fn of(
+        funcs: Vec<FuncInst>,
+        instances: Vec<Instance>,
+        tables: Vec<Table>,
+        memories: Vec<Linear>,
+        globals: Vec<GlobalInst>,
+        segments: Segments<G, T>,
+    ) -> Self
+        ensures { result ≡ record { funcs = funcs.items; instances = instances.items; tables = tables.items; memories = memories.items; globals = globals.items; segments = segments } }
+    {
+        Store {
+            funcs,
+            instances,
+            tables,
+            memories,
+            globals,
+            segments,
         }
     }
 

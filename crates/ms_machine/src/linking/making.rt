@@ -9,7 +9,7 @@ ghost use Rattle.ms_module.specs.declared.module.Module.{Module};
 use super::constant::constant;
 use crate::store::Instance;
 use ms_linear::{GlobalInst, Linear, Table};
-use ms_module::{Func, Global as ModuleGlobal};
+use ms_module::{Export, Func, Global as ModuleGlobal};
 use ms_task::FuncInst;
 use ms_types::{FuncType, Limits, SharedType, Vector};
 use std::alloc::{AllocError, Global};
@@ -85,7 +85,7 @@ fn numbers(alloc: Global, count: u32) -> Result<Vec<u32>, AllocError>
     Ok(all)
 }
 
-/// The instance of so many functions and globals, and of tables and memories of these sizes.
+/// The instance of so many functions and globals, and of tables and memories of these sizes, with these exports.
 pub(super) fn instance(
     alloc: Global,
     types: Vec<SharedType>,
@@ -93,8 +93,10 @@ pub(super) fn instance(
     tables: &[Limits],
     memories: &[Limits],
     globals: u32,
+    exports: Vector<Export>,
+    start: Option<u32>,
 ) -> Result<Instance, AllocError>
-    ensures { IfOk result (λ i. i ≡ record { types = types.items; funcs = link.numbers 0 funcs; table = link.first_address tables.now; memory = link.first_address memories.now; globals = link.numbers 0 globals }) }
+    ensures { IfOk result (λ i. i ≡ record { types = types.items; funcs = link.numbers 0 funcs; table = link.first_address tables.now; memory = link.first_address memories.now; globals = link.numbers 0 globals; exports = exports; start = start }) }
 {
     let funcs = numbers(alloc, funcs)?;
     let globals = numbers(alloc, globals)?;
@@ -104,6 +106,8 @@ pub(super) fn instance(
         table: first_address(tables),
         memory: first_address(memories),
         globals: Vector::from_vec(globals),
+        exports,
+        start,
     })
 }
 

@@ -1,0 +1,14 @@
+pub mod Standing
+pub mod Given
+pub mod Kept
+pub mod Imported
+pub mod More
+pub mod Fits
+pub mod Stores
+pub mod Plain
+pub mod Faults
+pub mod Resolving
+pub mod SameTypes
+pub mod Puts
+pub mod Refusing
+pub mod Beginning
