@@ -1,3 +1,5 @@
+//! What imports are given, and why they are given nothing.
+
 use ms_host::Host as HostFunc;
 
 /// What an import may be given (WebAssembly 1.0, 4.2.11): a function of the host, or what stands at an address of the store.
