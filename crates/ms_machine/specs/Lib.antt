@@ -5,6 +5,7 @@ pub mod Hosting
 pub mod Moves
 pub mod Stepped
 pub mod Running
+pub mod Crews
 pub mod Parts
 pub mod Linking
 pub mod Externs

@@ -1,0 +1,101 @@
+-- What has happened, one thing after another, and what the log makes of it.
+use Rattle.std.proofs.Common.{◌≡◌, ◌≤◌, ◌+◌, ℕ, true, cond, List, [], ◌∷◌, ◌++◌, Option, Some, None, refl, sym, ap, subst, ◌∙◌, append-nil, append_assoc, arith}
+use Rattle.std.proofs.lemmas.List.{map-append}
+use Rattle.ms_event.specs.declared.event.Event.{Event}
+use Rattle.ms_event.specs.declared.event.Event.TheVariants.{Alloc, Free, Read, Refused, Slice, Write}
+use Rattle.ms_machine.specs.Crews.{Deeds, Run, Whose, behind, both, bytes_of, deed, events_of, nothing}
+use Rattle.ms_machine.specs.Running.{with_byte, with_event}
+use Rattle.ms_tasks.specs.Logs.{IsWithin, Log, Told, all_seen, logged, seen}
+
+deeds_is : (d e : Deeds) → d.puts ≡ e.puts → d.events ≡ e.events → d.used ≡ e.used → d ≡ e
+deeds_is d e a b u = ap (λ p. record { puts = p; events = d.events; used = d.used }) a ∙ (ap (λ p. record { puts = e.puts; events = p; used = d.used }) b ∙ ap (λ p. record { puts = e.puts; events = e.events; used = p }) u)
+
+nothing_first : (d : Deeds) → both nothing d ≡ d
+nothing_first d = deeds_is (both nothing d) d refl refl (omega arith)
+
+both_assoc : (a b d : Deeds) → both a (both b d) ≡ both (both a b) d
+both_assoc a b d = deeds_is (both a (both b d)) (both (both a b) d) (sym (append_assoc a.puts b.puts d.puts)) (sym (append_assoc a.events b.events d.events)) (omega arith)
+
+pub behind_nothing : (r : Run) → behind nothing r ≡ r
+behind_nothing r = ap (λ d. record { deeds = d; end = r.end; input = r.input; crew = r.crew }) (nothing_first r.deeds)
+
+pub behind_both : (d e : Deeds) (r : Run) → behind d (behind e r) ≡ behind (both d e) r
+behind_both d e r = ap (λ x. record { deeds = x; end = r.end; input = r.input; crew = r.crew }) (both_assoc d e r.deeds)
+
+pub both_nothing : (d : Deeds) → both d nothing ≡ d
+both_nothing d = deeds_is (both d nothing) d (append-nil d.puts) (append-nil d.events) (omega arith)
+
+-- ---- bytes and events
+
+pub deed_told : (whose : Whose) (put : Option ℕ) (event : Option Event) → events_of (deed whose put event) ≡ with_event event []
+deed_told whose put None = refl
+deed_told whose put (Some e) = refl
+
+pub deed_bytes : (whose : Whose) (put : Option ℕ) (event : Option Event) → bytes_of (deed whose put event) ≡ with_byte put []
+deed_bytes whose None event = refl
+deed_bytes whose (Some b) event = refl
+
+pub both_told : (d e : Deeds) → events_of (both d e) ≡ events_of d ++ events_of e
+both_told d e = map-append (λ (p : Whose × Event). p.1) d.events e.events
+
+pub both_bytes : (d e : Deeds) → bytes_of (both d e) ≡ bytes_of d ++ bytes_of e
+both_bytes d e = map-append (λ (p : Whose × ℕ). p.1) d.puts e.puts
+
+-- ---- the log
+
+pub all_seen_both : (es fs : List Event) (t : Told) → all_seen (es ++ fs) t ≡ all_seen fs (all_seen es t)
+all_seen_both [] fs t = refl
+all_seen_both (e ∷ es) fs t = all_seen_both es fs (seen e t)
+
+pub logged_nothing : (l : Log) → l ≡ logged nothing l
+logged_nothing l =
+    let e : l.entries ≡ l.entries + 0 = omega arith in
+    ap (λ (m : ℕ). let x : Log = record { entries = m; told = l.told } in x) e
+
+sum_again : (a b x : ℕ) → (a + b) + x ≡ a + (b + x)
+sum_again a b x = omega arith
+
+pub logged_both : (d e : Deeds) (l : Log) → logged e (logged d l) ≡ logged (both d e) l
+logged_both d e l =
+    ap (λ n. record { entries = n; told = all_seen (events_of e) (all_seen (events_of d) l.told) }) (sum_again l.entries d.used e.used)
+    ∙ ap (λ x. record { entries = l.entries + (d.used + e.used); told = x }) (sym (all_seen_both (events_of d) (events_of e) l.told) ∙ ap (λ es. all_seen es l.told) (sym (both_told d e)))
+
+-- ---- its counts
+
+seen_within : (n : ℕ) (e : Event) (t : Told) → IsWithin n t → IsWithin (n + 1) (seen e t)
+seen_within n (Alloc id addr size) t h = let a = h.allocs in let b = h.refused in let c = h.slices in let d = h.reads in let e = h.writes in let f = h.frees in record { allocs = omega (arith, a); refused = omega (arith, b); slices = omega (arith, c); reads = omega (arith, d); writes = omega (arith, e); frees = omega (arith, f) }
+seen_within n (Refused size) t h = let a = h.allocs in let b = h.refused in let c = h.slices in let d = h.reads in let e = h.writes in let f = h.frees in record { allocs = omega (arith, a); refused = omega (arith, b); slices = omega (arith, c); reads = omega (arith, d); writes = omega (arith, e); frees = omega (arith, f) }
+seen_within n (Slice id lo hi lo2 hi2) t h = let a = h.allocs in let b = h.refused in let c = h.slices in let d = h.reads in let e = h.writes in let f = h.frees in record { allocs = omega (arith, a); refused = omega (arith, b); slices = omega (arith, c); reads = omega (arith, d); writes = omega (arith, e); frees = omega (arith, f) }
+seen_within n (Read id lo hi addr width) t h = let a = h.allocs in let b = h.refused in let c = h.slices in let d = h.reads in let e = h.writes in let f = h.frees in record { allocs = omega (arith, a); refused = omega (arith, b); slices = omega (arith, c); reads = omega (arith, d); writes = omega (arith, e); frees = omega (arith, f) }
+seen_within n (Write id lo hi addr width) t h = let a = h.allocs in let b = h.refused in let c = h.slices in let d = h.reads in let e = h.writes in let f = h.frees in record { allocs = omega (arith, a); refused = omega (arith, b); slices = omega (arith, c); reads = omega (arith, d); writes = omega (arith, e); frees = omega (arith, f) }
+seen_within n (Free id) t h = let a = h.allocs in let b = h.refused in let c = h.slices in let d = h.reads in let e = h.writes in let f = h.frees in record { allocs = omega (arith, a); refused = omega (arith, b); slices = omega (arith, c); reads = omega (arith, d); writes = omega (arith, e); frees = omega (arith, f) }
+
+within_more : (n m : ℕ) (t : Told) → n ≤ m → IsWithin n t → IsWithin m t
+within_more n m t le h = let a = h.allocs in let b = h.refused in let c = h.slices in let d = h.reads in let e = h.writes in let f = h.frees in record { allocs = omega (arith, a, le); refused = omega (arith, b, le); slices = omega (arith, c, le); reads = omega (arith, d, le); writes = omega (arith, e, le); frees = omega (arith, f, le) }
+
+pub told_within : (n m : ℕ) (event : Option Event) (t t' : Told) → n + 1 ≤ m → t' ≡ all_seen (with_event event []) t → IsWithin n t → IsWithin m t'
+told_within n m None t t' le is h = subst (IsWithin m) (sym is) (within_more n m t (omega (arith, le)) h)
+told_within n m (Some e) t t' le is h = subst (IsWithin m) (sym is) (within_more (n + 1) m (seen e t) le (seen_within n e t h))
+
+-- ---- what it keeps
+
+seen_keep : (e : Event) (t : Told) → (seen e t).keep ≡ t.keep
+seen_keep (Alloc id addr size) t = refl
+seen_keep (Refused size) t = refl
+seen_keep (Slice id lo hi lo2 hi2) t = refl
+seen_keep (Read id lo hi addr width) t = refl
+seen_keep (Write id lo hi addr width) t = refl
+seen_keep (Free id) t = refl
+
+seen_events : (e : Event) (t : Told) → t.keep ≡ true → (seen e t).events ≡ t.events ++ e ∷ []
+seen_events (Alloc id addr size) t k = ap (λ b. cond b (t.events ++ Alloc id addr size ∷ []) t.events) k
+seen_events (Refused size) t k = ap (λ b. cond b (t.events ++ Refused size ∷ []) t.events) k
+seen_events (Slice id lo hi lo2 hi2) t k = ap (λ b. cond b (t.events ++ Slice id lo hi lo2 hi2 ∷ []) t.events) k
+seen_events (Read id lo hi addr width) t k = ap (λ b. cond b (t.events ++ Read id lo hi addr width ∷ []) t.events) k
+seen_events (Write id lo hi addr width) t k = ap (λ b. cond b (t.events ++ Write id lo hi addr width ∷ []) t.events) k
+seen_events (Free id) t k = ap (λ b. cond b (t.events ++ Free id ∷ []) t.events) k
+
+pub events_kept : (es : List Event) (t : Told) → t.keep ≡ true → (all_seen es t).events ≡ t.events ++ es
+events_kept [] t keep = sym (append-nil t.events)
+events_kept (e ∷ es) t keep =
+    events_kept es (seen e t) (seen_keep e t ∙ keep) ∙ (ap (λ xs. xs ++ es) (seen_events e t keep) ∙ append_assoc t.events (e ∷ []) es)

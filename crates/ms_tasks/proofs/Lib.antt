@@ -1,0 +1,13 @@
+pub mod Deeds
+pub mod Coming
+pub mod Keeping
+pub mod Leaving
+pub mod Stepping
+pub mod Entries
+pub mod Turns
+pub mod Rowing
+pub mod Chaining
+pub mod Listing
+pub mod Safe
+pub mod Outs
+pub mod Telling

@@ -1,0 +1,200 @@
+-- Entries for one thread in a row, a step at a time.
+use Rattle.std.proofs.Common.{◌≡◌, ◌≢◌, ◌<◌, ◌≤◌, ◌+◌, ◌-◌, ℕ, zero, suc, List, [], ◌∷◌, ◌++◌, drop, Option, refl, sym, ap, subst, ◌∙◌, append-nil, append_assoc, arith}
+use Rattle.ms_event.specs.declared.event.Event.{Event}
+use Rattle.ms_host.specs.declared.trap.TrapKind.{TrapKind}
+use Rattle.ms_machine.specs.Crews.{Crew, Deeds, Input, Run, Trap, Whose, behind, both, bytes_of, deed, ends, events_of, moved, nothing, passed, run_entries}
+use Rattle.ms_machine.specs.Moves as moves
+use Rattle.ms_machine.specs.Moves.{Goes, IsPutting, Move, first_of, move_for, move_of, rest_of}
+use Rattle.ms_machine.specs.Running.{with_event}
+use Rattle.ms_machine.specs.Stepped.{Went}
+use Rattle.ms_machine.specs.Store.{Store}
+use Rattle.ms_machine.proofs.Outsides.{Told as Tells, before, front_put, left_all, puts_after, puts_none, tells_after, tells_same}
+use Rattle.ms_machine.proofs.Runs.{moves_so}
+use Rattle.ms_outside.specs.Sink.{IsFront, Puts}
+use Rattle.ms_outside.specs.declared.sink.Put.TheVariants as puts
+use Rattle.ms_task.specs.Thread.{Thread}
+use Rattle.ms_tasks.specs.Logs.{Log, Told, all_seen}
+use Rattle.ms_tasks.specs.Parts.{Comes, ComesTo, IsRow}
+use Rattle.ms_tasks.proofs.Coming.{Begun, begun_here, comes_same, comes_trans, to_same}
+use Rattle.ms_tasks.proofs.Deeds.{all_seen_both, both_bytes, both_told, deed_bytes, deed_told}
+use Rattle.ms_tasks.proofs.Leaving.{run_leaves}
+
+-- ---- lists
+
+pub drop_none : {A : Type 0} (n : ℕ) → drop {A = A} n [] ≡ []
+drop_none zero = refl
+drop_none (suc n) = refl
+
+pub drop_twice : {A : Type 0} (n m : ℕ) (xs : List A) → drop m (drop n xs) ≡ drop (n + m) xs
+drop_twice zero m xs = let e : m ≡ 0 + m = omega arith in ap (λ k. drop k xs) e
+drop_twice (suc n) m [] = drop_none m ∙ sym (drop_none (suc n + m))
+drop_twice (suc n) m (x ∷ xs) = let e : suc (n + m) ≡ suc n + m = omega arith in drop_twice n m xs ∙ ap (λ k. drop k (x ∷ xs)) e
+
+-- ---- the first entry of a row
+
+row_next : (whose : Whose) (next : Store → Thread → Crew) (n : ℕ) (ks : List ℕ) → 0 < n → IsRow whose next n ks → IsRow whose next (n - 1) (drop 1 ks)
+row_next whose next zero ks some row = absurd (omega (arith, some))
+row_next whose next (suc n) [] some row = absurd row
+row_next whose next (suc n) (k ∷ ks) some row = let e : n ≡ suc n - 1 = omega arith in subst (λ m. IsRow whose next m ks) e row.1
+
+row_step : (whose : Whose) (next : Store → Thread → Crew) (n : ℕ) (ks : List ℕ) (s : Store) (t : Thread) (input : Input) → 0 < n → t.work ≢ [] → IsRow whose next n ks → run_entries ks (next s t) input ≡ moved whose (move_of s t input) (next s t) input next (run_entries (drop 1 ks))
+row_step whose next zero ks s t input some going row = absurd (omega (arith, some))
+row_step whose next (suc n) [] s t input some going row = absurd row
+row_step whose next (suc n) (k ∷ ks) s t input some going row = row.0 s t input going
+
+step_comes : (whose : Whose) (next : Store → Thread → Crew) (n : ℕ) (ks : List ℕ) (s s' : Store) (t t' : Thread) (event : Option Event) (l l' h h' : Tells) → 0 < n → t.work ≢ [] → IsRow whose next n ks → (w : Went (move_for s t) event s' t' l l' h h') → Comes l l' h h' (deed whose w.put event) (run_entries ks (next s t)) (run_entries (drop 1 ks) (next s' t'))
+step_comes whose next n ks s s' t t' event l l' h h' some going row w = record {
+  alike = tells_after w.took w.got l l' w.input;
+  out = subst (λ bs. Puts puts.Done bs h h') (sym (deed_bytes whose w.put event)) (puts_after w.put h h' w.out);
+  from = λ rest may.
+      let b = before w.took w.got l l' w.input rest may in
+      let is = moves_so s s' t t' w.took w.got w.put event b.input w.is b.first in (
+        b.input,
+        b.may,
+        b.left_is,
+        row_step whose next n ks s t b.input some going row
+            ∙ (ap (λ m. moved whose m (next s t) b.input next (run_entries (drop 1 ks))) is ∙ ap (λ i. behind (deed whose w.put event) (run_entries (drop 1 ks) (next s' t') i)) b.rest_is),
+      );
+}
+
+trap_comes : (whose : Whose) (next : Store → Thread → Crew) (n : ℕ) (ks : List ℕ) (s : Store) (t : Thread) (why : TrapKind) (l h : Tells) → 0 < n → t.work ≢ [] → IsRow whose next n ks → ((got : Option ℕ) → move_for s t got ≡ moves.Trap why) → Comes l l h h passed (run_entries ks (next s t)) (ends (Trap whose why) (next s t))
+trap_comes whose next n ks s t why l h some going row is = record {
+  alike = tells_same l;
+  out = puts_none h h refl;
+  from = λ rest may. (rest, may, left_all rest, row_step whose next n ks s t rest some going row ∙ ap (λ m. moved whose m (next s t) rest next (run_entries (drop 1 ks))) (is (first_of rest)));
+}
+
+puts_first : (whose : Whose) (next : Store → Thread → Crew) (n : ℕ) (ks : List ℕ) (s : Store) (t : Thread) (byte : ℕ) (input : Input) → 0 < n → t.work ≢ [] → IsRow whose next n ks → IsPutting byte (move_of s t input) → (later : List ℕ) × (bytes_of (run_entries ks (next s t) input).deeds ≡ byte ∷ later)
+puts_first whose next n ks s t byte input some going row putting = by (move_of s t input) refl putting where
+  by : (m : Move) → move_of s t input ≡ m → IsPutting byte m → (later : List ℕ) × (bytes_of (run_entries ks (next s t) input).deeds ≡ byte ∷ later)
+  by (Goes s' t' took put event) is put-is =
+      let r = run_entries (drop 1 ks) (next s' t') (rest_of took input) in
+      let one : run_entries ks (next s t) input ≡ behind (deed whose put event) r =
+      row_step whose next n ks s t input some going row ∙ ap (λ m. moved whose m (next s t) input next (run_entries (drop 1 ks))) is in
+      (bytes_of r.deeds, ap (λ (x : Run). bytes_of x.deeds) one ∙ (both_bytes (deed whose put event) r.deeds ∙ ap (λ p. bytes_of (deed whose p event) ++ bytes_of r.deeds) put-is))
+  by (moves.Trap trap) is none = absurd none
+  by moves.Stuck is none = absurd none
+
+-- ---- what the code keeps to
+
+-- The run of these entries is, behind what has happened, that of those that are left.
+pub record IsUnderWay (whose : Whose) (next : Store → Thread → Crew) (entries : List ℕ) (most : ℕ) (s0 : Store) (t0 : Thread) (told0 : Told) (left : ℕ) (s : Store) (t : Thread) (told : Told) (l l' h h' : Tells) : Type 0 where
+  pub deeds : Deeds
+  pub comes : Comes l l' h h' deeds (run_entries entries (next s0 t0)) (run_entries (drop (most - left) entries) (next s t))
+  pub used : deeds.used + left ≡ most
+  pub row : IsRow whose next left (drop (most - left) entries)
+  pub seen : told ≡ all_seen (events_of deeds) told0
+
+all_left : (most : ℕ) (entries : List ℕ) → entries ≡ drop (most - most) entries
+all_left most entries = let e : 0 ≡ most - most = omega arith in ap (λ n. drop n entries) e
+
+one_more : (most left : ℕ) (entries : List ℕ) → 0 < left → left ≤ most → drop 1 (drop (most - left) entries) ≡ drop (most - (left - 1)) entries
+one_more most left entries some within =
+    let e : (most - left) + 1 ≡ most - (left - 1) = omega (arith, some, within) in
+    drop_twice (most - left) 1 entries ∙ ap (λ n. drop n entries) e
+
+pub begins_way : (whose : Whose) (next : Store → Thread → Crew) (entries : List ℕ) (most : ℕ) (s : Store) (t : Thread) (told : Told) (l h : Tells) → IsRow whose next most entries → IsUnderWay whose next entries most s t told most s t told l l h h
+begins_way whose next entries most s t told l h row = record {
+  deeds = nothing;
+  comes = subst (λ ks. Comes l l h h nothing (run_entries entries (next s t)) (run_entries ks (next s t))) (all_left most entries) (comes_same l h (run_entries entries (next s t)));
+  used = omega arith;
+  row = subst (IsRow whose next most) (all_left most entries) row;
+  seen = refl;
+}
+
+module _ (whose : Whose) (next : Store → Thread → Crew) (entries : List ℕ) (most : ℕ) (s0 : Store) (t0 : Thread) (told0 : Told) (left : ℕ) (s : Store) (t : Thread) (told : Told) (l l' l'' h h' h'' : Tells)
+    (some : 0 < left) (within : left ≤ most) (going : t.work ≢ []) (way : IsUnderWay whose next entries most s0 t0 told0 left s t told l l' h h') where
+  -- a step further
+  pub goes_way : (s' : Store) (t' : Thread) (event : Option Event) (told' : Told) → Went (move_for s t) event s' t' l' l'' h' h'' → told' ≡ all_seen (with_event event []) told → IsUnderWay whose next entries most s0 t0 told0 (left - 1) s' t' told' l l'' h h''
+  goes_way s' t' event told' w tells =
+      let d = deed whose w.put event in
+      let ks = drop (most - left) entries in
+      let used = way.used in
+      let all = run_entries entries (next s0 t0) in
+      record {
+        deeds = both way.deeds d;
+        comes = subst (λ x. Comes l l'' h h'' (both way.deeds d) all (run_entries x (next s' t'))) (one_more most left entries some within)
+            (comes_trans l l' l'' h h' h'' way.deeds d all (run_entries ks (next s t)) (run_entries (drop 1 ks) (next s' t')) way.comes (step_comes whose next left ks s s' t t' event l' l'' h' h'' some going way.row w));
+        used = omega (arith, used, some);
+        row = subst (IsRow whose next (left - 1)) (one_more most left entries some within) (row_next whose next left ks some way.row);
+        seen = tells ∙ (ap (all_seen (with_event event [])) way.seen ∙ (sym (all_seen_both (events_of way.deeds) (with_event event []) told0)
+            ∙ ap (λ es. all_seen es told0) (ap (λ es. events_of way.deeds ++ es) (sym (deed_told whose w.put event)) ∙ sym (both_told way.deeds d))));
+      }
+
+  -- a step that traps
+  pub way_traps : (why : TrapKind) (s' : Store) (t' : Thread) (log0 log' : Log) (n entries0 : ℕ) → log0.told ≡ told0 → entries0 ≡ log0.entries → ((got : Option ℕ) → move_for s t got ≡ moves.Trap why) → s' ≡ s → t' ≡ t → l'' ≡ l' → h'' ≡ h' → n + (left - 1) ≡ most → log' ≡ record { entries = entries0 + n; told = told } → ComesTo l l'' h h'' log0 log' (run_entries entries (next s0 t0)) (ends (Trap whose why) (next s' t'))
+  way_traps why s' t' log0 log' n entries0 told-is entries-is is store thread same still all count =
+      let d = both way.deeds passed in
+      let ks = drop (most - left) entries in
+      let run = run_entries entries (next s0 t0) in
+      let used = way.used in
+      let sum : n ≡ way.deeds.used + 1 = omega (arith, used, all, some) in
+      let one = comes_trans l l' l' h h' h' way.deeds passed run (run_entries ks (next s t)) (ends (Trap whose why) (next s t)) way.comes (trap_comes whose next left ks s t why l' h' some going way.row is) in
+      let two = subst (λ x. Comes l x h h' d run (ends (Trap whose why) (next s t))) (sym same) one in
+      let three = subst (λ x. Comes l l'' h x d run (ends (Trap whose why) (next s t))) (sym still) two in
+      let four = subst (λ x. Comes l l'' h h'' d run (ends (Trap whose why) (next x t))) (sym store) three in
+      record {
+        deeds = d;
+        comes = subst (λ x. Comes l l'' h h'' d run (ends (Trap whose why) (next s' x))) (sym thread) four;
+        log = count ∙ (ap (λ (x : ℕ). let y : Log = record { entries = entries0 + x; told = told } in y) sum
+            ∙ (ap (λ (x : ℕ). let y : Log = record { entries = x + (way.deeds.used + 1); told = told } in y) entries-is
+            ∙ ap (λ (x : Told). let y : Log = record { entries = log0.entries + (way.deeds.used + 1); told = x } in y)
+            (way.seen ∙ (ap (λ es. all_seen es told0) (sym (append-nil (events_of way.deeds)) ∙ sym (both_told way.deeds passed)) ∙ ap (all_seen (events_of d)) (sym told-is)))));
+      }
+
+  -- nothing of the next step was done
+  pub stops_before : (log0 log' : Log) → log0.told ≡ told0 → log'.told.events ≡ told.events → l'' ≡ l' → h'' ≡ h' → Begun l l'' h h'' log0 log' (run_entries entries (next s0 t0))
+  stops_before log0 log' told-is kept same still =
+      let ks = drop (most - left) entries in
+      begun_here l l' l'' h h' h'' log0 log' way.deeds (run_entries entries (next s0 t0)) (run_entries ks (next s t)) way.comes same [] (puts_none h' h'' still) (λ input. (bytes_of (run_entries ks (next s t) input).deeds, refl)) (run_leaves ks (next s t))
+      (events_of way.deeds) [] (sym (append-nil (events_of way.deeds))) (kept ∙ (ap (λ (x : Told). x.events) way.seen ∙ ap (λ x. (all_seen (events_of way.deeds) x).events) (sym told-is)))
+
+  -- or a front of its byte was put
+  pub stops_in : (log0 log' : Log) (byte : ℕ) → log0.told ≡ told0 → log'.told.events ≡ told.events → ((got : Option ℕ) → IsPutting byte (move_for s t got)) → l'' ≡ l' → Puts puts.Failed (byte ∷ []) h' h'' → Begun l l'' h h'' log0 log' (run_entries entries (next s0 t0))
+  stops_in log0 log' byte told-is kept putting same failed =
+      let ks = drop (most - left) entries in
+      let part = front_put (byte ∷ []) h' h'' failed in
+      begun_here l l' l'' h h' h'' log0 log' way.deeds (run_entries entries (next s0 t0)) (run_entries ks (next s t)) way.comes same part.0 part.2
+      (λ input.
+      let first = puts_first whose next left ks s t byte input some going way.row (putting (first_of input)) in
+      front_of byte first.0 part.0 (bytes_of (run_entries ks (next s t) input).deeds) first.1 part.1)
+      (run_leaves ks (next s t))
+      (events_of way.deeds) [] (sym (append-nil (events_of way.deeds))) (kept ∙ (ap (λ (x : Told). x.events) way.seen ∙ ap (λ x. (all_seen (events_of way.deeds) x).events) (sym told-is)))
+    where
+      front_of : (byte : ℕ) (later front whole : List ℕ) → whole ≡ byte ∷ later → IsFront front (byte ∷ []) → IsFront front whole
+      front_of byte later front whole is f = (f.0 ++ later, is ∙ (ap (λ bs. bs ++ later) f.1 ∙ append_assoc front f.0 later))
+
+  -- the step was made, and its event was lost
+  pub stops_behind : (s' : Store) (t' : Thread) (event : Option Event) (log0 log' : Log) → log0.told ≡ told0 → log'.told.events ≡ told.events → Went (move_for s t) event s' t' l' l'' h' h'' → Begun l l'' h h'' log0 log' (run_entries entries (next s0 t0))
+  stops_behind s' t' event log0 log' told-is kept w =
+      let d = deed whose w.put event in
+      let ks = drop (most - left) entries in
+      let all = run_entries entries (next s0 t0) in
+      let mid = run_entries (drop 1 ks) (next s' t') in
+      let comes = comes_trans l l' l'' h h' h'' way.deeds d all (run_entries ks (next s t)) mid way.comes (step_comes whose next left ks s s' t t' event l' l'' h' h'' some going way.row w) in
+      begun_here l l'' l'' h h'' h'' log0 log' (both way.deeds d) all mid comes refl [] (puts_none h'' h'' refl) (λ input. (bytes_of (mid input).deeds, refl)) (run_leaves (drop 1 ks) (next s' t'))
+      (events_of way.deeds) (events_of d) (both_told way.deeds d) (kept ∙ (ap (λ (x : Told). x.events) way.seen ∙ ap (λ x. (all_seen (events_of way.deeds) x).events) (sym told-is)))
+
+-- the steps are counted
+pub way_here : (whose : Whose) (next : Store → Thread → Crew) (entries : List ℕ) (most : ℕ) (s0 : Store) (t0 : Thread) (log0 log log' : Log) (left n : ℕ) (s : Store) (t : Thread) (l l' h h' : Tells) → IsUnderWay whose next entries most s0 t0 log0.told left s t log.told l l' h h' → log.entries ≡ log0.entries → n + left ≡ most → log' ≡ record { entries = log.entries + n; told = log.told } → ComesTo l l' h h' log0 log' (run_entries entries (next s0 t0)) (run_entries (drop (most - left) entries) (next s t))
+way_here whose next entries most s0 t0 log0 log log' left n s t l l' h h' way same all count =
+    let used = way.used in
+    let sum : n ≡ way.deeds.used = omega (arith, used, all) in
+    record {
+      deeds = way.deeds;
+      comes = way.comes;
+      log = count ∙ (ap (λ (x : ℕ). let y : Log = record { entries = log.entries + x; told = log.told } in y) sum
+          ∙ (ap (λ (x : ℕ). let y : Log = record { entries = x + way.deeds.used; told = log.told } in y) same
+          ∙ ap (λ (x : Told). let y : Log = record { entries = log0.entries + way.deeds.used; told = x } in y) way.seen));
+    }
+
+-- none was made
+pub way_ends : (whose : Whose) (next : Store → Thread → Crew) (entries : List ℕ) (most : ℕ) (s : Store) (t : Thread) (log : Log) (l h : Tells) → ComesTo l l h h log log (run_entries entries (next s t)) (run_entries (drop (most - most) entries) (next s t))
+way_ends whose next entries most s t log l h =
+    subst (λ ks. ComesTo l l h h log log (run_entries entries (next s t)) (run_entries ks (next s t))) (all_left most entries) (to_same l h log (run_entries entries (next s t)))
+
+-- all were made
+pub way_pauses : (whose : Whose) (next : Store → Thread → Crew) (entries : List ℕ) (most left : ℕ) → left ≡ 0 → (s : Store) (t : Thread) (l l' h h' : Tells) (old new : Log) (run : Input → Run) → ComesTo l l' h h' old new run (run_entries (drop (most - left) entries) (next s t)) → ComesTo l l' h h' old new run (run_entries (drop most entries) (next s t))
+way_pauses whose next entries most left none s t l l' h h' old new run comes =
+    let e : most - left ≡ most = omega (arith, none) in
+    subst (λ n. ComesTo l l' h h' old new run (run_entries (drop n entries) (next s t))) e comes

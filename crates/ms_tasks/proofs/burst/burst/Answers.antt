@@ -1,0 +1,187 @@
+use Rattle.std.proofs.Common.{rules, ◌≡◌, ◌+◌, ◌-◌, refl, ◌∙◌, arith}
+use Rattle.ms_machine.proofs.Outsides.{none_taken}
+use Rattle.ms_task.specs.View.{thread_of}
+use Rattle.ms_machine.specs.Crews.{run_entries}
+use Rattle.ms_tasks.proofs.Deeds.{told_within}
+use Rattle.ms_tasks.proofs.Stepping.{begins_way, goes_way, stops_before, stops_behind, stops_in, way_ends, way_here, way_pauses, way_traps}
+use Rattle.ms_tasks.proofs.burst.burst.Goals as goal
+
+pub loop-left-init : goal.loop-left-init
+loop-left-init g c =
+    let s = c.args.store.now in
+    let t = thread_of s.funcs c.args.task.now in
+    let within = c.requires.within in
+    record {
+      runs = λ whose next entries row. begins_way whose next entries c.args.most s t c.args.log.now.told (g.I.Source.left c.args.input.now) (g.O.Sink.held c.args.out.now) row;
+      outline = refl;
+      task = c.requires.task;
+      going = search rules;
+      store_fits = c.requires.store_fits;
+      task_fits = c.requires.task_fits;
+      others = λ h fit. fit;
+      made = omega arith;
+      left = omega arith;
+      entries = refl;
+      within = search rules;
+      input = refl;
+      out = refl;
+    }
+
+pub loop-left-preserved : goal.loop-left-preserved
+loop-left-preserved g c =
+    let l = c.loop-left in
+    let v = l.invariant in
+    let s0 = c.args.store.now in
+    let t0 = thread_of s0.funcs c.args.task.now in
+    let log0 = c.args.log.now in
+    let s = l.store in
+    let t = thread_of s.funcs l.task in
+    let left = g.I.Source.left in
+    let held = g.O.Sink.held in
+    let s' = c.step.new.store in
+    let t' = thread_of s'.funcs c.step.new.task in
+    let e = c.in-On.ensures in
+    let event = c.in-On.event in
+    let tells = c.in-Ok.ensures.told in
+    record {
+      runs = λ whose next entries row. goes_way whose next entries c.args.most s0 t0 log0.told l.left s t l.log.told (left c.args.input.now) (left l.input) (left c.step.new.input) (held c.args.out.now) (held l.out) (held c.step.new.out) c.loop-left-test.true v.left v.going (v.runs whose next entries row) s' t' event c.see.new.self.told e.step.0 tells;
+      outline = e.outline tt ∙ v.outline;
+      task = e.task tt;
+      going = e.step.1;
+      store_fits = e.store_fits tt;
+      task_fits = e.task_fits tt;
+      others = λ h fit. e.others tt h (v.others h fit);
+      made = let m = e.made tt in omega (arith, m, v.made, c.loop-left-test.true);
+      left = let x = v.left in omega (arith, x);
+      entries = c.in-Ok.ensures.entries ∙ v.entries;
+      within = let x = v.left in told_within (log0.entries + (c.args.most - l.left)) (log0.entries + (c.args.most - (l.left - 1))) event l.log.told c.see.new.self.told (omega (arith, x, c.loop-left-test.true)) tells v.within;
+      input = e.input_faults ∙ v.input;
+      out = e.out_faults ∙ v.out;
+    }
+
+pub returns-then-has_ended-clause-run : goal.returns-then-has_ended-clause-run
+returns-then-has_ended-clause-run g c = λ whose next entries row.
+    way_ends whose next entries c.args.most c.args.store.now (thread_of c.args.store.now.funcs c.args.task.now) c.args.log.now (g.I.Source.left c.args.input.now) (g.O.Sink.held c.args.out.now)
+
+pub returns-in_default-clause-run : goal.returns-in_default-clause-run
+returns-in_default-clause-run g c = λ whose next entries row.
+    let l = c.loop-left in
+    let v = l.invariant in
+    let s0 = c.args.store.now in
+    let t0 = thread_of s0.funcs c.args.task.now in
+    let log0 = c.args.log.now in
+    let s = l.store in
+    let t = thread_of s.funcs l.task in
+    let left = g.I.Source.left in
+    let held = g.O.Sink.held in
+    let s' = c.step.new.store in
+    let t' = thread_of s'.funcs c.step.new.task in
+    stops_behind whose next entries c.args.most s0 t0 log0.told l.left s t l.log.told (left c.args.input.now) (left l.input) (left c.step.new.input) (held c.args.out.now) (held l.out) (held c.step.new.out) c.loop-left-test.true v.left v.going (v.runs whose next entries row) s' t' c.in-On.event log0 c.see.new.self refl c.in_default.ensures.lost c.in-On.ensures.step.0
+
+pub returns-in_default-see-clause-run : goal.returns-in_default-see-clause-run
+returns-in_default-see-clause-run g c = λ whose next entries row.
+    let l = c.loop-left in
+    let v = l.invariant in
+    let s0 = c.args.store.now in
+    let t0 = thread_of s0.funcs c.args.task.now in
+    let log0 = c.args.log.now in
+    let s = l.store in
+    let t = thread_of s.funcs l.task in
+    let left = g.I.Source.left in
+    let held = g.O.Sink.held in
+    let s' = c.step.new.store in
+    let t' = thread_of s'.funcs c.step.new.task in
+    stops_behind whose next entries c.args.most s0 t0 log0.told l.left s t l.log.told (left c.args.input.now) (left l.input) (left c.step.new.input) (held c.args.out.now) (held l.out) (held c.step.new.out) c.loop-left-test.true v.left v.going (v.runs whose next entries row) s' t' c.in-Ended.event log0 c.see-in-Ended.new.self refl c.in_default-see.ensures.lost c.in-Ended.ensures.step.0
+
+pub returns-in-Ended-clause-run : goal.returns-in-Ended-clause-run
+returns-in-Ended-clause-run g c = λ whose next entries row.
+    let l = c.loop-left in
+    let v = l.invariant in
+    let s0 = c.args.store.now in
+    let t0 = thread_of s0.funcs c.args.task.now in
+    let log0 = c.args.log.now in
+    let s = l.store in
+    let t = thread_of s.funcs l.task in
+    let left = g.I.Source.left in
+    let held = g.O.Sink.held in
+    let s' = c.step.new.store in
+    let t' = thread_of s'.funcs c.step.new.task in
+    let see = c.see-in-Ended.new.self in
+    let x = v.left in
+    let way = goes_way whose next entries c.args.most s0 t0 log0.told l.left s t l.log.told (left c.args.input.now) (left l.input) (left c.step.new.input) (held c.args.out.now) (held l.out) (held c.step.new.out) c.loop-left-test.true v.left v.going (v.runs whose next entries row) s' t' c.in-Ended.event see.told c.in-Ended.ensures.step.0 c.in-Ok-see.ensures.told in
+    way_here whose next entries c.args.most s0 t0 log0 see c.count.new.self (l.left - 1) (c.args.most - (l.left - 1)) s' t' (left c.args.input.now) (left c.step.new.input) (held c.args.out.now) (held c.step.new.out) way
+    (c.in-Ok-see.ensures.entries ∙ v.entries) (omega (arith, x)) c.count.ensures
+
+pub returns-in-Trap-clause-run : goal.returns-in-Trap-clause-run
+returns-in-Trap-clause-run g c = λ whose next entries row.
+    let l = c.loop-left in
+    let v = l.invariant in
+    let s0 = c.args.store.now in
+    let t0 = thread_of s0.funcs c.args.task.now in
+    let log0 = c.args.log.now in
+    let s = l.store in
+    let t = thread_of s.funcs l.task in
+    let left = g.I.Source.left in
+    let held = g.O.Sink.held in
+    let s' = c.step.new.store in
+    let t' = thread_of s'.funcs c.step.new.task in
+    let e = c.in-Trap.ensures.step in
+    let x = v.left in
+    (whose, way_traps whose next entries c.args.most s0 t0 log0.told l.left s t l.log.told (left c.args.input.now) (left l.input) (left c.step.new.input) (held c.args.out.now) (held l.out) (held c.step.new.out) c.loop-left-test.true v.left v.going (v.runs whose next entries row) c.in-Trap.kind s' t' log0 c.count-in-Trap.new.self (c.args.most - (l.left - 1)) l.log.entries refl v.entries e.0 e.1 e.2 e.3 e.4 (omega (arith, x)) c.count-in-Trap.ensures)
+
+pub returns-in-ReadFault-clause-run : goal.returns-in-ReadFault-clause-run
+returns-in-ReadFault-clause-run g c = λ whose next entries row.
+    let l = c.loop-left in
+    let v = l.invariant in
+    let s0 = c.args.store.now in
+    let t0 = thread_of s0.funcs c.args.task.now in
+    let log0 = c.args.log.now in
+    let s = l.store in
+    let t = thread_of s.funcs l.task in
+    let left = g.I.Source.left in
+    let held = g.O.Sink.held in
+    let e = c.in-ReadFault.ensures.step in
+    stops_before whose next entries c.args.most s0 t0 log0.told l.left s t l.log.told (left c.args.input.now) (left l.input) (left c.step.new.input) (held c.args.out.now) (held l.out) (held c.step.new.out) c.loop-left-test.true v.left v.going (v.runs whose next entries row) log0 l.log refl refl (none_taken (left l.input) (left c.step.new.input) e.1) e.2
+
+pub returns-in-WriteFault-clause-run : goal.returns-in-WriteFault-clause-run
+returns-in-WriteFault-clause-run g c = λ whose next entries row.
+    let l = c.loop-left in
+    let v = l.invariant in
+    let s0 = c.args.store.now in
+    let t0 = thread_of s0.funcs c.args.task.now in
+    let log0 = c.args.log.now in
+    let s = l.store in
+    let t = thread_of s.funcs l.task in
+    let left = g.I.Source.left in
+    let held = g.O.Sink.held in
+    let e = c.in-WriteFault.ensures.step in
+    stops_in whose next entries c.args.most s0 t0 log0.told l.left s t l.log.told (left c.args.input.now) (left l.input) (left c.step.new.input) (held c.args.out.now) (held l.out) (held c.step.new.out) c.loop-left-test.true v.left v.going (v.runs whose next entries row) log0 l.log e.0 refl refl e.1 e.2 e.3
+
+pub returns-in-Memory-clause-run : goal.returns-in-Memory-clause-run
+returns-in-Memory-clause-run g c = λ whose next entries row.
+    let l = c.loop-left in
+    let v = l.invariant in
+    let s0 = c.args.store.now in
+    let t0 = thread_of s0.funcs c.args.task.now in
+    let log0 = c.args.log.now in
+    let s = l.store in
+    let t = thread_of s.funcs l.task in
+    let left = g.I.Source.left in
+    let held = g.O.Sink.held in
+    let e = c.in-Memory.ensures.step in
+    stops_before whose next entries c.args.most s0 t0 log0.told l.left s t l.log.told (left c.args.input.now) (left l.input) (left c.step.new.input) (held c.args.out.now) (held l.out) (held c.step.new.out) c.loop-left-test.true v.left v.going (v.runs whose next entries row) log0 l.log refl refl e.0 e.1
+
+pub returns-clause-run : goal.returns-clause-run
+returns-clause-run g c = λ whose next entries row.
+    let l = c.loop-left in
+    let v = l.invariant in
+    let s0 = c.args.store.now in
+    let t0 = thread_of s0.funcs c.args.task.now in
+    let log0 = c.args.log.now in
+    let s = l.store in
+    let t = thread_of s.funcs l.task in
+    let left = g.I.Source.left in
+    let held = g.O.Sink.held in
+    let none : l.left ≡ 0 = omega (arith, c.loop-left-test.false) in
+    way_pauses whose next entries c.args.most l.left none s t (left c.args.input.now) (left l.input) (held c.args.out.now) (held l.out) log0 c.count-2.new.self (run_entries entries (next s0 t0))
+    (way_here whose next entries c.args.most s0 t0 log0 l.log c.count-2.new.self l.left c.args.most s t (left c.args.input.now) (left l.input) (held c.args.out.now) (held l.out) (v.runs whose next entries row) v.entries (omega (arith, none)) c.count-2.ensures)

@@ -1,0 +1,9 @@
+use Rattle.std.proofs.Common.{◌≡◌, length, sym, subst}
+use Rattle.ms_tasks.specs.Schedules.{entries_of}
+use Rattle.ms_tasks.specs.declared.schedule.Schedule.{Schedule}
+use Rattle.ms_tasks.proofs.Outs.{length_turns}
+use Rattle.ms_tasks.proofs.schedule.Schedule.most.Goals as goal
+
+pub returns-in-Turns-clause-entries : goal.returns-in-Turns-clause-entries
+returns-in-Turns-clause-entries c = λ tasks.
+    subst (λ (x : Schedule). length (entries_of x tasks c.args.budget) ≡ c.args.budget) (sym c.in-Turns.is) (length_turns c.in-Turns.field-0 tasks 0 c.args.budget)

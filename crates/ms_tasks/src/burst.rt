@@ -1,0 +1,101 @@
+//! Several steps of one task in a row.
+
+ghost use Rattle.std.specs.Prelude.{◌≡◌, ◌≢◌, ◌+◌, ◌-◌, ◌<◌, ◌≤◌, ◌^◌, ℕ, List, [], drop};
+ghost use Rattle.ms_handle.specs.declared.handle.Handle.{Handle};
+ghost use Rattle.ms_segment.specs.Memory.{IsFit};
+ghost use Rattle.ms_machine.specs.Crews.{Crew, Whose, run_entries};
+ghost use Rattle.ms_machine.specs.Holding.{StoreFits, ThreadFits};
+ghost use Rattle.ms_machine.specs.Store.{Store as StoreView};
+ghost use Rattle.ms_machine.specs.Typing.{StoreTyped, TaskTyped, outline_of};
+ghost use Rattle.ms_task.specs.Thread.{Thread};
+ghost use Rattle.ms_task.specs.View.{thread_of};
+ghost use Rattle.ms_tasks.specs.Logs.{IsWithin};
+ghost use Rattle.ms_tasks.specs.Parts.{Answers, CountsInput, CountsOut, IsRow, IsWell};
+
+use crate::log::Log;
+use ms_host::TrapKind;
+use ms_live::Gaps;
+use ms_machine::{Stepped, Store, has_ended, step};
+use ms_outside::{Sink, Source};
+use ms_tagged::Tagged;
+use ms_task::Task;
+
+/// Why a burst of steps was halted.
+#[derive(Clone, Copy, Debug, PartialEq, Eq)]
+pub(crate) enum Halt {
+    /// The task has nothing left to do.
+    Ended,
+    /// So many steps were made.
+    Paused,
+    /// The program was stopped.
+    Trap(TrapKind),
+    /// The input failed.
+    ReadFault,
+    /// The output failed.
+    WriteFault,
+    /// Memory has run out.
+    Memory,
+}
+
+/// At most so many steps of a task. It gives why they were halted, and how many are left.
+pub(crate) fn burst<G: Gaps, T: Tagged, I: Source, O: Sink>(
+    store: &mut Store<G, T>,
+    task: &mut Task,
+    most: u64,
+    input: &mut I,
+    out: &mut O,
+    log: &mut Log,
+) -> (Halt, u64)
+    requires store { StoreTyped (outline_of store.old) }
+    requires task { TaskTyped (outline_of store.old) (thread_of store.old.funcs task.old) }
+    requires few { store.old.segments.made + most < 2 ^ 63 }
+    requires store_fits { StoreFits store.old }
+    requires task_fits { ThreadFits store.old (thread_of store.old.funcs task.old) }
+    requires within { IsWithin log.old.entries log.old.told }
+    requires room { log.old.entries + most < 2 ^ 63 }
+    ensures run { (whose : Whose) (next : StoreView → Thread → Crew) (entries : List ℕ) → IsRow whose next most entries → Answers result.0 (run_entries entries (next store.old (thread_of store.old.funcs task.old))) (run_entries (drop (most - result.1) entries) (next store.new (thread_of store.new.funcs task.new))) (run_entries (drop most entries) (next store.new (thread_of store.new.funcs task.new))) (next store.new (thread_of store.new.funcs task.new)) (I.left input.old) (I.left input.new) (O.held out.old) (O.held out.new) log.old log.new }
+    ensures outline { IsWell result.0 → outline_of store.new ≡ outline_of store.old }
+    ensures task { IsWell result.0 → TaskTyped (outline_of store.new) (thread_of store.new.funcs task.new) }
+    ensures store_fits { IsWell result.0 → StoreFits store.new }
+    ensures task_fits { IsWell result.0 → ThreadFits store.new (thread_of store.new.funcs task.new) }
+    ensures others { IsWell result.0 → (h : Handle) → IsFit store.old.segments h → IsFit store.new.segments h }
+    ensures made { IsWell result.0 → store.new.segments.made + result.1 ≤ store.old.segments.made + most }
+    ensures entries { IsWell result.0 → log.new.entries + result.1 ≡ log.old.entries + most }
+    ensures within { IsWell result.0 → IsWithin log.new.entries log.new.told }
+    ensures left { result.1 ≤ most }
+    ensures ended { result.0 ≡ Halt.Ended → (thread_of store.new.funcs task.new).work ≡ [] }
+    ensures paused { result.0 ≡ Halt.Paused → (result.1 ≡ 0) × ((thread_of store.new.funcs task.new).work ≢ []) }
+    ensures input_faults { CountsInput result.0 (I.faults input.old) (I.faults input.new) }
+    ensures out_faults { CountsOut result.0 (O.faults out.old) (O.faults out.new) }
+{
+    if has_ended(store, task) {
+        return (Halt::Ended, most);
+    }
+    let mut left = most;
+    while left > 0 {
+        left -= 1;
+        match step(store, task, input, out) {
+            Stepped::On(event) => {
+                let Ok(()) = log.see(event) else {
+                    return (Halt::Memory, left);
+                };
+            }
+            Stepped::Ended(_, event) => {
+                let Ok(()) = log.see(event) else {
+                    return (Halt::Memory, left);
+                };
+                log.count(most - left);
+                return (Halt::Ended, left);
+            }
+            Stepped::Trap(kind) => {
+                log.count(most - left);
+                return (Halt::Trap(kind), left);
+            }
+            Stepped::ReadFault => return (Halt::ReadFault, left),
+            Stepped::WriteFault => return (Halt::WriteFault, left),
+            Stepped::Memory => return (Halt::Memory, left),
+        }
+    }
+    log.count(most);
+    (Halt::Paused, 0)
+}

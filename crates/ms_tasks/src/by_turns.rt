@@ -1,0 +1,83 @@
+//! Runs by turns, where the start functions have ended.
+
+ghost use Rattle.std.specs.Prelude.{◌≡◌, ◌≢◌, ℕ, suc, ◌+◌, ◌%◌, ◌<◌, ◌≤◌, ◌^◌, false, length};
+ghost use Rattle.ms_handle.specs.declared.handle.Handle.{Handle};
+ghost use Rattle.ms_segment.specs.Memory.{IsFit};
+ghost use Rattle.ms_machine.specs.Crews.{OutOfBudget, Results, are_ended, ends, results, run_entries, turns_from};
+ghost use Rattle.ms_machine.specs.Typing.{outline_of};
+ghost use Rattle.ms_tasks.specs.Logs.{IsWithin};
+ghost use Rattle.ms_tasks.specs.Parts.{Answers, CountsInput, CountsOut, IsWell};
+ghost use Rattle.ms_tasks.specs.Ready.{IsReady};
+ghost use Rattle.ms_tasks.specs.Rows.{crew_in, threads_in};
+
+use crate::burst::Halt;
+use crate::log::Log;
+use crate::rows::turn;
+use ms_live::Gaps;
+use ms_machine::Store;
+use ms_outside::{Sink, Source};
+use ms_tagged::Tagged;
+use ms_task::Task;
+
+/// The task of the next turn.
+fn next_task(k: u32, tasks: u32) -> u32
+    requires { k < tasks }
+    ensures { result ≡ suc k % tasks }
+{
+    if k + 1 < tasks { k + 1 } else { 0 }
+}
+
+/// The less of two numbers.
+fn least(a: u64, b: u64) -> u64
+    ensures under { result ≤ a }
+    ensures within { result ≤ b }
+    ensures some { 0 < a → 0 < b → 0 < result }
+    ensures whole { result < b → result ≡ a }
+{
+    if a < b { a } else { b }
+}
+
+/// The entries of a schedule of turns from one on, so many, where not all tasks have ended.
+pub(crate) fn run_turns<G: Gaps, T: Tagged, I: Source, O: Sink>(
+    store: &mut Store<G, T>,
+    tasks: &mut [Task],
+    q: u32,
+    from: u64,
+    most: u64,
+    input: &mut I,
+    out: &mut O,
+    log: &mut Log,
+) -> Halt
+    requires q { 0 < q }
+    requires tasks { (0 < length tasks.old) × (length tasks.old < 2 ^ 32) }
+    requires ready { IsReady (crew_in store.old tasks.old) }
+    requires going { are_ended (threads_in store.old tasks.old) ≡ false }
+    requires few { store.old.segments.made + most < 2 ^ 63 }
+    requires within { IsWithin log.old.entries log.old.told }
+    requires room { log.old.entries + most < 2 ^ 63 }
+    requires all { from + most < 2 ^ 64 }
+    ensures run { Answers result (run_entries (turns_from q (length tasks.old) from most) (crew_in store.old tasks.old)) (ends (Results (results (threads_in store.new tasks.new))) (crew_in store.new tasks.new)) (ends OutOfBudget (crew_in store.new tasks.new)) (crew_in store.new tasks.new) (I.left input.old) (I.left input.new) (O.held out.old) (O.held out.new) log.old log.new }
+    ensures ready { IsWell result → IsReady (crew_in store.new tasks.new) }
+    ensures outline { IsWell result → outline_of store.new ≡ outline_of store.old }
+    ensures others { IsWell result → (h : Handle) → IsFit store.old.segments h → IsFit store.new.segments h }
+    ensures input_faults { CountsInput result (I.faults input.old) (I.faults input.new) }
+    ensures out_faults { CountsOut result (O.faults out.old) (O.faults out.new) }
+{
+    let count = tasks.len() as u32;
+    let turn_of = u64::from(q);
+    let mut k = ((from / turn_of) % u64::from(count)) as u32;
+    let mut room = turn_of - from % turn_of;
+    let mut left = most;
+    while left > 0 {
+        let row = least(room, left);
+        let (halt, _) = turn(store, tasks, k, row, input, out, log);
+        match halt {
+            Halt::Paused => {}
+            _ => return halt,
+        }
+        left -= row;
+        k = next_task(k, count);
+        room = turn_of;
+    }
+    Halt::Paused
+}

@@ -1,0 +1,101 @@
+//! Crews.
+
+ghost use Rattle.std.specs.Prelude.{◌≡◌, ◌≢◌, ℕ, ◌+◌, ◌<◌, ◌^◌, true, List, [], Some, length, slice_get};
+ghost use Rattle.ms_event.specs.Monitor.{Accepts};
+ghost use Rattle.ms_machine.specs.Crews.{Input, Stuck, events_of, run_of};
+ghost use Rattle.ms_machine.specs.Safety.{Sound};
+ghost use Rattle.ms_task.specs.View.{thread_of};
+ghost use Rattle.ms_tasks.specs.Logs.{IsWithin};
+ghost use Rattle.ms_tasks.specs.Ready.{IsReady, threads_of};
+ghost use Rattle.ms_tasks.specs.Runs.{CountsInput, CountsOut, DoesRun, IsOver};
+ghost use Rattle.ms_tasks.specs.Schedules.{HasTurns, entries_of};
+
+use crate::all::run_all;
+use crate::log::Log;
+use crate::ran::{Ran, ran_of};
+use crate::schedule::Schedule;
+use ms_live::Gaps;
+use ms_machine::Store;
+use ms_outside::{Sink, Source};
+use ms_tagged::Tagged;
+use ms_task::Task;
+use std::marker::Model;
+
+/// A store, with its start functions and its tasks.
+#[derive(Drop)]
+pub struct Crew<G: Gaps, T: Tagged> {
+    store: Store<G, T>,
+    chain: Vec<Task>,
+    tasks: Vec<Task>,
+}
+
+impl<G: Gaps, T: Tagged> Model for Crew<G, T> {
+    ghost use Rattle.ms_machine.specs.Crews.{Crew as C};
+    ghost use Rattle.ms_tasks.specs.Rows.{threads_in};
+
+    ghost Value = { C };
+
+    ghost view = { λ c. record { store = c.store; chain = threads_in c.store c.chain.items; tasks = threads_in c.store c.tasks.items } };
+}
+
+impl<G: Gaps, T: Tagged> Crew<G, T> {
+    /// The store.
+    pub fn store(&self) -> &Store<G, T>
+        ensures { result.now ≡ self.now.store }
+    {
+        &self.store
+    }
+
+    /// The task of a number.
+    pub fn task(&self, n: u32) -> &Task
+        requires { n < length self.now.tasks }
+        ensures { slice_get self.now.tasks n ≡ Some (thread_of self.now.store.funcs result.now) }
+    {
+        &self.tasks[n as usize]
+    }
+
+    /// Runs the start functions, and then the tasks by a schedule, for so many entries at most.
+    ///
+    /// The run is that over what the input gave: over its bytes, where it tells them. The crew keeps what the run has made of
+    /// it. The input has left what the run leaves, the output has got the bytes that it puts, and the log has grown by its
+    /// entries and its events. After `ReadFault`, `WriteFault` and `Memory` the input has lost only bytes that the run takes,
+    /// the output has got a front of its bytes, and the log a front of its events. `ReadFault` comes only where the input's
+    /// count of faults rose, `WriteFault` only where that of the output did. After any answer but `Results` and `Budget` the
+    /// crew isn't to be run again.
+    pub fn run<I: Source, O: Sink>(
+        &mut self,
+        schedule: &Schedule,
+        budget: u64,
+        input: &mut I,
+        out: &mut O,
+        log: &mut Log,
+    ) -> Ran
+        requires ready { IsReady self.old }
+        requires tasks { (0 < length self.old.tasks) × (length self.old.tasks < 2 ^ 32) }
+        requires turns { HasTurns schedule.now }
+        requires few { self.old.store.segments.made + budget < 2 ^ 63 }
+        requires within { IsWithin log.old.entries log.old.told }
+        requires room { log.old.entries + budget < 2 ^ 63 }
+        ensures run { (given : Input) × DoesRun result self.new (I.left input.old) (I.left input.new) (O.held out.old) (O.held out.new) log.old log.new given (run_of (entries_of schedule.now (length self.old.tasks) budget) self.old given) }
+        ensures input_faults { CountsInput result (I.faults input.old) (I.faults input.new) }
+        ensures out_faults { CountsOut result (O.faults out.old) (O.faults out.new) }
+        ensures ready { IsOver result → IsReady self.new }
+        ensures never_stuck { (given : Input) → (run_of (entries_of schedule.now (length self.old.tasks) budget) self.old given).end ≢ Stuck }
+        // The events of the run are a trace that the colour monitor accepts.
+        ensures accepted { Sound [] self.old.store (threads_of self.old) → (given : Input) → Accepts (length self.old.store.segments.bytes) (events_of (run_of (entries_of schedule.now (length self.old.tasks) budget) self.old given).deeds) }
+        // Those that are kept are one, whatever the answer, behind those that were kept before.
+        ensures kept { log.old.told.keep ≡ true → Sound log.old.told.events self.old.store (threads_of self.old) → Accepts (length self.old.store.segments.bytes) log.new.told.events }
+        ensures sound { IsOver result → log.old.told.keep ≡ true → Sound log.old.told.events self.old.store (threads_of self.old) → Sound log.new.told.events self.new.store (threads_of self.new) }
+    {
+        ran_of(run_all(
+            &mut self.store,
+            self.chain.as_mut_slice(),
+            self.tasks.as_mut_slice(),
+            schedule,
+            budget,
+            input,
+            out,
+            log,
+        ))
+    }
+}

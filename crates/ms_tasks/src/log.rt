@@ -1,0 +1,92 @@
+//! What a run tells as it goes.
+
+ghost use Rattle.std.specs.Prelude.{◌≡◌, ◌+◌, ◌<◌, ◌^◌, [], OnErr, OnOk};
+ghost use Rattle.ms_machine.specs.Running.{with_event};
+ghost use Rattle.ms_tasks.specs.Logs.{IsWithin, all_seen, seen};
+
+use ms_event::Event;
+use std::alloc::{AllocError, Global};
+use std::marker::Model;
+
+/// How many entries of a schedule were used, how many events of each kind there were, and the events, where they are kept.
+#[derive(Drop)]
+pub struct Log {
+    keep: bool,
+    entries: u64,
+    allocs: u64,
+    refused: u64,
+    slices: u64,
+    reads: u64,
+    writes: u64,
+    frees: u64,
+    events: Vec<Event>,
+}
+
+impl Model for Log {
+    ghost use Rattle.ms_tasks.specs.Logs.{Log as L};
+
+    ghost Value = { L };
+
+    ghost view = { λ l. record { entries = l.entries; told = record { keep = l.keep; allocs = l.allocs; refused = l.refused; slices = l.slices; reads = l.reads; writes = l.writes; frees = l.frees; events = l.events.items } } };
+}
+
+impl Log {
+    /// A log without entries and events.
+    pub fn new(alloc: Global, keep: bool) -> Log
+        ensures { result ≡ record { entries = 0; told = record { keep = keep; allocs = 0; refused = 0; slices = 0; reads = 0; writes = 0; frees = 0; events = [] } } }
+    {
+        Log {
+            keep,
+            entries: 0,
+            allocs: 0,
+            refused: 0,
+            slices: 0,
+            reads: 0,
+            writes: 0,
+            frees: 0,
+            events: Vec::new(alloc),
+        }
+    }
+
+    /// One more event.
+    fn see_event(&mut self, event: Event) -> Result<(), AllocError>
+        requires { IsWithin (2 ^ 63) self.old.told }
+        ensures entries { self.new.entries ≡ self.old.entries }
+        ensures told { OnOk result (self.new.told ≡ seen event self.old.told) }
+        ensures lost { OnErr result (self.new.told.events ≡ self.old.told.events) }
+    {
+        match event {
+            Event::Alloc { .. } => self.allocs += 1,
+            Event::Refused { .. } => self.refused += 1,
+            Event::Slice { .. } => self.slices += 1,
+            Event::Read { .. } => self.reads += 1,
+            Event::Write { .. } => self.writes += 1,
+            Event::Free { .. } => self.frees += 1,
+        }
+        if self.keep {
+            self.events.push(event)?;
+        }
+        Ok(())
+    }
+
+    /// What a step told.
+    pub(crate) fn see(&mut self, event: Option<Event>) -> Result<(), AllocError>
+        requires { IsWithin (2 ^ 63) self.old.told }
+        ensures entries { self.new.entries ≡ self.old.entries }
+        ensures told { OnOk result (self.new.told ≡ all_seen (with_event event []) self.old.told) }
+        ensures lost { OnErr result (self.new.told.events ≡ self.old.told.events) }
+    {
+        match event {
+            None => Ok(()),
+            Some(event) => self.see_event(event),
+        }
+    }
+
+    /// So many more entries.
+    pub(crate) fn count(&mut self, entries: u64)
+        requires { self.old.entries + entries < 2 ^ 64 }
+        ensures { self.new ≡ record { entries = self.old.entries + entries; told = self.old.told } }
+    {
+        self.entries += entries;
+    }
+}

@@ -1,0 +1,58 @@
+//! The start functions, one after the other.
+
+ghost use Rattle.std.specs.Prelude.{◌≡◌, ◌≢◌, ℕ, ◌+◌, ◌-◌, ◌<◌, ◌≤◌, ◌^◌, List, [], drop, length};
+ghost use Rattle.ms_handle.specs.declared.handle.Handle.{Handle};
+ghost use Rattle.ms_segment.specs.Memory.{IsFit};
+ghost use Rattle.ms_machine.specs.Crews.{OutOfBudget, ahead, ends, run_entries};
+ghost use Rattle.ms_machine.specs.Typing.{outline_of};
+ghost use Rattle.ms_task.specs.Thread.{Thread};
+ghost use Rattle.ms_tasks.specs.Logs.{IsWithin};
+ghost use Rattle.ms_tasks.specs.Parts.{Answers, CountsInput, CountsOut, IsWell};
+ghost use Rattle.ms_tasks.specs.Ready.{IsReady};
+ghost use Rattle.ms_tasks.specs.Rows.{begun_with, chain_in, threads_in};
+
+use crate::burst::{Halt, burst};
+use crate::log::Log;
+use ms_live::Gaps;
+use ms_machine::Store;
+use ms_outside::{Sink, Source};
+use ms_tagged::Tagged;
+use ms_task::Task;
+
+/// Runs the start functions, in order, for so many entries at most, whatever these name. It gives how many are left.
+pub(crate) fn run_chain<G: Gaps, T: Tagged, I: Source, O: Sink>(
+    store: &mut Store<G, T>,
+    chain: &mut [Task],
+    most: u64,
+    input: &mut I,
+    out: &mut O,
+    log: &mut Log,
+) -> (Halt, u64)
+    requires ready { IsReady (chain_in store.old chain.old []) }
+    requires few { store.old.segments.made + most < 2 ^ 63 }
+    requires within { IsWithin log.old.entries log.old.told }
+    requires room { log.old.entries + most < 2 ^ 63 }
+    ensures run { (entries : List ℕ) (tasks : List Thread) → length entries ≡ most → Answers result.0 (run_entries entries (begun_with store.old (threads_in store.old chain.old) tasks)) (run_entries (drop (most - result.1) entries) (begun_with store.new [] tasks)) (ends OutOfBudget (begun_with store.new (threads_in store.new chain.new) tasks)) (begun_with store.new (threads_in store.new chain.new) tasks) (I.left input.old) (I.left input.new) (O.held out.old) (O.held out.new) log.old log.new }
+    ensures left { result.1 ≤ most }
+    ensures ended { result.0 ≡ Halt.Ended → ahead (threads_in store.new chain.new) ≡ [] }
+    ensures ready { IsWell result.0 → IsReady (chain_in store.new chain.new []) }
+    ensures outline { IsWell result.0 → outline_of store.new ≡ outline_of store.old }
+    ensures others { IsWell result.0 → (h : Handle) → IsFit store.old.segments h → IsFit store.new.segments h }
+    ensures made { IsWell result.0 → store.new.segments.made + result.1 ≤ store.old.segments.made + most }
+    ensures entries { IsWell result.0 → log.new.entries + result.1 ≡ log.old.entries + most }
+    ensures within { IsWell result.0 → IsWithin log.new.entries log.new.told }
+    ensures input_faults { CountsInput result.0 (I.faults input.old) (I.faults input.new) }
+    ensures out_faults { CountsOut result.0 (O.faults out.old) (O.faults out.new) }
+{
+    let mut left = most;
+    for i in 0..chain.len() {
+        let task = &mut chain[i];
+        let (halt, rest) = burst(store, task, left, input, out, log);
+        left = rest;
+        match halt {
+            Halt::Ended => {}
+            _ => return (halt, left),
+        }
+    }
+    (Halt::Ended, left)
+}
