@@ -1,17 +1,13 @@
 -- One module more in two parts is one module more.
-use Rattle.std.proofs.Common.{◌≡◌, ◌≤◌, ℕ, List, [], ◌∷◌, ◌++◌, All, Bool, true, false, nat_le, if◌then◌else◌, length, map, Option, Some, None, Result, Ok, Err, refl, sym, ap, ◌∙◌, subst}
+use Rattle.std.proofs.Common.{◌≡◌, ◌≤◌, ℕ, List, [], ◌∷◌, ◌++◌, All, Bool, true, false, nat_le, if◌then◌else◌, length, map, Option, Some, None, Ok, Err, refl, sym, ap, ◌∙◌, subst}
 use Rattle.std.proofs.lemmas.Bool.{leb-true}
 use Rattle.std.proofs.lemmas.List.Elements.{All-cons, All-nil}
-use Rattle.ms_linear.specs.declared.global.GlobalInst.{GlobalInst}
-use Rattle.ms_linear.specs.Memory.{Memory as Linear, most_pages}
-use Rattle.ms_linear.specs.Table.{Table as TableInst, most_entries}
-use Rattle.ms_module.specs.declared.module.Element.{Element}
+use Rattle.ms_linear.specs.Memory.{most_pages}
+use Rattle.ms_linear.specs.Table.{most_entries}
 use Rattle.ms_module.specs.declared.module.Export.{Export}
-use Rattle.ms_module.specs.declared.module.Fill.{Fill}
 use Rattle.ms_module.specs.declared.module.Module.{Module}
 use Rattle.ms_names.specs.Numbered.{number_of}
 use Rattle.ms_rules.specs.Modules.{AreDistinct}
-use Rattle.ms_task.specs.declared.func.FuncInst.{FuncInst}
 use Rattle.ms_types.specs.declared.types.FuncType.{FuncType}
 use Rattle.ms_types.specs.declared.types.Limits.{Limits}
 use Rattle.ms_machine.specs.declared.externs.Extern.{Extern}

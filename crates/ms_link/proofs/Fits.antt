@@ -1,19 +1,14 @@
 -- One module more that fits: all that holds of the modules before holds with it.
-use Rattle.std.proofs.Common.{◌≡◌, ◌≤◌, ◌<◌, ◌⊎◌, inl, inr, ℕ, zero, suc, ◌+◌, Bool, true, false, nat_le, if◌then◌else◌, List, [], ◌∷◌, ◌++◌, All, get_or, length, map, replicate, slice_get, Option, Some, None, Result, Ok, Err, refl, sym, ap, ◌∙◌, subst, rules, tests, arith}
-use Rattle.std.proofs.lemmas.List.{get_or_append_left, length-append, length-map, map-append}
-use Rattle.std.proofs.lemmas.List.Elements.{All-append, All-cons, All-head, All-map, All-nil, All-replicate, All-tail, All-weaker}
-use Rattle.std.specs.List.{AllZip}
+use Rattle.std.proofs.Common.{◌≡◌, ◌≤◌, ◌<◌, ◌⊎◌, inl, inr, ℕ, suc, ◌+◌, Bool, true, false, nat_le, if◌then◌else◌, List, [], ◌∷◌, ◌++◌, All, get_or, length, map, slice_get, Option, Some, None, Result, Ok, Err, refl, sym, ap, ◌∙◌, subst, rules, tests, arith}
+use Rattle.std.proofs.lemmas.List.{get_or_append_left, length-append, length-map}
+use Rattle.std.proofs.lemmas.List.Elements.{All-append, All-cons, All-head, All-nil, All-replicate, All-tail, All-weaker}
 use Rattle.ms_linear.specs.declared.global.GlobalInst.{GlobalInst}
-use Rattle.ms_linear.specs.declared.table.Entry.{Entry}
 use Rattle.ms_linear.specs.declared.value.Value.{Value}
-use Rattle.ms_linear.specs.declared.value.Value.TheVariants as values
-use Rattle.ms_linear.specs.Memory.{Memory as Linear}
-use Rattle.ms_linear.specs.Table.{Table as TableInst}
 use Rattle.ms_linear.specs.Values.{global_type_of}
 use Rattle.ms_module.specs.declared.module.Element.{Element}
 use Rattle.ms_module.specs.declared.module.Fill.{Fill}
 use Rattle.ms_module.specs.declared.module.Module.{Module}
-use Rattle.ms_rules.specs.Context.{context_of, imported_memories, imported_tables, sigs_of_funcs}
+use Rattle.ms_rules.specs.Context.{imported_memories, imported_tables, sigs_of_funcs}
 use Rattle.ms_rules.specs.Modules.{WellTyped}
 use Rattle.ms_task.specs.declared.func.FuncInst.{FuncInst}
 use Rattle.ms_types.specs.declared.types.Limits.{Limits}
@@ -27,8 +22,8 @@ use Rattle.ms_machine.specs.Store.{at}
 use Rattle.ms_machine.specs.Typing.{InstanceTyped}
 use Rattle.ms_link.proofs.Given.{AreGiven, externs_given}
 use Rattle.ms_link.proofs.Imported.{memories_count, tables_count}
-use Rattle.ms_link.proofs.More.{funcs_are, named, next, next_funcs, next_instances, on, own, own_is, own_there, start_typed}
-use Rattle.ms_link.proofs.Standing.{GoesOn, appended, appended_map, get_on, get_only, get_parts, mapped_at, zip_push, zip_weaker}
+use Rattle.ms_link.proofs.More.{funcs_are, named, next, next_funcs, next_instances, on, own_there, start_typed}
+use Rattle.ms_link.proofs.Standing.{GoesOn, appended_map, get_on, get_only, get_parts, mapped_at, zip_push, zip_weaker}
 use Rattle.ms_link.specs.Fitting.{ElementFits, ElementsFit, FillFits, FillsFit, IsEmpty, IsNoEntry, MadeTyped, byte_count, entry_count, outline}
 
 -- ---- where no fault is found
@@ -70,8 +65,8 @@ values_on gs more (n ∷ ns) below =
     ∙ ap (λ l. value_at gs n ∷ l) (values_on gs more ns (All-tail (λ a. a < length gs) n ns below))
 
 start_on : (old new : List FuncInst) → GoesOn old new → (i : Instance) (o : Option ℕ) → StartTyped old i o → StartTyped new i o
-start_on old new on i None h = tt
-start_on old new on i (Some x) h = (h.0, h.1, h.2, get_on old new h.0 h.1 on h.3, h.4, h.5)
+start_on old new goes i None h = tt
+start_on old new goes i (Some x) h = (h.0, h.1, h.2, get_on old new h.0 h.1 goes h.3, h.4, h.5)
 
 empties : (ls : List Limits) → All IsEmpty (map empty_table ls)
 empties [] = All-nil IsEmpty
@@ -182,10 +177,10 @@ one_more_adds made name m next e = by (externs made m.sigs 0 m.imports) refl e w
     fits (Some fault) small e = cc
     fits None small e =
         ends (outside (length made.instances) (with_module made name m es).globals (with_module made name m es).tables (with_module made name m es).memories (instance_in made m es) m.elements m.fills) refl e where
-      ends : (o : Option Fault) → outside (length made.instances) (with_module made name m es).globals (with_module made name m es).tables (with_module made name m es).memories (instance_in made m es) m.elements m.fills ≡ o
-          → unless o (with_module made name m es) ≡ Ok next → Adds made name m next
-      ends (Some fault) fit e = cc
-      ends None fit e = record { es = es; given = is; small = small; fit = fit; is = cc }
+          ends : (o : Option Fault) → outside (length made.instances) (with_module made name m es).globals (with_module made name m es).tables (with_module made name m es).memories (instance_in made m es) m.elements m.fills ≡ o
+              → unless o (with_module made name m es) ≡ Ok next → Adds made name m next
+          ends (Some fault) fit e = cc
+          ends None fit e = record { es = es; given = is; small = small; fit = fit; is = cc }
 
 pub one_more_typed : (made : Made) (name : List ℕ) (m : Module) (next : Made) → MadeTyped made → WellTyped m → one_more made name m ≡ Ok next → MadeTyped next
 one_more_typed made name m next typed well e =
@@ -211,6 +206,6 @@ all_more_typed (m ∷ ms) made last typed well e =
     let P : (List ℕ × Module) → Type 0 = λ m. WellTyped m.1 in
     by (one_more made m.0 m.1) (λ next is. one_more_typed made m.0 m.1 next typed (All-head P m ms well) is)
     (λ next h is. all_more_typed ms next last h (All-tail P m ms well) is) e where
-  by : (r : Result Made Fault) → ((next : Made) → r ≡ Ok next → MadeTyped next) → ((next : Made) → MadeTyped next → all_more ms next ≡ Ok last → MadeTyped last) → and_then r (all_more ms) ≡ Ok last → MadeTyped last
-  by (Ok next) now later e = later next (now next refl) e
-  by (Err fault) now later e = cc
+      by : (r : Result Made Fault) → ((next : Made) → r ≡ Ok next → MadeTyped next) → ((next : Made) → MadeTyped next → all_more ms next ≡ Ok last → MadeTyped last) → and_then r (all_more ms) ≡ Ok last → MadeTyped last
+      by (Ok next) now later e = later next (now next refl) e
+      by (Err fault) now later e = cc

@@ -1,10 +1,9 @@
 -- What the imports of a module are given stands in the store, and is what they ask for.
-use Rattle.std.proofs.Common.{◌≡◌, ℕ, suc, ◌+◌, Bool, true, false, ◌&&◌, List, [], ◌∷◌, length, slice_get, Option, Some, None, Result, Ok, Err, refl, sym, ap, ◌∙◌, subst}
+use Rattle.std.proofs.Common.{◌≡◌, ℕ, suc, Bool, true, false, List, [], ◌∷◌, length, slice_get, Option, Some, None, Result, Ok, Err, refl, sym, ap, ◌∙◌, subst}
 use Rattle.std.proofs.lemmas.Bool.{and_parts}
-use Rattle.ms_host.specs.declared.host.Host.{Host as HostFunc}
 use Rattle.ms_linear.specs.declared.global.GlobalInst.{GlobalInst}
 use Rattle.ms_linear.specs.Memory.{Memory as Linear}
-use Rattle.ms_linear.specs.Table.{Table as TableInst, same_sig, same_type}
+use Rattle.ms_linear.specs.Table.{Table as TableInst, same_type}
 use Rattle.ms_linear.specs.Values.{global_type_of}
 use Rattle.ms_linear.proofs.Targets.{same_sig-is}
 use Rattle.ms_module.specs.declared.module.Import.{Import}
@@ -19,7 +18,7 @@ use Rattle.ms_types.specs.declared.types.ValType.TheVariants as types
 use Rattle.ms_machine.specs.declared.externs.Extern.{Extern}
 use Rattle.ms_machine.specs.declared.externs.Extern.TheVariants.{Host, Func, Table, Memory, Global}
 use Rattle.ms_machine.specs.declared.externs.Why.{Why}
-use Rattle.ms_machine.specs.Externs.{Fault, Made, and_rest, externs, func_is, global_is, if_same, matched, matched_in, memory_is, of_host, resolved, same_bool, same_global, table_is, type_is, with_rest, found}
+use Rattle.ms_machine.specs.Externs.{Fault, Made, and_rest, externs, func_is, global_is, if_same, matched, matched_in, memory_is, of_host, resolved, same_bool, same_global, table_is, type_is, found}
 use Rattle.ms_machine.specs.Typing.{host_type}
 
 abbrev pub IsGiven : Made → List FuncType → ImportDesc → Extern → Type 0

@@ -1,12 +1,9 @@
 -- What is imported, by kind: the addresses name what the module's index spaces say.
-use Rattle.std.proofs.Common.{◌≡◌, ◌≤◌, ◌<◌, ℕ, zero, suc, ◌+◌, List, [], ◌∷◌, ◌++◌, All, length, map, slice_get, Option, Some, None, refl, sym, ap, ◌∙◌, subst, arith}
-use Rattle.std.proofs.lemmas.List.Elements.{All-cons, All-head, All-nil, All-tail}
+use Rattle.std.proofs.Common.{◌≡◌, ◌≤◌, ◌<◌, ℕ, zero, suc, ◌+◌, List, [], ◌∷◌, All, length, map, slice_get, Option, Some, None, refl, sym, ap, ◌∙◌, arith}
+use Rattle.std.proofs.lemmas.List.Elements.{All-cons, All-nil}
 use Rattle.std.proofs.lemmas.Option.{get_or_from_slice_get, slice_get_within}
 use Rattle.ms_host.specs.declared.host.Host.{Host as HostFunc}
 use Rattle.ms_linear.specs.declared.global.GlobalInst.{GlobalInst}
-use Rattle.ms_linear.specs.declared.value.Value.TheVariants as values
-use Rattle.ms_linear.specs.Memory.{Memory as Linear}
-use Rattle.ms_linear.specs.Table.{Table as TableInst}
 use Rattle.ms_linear.specs.Values.{global_type_of, type_of}
 use Rattle.ms_module.specs.declared.module.Import.{Import}
 use Rattle.ms_module.specs.declared.module.ImportDesc.{ImportDesc}
@@ -20,7 +17,7 @@ use Rattle.ms_machine.specs.declared.externs.Extern.{Extern}
 use Rattle.ms_machine.specs.declared.externs.Extern.TheVariants.{Host, Func, Table, Memory, Global}
 use Rattle.ms_machine.specs.Externs.{Made}
 use Rattle.ms_machine.specs.Linked.{funcs_in, globals_in, host_func, host_funcs, memory_in, table_in, value_at, values_at}
-use Rattle.ms_machine.specs.Typing.{func_type, global_type, host_type}
+use Rattle.ms_machine.specs.Typing.{func_type, global_type}
 use Rattle.ms_link.proofs.Given.{AreGiven, IsGiven}
 use Rattle.ms_link.proofs.Standing.{GoesOn, StandsFrom, get_on}
 

@@ -1,10 +1,6 @@
 -- What is typed stays typed where the store goes on: what stood at an address stands there.
-use Rattle.std.proofs.Common.{◌≡◌, ◌≤◌, ◌<◌, ℕ, List, [], ◌∷◌, ◌++◌, All, length, map, slice_get, Option, Some, None, refl, sym, ap, ◌∙◌, subst, arith}
+use Rattle.std.proofs.Common.{◌≡◌, ◌≤◌, ◌<◌, ℕ, List, [], ◌∷◌, ◌++◌, All, length, map, slice_get, Option, Some, None, sym, ap, ◌∙◌, subst, arith}
 use Rattle.std.proofs.lemmas.List.Elements.{All-weaker}
-use Rattle.std.proofs.lemmas.Option.{slice_get_within}
-use Rattle.ms_linear.specs.declared.table.Entry.{Entry}
-use Rattle.ms_linear.specs.Table.{Table}
-use Rattle.ms_module.specs.declared.instr.Instr.{Instr}
 use Rattle.ms_rules.specs.Context.{Context, inside}
 use Rattle.ms_rules.specs.Typing.{Typed}
 use Rattle.ms_task.specs.declared.func.FuncInst.{FuncInst}
@@ -13,7 +9,7 @@ use Rattle.ms_types.specs.declared.types.FuncType.{FuncType}
 use Rattle.ms_types.specs.declared.types.GlobalType.{GlobalType}
 use Rattle.ms_machine.specs.declared.store.Instance.{Instance}
 use Rattle.ms_machine.specs.Store.{at, number_of_instance}
-use Rattle.ms_machine.specs.Typing.{EntryTyped, FuncTyped, InstanceTyped, IsBelow, Outline, any_size, context_at, context_in, context_inside, func_type, global_type}
+use Rattle.ms_machine.specs.Typing.{FuncTyped, InstanceTyped, IsBelow, Outline, any_size, context_at, context_in, context_inside, func_type, global_type}
 use Rattle.ms_link.proofs.Standing.{GoesOn, get_on, map_on}
 
 pub record Extends (o o' : Outline) : Type 0 where

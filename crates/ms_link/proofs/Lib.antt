@@ -6,7 +6,6 @@ pub mod More
 pub mod Fits
 pub mod Stores
 pub mod Plain
-pub mod Faults
 pub mod Resolving
 pub mod SameTypes
 pub mod Puts

@@ -1,28 +1,23 @@
 -- One module more keeps what was typed, and is typed itself.
-use Rattle.std.proofs.Common.{◌≡◌, ◌≤◌, ◌<◌, ◌⊎◌, inl, inr, ℕ, zero, suc, ◌+◌, ◌*◌, List, [], ◌∷◌, ◌++◌, All, get_or, length, map, replicate, reverse, slice_get, Option, Some, None, refl, sym, ap, ◌∙◌, subst, arith}
-use Rattle.std.proofs.lemmas.List.{append-nil, get_or_append_left, length-append, length-map, map-append, map-id}
-use Rattle.std.proofs.lemmas.List.Elements.{All-append, All-cons, All-head, All-nil, All-replicate, All-tail, All-weaker}
+use Rattle.std.proofs.Common.{◌≡◌, ◌≤◌, ◌<◌, ◌⊎◌, inl, inr, ℕ, zero, suc, ◌+◌, List, [], ◌∷◌, ◌++◌, All, get_or, length, map, slice_get, Option, Some, None, refl, sym, ap, ◌∙◌, subst, arith}
+use Rattle.std.proofs.lemmas.List.{append-nil, length-append, length-map, map-append, map-id}
+use Rattle.std.proofs.lemmas.List.Elements.{All-append, All-head, All-tail, All-weaker}
 use Rattle.std.proofs.lemmas.Option.{get_or_from_slice_get, slice_get_within}
 use Rattle.std.proofs.lemmas.Simd.{map-map}
-use Rattle.std.specs.List.{AllZip}
 use Rattle.ms_host.specs.declared.host.Host.{Host as HostFunc}
 use Rattle.ms_host.specs.declared.host.Host.TheVariants as hosts
 use Rattle.ms_linear.specs.declared.global.GlobalInst.{GlobalInst}
-use Rattle.ms_linear.specs.declared.table.Entry.{Entry}
 use Rattle.ms_linear.specs.declared.value.Value.{Value}
-use Rattle.ms_linear.specs.declared.value.Value.TheVariants as values
-use Rattle.ms_linear.specs.Table.{Table as TableInst}
 use Rattle.ms_linear.specs.Values.{global_type_of, type_of}
 use Rattle.ms_module.specs.declared.access.Segment.TheVariants.{Null}
 use Rattle.ms_module.specs.declared.instr.Instr.{Instr}
 use Rattle.ms_module.specs.declared.instr.Instr.TheVariants.{GlobalGet, I32Const, I64Const, Segment}
 use Rattle.ms_module.specs.declared.module.Func.{Func}
 use Rattle.ms_module.specs.declared.module.Global.{Global}
-use Rattle.ms_module.specs.declared.module.Import.{Import}
 use Rattle.ms_module.specs.declared.module.Module.{Module}
-use Rattle.ms_rules.specs.Context.{Context, context_of, imported_funcs, imported_globals, imported_memories, imported_tables, inside, sigs_of_funcs}
-use Rattle.ms_rules.specs.Modules.{ConstantTyped, FuncTyped as DeclaredTyped, Head, ImportTyped, IsConstant, StartTyped as StartDeclared, WellTyped}
-use Rattle.ms_rules.specs.Typing.{Derived, Typed, types}
+use Rattle.ms_rules.specs.Context.{Context, context_of, imported_funcs, imported_globals, imported_memories, imported_tables, inside}
+use Rattle.ms_rules.specs.Modules.{ConstantTyped, FuncTyped as DeclaredTyped, IsConstant, StartTyped as StartDeclared, WellTyped}
+use Rattle.ms_rules.specs.Typing.{Typed, types}
 use Rattle.ms_rules.proofs.Contexts.{Alike, inside_alike, typed_alike}
 use Rattle.ms_task.specs.declared.func.FuncInst.{FuncInst}
 use Rattle.ms_task.specs.Thread.{result_of}
@@ -34,15 +29,15 @@ use Rattle.ms_types.specs.declared.types.ValType.TheVariants as kinds
 use Rattle.ms_machine.specs.declared.externs.Extern.{Extern}
 use Rattle.ms_machine.specs.declared.store.Instance.{Instance}
 use Rattle.ms_machine.specs.Externs.{Made}
-use Rattle.ms_machine.specs.Linked.{StartTyped, funcs_before, funcs_in, globals_in, host_body, host_func, host_funcs, instance_in, memory_in, or_own, own_func, own_global, table_in, value_at, values_at, with_module}
-use Rattle.ms_machine.specs.Linking.{constant, constant_in, constant_of, empty_table, no_type, numbers, value_or_zero, zeroed}
+use Rattle.ms_machine.specs.Linked.{StartTyped, funcs_before, funcs_in, globals_in, host_body, host_func, host_funcs, instance_in, memory_in, or_own, own_func, own_global, table_in, values_at, with_module}
+use Rattle.ms_machine.specs.Linking.{constant, constant_of, empty_table, no_type, numbers, value_or_zero, zeroed}
 use Rattle.ms_machine.specs.Typing.{FuncTyped, InstanceTyped, IsBelow, Outline, any_size, context_at, context_in, func_type, global_type, host_type}
 use Rattle.ms_machine.proofs.LinkedIndices.{sigs_are}
 use Rattle.ms_machine.proofs.TypedCalls.{result_is}
 use Rattle.ms_machine.proofs.TypedValues.{all_at, get_mapped}
 use Rattle.ms_link.proofs.Given.{AreGiven}
-use Rattle.ms_link.proofs.Imported.{Counts, HostAt, funcs_below, funcs_named, globals_below, globals_given, globals_named, host_at, memories_count, tables_count, values_typed}
-use Rattle.ms_link.proofs.Kept.{Extends, below_more, context_is, func_kept, inside_of, instance_kept}
+use Rattle.ms_link.proofs.Imported.{Counts, funcs_below, funcs_named, globals_below, globals_given, globals_named, host_at, memories_count, tables_count, values_typed}
+use Rattle.ms_link.proofs.Kept.{Extends, context_is, func_kept, instance_kept}
 use Rattle.ms_link.proofs.Standing.{GoesOn, StandsFrom, appended, appended_map, appended_twice, get_on, get_only, get_parts, get_standing, map_numbers, mapped_at, numbers_standing, stands_last, stands_map, stands_middle}
 use Rattle.ms_link.specs.Fitting.{MadeTyped, outline}
 
@@ -235,10 +230,10 @@ module _ (made : Made) (typed : MadeTyped made) (name : List ℕ) (m : Module) (
         results = host_results h;
         body = body;
       }) where
-    host_results : (h : HostFunc) → (host_type h).results ≡ types (slice_get (host_type h).results 0)
-    host_results hosts.Putchar = refl
-    host_results hosts.Getchar = refl
-    host_results hosts.Abort = refl
+        host_results : (h : HostFunc) → (host_type h).results ≡ types (slice_get (host_type h).results 0)
+        host_results hosts.Putchar = refl
+        host_results hosts.Getchar = refl
+        host_results hosts.Abort = refl
 
   declared_typed : (a : ℕ) (g : Func) → slice_get next.funcs a ≡ Some (own_func m number g) → DeclaredTyped (context_of m) g → FuncTyped here a (own_func m number g)
   declared_typed a g found h =
@@ -270,10 +265,10 @@ module _ (made : Made) (typed : MadeTyped made) (name : List ℕ) (m : Module) (
       let h = typed.funcs a f found in
       let i = at_number made.instances f.instance h.instance in
       func_kept (outline made) here more a f i.0 found i.1 (typed.instances f.instance i.0 i.1) h where
-    at_number : (is : List Instance) (n : ℕ) → n < length is → (i : Instance) × (slice_get is n ≡ Some i)
-    at_number [] n lt = absurd (omega (arith, lt))
-    at_number (i ∷ is) zero lt = (i, refl)
-    at_number (i ∷ is) (suc n) lt = at_number is n (omega (arith, lt))
+        at_number : (is : List Instance) (n : ℕ) → n < length is → (i : Instance) × (slice_get is n ≡ Some i)
+        at_number [] n lt = absurd (omega (arith, lt))
+        at_number (i ∷ is) zero lt = (i, refl)
+        at_number (i ∷ is) (suc n) lt = at_number is n (omega (arith, lt))
 
   pub next_funcs : (a : ℕ) (f : FuncInst) → slice_get next.funcs a ≡ Some f → FuncTyped here a f
   next_funcs a f found = late (get_parts (funcs_before made es) owns a f found) where

@@ -1,5 +1,5 @@
 -- The linked store before anything has run: no global holds a handle into the segment memory, which is empty.
-use Rattle.std.proofs.Common.{◌≡◌, ◌<◌, false, ℕ, zero, suc, List, [], ◌∷◌, ◌++◌, get_or, map, replicate, slice_get, Option, Some, None, Result, Ok, Err, refl, sym, ap, subst, ◌∙◌, arith}
+use Rattle.std.proofs.Common.{◌≡◌, ◌<◌, ℕ, zero, suc, List, [], ◌∷◌, ◌++◌, map, replicate, slice_get, Result, Ok, Err, refl, subst, arith}
 use Rattle.std.specs.List.{Contains}
 use Rattle.std.proofs.lemmas.List.Elements.{All-contains, All-nil, All-replicate}
 use Rattle.ms_event.specs.Monitor.{nothing_yet, shade_of}
@@ -18,7 +18,6 @@ use Rattle.ms_module.specs.Numbered.{sequence_at}
 use Rattle.ms_segment.specs.Memory.{Memory}
 use Rattle.ms_segment.proofs.Sound.{IsData, IsSound-new}
 use Rattle.ms_tagged.specs.Bytes.{Data, Piece}
-use Rattle.ms_task.specs.Thread.{Thread}
 use Rattle.ms_machine.specs.Externs.{Fault, Made}
 use Rattle.ms_machine.specs.Holding.{Each, EachGlobal, Fits, StoreFits, ThreadHolds}
 use Rattle.ms_machine.specs.Linked.{all_more, and_then, globals_in, linked, nothing_made, one_more, own_global, store_of, value_at, values_at}
@@ -80,10 +79,10 @@ all_plain : (ms : List (List ℕ × Module)) (made last : Made) → EachGlobal I
 all_plain [] made last plain e = let same : made ≡ last = cc in subst (λ (x : Made). EachGlobal IsPlain x.globals) same plain
 all_plain (m ∷ ms) made last plain e =
     by (one_more made m.0 m.1) (λ next is. one_plain made m.0 m.1 next plain is) (λ next h is. all_plain ms next last h is) e where
-  by : (r : Result Made Fault) → ((next : Made) → r ≡ Ok next → EachGlobal IsPlain next.globals) → ((next : Made) → EachGlobal IsPlain next.globals → all_more ms next ≡ Ok last → EachGlobal IsPlain last.globals)
-      → and_then r (all_more ms) ≡ Ok last → EachGlobal IsPlain last.globals
-  by (Ok next) now later e = later next (now next refl) e
-  by (Err fault) now later e = cc
+      by : (r : Result Made Fault) → ((next : Made) → r ≡ Ok next → EachGlobal IsPlain next.globals) → ((next : Made) → EachGlobal IsPlain next.globals → all_more ms next ≡ Ok last → EachGlobal IsPlain last.globals)
+          → and_then r (all_more ms) ≡ Ok last → EachGlobal IsPlain last.globals
+      by (Ok next) now later e = later next (now next refl) e
+      by (Err fault) now later e = cc
 
 -- ---- what is plain fits, and is known
 
@@ -94,6 +93,7 @@ plain_fits m (g ∷ gs) all = (fits g.value all.0, plain_fits m gs all.1) where
   handle_fits handles.Null plain = tt
   handle_fits handles.Broken plain = tt
   handle_fits (handles.Good id base size offset) plain = absurd plain
+
   fits : (v : Value) → IsPlain v → Fits m v
   fits (values.I32 n) plain = tt
   fits (values.I64 n) plain = tt
@@ -106,6 +106,7 @@ plain_known (g ∷ gs) all = (known g.value all.0, plain_known gs all.1) where
   handle_known handles.Null plain = tt
   handle_known handles.Broken plain = tt
   handle_known (handles.Good id base size offset) plain = absurd plain
+
   known : (v : Value) → IsPlain v → Knows nothing_yet v
   known (values.I32 n) plain = tt
   known (values.I64 n) plain = tt

@@ -1,5 +1,5 @@
 -- What is written, one after the other: the sizes of tables and memories stay.
-use Rattle.std.proofs.Common.{◌≡◌, ◌≤◌, ◌<◌, ℕ, zero, suc, ◌+◌, List, [], ◌∷◌, ◌++◌, All, drop, get_or, length, map, slice_get, slice_set, Option, Some, None, refl, sym, ap, ◌∙◌, subst, arith}
+use Rattle.std.proofs.Common.{◌≡◌, ◌≤◌, ◌<◌, ℕ, zero, suc, ◌+◌, List, [], ◌∷◌, All, drop, get_or, length, map, slice_get, Option, Some, None, refl, sym, ap, ◌∙◌, subst, arith}
 use Rattle.std.proofs.lemmas.List.{drop_more, length-map}
 use Rattle.std.proofs.lemmas.List.Elements.{All-head, All-tail}
 use Rattle.std.proofs.lemmas.Option.{slice_get-get_or, slice_get_read}
@@ -15,7 +15,7 @@ use Rattle.ms_task.specs.declared.func.FuncInst.{FuncInst}
 use Rattle.ms_types.specs.declared.types.FuncType.{FuncType}
 use Rattle.ms_machine.specs.declared.store.Instance.{Instance}
 use Rattle.ms_machine.specs.Linked.{entry_in, put_all_elements, put_all_fills, put_element, put_elements, put_fill, put_fills, values_at}
-use Rattle.ms_machine.specs.Linking.{constant_of, element_in, entry_at, fill_in, index_of, with_data, with_entries, written}
+use Rattle.ms_machine.specs.Linking.{constant_of, element_in, entry_at, fill_in, index_of, with_data, with_entries}
 use Rattle.ms_machine.specs.Store.{at}
 use Rattle.ms_machine.proofs.LinkingFits.{length-written, map-same, written-more}
 use Rattle.ms_machine.proofs.TypedValues.{get_mapped}

@@ -1,5 +1,5 @@
 -- What the code answers at each part of linking one module more, and of all modules.
-use Rattle.std.proofs.Common.{◌≡◌, ◌<◌, ℕ, List, [], ◌∷◌, ◌++◌, length, map, Option, Some, None, Result, Ok, Err, refl, sym, ap, ◌∙◌, subst, append_assoc}
+use Rattle.std.proofs.Common.{◌≡◌, ℕ, List, [], ◌∷◌, ◌++◌, length, map, Option, None, Result, Ok, Err, sym, ap, ◌∙◌, subst, append_assoc}
 use Rattle.std.specs.List.{AllZip}
 use Rattle.ms_linear.specs.declared.global.GlobalInst.{GlobalInst}
 use Rattle.ms_linear.specs.Memory.{Memory as Linear}
@@ -7,17 +7,17 @@ use Rattle.ms_linear.specs.Table.{Table as TableInst}
 use Rattle.ms_module.specs.declared.module.Element.{Element}
 use Rattle.ms_module.specs.declared.module.Fill.{Fill}
 use Rattle.ms_module.specs.declared.module.Module.{Module}
-use Rattle.ms_rules.specs.Modules.{AreDistinct, WellTyped}
+use Rattle.ms_rules.specs.Modules.{AreDistinct}
 use Rattle.ms_machine.specs.declared.externs.Extern.{Extern}
 use Rattle.ms_task.specs.declared.func.FuncInst.{FuncInst}
 use Rattle.ms_machine.specs.declared.store.Instance.{Instance}
 use Rattle.ms_machine.specs.Externs.{Fault, Made, externs}
-use Rattle.ms_machine.specs.Linked.{all_more, and_then, if_inside, if_small, nothing_made, one_more, outside, too_large, unless, with_externs, with_module}
-use Rattle.ms_link.specs.Answers.{Answers, IsFault, Tests}
+use Rattle.ms_machine.specs.Linked.{all_more, and_then, if_inside, if_small, one_more, too_large, unless, with_externs}
+use Rattle.ms_link.specs.Answers.{Answers, Tests}
 use Rattle.ms_link.specs.Fitting.{ElementsFit, ElementsThere, FillsThere, MadeTyped, byte_count, entry_count}
 use Rattle.ms_link.specs.declared.fault.LinkFault.{LinkFault}
 use Rattle.ms_link.specs.declared.fault.LinkFault.TheVariants.{Refused, Memory}
-use Rattle.ms_link.proofs.Fits.{one_more_adds, one_more_typed}
+use Rattle.ms_link.proofs.Fits.{one_more_adds}
 use Rattle.ms_link.proofs.Standing.{zip_weaker}
 
 -- ---- a fault of a part is the fault of the whole

@@ -1,6 +1,6 @@
 -- Types that are the same, by the test of the definitions.
-use Rattle.std.proofs.Common.{◌≡◌, ◌↔◌, Bool, true, false, ◌&&◌, List, [], ◌∷◌, IsTrue, refl, sym, ap, ◌∙◌}
-use Rattle.ms_linear.specs.Table.{same_sig, same_type, same_types}
+use Rattle.std.proofs.Common.{◌≡◌, ◌↔◌, Bool, true, false, ◌&&◌, List, [], IsTrue, refl, sym, ap, ◌∙◌}
+use Rattle.ms_linear.specs.Table.{same_types}
 use Rattle.ms_linear.proofs.Targets.{same_sig-is, same_sig-refl}
 use Rattle.ms_types.specs.declared.types.FuncType.{FuncType}
 use Rattle.ms_types.specs.declared.types.ValType.{ValType}

@@ -1,5 +1,5 @@
 -- The linked store is well typed: elements are functions beside their types, and nothing else has changed.
-use Rattle.std.proofs.Common.{◌≡◌, ◌≤◌, ◌<◌, ℕ, zero, suc, ◌+◌, List, [], ◌∷◌, ◌++◌, All, length, map, replicate, slice_get, Option, Some, None, Result, Ok, Err, refl, sym, ap, ◌∙◌, subst, arith}
+use Rattle.std.proofs.Common.{◌≡◌, ◌<◌, ℕ, zero, suc, List, [], ◌∷◌, All, length, map, slice_get, Option, Some, None, Result, Ok, Err, refl, ◌∙◌, subst, arith}
 use Rattle.std.proofs.lemmas.List.Elements.{All-cons, All-map, All-nil, All-weaker}
 use Rattle.ms_linear.specs.declared.global.GlobalInst.{GlobalInst}
 use Rattle.ms_linear.specs.declared.table.Entry.{Entry}
@@ -15,7 +15,7 @@ use Rattle.ms_machine.specs.Externs.{Fault, Made}
 use Rattle.ms_machine.specs.Linked.{StartsTyped, all_more, entry_in, linked, nothing_made, put_all_elements, put_all_fills, put_element, put_elements, put_fill, put_fills, store_of, stored, values_at}
 use Rattle.ms_machine.specs.Linking.{constant_of, index_of}
 use Rattle.ms_machine.specs.Store.{Store}
-use Rattle.ms_machine.specs.Typing.{EntryTyped, FuncTyped, Outline, StoreTyped, outline_of}
+use Rattle.ms_machine.specs.Typing.{EntryTyped, Outline, StoreTyped, outline_of}
 use Rattle.ms_machine.proofs.LinkedTables.{TableTyped, element_typed, entry_typed, length-element, length-fill}
 use Rattle.ms_machine.proofs.TypedValues.{all_at}
 use Rattle.ms_link.proofs.Fits.{all_more_typed, nothing_typed}

@@ -1,8 +1,9 @@
 //! Linking (WebAssembly 1.0, 4.5.4): several modules, and the functions of the host, to one store.
 //!
 //! It stands on `ms_machine`, which has the definitions: read its `specs/Externs.antt` first, which says what an import is given,
-//! then `specs/Linked.antt`, the store or the first fault. `link` is exactly that; its store is well typed, its handles fit, and it
-//! is safe before anything has happened, whatever the modules share.
+//! then `specs/Linked.antt`, the store or the first fault. `link` is exactly that. Its clauses: `link`, the definition; `typed`, the
+//! store is well typed; `fits`, its handles fit; `sound`, it is safe before anything has happened; `starts`, each start function is
+//! there and takes and gives nothing. All hold whatever the modules share.
 #![tactic(auto)]
 
 mod constant;
@@ -10,8 +11,8 @@ mod fault;
 mod fitting;
 mod hosting;
 mod known;
-mod linking;
 mod linker;
+mod linking;
 mod looking;
 mod making;
 mod matching;

@@ -192,9 +192,7 @@ impl Linker {
         );
         let instances = instances_of(alloc, instances)?;
         let segments = Segments::new(alloc, capacity)?;
-        Ok(Store::of(
-            funcs, instances, tables, memories, globals, segments,
-        ))
+        Ok(Store::of(funcs, instances, tables, memories, globals, segments))
     }
 }
 

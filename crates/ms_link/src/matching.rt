@@ -155,16 +155,17 @@ fn global_is(globals: &[GlobalInst], a: u32, wanted: GlobalType) -> bool
 fn if_same(same: bool, given: Extern) -> Result<Extern, Why>
     ensures { result ≡ externs.if_same same given }
 {
-    if same {
-        Ok(given)
-    } else {
-        Err(Why::Signature)
-    }
+    if same { Ok(given) } else { Err(Why::Signature) }
 }
 
 impl Linker {
     /// What was found, if it is of the kind and the type that are asked for.
-    pub(crate) fn matched(&self, sigs: &[FuncType], desc: ImportDesc, given: Extern) -> Result<Extern, Why>
+    pub(crate) fn matched(
+        &self,
+        sigs: &[FuncType],
+        desc: ImportDesc,
+        given: Extern,
+    ) -> Result<Extern, Why>
         ensures { result ≡ externs.matched self.now sigs.now desc given }
     {
         match desc {

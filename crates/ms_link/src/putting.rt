@@ -55,7 +55,13 @@ fn put_element(
     };
     let at = index_of(constant(globals, instance.globals.as_slice(), &e.offset));
     let table = &mut tables[address as usize];
-    put_entries(table, funcs, instance.funcs.as_slice(), at, e.funcs.as_slice())
+    put_entries(
+        table,
+        funcs,
+        instance.funcs.as_slice(),
+        at,
+        e.funcs.as_slice(),
+    )
 }
 
 /// Puts the elements of an instance, in order.
@@ -88,7 +94,13 @@ pub(crate) fn put_all_elements(
     ensures { OnOk result (tables.new ≡ linked.put_all_elements funcs.now globals.now instances.now elements.now tables.old) }
 {
     for (k, known) in instances.iter().enumerate() {
-        put_elements(tables, funcs, globals, known.instance(), elements[k].as_slice())?;
+        put_elements(
+            tables,
+            funcs,
+            globals,
+            known.instance(),
+            elements[k].as_slice(),
+        )?;
     }
     Ok(())
 }

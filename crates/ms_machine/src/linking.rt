@@ -97,6 +97,8 @@ fn store_for<G: Gaps, T: Tagged>(
     let global_count = module.globals.len() as u32;
     let types = share_types(alloc, module.sigs.into_vec())?;
     let funcs = functions(alloc, types.as_slice(), module.funcs.into_vec())?;
+    let exports = module.exports;
+    let start = module.start;
     let tables = module.tables.as_slice();
     let memories = module.memories.as_slice();
     let elements = module.elements.as_slice();
@@ -108,8 +110,8 @@ fn store_for<G: Gaps, T: Tagged>(
         tables,
         memories,
         global_count,
-        module.exports,
-        module.start,
+        exports,
+        start,
     )?;
     let mut instances = Vec::with_capacity(alloc, 1)?;
     instances.push(instance)?;

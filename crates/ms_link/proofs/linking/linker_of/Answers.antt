@@ -3,7 +3,6 @@ use Rattle.std.specs.Vec.Iter.{into_iter_items}
 use Rattle.ms_module.specs.declared.module.Module.{Module}
 use Rattle.ms_names.specs.Numbered.{number_of}
 use Rattle.ms_rules.specs.Modules.{AreDistinct}
-use Rattle.ms_machine.specs.Externs.{Made}
 use Rattle.ms_machine.specs.Linked.{all_more, one_more}
 use Rattle.ms_link.proofs.Fits.{one_more_typed}
 use Rattle.ms_link.proofs.Refusing.{all_go_on, names_go_on}

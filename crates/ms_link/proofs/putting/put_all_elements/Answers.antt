@@ -1,5 +1,4 @@
-use Rattle.std.proofs.Common.{◌≡◌, ◌<◌, All, length, map, get_or, slice_get, sym, ap, ◌∙◌, subst, arith}
-use Rattle.ms_module.specs.declared.module.Element.{Element}
+use Rattle.std.proofs.Common.{◌≡◌, ◌<◌, All, length, map, get_or, sym, subst, arith}
 use Rattle.ms_machine.specs.declared.store.Instance.{Instance}
 use Rattle.ms_machine.specs.Linked.{values_at}
 use Rattle.ms_link.proofs.Puts.{elements_more, zip_length, zip_read}

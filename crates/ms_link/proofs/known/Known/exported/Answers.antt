@@ -1,4 +1,4 @@
-use Rattle.std.proofs.Common.{◌≡◌, slice_get, None, Some, ap, refl, sym, ◌∙◌}
+use Rattle.std.proofs.Common.{slice_get, ap, refl, sym, ◌∙◌}
 use Rattle.std.proofs.lemmas.Option.{slice_get_read}
 use Rattle.std.specs.Option.{option_and_then}
 use Rattle.ms_module.specs.declared.module.Export.{Export}
