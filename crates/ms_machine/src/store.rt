@@ -63,6 +63,20 @@ impl<G: Gaps, T: Tagged> Store<G, T> {
         }
     }
 
+    /// The functions, by their addresses.
+    pub fn funcs(&self) -> &[FuncInst]
+        ensures { result.now ≡ self.now.funcs }
+    {
+        &self.funcs
+    }
+
+    /// The instances, by their numbers.
+    pub fn instances(&self) -> &[Instance]
+        ensures { result.now ≡ self.now.instances }
+    {
+        &self.instances
+    }
+
     /// The store of these parts.
     pub fn of(
         funcs: Vec<FuncInst>,

@@ -1,6 +1,7 @@
 use Rattle.std.proofs.Common.{◌≡◌, map, ap, ◌∙◌}
 use Rattle.ms_machine.specs.Linking.{func_of}
 use Rattle.ms_machine.proofs.LinkingRoom.{elements-room, elements-there, fills-room}
+use Rattle.ms_machine.proofs.LinkingSizes.{memories-small, tables-small}
 use Rattle.ms_machine.proofs.linking.store_for.Goals as goal
 
 pub tables_with-requires-clause-room : goal.tables_with-requires-clause-room
@@ -17,3 +18,9 @@ tables_with-requires-clause-there g c =
 pub memories_with-requires-clause-room : goal.memories_with-requires-clause-room
 memories_with-requires-clause-room g c =
     fills-room c.args.module c.args.values.now c.as_slice-memories.result.now c.as_slice-fills.result.now c.requires.typed c.requires.alone c.requires.fits c.requires.values c.as_slice-memories.ensures c.as_slice-fills.ensures
+
+pub tables_with-requires-clause-sizes : goal.tables_with-requires-clause-sizes
+tables_with-requires-clause-sizes g c = tables-small c.args.module c.as_slice-tables.result.now c.requires.fits c.as_slice-tables.ensures
+
+pub memories_with-requires-clause-sizes : goal.memories_with-requires-clause-sizes
+memories_with-requires-clause-sizes g c = memories-small c.args.module c.as_slice-memories.result.now c.requires.fits c.as_slice-memories.ensures
