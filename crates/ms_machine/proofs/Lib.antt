@@ -29,7 +29,6 @@ pub mod LinkedTypes
 pub mod LinkedStores
 pub mod LinkingFits
 pub mod LinkingRoom
-pub mod LinkingSizes
 pub mod SafePaints
 pub mod SafeStates
 pub mod SafeMaking

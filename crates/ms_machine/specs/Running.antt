@@ -131,7 +131,7 @@ pub record HasBegun (left left' held held' : Option (List ℕ)) (input : List (O
 -- nothing outside failed, and memory didn't run out
 abbrev pub IsOver : Ran → Type 0
 IsOver (answers.Result value) = Unit {0}
-IsOver (answers.Trap kind) = Unit {0}
+IsOver (answers.Trap _) = Unit {0}
 IsOver answers.Budget = Unit {0}
 IsOver answers.ReadFault = ⊥
 IsOver answers.WriteFault = ⊥

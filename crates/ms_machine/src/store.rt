@@ -77,6 +77,13 @@ impl<G: Gaps, T: Tagged> Store<G, T> {
         &self.instances
     }
 
+    /// The segment memory.
+    pub fn segments(&self) -> &Segments<G, T>
+        ensures { result.now ≡ self.now.segments }
+    {
+        &self.segments
+    }
+
     /// The store of these parts.
     pub fn of(
         funcs: Vec<FuncInst>,

@@ -81,6 +81,10 @@ module _ (name bytes : List ℕ) (budget capacity : ℕ) (r : Report) (f : Flow)
   outcome_told (outcomes.Ran endings.Memory) (given, run, s, e, takes, puts, does) reports =
       (given, does.given, (tells (starved_tells (Executes name budget capacity given) bytes r result reports), flows given run e (subst (Flowed given f run) (sym reports.0) does)))
 
+  -- the same of what the module was before
+  pub same_told : (n : Module) (outcome : Outcome) → n ≡ m → DoesOutcome budget capacity n f (Ok outcome) → AnswersOutcome outcome r result → Told
+  same_told n outcome same h reports = outcome_told outcome (subst (λ (x : Module). DoesOutcome budget capacity x f (Ok outcome)) same h) reports
+
   -- memory ran out before there was an outcome
   pub none_told : IsQuiet f → (result ≡ OutOfMemory) → IsKept r → Told
   none_told still same kept =

@@ -11,3 +11,4 @@ pub mod Listing
 pub mod Safe
 pub mod Outs
 pub mod Telling
+pub mod Making

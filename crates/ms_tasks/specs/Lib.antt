@@ -5,3 +5,5 @@ pub mod Parts
 pub mod Rows
 pub mod Schedules
 pub mod Runs
+pub mod Tasks
+pub mod Making

@@ -1,6 +1,6 @@
 //! A whole run: the start functions, then the tasks.
 
-ghost use Rattle.std.specs.Prelude.{◌≡◌, ◌+◌, ◌<◌, ◌^◌, false, length};
+ghost use Rattle.std.specs.Prelude.{◌≡◌, ◌+◌, ◌<◌, ◌≤◌, ◌^◌, false, length};
 ghost use Rattle.ms_handle.specs.declared.handle.Handle.{Handle};
 ghost use Rattle.ms_segment.specs.Memory.{IsFit};
 ghost use Rattle.ms_machine.specs.Crews.{OutOfBudget, Results, are_ended, begun, ends, results, run_entries, run_of};
@@ -48,6 +48,9 @@ fn run_tasks<G: Gaps, T: Tagged, I: Source, O: Sink>(
     ensures ready { IsWell result → IsReady (crew_in store.new tasks.new) }
     ensures outline { IsWell result → outline_of store.new ≡ outline_of store.old }
     ensures others { IsWell result → (h : Handle) → IsFit store.old.segments h → IsFit store.new.segments h }
+    ensures made { IsWell result → store.new.segments.made ≤ store.old.segments.made + most }
+    ensures entries { IsWell result → log.new.entries ≤ log.old.entries + most }
+    ensures within { IsWell result → IsWithin log.new.entries log.new.told }
     ensures input_faults { CountsInput result (I.faults input.old) (I.faults input.new) }
     ensures out_faults { CountsOut result (O.faults out.old) (O.faults out.new) }
 {
@@ -79,6 +82,9 @@ pub(crate) fn run_all<G: Gaps, T: Tagged, I: Source, O: Sink>(
     requires room { log.old.entries + budget < 2 ^ 63 }
     ensures run { Answers result (run_of (entries_of schedule.now (length tasks.old) budget) (all_in store.old chain.old tasks.old)) (ends (Results (results (threads_in store.new tasks.new))) (begun (all_in store.new chain.new tasks.new))) (ends OutOfBudget (begun (all_in store.new chain.new tasks.new))) (begun (all_in store.new chain.new tasks.new)) (I.left input.old) (I.left input.new) (O.held out.old) (O.held out.new) log.old log.new }
     ensures ready { IsWell result → IsReady (all_in store.new chain.new tasks.new) }
+    ensures made { IsWell result → store.new.segments.made ≤ store.old.segments.made + budget }
+    ensures entries { IsWell result → log.new.entries ≤ log.old.entries + budget }
+    ensures within { IsWell result → IsWithin log.new.entries log.new.told }
     ensures input_faults { CountsInput result (I.faults input.old) (I.faults input.new) }
     ensures out_faults { CountsOut result (O.faults out.old) (O.faults out.new) }
 {

@@ -60,6 +60,9 @@ pub(crate) fn run_turns<G: Gaps, T: Tagged, I: Source, O: Sink>(
     ensures ready { IsWell result → IsReady (crew_in store.new tasks.new) }
     ensures outline { IsWell result → outline_of store.new ≡ outline_of store.old }
     ensures others { IsWell result → (h : Handle) → IsFit store.old.segments h → IsFit store.new.segments h }
+    ensures made { IsWell result → store.new.segments.made ≤ store.old.segments.made + most }
+    ensures entries { IsWell result → log.new.entries ≤ log.old.entries + most }
+    ensures within { IsWell result → IsWithin log.new.entries log.new.told }
     ensures input_faults { CountsInput result (I.faults input.old) (I.faults input.new) }
     ensures out_faults { CountsOut result (O.faults out.old) (O.faults out.new) }
 {

@@ -1,11 +1,16 @@
 //! Crews.
 
-ghost use Rattle.std.specs.Prelude.{◌≡◌, ◌≢◌, ℕ, ◌+◌, ◌<◌, ◌^◌, true, List, [], Some, length, slice_get};
+ghost use Rattle.std.specs.Prelude.{◌≡◌, ◌≢◌, ◌+◌, ◌<◌, ◌≤◌, ◌^◌, true, List, [], Some, IfOk, MatchResult, length, slice_get};
+ghost use Rattle.ms_event.specs.declared.event.Event.{Event};
 ghost use Rattle.ms_event.specs.Monitor.{Accepts};
 ghost use Rattle.ms_machine.specs.Crews.{Input, Stuck, events_of, run_of};
+ghost use Rattle.ms_machine.specs.Holding.{StoreFits};
+ghost use Rattle.ms_machine.specs.Linked.{StartsTyped};
 ghost use Rattle.ms_machine.specs.Safety.{Sound};
+ghost use Rattle.ms_machine.specs.Typing.{StoreTyped, outline_of};
 ghost use Rattle.ms_task.specs.View.{thread_of};
 ghost use Rattle.ms_tasks.specs.Logs.{IsWithin};
+ghost use Rattle.ms_tasks.specs.Making.{IsCrewOf, Refuses};
 ghost use Rattle.ms_tasks.specs.Ready.{IsReady, threads_of};
 ghost use Rattle.ms_tasks.specs.Runs.{CountsInput, CountsOut, DoesRun, IsOver};
 ghost use Rattle.ms_tasks.specs.Schedules.{HasTurns, entries_of};
@@ -13,12 +18,16 @@ ghost use Rattle.ms_tasks.specs.Schedules.{HasTurns, entries_of};
 use crate::all::run_all;
 use crate::log::Log;
 use crate::ran::{Ran, ran_of};
+use crate::refusal::Refusal;
 use crate::schedule::Schedule;
+use crate::starting::{chain_of, tasks_of};
 use ms_live::Gaps;
 use ms_machine::Store;
+use ms_module::Name;
 use ms_outside::{Sink, Source};
 use ms_tagged::Tagged;
 use ms_task::Task;
+use std::alloc::Global;
 use std::marker::Model;
 
 /// A store, with its start functions and its tasks.
@@ -39,6 +48,28 @@ impl<G: Gaps, T: Tagged> Model for Crew<G, T> {
 }
 
 impl<G: Gaps, T: Tagged> Crew<G, T> {
+    /// The crew of a store, with its start functions, and of tasks: each is the function that the module of a number exports by
+    /// a name, which takes nothing and gives nothing or one number. It refuses the first one that there isn't.
+    pub fn new(alloc: Global, store: Store<G, T>, tasks: Vec<(u32, Name)>) -> Result<Self, Refusal>
+        requires typed { StoreTyped (outline_of store) }
+        requires fits { StoreFits store }
+        requires starts { StartsTyped store }
+        requires few { length tasks.items < 2 ^ 32 }
+        ensures new { MatchResult result (λ c. IsCrewOf store tasks.items c) (λ r. Refuses store tasks.items r) }
+        ensures ready { IfOk result IsReady }
+        ensures sound { IfOk result (λ c. (events : List Event) → Sound events store [] → Sound events c.store (threads_of c)) }
+    {
+        let Ok(chain) = chain_of(alloc, &store) else {
+            return Err(Refusal::Memory);
+        };
+        let tasks = tasks_of(alloc, &store, tasks.as_slice())?;
+        Ok(Crew {
+            store,
+            chain,
+            tasks,
+        })
+    }
+
     /// The store.
     pub fn store(&self) -> &Store<G, T>
         ensures { result.now ≡ self.now.store }
@@ -80,6 +111,9 @@ impl<G: Gaps, T: Tagged> Crew<G, T> {
         ensures input_faults { CountsInput result (I.faults input.old) (I.faults input.new) }
         ensures out_faults { CountsOut result (O.faults out.old) (O.faults out.new) }
         ensures ready { IsOver result → IsReady self.new }
+        ensures made { IsOver result → self.new.store.segments.made ≤ self.old.store.segments.made + budget }
+        ensures entries { IsOver result → log.new.entries ≤ log.old.entries + budget }
+        ensures within { IsOver result → IsWithin log.new.entries log.new.told }
         ensures never_stuck { (given : Input) → (run_of (entries_of schedule.now (length self.old.tasks) budget) self.old given).end ≢ Stuck }
         // The events of the run are a trace that the colour monitor accepts.
         ensures accepted { Sound [] self.old.store (threads_of self.old) → (given : Input) → Accepts (length self.old.store.segments.bytes) (events_of (run_of (entries_of schedule.now (length self.old.tasks) budget) self.old given).deeds) }

@@ -1,7 +1,8 @@
 //! Crews: a store, its start functions and its tasks, and runs of them by a schedule.
 //!
-//! It stands on `ms_machine`. Read `specs/Crews.antt` there first, which says what a run of a crew is, on lists; then
-//! `specs/Ready.antt` for crews that may be run, `specs/Outside.antt` for what a run leaves outside, and `specs/Logs.antt`.
+//! It stands on `ms_machine`. Read `specs/Crews.antt` there first, which says what a run of a crew is, on lists; then here
+//! `specs/Tasks.antt` for the crew of a store, `specs/Ready.antt` for crews that may be run, `specs/Outside.antt` for what a run
+//! leaves outside, and `specs/Logs.antt` for its log.
 #![tactic(auto)]
 
 mod all;
@@ -9,15 +10,19 @@ mod burst;
 mod by_list;
 mod by_turns;
 mod crew;
+mod finding;
 mod laws;
 mod log;
 mod ran;
+mod refusal;
 mod rows;
 mod schedule;
 mod start_chain;
+mod starting;
 
 pub use crew::Crew;
 pub use laws::runs_are_safe;
 pub use log::Log;
 pub use ran::Ran;
+pub use refusal::Refusal;
 pub use schedule::Schedule;

@@ -48,6 +48,62 @@ impl Log {
         }
     }
 
+    /// How many entries of schedules were used.
+    pub fn entries(&self) -> u64
+        ensures { result ≡ self.now.entries }
+    {
+        self.entries
+    }
+
+    /// How many segments were made.
+    pub fn allocs(&self) -> u64
+        ensures { result ≡ self.now.told.allocs }
+    {
+        self.allocs
+    }
+
+    /// How many were refused.
+    pub fn refused(&self) -> u64
+        ensures { result ≡ self.now.told.refused }
+    {
+        self.refused
+    }
+
+    /// How many handles were made of others.
+    pub fn slices(&self) -> u64
+        ensures { result ≡ self.now.told.slices }
+    {
+        self.slices
+    }
+
+    /// How many reads there were.
+    pub fn reads(&self) -> u64
+        ensures { result ≡ self.now.told.reads }
+    {
+        self.reads
+    }
+
+    /// How many writes there were.
+    pub fn writes(&self) -> u64
+        ensures { result ≡ self.now.told.writes }
+    {
+        self.writes
+    }
+
+    /// How many segments were freed.
+    pub fn frees(&self) -> u64
+        ensures { result ≡ self.now.told.frees }
+    {
+        self.frees
+    }
+
+    /// The events, in order, where they are kept.
+    pub fn events(&self) -> &[Event]
+        ensures { result.now ≡ self.now.told.events }
+    {
+        &self.events
+    }
+
     /// One more event.
     fn see_event(&mut self, event: Event) -> Result<(), AllocError>
         requires { IsWithin (2 ^ 63) self.old.told }

@@ -1,7 +1,10 @@
-use Rattle.std.proofs.Common.{◌≡◌, map, ap, ◌∙◌}
+use Rattle.std.proofs.Common.{◌≡◌, ◌≤◌, All, map, ap, sym, subst, ◌∙◌}
+use Rattle.ms_linear.specs.Memory.{most_pages}
+use Rattle.ms_linear.specs.Table.{most_entries}
+use Rattle.ms_types.specs.declared.types.Limits.{Limits}
+use Rattle.ms_machine.proofs.Fitting.{misfit_fitting}
 use Rattle.ms_machine.specs.Linking.{func_of}
 use Rattle.ms_machine.proofs.LinkingRoom.{elements-room, elements-there, fills-room}
-use Rattle.ms_machine.proofs.LinkingSizes.{memories-small, tables-small}
 use Rattle.ms_machine.proofs.linking.store_for.Goals as goal
 
 pub tables_with-requires-clause-room : goal.tables_with-requires-clause-room
@@ -20,7 +23,9 @@ memories_with-requires-clause-room g c =
     fills-room c.args.module c.args.values.now c.as_slice-memories.result.now c.as_slice-fills.result.now c.requires.typed c.requires.alone c.requires.fits c.requires.values c.as_slice-memories.ensures c.as_slice-fills.ensures
 
 pub tables_with-requires-clause-sizes : goal.tables_with-requires-clause-sizes
-tables_with-requires-clause-sizes g c = tables-small c.args.module c.as_slice-tables.result.now c.requires.fits c.as_slice-tables.ensures
+tables_with-requires-clause-sizes g c =
+    subst (All (λ (l : Limits). l.min ≤ most_entries)) (sym c.as_slice-tables.ensures) ((misfit_fitting c.args.module).0 c.requires.fits).tables
 
 pub memories_with-requires-clause-sizes : goal.memories_with-requires-clause-sizes
-memories_with-requires-clause-sizes g c = memories-small c.args.module c.as_slice-memories.result.now c.requires.fits c.as_slice-memories.ensures
+memories_with-requires-clause-sizes g c =
+    subst (All (λ (l : Limits). l.min ≤ most_pages)) (sym c.as_slice-memories.ensures) ((misfit_fitting c.args.module).0 c.requires.fits).memories

@@ -1,11 +1,9 @@
-use Rattle.std.proofs.Common.{refl, subst}
+use Rattle.std.proofs.Common.{refl}
 use Rattle.ms_machine.proofs.Outsides.{some_input}
-use Rattle.ms_module.specs.declared.module.Module.{Module}
-use Rattle.ms_run.specs.Executions.{AnswersAs, DoesOutcome, execution_within}
+use Rattle.ms_run.specs.Executions.{AnswersAs, execution_within}
 use Rattle.ms_run.specs.Flows.{quiet, tells}
 use Rattle.ms_run.specs.Loading.{form_of}
-use Rattle.std.specs.Prelude.{Ok, Err}
-use Rattle.ms_run.proofs.Flowing.{fault_unrun, none_told, outcome_told}
+use Rattle.ms_run.proofs.Flowing.{fault_unrun, none_told, same_told}
 use Rattle.ms_run.proofs.Told.{fault_told}
 use Rattle.ms_run.proofs.executing.exec_bytes.Goals as goal
 
@@ -23,8 +21,8 @@ returns-in-Err g c =
 pub returns-in-Ok-outcome_within : goal.returns-in-Ok-outcome_within
 returns-in-Ok-outcome_within g c =
     let m = c.in-Ok.valid in
-    outcome_told c.args.file.now c.args.bytes.now c.args.budget c.args.memory _ _ c.answer_outcome.result m c.in-Ok.ensures.found.0 c.in-Ok.ensures.found.1 c.in-Ok-outcome_within.outcome
-    (subst (λ (x : Module). DoesOutcome c.args.budget c.args.memory x _ (Ok c.in-Ok-outcome_within.outcome)) c.into_module.ensures.same c.in-Ok-outcome_within.ensures.outcome) c.answer_outcome.ensures
+    same_told c.args.file.now c.args.bytes.now c.args.budget c.args.memory _ _ c.answer_outcome.result m c.in-Ok.ensures.found.0 c.in-Ok.ensures.found.1
+    c.into_module.result c.in-Ok-outcome_within.outcome c.into_module.ensures.same c.in-Ok-outcome_within.ensures.outcome c.answer_outcome.ensures
 
 pub returns-in-Err-outcome_within : goal.returns-in-Err-outcome_within
 returns-in-Err-outcome_within g c =

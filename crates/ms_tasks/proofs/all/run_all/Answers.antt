@@ -37,6 +37,9 @@ returns-in_default g c =
       ready = λ well.
           subst (λ (l : List Thread). IsReady (record { store = s'; chain = chain'; tasks = l })) (threads_stay s s' tasks (e.outline well))
           (tasks_stay_ready s s' (threads_in s c.args.chain.now) chain' ts c.requires.ready (e.ready well) (e.outline well) (e.others well));
+      made = λ well. let m = e.made well in let w = c.most-most.ensures.within in omega (arith, m, w);
+      entries = λ well. let m = e.entries well in let w = c.most-most.ensures.within in omega (arith, m, w);
+      within = e.within;
       input_faults = e.input_faults;
       out_faults = e.out_faults;
     }
@@ -137,6 +140,9 @@ returns g c =
       ready = λ fine.
           subst (λ (l : List Thread). IsReady (record { store = s''; chain = l; tasks = threads_in s'' t.new.tasks })) (threads_stay s' s'' r.new.chain (t.ensures.outline fine))
           (chain_stays_ready s' s'' chain' ts (threads_in s'' t.new.tasks) inside (t.ensures.ready fine) (t.ensures.outline fine) (t.ensures.others fine));
+      made = λ fine. let m = e.made well in let y = t.ensures.made fine in let w = c.most-most.ensures.within in omega (arith, m, y, w);
+      entries = λ fine. let m = e.entries well in let y = t.ensures.entries fine in let w = c.most-most.ensures.within in omega (arith, m, y, w);
+      within = t.ensures.within;
       input_faults = subst (λ x. CountsInput t.result x (g.I.Source.faults t.new.input)) (subst (λ (h : Halt). CountsInput h (g.I.Source.faults c.args.input.now) (g.I.Source.faults r.new.input)) c.in-Ended.is e.input_faults) t.ensures.input_faults;
       out_faults = subst (λ x. CountsOut t.result x (g.O.Sink.faults t.new.out)) (subst (λ (h : Halt). CountsOut h (g.O.Sink.faults c.args.out.now) (g.O.Sink.faults r.new.out)) c.in-Ended.is e.out_faults) t.ensures.out_faults;
     }

@@ -45,12 +45,18 @@ returns-in_default g c =
     let ended = ends (Results (results (threads_in r.new.store r.new.tasks))) after in
     let mid = run_entries (replicate row k ++ rest) before in
     let first = subst (λ ks. ComesTo (left c.args.input.now) (left l.input) (held c.args.out.now) (held l.out) c.args.log.now l.log all (run_entries ks before)) (row_at xs l.at n k (slice_get-get_or xs l.at 0 c.loop-at-test.true) (subst (λ ys. ys ≡ replicate n k ++ drop n ys) (behind_at (l.at + 1) xs) c.row_of-row.ensures.row)) v.runs in
+    let within = subst (λ ys. n ≤ length ys) (behind_at (l.at + 1) xs) c.row_of-row.ensures.within in
+    let some = c.loop-at-test.true in
+    let d = length-drop (l.at + 1) xs in
     record {
       run = answers_on r.result.0 (left c.args.input.now) (left l.input) (left r.new.input) (held c.args.out.now) (held l.out) (held r.new.out) c.args.log.now l.log r.new.log all mid ended (ends OutOfBudget after) after first
           (not_paused r.result.0 (left l.input) (left r.new.input) (held l.out) (held r.new.out) l.log r.new.log mid ended (run_entries rest after) (ends OutOfBudget after) after c.in_default.not-Paused (e.run rest));
       ready = e.ready;
       outline = λ well. e.outline well ∙ v.outline;
       others = λ well h fit. e.others well h (v.others h fit);
+      made = λ well. let m = e.made well in let y = v.made in omega (arith, m, y, within, d, some);
+      entries = λ well. let m = e.entries well in let y = v.log in omega (arith, m, y, within, d, some);
+      within = e.within;
       input_faults = subst (λ x. CountsInput r.result.0 x (g.I.Source.faults r.new.input)) v.input e.input_faults;
       out_faults = subst (λ x. CountsOut r.result.0 x (g.O.Sink.faults r.new.out)) v.out e.out_faults;
     }

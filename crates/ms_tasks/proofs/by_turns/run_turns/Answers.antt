@@ -63,6 +63,9 @@ returns-in_default g c =
       ready = e.ready;
       outline = λ well. e.outline well ∙ v.outline;
       others = λ well h fit. e.others well h (v.others h fit);
+      made = λ well. let m = e.made well in let y = v.made in let w = c.least-row.ensures.within in omega (arith, m, y, w);
+      entries = λ well. let m = e.entries well in let y = v.entries in let w = c.least-row.ensures.within in omega (arith, m, y, w);
+      within = e.within;
       input_faults = subst (λ x. CountsInput r.result.0 x (g.I.Source.faults r.new.input)) v.input e.input_faults;
       out_faults = subst (λ x. CountsOut r.result.0 x (g.O.Sink.faults r.new.out)) v.out e.out_faults;
     }

@@ -1,4 +1,4 @@
-use Rattle.std.proofs.Common.{◌≡◌, ℕ, List, length, sym, ap, subst, ◌∙◌}
+use Rattle.std.proofs.Common.{◌≡◌, ◌≤◌, ◌+◌, ℕ, List, length, sym, ap, subst, ◌∙◌}
 use Rattle.std.proofs.lemmas.List.{length-map, with_items_is}
 use Rattle.std.specs.Vec.{with_items}
 use Rattle.ms_machine.specs.Crews.{Crew, Input, run_of}
@@ -49,6 +49,9 @@ returns g c =
       input_faults = subst (λ (x : Ran). CountsInput x (g.I.Source.faults c.args.input.now) (g.I.Source.faults r.new.input)) (sym c.ran_of.ensures) (counts_input r.result (g.I.Source.faults c.args.input.now) (g.I.Source.faults r.new.input) e.input_faults);
       out_faults = subst (λ (x : Ran). CountsOut x (g.O.Sink.faults c.args.out.now) (g.O.Sink.faults r.new.out)) (sym c.ran_of.ensures) (counts_out r.result (g.O.Sink.faults c.args.out.now) (g.O.Sink.faults r.new.out) e.out_faults);
       ready = λ over. subst IsReady viewed (e.ready (well_over r.result (subst IsOver c.ran_of.ensures over)));
+      made = λ over. subst (λ (x : Crew). r.new.store.segments.made ≤ x.store.segments.made + budget) same (e.made (well_over r.result (subst IsOver c.ran_of.ensures over)));
+      entries = λ over. e.entries (well_over r.result (subst IsOver c.ran_of.ensures over));
+      within = λ over. e.within (well_over r.result (subst IsOver c.ran_of.ensures over));
       never_stuck = λ given. (run_ready ks now given c.requires.ready).1;
       accepted = λ sound given. run_accepted ks now given c.requires.ready sound;
       kept = λ keep sound. kept_accepted c.ran_of.result left left' held held' old new ks now seen does.0 does.1 c.requires.ready keep sound;
