@@ -14,7 +14,7 @@ use Rattle.ms_words.specs.Commands.{usage_lines}
 use Rattle.ms_run.specs.Answers.{Answers, Command, Contents, Executes, Fault, File, Found, read_fault, too_long, within}
 use Rattle.ms_run.specs.Answers as table
 use Rattle.ms_run.specs.Observed.{Flow, Report, Shelved}
-use Rattle.ms_run.specs.Reporting.{CountsFound, Delivers, Did, Grows, HasFailed, HasWritten, IsFound, KeepsFiles, Reports, answered, failed, put, ran_out, starved}
+use Rattle.ms_run.specs.Reporting.{CountsFound, Delivers, Did, Grows, HasFailed, HasWritten, IsFound, IsKept, KeepsFiles, Reports, answered, failed, put, ran_out, starved}
 use Rattle.ms_run.specs.declared.status.Status.{Status}
 use Rattle.ms_run.specs.declared.status.Status.TheVariants as statuses
 use Rattle.ms_run.proofs.Once.{AllOrdinary, IsOnce, IsOrdinary, Same, answers_once, answers_ordinary, assembles_once, assembles_ordinary, checks_once, checks_ordinary, disassembles_once, disassembles_ordinary, executes_once, executes_ordinary}
@@ -41,15 +41,15 @@ ordinary given (Dis file out) = disassembles_ordinary out
 
 -- ---- the words
 
-pub asked_none : (words : List (List ℕ)) → is_taken words ≡ false → asked_of words ≡ None
+asked_none : (words : List (List ℕ)) → is_taken words ≡ false → asked_of words ≡ None
 asked_none words h = rw h refl
 
 module _ (words : List (List ℕ)) (given : List (Option ℕ)) (s : Shelved) (r : Report) (f : Flow) where
-  pub usage_gave : (result : Status) → is_taken words ≡ false → SameCounts s.reads_old s.reads_new → KeepsFiles s → Reports statuses.Usage usage_lines r result → Responds words given s r f result
+  usage_gave : (result : Status) → is_taken words ≡ false → SameCounts s.reads_old s.reads_new → KeepsFiles s → Reports statuses.Usage usage_lines r result → Responds words given s r f result
   usage_gave result h same kept reports =
       gave (Contents []) statuses.Usage usage_lines None (rw (asked_none words h) tt) (rw (asked_none words h) same) (rw (asked_none words h) (refl, refl, refl)) (put kept reports) (λ _. h) (λ _. refl)
 
-  pub command_gave : (a : Asked) (result : Status) → asked_of words ≡ Some a → Did (file_of a) (command_of given a) s r result → Responds words given s r f result
+  command_gave : (a : Asked) (result : Status) → asked_of words ≡ Some a → Did (file_of a) (command_of given a) s r result → Responds words given s r f result
   command_gave a result e (answered found status line file is counts answers delivers) =
       let plain = answers_ordinary (file_of a) (command_of given a) (ordinary given a) found status line file answers in
       gave found status line file (rw e is) (rw e counts) (rw e answers) delivers
@@ -57,7 +57,7 @@ module _ (words : List (List ℕ)) (given : List (Option ℕ)) (s : Shelved) (r 
   command_gave a result e (ran_out same kept report) = nothing same kept report
 
   -- a run, which may be cut short
-  pub run_gave : (file : List ℕ) (budget memory : ℕ) (result : Status) → asked_of words ≡ Some (Exec file budget memory) → DidRun file (Executes file budget memory given) s r f result → Responds words given s r f result
+  run_gave : (file : List ℕ) (budget memory : ℕ) (result : Status) → asked_of words ≡ Some (Exec file budget memory) → DidRun file (Executes file budget memory given) s r f result → Responds words given s r f result
   run_gave file budget memory result e (did d) = command_gave (Exec file budget memory) result e d
   run_gave file budget memory result e (cut bytes found same files c) = stopped (Contents bytes) (rw e tt) (rw e found) same files c
 
@@ -176,7 +176,7 @@ module _ (words : List (List ℕ)) (given : List (Option ℕ)) (s : Shelved) (r 
   write_fault_clause result may (gave found status line file is counts gives (put written (inr (inl h))) u v) e =
       inl (given, found, status, line, file, h.1, may, is, inl gives, h.2, h.3, written, h.4.rose)
   write_fault_clause result may (gave found status line file is counts gives (put written (inr (inr h))) u v) e = absurd (let both = sym h.0 ∙ e in cc)
-  write_fault_clause result may (gave found status line file is counts gives (failed cut kept) u v) e = inr (inl (given, found, status, line, file, may, is, gives, cut, kept.0))
+  write_fault_clause result may (gave found status line file is counts gives (failed part kept) u v) e = inr (inl (given, found, status, line, file, may, is, gives, part, kept.0))
   write_fault_clause result may (gave found status line file is counts gives (starved files kept) u v) e = absurd cc
   write_fault_clause result may (stopped found exec is same files (input_failed rose (inl h))) e = absurd (let both = sym h.0 ∙ e in cc)
   write_fault_clause result may (stopped found exec is same files (input_failed rose (inr (inl h)))) e =
@@ -332,17 +332,17 @@ module _ (words : List (List ℕ)) (given : List (Option ℕ)) (s : Shelved) (r 
 
 module _ (s : Shelved) (given : List (Option ℕ)) (f : Flow) where
   -- what is left by what the words ask for
-  pub flows_as : (words : List (List ℕ)) (o : Option Asked) (result : Status) → asked_of words ≡ o → FlowsFor s o given f result → FlowsFor s (asked_of words) given f result
+  flows_as : (words : List (List ℕ)) (o : Option Asked) (result : Status) → asked_of words ≡ o → FlowsFor s o given f result → FlowsFor s (asked_of words) given f result
   flows_as words o result e flows = subst (λ (x : Option Asked). FlowsFor s x given f result) (sym e) flows
 
-  pub quiet_for : (o : Option Asked) → IsQuiet f → FlowsFor s o given f statuses.OutOfMemory
+  quiet_for : (o : Option Asked) → IsQuiet f → FlowsFor s o given f statuses.OutOfMemory
   quiet_for None still = still
   quiet_for (Some (Exec file budget memory)) still = quiet tt still
   quiet_for (Some (Check file)) still = still
   quiet_for (Some (Asm file out)) still = still
   quiet_for (Some (Dis file out)) still = still
 
-  pub takes_clause : (o : Option Asked) (result : Status) → FlowsFor s o given f result → f.takes_old < f.takes_new → IsFaulty result
+  takes_clause : (o : Option Asked) (result : Status) → FlowsFor s o given f result → f.takes_old < f.takes_new → IsFaulty result
   takes_clause None result still lt = absurd (less_than_itself f.takes_old f.takes_new still.1 lt)
   takes_clause (Some (Check file)) result still lt = absurd (less_than_itself f.takes_old f.takes_new still.1 lt)
   takes_clause (Some (Asm file out)) result still lt = absurd (less_than_itself f.takes_old f.takes_new still.1 lt)
@@ -360,7 +360,7 @@ module _ (s : Shelved) (given : List (Option ℕ)) (f : Flow) where
     by statuses.Refused h = absurd h
     by statuses.TooLong h = absurd h
 
-  pub outs_clause : (o : Option Asked) (result : Status) → FlowsFor s o given f result → f.puts_old < f.puts_new → IsPutFault result
+  outs_clause : (o : Option Asked) (result : Status) → FlowsFor s o given f result → f.puts_old < f.puts_new → IsPutFault result
   outs_clause None result still lt = absurd (less_than_itself f.puts_old f.puts_new still.3 lt)
   outs_clause (Some (Check file)) result still lt = absurd (less_than_itself f.puts_old f.puts_new still.3 lt)
   outs_clause (Some (Asm file out)) result still lt = absurd (less_than_itself f.puts_old f.puts_new still.3 lt)
@@ -377,3 +377,30 @@ module _ (s : Shelved) (given : List (Option ℕ)) (f : Flow) where
     by statuses.Usage h = absurd h
     by statuses.Refused h = absurd h
     by statuses.TooLong h = absurd h
+
+-- ---- what was answered, and what became of the input and the output
+
+module _ (words : List (List ℕ)) (s : Shelved) (r : Report) (f : Flow) where
+  abbrev Responded : Status → Type 0
+  Responded result = (given : List (Option ℕ)) × MayGive f.left_old given × Responds words given s r f result × FlowsFor s (asked_of words) given f result
+
+  module _ (given : List (Option ℕ)) (may : MayGive f.left_old given) where
+    pub run_responded : (file : List ℕ) (budget memory : ℕ) (result : Status) → asked_of words ≡ Some (Exec file budget memory) → DidRun file (Executes file budget memory given) s r f result → FlowsFor s (Some (Exec file budget memory)) given f result → Responded result
+    run_responded file budget memory result e done flows = (given, may, run_gave words given s r f file budget memory result e done, flows_as s given f words (Some (Exec file budget memory)) result e flows)
+
+    pub command_responded : (a : Asked) (result : Status) → asked_of words ≡ Some a → Did (file_of a) (command_of given a) s r result → FlowsFor s (Some a) given f result → Responded result
+    command_responded a result e done flows = (given, may, command_gave words given s r f a result e done, flows_as s given f words (Some a) result e flows)
+
+    pub usage_responded : (result : Status) → is_taken words ≡ false → SameCounts s.reads_old s.reads_new → KeepsFiles s → Reports statuses.Usage usage_lines r result → IsQuiet f → Responded result
+    usage_responded result refused same kept reports still =
+        (given, may, usage_gave words given s r f result refused same kept reports, flows_as s given f words None result (asked_none words refused) still)
+
+    pub nothing_responded : SameCounts s.reads_old s.reads_new → KeepsFiles s → IsKept r → IsQuiet f → Responded statuses.OutOfMemory
+    nothing_responded same files kept still = (given, may, nothing same files kept, quiet_for s given f (asked_of words) still)
+
+module _ (words : List (List ℕ)) (given : List (Option ℕ)) (s : Shelved) (r : Report) (f : Flow) where
+  pub takes_both : (result : Status) → Responds words given s r f result → FlowsFor s (asked_of words) given f result → f.takes_old < f.takes_new → IsFaulty result
+  takes_both result responds flows lt = takes_clause s given f (asked_of words) result flows lt
+
+  pub outs_both : (result : Status) → Responds words given s r f result → FlowsFor s (asked_of words) given f result → f.puts_old < f.puts_new → IsPutFault result
+  outs_both result responds flows lt = outs_clause s given f (asked_of words) result flows lt

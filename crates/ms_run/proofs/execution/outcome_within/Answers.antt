@@ -17,5 +17,7 @@ run-requires-clause-main g c = main_alone c.args.module c.args.capacity c.in-Ok.
 
 pub returns : goal.returns
 returns g c =
-    record { outcome = run_comes c.args.module c.args.budget c.args.capacity c.in-Ok.store c.run.new.store c.in-Some.main c.run.result _
-    (empty_is c.is_empty.result c.args.module.imports c.is_empty.ensures c.if-not-is_empty.false) c.in-Ok.ensures.link (sym c.task_index-task.ensures ∙ c.in-Some.is) c.run.ensures.input_faults c.run.ensures.out_faults c.run.ensures.run }
+    record {
+      outcome = run_comes c.args.module c.args.budget c.args.capacity c.in-Ok.store c.run.new.store c.in-Some.main c.run.result _
+          (empty_is c.is_empty.result c.args.module.imports c.is_empty.ensures c.if-not-is_empty.false) c.in-Ok.ensures.link (sym c.task_index-task.ensures ∙ c.in-Some.is) c.run.ensures.input_faults c.run.ensures.out_faults c.run.ensures.run;
+    }

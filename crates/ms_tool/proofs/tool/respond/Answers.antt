@@ -1,11 +1,10 @@
 use Rattle.std.proofs.Common.{◌∙◌, ap, refl, subst}
-use Rattle.std.specs.Prelude.{Err, None, Some, map}
+use Rattle.std.specs.Prelude.{Err, Some, map}
 use Rattle.ms_machine.proofs.Outsides.{some_input}
 use Rattle.ms_words.specs.Asked.{Answers, Asm, Check, Dis, Exec, view}
 use Rattle.ms_words.specs.declared.request.Request.{Request}
 use Rattle.ms_words.specs.declared.request.WordsFault.{WordsFault}
-use Rattle.ms_tool.specs.Responding.{nothing}
-use Rattle.ms_tool.proofs.Complete.{asked_none, command_gave, flows_as, quiet_for, run_gave, usage_gave}
+use Rattle.ms_tool.proofs.Complete.{command_responded, nothing_responded, run_responded, usage_responded}
 use Rattle.ms_tool.proofs.tool.respond.Goals as goal
 
 pub returns-in-Ok-Exec : goal.returns-in-Ok-Exec
@@ -14,7 +13,7 @@ returns-in-Ok-Exec g c =
     let words = map (λ w. w.now) c.args.words.now in
     let asked = it.ensures.answers ∙ ap (λ (r : Request). Some (view r)) it.field-0-is in
     let e = c.exec.ensures in
-    (e.0, e.1, run_gave words e.0 _ _ _ it.file.now it.budget it.memory c.exec.result asked e.2, flows_as _ e.0 _ words (Some (Exec it.file.now it.budget it.memory)) c.exec.result asked e.3)
+    run_responded words _ _ _ e.0 e.1 it.file.now it.budget it.memory c.exec.result asked e.2 e.3
 
 pub returns-in-Ok-Check : goal.returns-in-Ok-Check
 returns-in-Ok-Check g c =
@@ -23,7 +22,7 @@ returns-in-Ok-Check g c =
     let asked = it.ensures.answers ∙ ap (λ (r : Request). Some (view r)) it.field-0-is in
     let input = some_input (g.I.Source.left c.args.input.now) in
     let e = c.check_file.ensures in
-    (input.0, input.1, command_gave words input.0 _ _ _ (Check it.file.now) c.check_file.result asked e.did, flows_as _ input.0 _ words (Some (Check it.file.now)) c.check_file.result asked (e.input.0, e.input.1, e.out.0, e.out.1))
+    command_responded words _ _ _ input.0 input.1 (Check it.file.now) c.check_file.result asked e.did (e.input.0, e.input.1, e.out.0, e.out.1)
 
 pub returns-in-Ok-Asm : goal.returns-in-Ok-Asm
 returns-in-Ok-Asm g c =
@@ -32,7 +31,7 @@ returns-in-Ok-Asm g c =
     let asked = it.ensures.answers ∙ ap (λ (r : Request). Some (view r)) it.field-0-is in
     let input = some_input (g.I.Source.left c.args.input.now) in
     let e = c.asm_file.ensures in
-    (input.0, input.1, command_gave words input.0 _ _ _ (Asm it.file.now it.target.now) c.asm_file.result asked e.did, flows_as _ input.0 _ words (Some (Asm it.file.now it.target.now)) c.asm_file.result asked (e.input.0, e.input.1, e.out.0, e.out.1))
+    command_responded words _ _ _ input.0 input.1 (Asm it.file.now it.target.now) c.asm_file.result asked e.did (e.input.0, e.input.1, e.out.0, e.out.1)
 
 pub returns-in-Ok-Dis : goal.returns-in-Ok-Dis
 returns-in-Ok-Dis g c =
@@ -41,20 +40,16 @@ returns-in-Ok-Dis g c =
     let asked = it.ensures.answers ∙ ap (λ (r : Request). Some (view r)) it.field-0-is in
     let input = some_input (g.I.Source.left c.args.input.now) in
     let e = c.dis_file.ensures in
-    (input.0, input.1, command_gave words input.0 _ _ _ (Dis it.file.now it.target.now) c.dis_file.result asked e.did, flows_as _ input.0 _ words (Some (Dis it.file.now it.target.now)) c.dis_file.result asked (e.input.0, e.input.1, e.out.0, e.out.1))
+    command_responded words _ _ _ input.0 input.1 (Dis it.file.now it.target.now) c.dis_file.result asked e.did (e.input.0, e.input.1, e.out.0, e.out.1)
 
 pub returns-in-Err-Refused : goal.returns-in-Err-Refused
 returns-in-Err-Refused g c =
     let words = map (λ w. w.now) c.args.words.now in
     let refused = subst (λ (e : WordsFault). Answers words (Err e)) c.in-Err-Refused.field-0-is c.in-Err-Refused.ensures.answers in
-    let input = some_input (g.I.Source.left c.args.input.now) in (
-      input.0,
-      input.1,
-      usage_gave words input.0 _ _ _ c.answer.result refused (λ n. refl) (refl, refl) (rw (c.as_bytes.ensures.value, c.usage.ensures) at c.answer.ensures),
-      flows_as _ input.0 _ words None c.answer.result (asked_none words refused) (refl, refl, refl, refl),
-    )
+    let input = some_input (g.I.Source.left c.args.input.now) in
+    usage_responded words _ _ _ input.0 input.1 c.answer.result refused (λ n. refl) (refl, refl) (rw (c.as_bytes.ensures.value, c.usage.ensures) at c.answer.ensures) (refl, refl, refl, refl)
 
 pub returns-in-Err-Memory : goal.returns-in-Err-Memory
 returns-in-Err-Memory g c =
     let input = some_input (g.I.Source.left c.args.input.now) in
-    (input.0, input.1, nothing (λ n. refl) (refl, refl) (refl, refl), quiet_for _ input.0 _ _ (refl, refl, refl, refl))
+    nothing_responded _ _ _ _ input.0 input.1 (λ n. refl) (refl, refl) (refl, refl) (refl, refl, refl, refl)

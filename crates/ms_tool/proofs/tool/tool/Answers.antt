@@ -1,5 +1,5 @@
 use Rattle.ms_run.proofs.Safe.{execution_is_accepted, execution_is_never_stuck}
-use Rattle.ms_tool.proofs.Complete.{answer_clause, complete_clause, files_clause, memory_clause, outs_clause, puts_clause, reads_clause, refused_clause, takes_clause, usage_clause, write_fault_clause, writes_clause}
+use Rattle.ms_tool.proofs.Complete.{answer_clause, complete_clause, files_clause, memory_clause, outs_both, puts_clause, reads_clause, refused_clause, takes_both, usage_clause, write_fault_clause, writes_clause}
 use Rattle.ms_tool.proofs.tool.tool.Goals as goal
 
 pub returns-clause-answer : goal.returns-clause-answer
@@ -36,10 +36,10 @@ pub returns-clause-puts : goal.returns-clause-puts
 returns-clause-puts g c = λ lt. let e = c.respond.ensures in puts_clause _ e.0 _ _ _ c.respond.result e.2 lt
 
 pub returns-clause-takes : goal.returns-clause-takes
-returns-clause-takes g c = λ lt. let e = c.respond.ensures in takes_clause _ e.0 _ _ c.respond.result e.3 lt
+returns-clause-takes g c = λ lt. let e = c.respond.ensures in takes_both _ e.0 _ _ _ c.respond.result e.2 e.3 lt
 
 pub returns-clause-outs : goal.returns-clause-outs
-returns-clause-outs g c = λ lt. let e = c.respond.ensures in outs_clause _ e.0 _ _ c.respond.result e.3 lt
+returns-clause-outs g c = λ lt. let e = c.respond.ensures in outs_both _ e.0 _ _ _ c.respond.result e.2 e.3 lt
 
 pub returns-clause-files : goal.returns-clause-files
 returns-clause-files g c = λ name not. let e = c.respond.ensures in files_clause _ e.0 _ _ _ c.respond.result e.2 name not
