@@ -24,7 +24,7 @@ can_act s i j t next can e is stuck = can (named s i j (thread_of s.funcs t) (at
 
 first-from : (outcome : Outcome) (s s' : Store) (t t' : Thread) (r : Result (Option Event) Fault) (more : Bool) → DoesOutcome outcome s t s' t' r → DoesFirst outcome s t s' t' (with_more r more)
 first-from outcome s s' t t' (Ok event) more does = does
-first-from outcome s s' t t' (Err (faults.Trap kind)) more does = does
+first-from outcome s s' t t' (Err (faults.Trap _)) more does = does
 first-from outcome s s' t t' (Err (faults.Host h)) more does = does
 first-from outcome s s' t t' (Err faults.Memory) more does = does
 
