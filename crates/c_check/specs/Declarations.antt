@@ -11,6 +11,7 @@ use Rattle.c_tree.specs.declared.external.OuterSpecifier.TheVariants as outers
 use Rattle.c_tree.specs.declared.external.Piece.{Piece}
 use Rattle.c_tree.specs.declared.external.Piece.TheVariants as pieces
 use Rattle.c_tree.specs.declared.initialiser.Init.{Init}
+use Rattle.c_tree.specs.declared.specifier.SpecifierNode.{SpecifierNode}
 use Rattle.c_tree.specs.declared.specifier.SpecifierNode.TheVariants as specifiers
 use Rattle.c_tree.specs.Statements.{Items}
 use Rattle.c_tree.specs.Tree.{Declarator, Initialiser}
@@ -21,7 +22,7 @@ use Rattle.c_check_types.specs.State.{Names, number_of, Rule, ◌>>=◌, ◌>>�
 use Rattle.c_check_types.specs.Scopes.{opened, closed, enters_local, enters_global, declares_function, tag_number}
 use Rattle.c_check_types.specs.Types.{Derived, whole, whole_type, Parameter, specified, declared, most_bytes, size_of}
 use Rattle.c_check.specs.Initialisers.{initialised, variable_type}
-use Rattle.c_check.specs.Statements.{scope_of, items}
+use Rattle.c_check.specs.Statements.{scope_of, items, nothing_done, is_missing}
 
 -- ---- structs
 
@@ -31,33 +32,37 @@ pub record Open : Type 0 where
   pub names : Names
   pub types : List Ty
 
-abbrev opens_struct : List ℕ → Rule Open
+abbrev pub opens_struct : List ℕ → Rule Open
 opens_struct tag = do
   n ← tag_number tag
   pure (record { number = n; names = []; types = [] })
 
 -- members are distinct and have a size
-abbrev with_member : Open → List ℕ → Ty → Rule Open
+abbrev pub with_member : Open → List ℕ → Ty → Rule Open
 with_member o name t = do
   only_if (not (is_some (number_of o.names name)))
   size_of t
   pure (record { number = o.number; names = o.names ++ name ∷ []; types = o.types ++ t ∷ [] })
 
-abbrev with_members : Open → Ty → List Declarator → Rule Open
-with_members o b [] = pure o
-with_members o b (d ∷ ds) = do
+abbrev pub declares_member : Open → Ty → Declarator → Rule Open
+declares_member o b d = do
   x ← declared d (whole b) []
   name ← given x.name
   t ← given (whole_type x.derived)
-  p ← with_member o name t
+  with_member o name t
+
+abbrev pub with_members : Open → Ty → List Declarator → Rule Open
+with_members o b [] = pure o
+with_members o b (d ∷ ds) = do
+  p ← declares_member o b d
   with_members p b ds
 
-abbrev is_undefined : Option (Option Layout) → Bool
+abbrev pub is_undefined : Option (Option Layout) → Bool
 is_undefined (Some None) = true
 is_undefined _ = false
 
 -- a tag is defined once, and its struct isn't too large
-abbrev defines : Open → Rule Ty
+abbrev pub defines : Open → Rule Ty
 defines o = do
   s ← state
   only_if (is_undefined (slice_get s.structs o.number))
@@ -67,20 +72,20 @@ defines o = do
   pure (struct o.number)
 
 -- The members of a struct, which may define structs in it, so many of them open around it.
-abbrev closes : List Open → Rule (Ty × Open × List Open)
+abbrev pub closes : List Open → Rule (Ty × List Open)
 closes [] = none
 closes (o ∷ []) = none
 closes (o ∷ p ∷ os) = do
   t ← defines o
-  pure (t, p, os)
+  pure (t, p ∷ os)
 
-abbrev in_front : List Open → Ty → List Declarator → Rule (List Open)
+abbrev pub in_front : List Open → Ty → List Declarator → Rule (List Open)
 in_front [] b ds = none
 in_front (o ∷ os) b ds = do
   p ← with_members o b ds
   pure (p ∷ os)
 
-abbrev piece : List Open → Piece → Rule (List Open)
+abbrev pub piece : List Open → Piece → Rule (List Open)
 piece os (pieces.Opens tag) = do
   o ← opens_struct tag
   pure (o ∷ os)
@@ -89,19 +94,19 @@ piece os (pieces.Member (heads.Specifier s) ds) = do
   in_front os b ds
 piece os (pieces.Member heads.Close ds) = do
   x ← closes os
-  in_front (x.1 ∷ x.2) x.0 ds
+  in_front x.1 x.0 ds
 
-abbrev all_pieces : List Open → List Piece → Rule (List Open)
+abbrev pub all_pieces : List Open → List Piece → Rule (List Open)
 all_pieces os [] = pure os
 all_pieces os (p ∷ ps) = do
   qs ← piece os p
   all_pieces qs ps
 
-abbrev last_one : List Open → Rule Ty
+abbrev pub last_one : List Open → Rule Ty
 last_one (o ∷ []) = defines o
 last_one _ = none
 
-abbrev outer : OuterSpecifier → Rule Ty
+abbrev pub outer : OuterSpecifier → Rule Ty
 outer (outers.Plain s) = specified s
 outer (outers.Struct tag ps) = do
   o ← opens_struct tag
@@ -110,100 +115,115 @@ outer (outers.Struct tag ps) = do
 
 -- ---- declarations at file scope
 
-abbrev keeps_values : List Stmt → Rule (Unit {0})
+abbrev pub keeps_values : List Stmt → Rule (Unit {0})
 keeps_values ss = change (λ s. record s { values = s.values ++ ss })
 
-abbrev global_value : ℕ → Ty → Option Initialiser → Rule (Unit {0})
+abbrev pub global_value : ℕ → Ty → Option Initialiser → Rule (Unit {0})
 global_value n t None = pure tt
 global_value n t (Some v) = do
-  ss ← initialised v true (to.of (variables.Global n)) t
+  ss ← initialised v true (to.of (variables.Global n)) t []
   keeps_values ss
 
-abbrev made_first : ℕ → Rule (Unit {0})
+abbrev pub made_first : ℕ → Rule (Unit {0})
 made_first n = change (λ s. record s { made = s.made ++ to.global n ∷ [] })
 
-abbrev declares_global : List ℕ → Derived → Option Initialiser → Rule (Unit {0})
+abbrev pub declares_global : List ℕ → Derived → Option Initialiser → Rule (Unit {0})
 declares_global name d v = do
   t ← variable_type d v
   n ← enters_global name t
   made_first n
   global_value n t v
 
-abbrev declares : List ℕ → Derived → Option Initialiser → Rule (Unit {0})
-declares name (whole (function r ps)) None = do
-  declares_function name (function r ps)
+abbrev pub declares_alone : List ℕ → Ty → Option Initialiser → Rule (Unit {0})
+declares_alone name t v = do
+  only_if (is_missing v)
+  declares_function name t
   pure tt
-declares name (whole (function r ps)) (Some v) = none
+
+abbrev pub declares : List ℕ → Derived → Option Initialiser → Rule (Unit {0})
+declares name (whole (function r ps)) v = declares_alone name (function r ps) v
 declares name d v = declares_global name d v
 
-abbrev declaration : Ty → List Init → Rule (Unit {0})
+abbrev pub declares_one : Ty → Declarator → Option Initialiser → Rule (Unit {0})
+declares_one b d v = do
+  x ← declared d (whole b) []
+  name ← given x.name
+  declares name x.derived v
+
+abbrev pub declaration : Ty → List Init → Rule (Unit {0})
 declaration b [] = pure tt
 declaration b (x ∷ xs) = do
-  d ← declared x.declarator (whole b) []
-  name ← given d.name
-  declares name d.derived x.value
+  declares_one b x.declarator x.value
   declaration b xs
 
 -- ---- the definition of a function (6.9.1)
 
 -- parameters stand in the scope of the body's block; they may have no name
-abbrev enters_parameter : Option (List ℕ) → Ty → Rule (Unit {0})
+abbrev pub enters_parameter : Option (List ℕ) → Ty → Rule (Unit {0})
 enters_parameter None t = change (λ s. record s { slots = s.slots ++ t ∷ [] })
 enters_parameter (Some name) t = do
   enters_local name t
   pure tt
 
-abbrev enters_parameters : List Parameter → Rule (Unit {0})
+abbrev pub enters_parameters : List Parameter → Rule (Unit {0})
 enters_parameters [] = pure tt
 enters_parameters (p ∷ ps) = do
   enters_parameter p.name p.ty
   enters_parameters ps
 
-abbrev is_declared_alone : Function → Bool
-is_declared_alone f = not (is_some f.body)
+abbrev pub has_no_body : Option Function → Bool
+has_no_body None = false
+has_no_body (Some f) = not (is_some f.body)
 
-abbrev has_no_body : ℕ → Rule (Unit {0})
-has_no_body n = do
+abbrev pub is_declared_alone : ℕ → Rule (Unit {0})
+is_declared_alone n = do
   s ← state
-  f ← given (slice_get s.functions n)
-  only_if (is_declared_alone f)
+  only_if (has_no_body (slice_get s.functions n))
 
-abbrev defined : Function → List Ty → Stmt → Function
+abbrev pub defined : Function → List Ty → Stmt → Function
 defined f slots body = record f { slots = slots; body = Some body }
 
-abbrev with_body : ℕ → Stmt → Rule (Unit {0})
+abbrev pub with_body : ℕ → Stmt → Rule (Unit {0})
 with_body n body = do
   s ← state
   f ← given (slice_get s.functions n)
   change (λ s. record s { functions = slice_set s.functions n (defined f s.slots body); slots = [] })
 
-abbrev result_of : Derived → Option Ty
-result_of (whole (function r ps)) = Some r
-result_of _ = None
+abbrev pub result_in : Ty → Option Ty
+result_in (function r ps) = Some r
+result_in _ = None
 
-abbrev definition : Ty → Declarator → Items → Rule (Unit {0})
+-- the body of a function that is defined
+abbrev pub defines_function : ℕ → List Parameter → (result : Ty) → Items → Rule (Unit {0})
+defines_function n ps r is = do
+  opened
+  enters_parameters ps
+  d ← items is r false nothing_done
+  closed
+  with_body n (scope_of d)
+
+abbrev pub definition : Ty → Declarator → Items → Rule (Unit {0})
 definition b d is = do
   x ← declared d (whole b) []
   name ← given x.name
   t ← given (whole_type x.derived)
-  r ← given (result_of x.derived)
+  r ← given (result_in t)
   n ← declares_function name t
-  has_no_body n
-  opened
-  enters_parameters x.params
-  y ← items is r false
-  closed
-  with_body n (scope_of y)
+  is_declared_alone n
+  defines_function n x.params r is
 
 -- ---- external declarations
 
-abbrev is_struct : OuterSpecifier → Bool
-is_struct (outers.Plain (specifiers.Struct tag)) = true
-is_struct (outers.Plain _) = false
+abbrev pub names_struct : SpecifierNode → Bool
+names_struct (specifiers.Struct tag) = true
+names_struct _ = false
+
+abbrev pub is_struct : OuterSpecifier → Bool
+is_struct (outers.Plain s) = names_struct s
 is_struct (outers.Struct tag ps) = true
 
 -- a specifier alone is a struct's
-abbrev form : OuterSpecifier → Ty → ExternalForm → Rule (Unit {0})
+abbrev pub form : OuterSpecifier → Ty → ExternalForm → Rule (Unit {0})
 form s b forms.Alone = only_if (is_struct s)
 form s b (forms.Declaration xs) = declaration b xs
 form s b (forms.Function d is) = definition b d is

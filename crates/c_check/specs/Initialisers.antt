@@ -1,35 +1,40 @@
 -- Initializers (C11, 6.7.9), flattened to assignments of leaves. What isn't given stays zero.
-use Rattle.std.specs.Prelude.{ℕ, suc, ◌+◌, nat_le, nat_lt, Bool, true, false, List, [], ◌∷◌, ◌++◌, length, Option, Some, None, if◌then◌else◌}
+use Rattle.std.specs.Prelude.{ℕ, ◌+◌, ◌&&◌, nat_le, nat_lt, Bool, true, false, List, [], ◌∷◌, ◌++◌, length, slice_get, Option, Some, None, if◌then◌else◌}
 use Rattle.c_types.specs.declared.integers.IntType.TheVariants.{Char, LongLong}
 use Rattle.c_types.specs.Layout.{members_of}
 use Rattle.c_types.specs.Types.{Ty, integer, struct, pointer, array, scalar_of}
+use Rattle.c_tree.specs.declared.operators.UnaryOp.{UnaryOp}
 use Rattle.c_tree.specs.declared.operators.UnaryOp.TheVariants as unaries
 use Rattle.c_tree.specs.Tree as tree
 use Rattle.c_tree.specs.Tree.{Expr, Initialiser, Initialisers}
 use Rattle.c_typed.specs.Tree as to
 use Rattle.c_typed.specs.Tree.{Place, Stmt}
-use Rattle.c_check_types.specs.State.{Rule, ◌>>=◌, ◌>>◌, pure, none, given, only_if, state}
-use Rattle.c_check_types.specs.TypeEquality.{same_type}
+use Rattle.c_check_types.specs.State.{Rule, ◌>>=◌, ◌>>◌, pure, none, given, only_if, state, and_then}
+use Rattle.c_check_types.specs.TypeEquality.{same_integer, same_type}
 use Rattle.c_check_types.specs.Types.{Derived, whole, lengthless, array_of, constant, size_of}
-use Rattle.c_check.specs.Forms as form
-use Rattle.c_check.specs.Forms.{Form, place, value, designator, text, zero, assigned_to, operand, place_of}
+use Rattle.c_check_exprs.specs.Forms as form
+use Rattle.c_check_exprs.specs.Forms.{Form, place, value, designator, text, zero, assigned_to, operand, place_of}
 use Rattle.c_check_types.specs.Constants.{value_at}
-use Rattle.c_check.specs.Expressions.{typing}
+use Rattle.c_check_exprs.specs.Expressions.{typing}
 
 -- ---- what a leaf is given
 
 -- at file scope, an expression without its parentheses
-abbrev bare : Expr → Expr
+abbrev pub bare : Expr → Expr
 bare (tree.paren e) = bare e
 bare e = e
 
 -- the form of a constant address: `&name`, the name of an array or a function, a string, NULL or 0 (6.6, paragraph 9)
-abbrev is_name : Expr → Bool
+abbrev pub is_name : Expr → Bool
 is_name (tree.name n) = true
 is_name _ = false
 
-abbrev names_address : Form → Bool
-names_address (place p (array t n)) = true
+abbrev pub is_array : Ty → Bool
+is_array (array t n) = true
+is_array _ = false
+
+abbrev pub names_address : Form → Bool
+names_address (place p t) = is_array t
 names_address (designator e t) = true
 names_address (text bytes) = true
 names_address (zero t) = true
@@ -37,18 +42,22 @@ names_address form.null = true
 names_address _ = false
 
 -- whether an expression may be an address that is known before `main`: an `&` and a name, a name, a string or a constant
-abbrev is_address : Expr → Bool
-is_address (tree.unary unaries.AddressOf e) = is_name (bare e)
+abbrev pub takes_address : UnaryOp → Bool
+takes_address unaries.AddressOf = true
+takes_address _ = false
+
+abbrev pub is_address : Expr → Bool
+is_address (tree.unary op e) = takes_address op && is_name (bare e)
 is_address (tree.name n) = true
 is_address (tree.string s) = true
 is_address (tree.integer n t) = true
 is_address _ = false
 
-abbrev is_reference : Expr → Bool
-is_reference (tree.unary unaries.AddressOf e) = true
+abbrev pub is_reference : Expr → Bool
+is_reference (tree.unary op e) = takes_address op
 is_reference _ = false
 
-abbrev pointer_constant : Ty → Expr → Rule to.Expr
+abbrev pub pointer_constant : Ty → Expr → Rule to.Expr
 pointer_constant t e = do
   only_if (is_address e)
   x ← typing e
@@ -56,7 +65,7 @@ pointer_constant t e = do
   assigned_to (pointer t) x
 
 -- a value at file scope (6.7.9, paragraph 4)
-abbrev static_value : Ty → Expr → Rule to.Expr
+abbrev pub static_value : Ty → Expr → Rule to.Expr
 static_value (integer t) e = do
   c ← constant e
   n ← given (value_at t c)
@@ -65,12 +74,12 @@ static_value (pointer t) e = pointer_constant t (bare e)
 static_value _ e = none
 
 -- a value in a function
-abbrev value_in_function : Ty → Expr → Rule to.Expr
+abbrev pub value_in_function : Ty → Expr → Rule to.Expr
 value_in_function t e = do
   x ← typing e
   assigned_to t x
 
-abbrev leaf : (static : Bool) → Ty → Expr → Rule to.Expr
+abbrev pub leaf : (static : Bool) → Ty → Expr → Rule to.Expr
 leaf true t e = static_value t e
 leaf false t e = value_in_function t e
 
@@ -79,73 +88,97 @@ leaf false t e = value_in_function t e
 abbrev pub element_place : Place → Ty → (count index : ℕ) → Place
 element_place p t n i = to.deref (to.move t false (to.decay t n p) (to.number LongLong i))
 
--- a char array takes a string of at most its length without the final zero (6.7.9, paragraph 14)
-abbrev fills : Ty → ℕ → Expr → Option (List ℕ)
-fills (integer Char) n (tree.string bytes) = if nat_le (length bytes) n then Some bytes else None
-fills _ n e = None
+abbrev pub is_char : Ty → Bool
+is_char (integer t) = same_integer t Char
+is_char _ = false
 
-abbrev single_value : (static : Bool) → Place → Ty → Expr → Rule (List Stmt)
-single_value static p (array t n) e = do
-  bytes ← given (fills t n e)
-  pure (to.fill p bytes ∷ [])
-single_value static p t e = do
+abbrev pub string_of : Expr → Option (List ℕ)
+string_of (tree.string bytes) = Some bytes
+string_of _ = None
+
+abbrev pub at_most : ℕ → Option (List ℕ) → Option (List ℕ)
+at_most n None = None
+at_most n (Some bytes) = if nat_le (length bytes) n then Some bytes else None
+
+-- a char array takes a string of at most its length without the final zero (6.7.9, paragraph 14)
+abbrev pub fills : Ty → ℕ → Expr → Option (List ℕ)
+fills t n e = if is_char t then at_most n (string_of e) else None
+
+-- a value of a place, behind what is done so far
+abbrev pub string_value : Place → Ty → ℕ → Expr → List Stmt → Option (List Stmt)
+string_value p t n e done = and_then (fills t n e) (λ bytes. Some (done ++ to.fill p bytes ∷ []))
+
+abbrev pub scalar_value : (static : Bool) → Place → Ty → Expr → List Stmt → Rule (List Stmt)
+scalar_value static p t e done = do
   s ← given (scalar_of t)
   v ← leaf static t e
-  pure (to.perform (to.assign s p v) ∷ [])
+  pure (done ++ to.perform (to.assign s p v) ∷ [])
+
+abbrev pub single_value : (static : Bool) → Place → Ty → Expr → List Stmt → Rule (List Stmt)
+single_value static p (array t n) e done = given (string_value p t n e done)
+single_value static p t e done = scalar_value static p t e done
+
+-- the type of a member of a struct
+abbrev pub member_type : (number index : ℕ) → Rule Ty
+member_type m i = do
+  s ← state
+  given (slice_get (members_of s.structs (struct m)) i)
 
 -- Inside braces a struct has braces of its own. A value is written before the next one is evaluated.
 abbrev mutual
-  pub inside : (v : Initialiser) → (static : Bool) → Place → Ty → Rule (List Stmt)
-  inside (tree.single e) static p t = single_value static p t e
-  inside (tree.braces vs comma) static p (array t n) = elements vs static p t n 0
-  inside (tree.braces vs comma) static p (struct m) = do
-    s ← state
-    members vs static p m (members_of s.structs (struct m)) 0
-  inside (tree.braces vs comma) static p t = none
+  pub inside : (v : Initialiser) → (static : Bool) → Place → Ty → List Stmt → Rule (List Stmt)
+  inside (tree.single e) static p t done = single_value static p t e done
+  inside (tree.braces vs comma) static p (array t n) done = elements vs static p t n 0 done
+  inside (tree.braces vs comma) static p (struct m) done = members vs static p m 0 done
+  inside (tree.braces vs comma) static p t done = none
 
   -- no more values than elements
-  elements : (vs : Initialisers) → (static : Bool) → Place → Ty → (count index : ℕ) → Rule (List Stmt)
-  elements tree.no_initialisers static p t n i = pure []
-  elements (tree.initialiser_and v vs) static p t n i = do
+  pub elements : (vs : Initialisers) → (static : Bool) → Place → Ty → (count index : ℕ) → List Stmt → Rule (List Stmt)
+  elements tree.no_initialisers static p t n i done = pure done
+  elements (tree.initialiser_and v vs) static p t n i done = do
     only_if (nat_lt i n)
-    ss ← inside v static (element_place p t n i) t
-    rest ← elements vs static p t n (suc i)
-    pure (ss ++ rest)
+    more ← inside v static (element_place p t n i) t done
+    elements vs static p t n (i + 1) more
 
   -- no more values than members
-  members : (vs : Initialisers) → (static : Bool) → Place → (number : ℕ) → List Ty → (index : ℕ) → Rule (List Stmt)
-  members tree.no_initialisers static p m ts i = pure []
-  members (tree.initialiser_and v vs) static p m [] i = none
-  members (tree.initialiser_and v vs) static p m (t ∷ ts) i = do
-    ss ← inside v static (to.member p m i) t
-    rest ← members vs static p m ts (suc i)
-    pure (ss ++ rest)
+  pub members : (vs : Initialisers) → (static : Bool) → Place → (number index : ℕ) → List Stmt → Rule (List Stmt)
+  members tree.no_initialisers static p m i done = pure done
+  members (tree.initialiser_and v vs) static p m i done = do
+    t ← member_type m i
+    more ← inside v static (to.member p m i) t done
+    members vs static p m (i + 1) more
 
 -- A variable's initializer. In a function a struct is initialized from a place, too (6.7.9, paragraph 13).
-abbrev from_place : ℕ → Place → Place × Ty → Rule (List Stmt)
-from_place m p (q, t) = do
+abbrev pub from_place : ℕ → Place → Place × Ty → List Stmt → Rule (List Stmt)
+from_place m p (q, t) done = do
   only_if (same_type (struct m) t)
   size_of t
-  pure (to.perform (to.copy m p q) ∷ [])
+  pure (done ++ to.perform (to.copy m p q) ∷ [])
 
-abbrev pub initialised : (v : Initialiser) → (static : Bool) → Place → Ty → Rule (List Stmt)
-initialised (tree.single e) false p (struct m) = do
+abbrev pub copied_from : ℕ → Place → Expr → List Stmt → Rule (List Stmt)
+copied_from m p e done = do
   x ← typing e
   q ← place_of x
-  from_place m p q
-initialised v static p t = inside v static p t
+  from_place m p q done
+
+abbrev pub initialised : (v : Initialiser) → (static : Bool) → Place → Ty → List Stmt → Rule (List Stmt)
+initialised (tree.single e) false p (struct m) done = copied_from m p e done
+initialised v static p t done = inside v static p t done
 
 -- ---- a length that is missing (6.7.9, paragraph 22)
 
-abbrev count : Initialisers → ℕ
+abbrev pub count : Initialisers → ℕ
 count tree.no_initialisers = 0
 count (tree.initialiser_and v vs) = count vs + 1
 
-abbrev given_length : Ty → Option Initialiser → Option ℕ
+abbrev pub with_zero : Option (List ℕ) → Option ℕ
+with_zero None = None
+with_zero (Some bytes) = Some (length bytes + 1)
+
+abbrev pub given_length : Ty → Option Initialiser → Option ℕ
 given_length t None = None
 given_length t (Some (tree.braces vs comma)) = Some (count vs)
-given_length (integer Char) (Some (tree.single (tree.string bytes))) = Some (length bytes + 1)
-given_length t (Some (tree.single e)) = None
+given_length t (Some (tree.single e)) = if is_char t then with_zero (string_of e) else None
 
 -- the type of a variable: it has a size
 abbrev pub variable_type : Derived → Option Initialiser → Rule Ty

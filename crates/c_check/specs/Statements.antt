@@ -9,15 +9,15 @@ use Rattle.c_tree.specs.declared.initialiser.Init.{Init}
 use Rattle.c_tree.specs.declared.specifier.SpecifierNode.{SpecifierNode}
 use Rattle.c_tree.specs.Statements as tree
 use Rattle.c_tree.specs.Statements.{Statement, Items}
-use Rattle.c_tree.specs.Tree.{Expr, Initialiser}
+use Rattle.c_tree.specs.Tree.{Expr, Declarator, Initialiser}
 use Rattle.c_typed.specs.declared.ops.Variable.TheVariants as variables
 use Rattle.c_typed.specs.Tree as to
 use Rattle.c_typed.specs.Tree.{Stmt, Stmts}
 use Rattle.c_check_types.specs.State.{Rule, ◌>>=◌, ◌>>◌, pure, given, only_if}
 use Rattle.c_check_types.specs.Scopes.{opened, closed, enters_local, declares_function}
 use Rattle.c_check_types.specs.Types.{Derived, whole, specified, declared}
-use Rattle.c_check.specs.Forms.{condition_of, assigned_to, thrown_away}
-use Rattle.c_check.specs.Expressions.{typing}
+use Rattle.c_check_exprs.specs.Forms.{condition_of, assigned_to, thrown_away}
+use Rattle.c_check_exprs.specs.Expressions.{typing}
 use Rattle.c_check.specs.Initialisers.{initialised, variable_type}
 
 -- what is declared, and what is done there
@@ -25,13 +25,13 @@ pub record Declaring : Type 0 where
   pub slots : List ℕ
   pub done : List Stmt
 
-abbrev nothing_done : Declaring
+abbrev pub nothing_done : Declaring
 nothing_done = record { slots = []; done = [] }
 
-abbrev joined : Declaring → Declaring → Declaring
-joined a b = record { slots = a.slots ++ b.slots; done = a.done ++ b.done }
+abbrev pub and_done : Declaring → Stmt → Declaring
+and_done d s = record { slots = d.slots; done = d.done ++ s ∷ [] }
 
-abbrev sequence : List Stmt → Stmts
+abbrev pub sequence : List Stmt → Stmts
 sequence [] = to.done
 sequence (s ∷ ss) = to.seq s (sequence ss)
 
@@ -40,86 +40,94 @@ scope_of d = to.scope d.slots (sequence d.done)
 
 -- ---- declarations
 
-abbrev local_value : ℕ → Ty → Option Initialiser → Rule (List Stmt)
-local_value n t None = pure []
-local_value n t (Some v) = initialised v false (to.of (variables.Local n)) t
+abbrev pub local_value : ℕ → Ty → Option Initialiser → List Stmt → Rule (List Stmt)
+local_value n t None done = pure done
+local_value n t (Some v) done = initialised v false (to.of (variables.Local n)) t done
 
 -- a name is in scope in its own initializer (6.2.1, paragraph 7)
-abbrev declares_variable : List ℕ → Derived → Option Initialiser → Rule Declaring
-declares_variable name d v = do
+abbrev pub declares_variable : List ℕ → Derived → Option Initialiser → Declaring → Rule Declaring
+declares_variable name d v so_far = do
   t ← variable_type d v
   n ← enters_local name t
-  ss ← local_value n t v
-  pure (record { slots = n ∷ []; done = ss })
+  done ← local_value n t v so_far.done
+  pure (record { slots = so_far.slots ++ n ∷ []; done = done })
 
-abbrev is_missing : Option Initialiser → Bool
+abbrev pub is_missing : Option Initialiser → Bool
 is_missing None = true
 is_missing (Some v) = false
 
 -- functions may be declared in a block
-abbrev declares : List ℕ → Derived → Option Initialiser → Rule Declaring
-declares name (whole (function r ps)) v = do
+abbrev pub declares_function_there : List ℕ → Ty → Option Initialiser → Declaring → Rule Declaring
+declares_function_there name t v so_far = do
   only_if (is_missing v)
-  declares_function name (function r ps)
-  pure nothing_done
-declares name d v = declares_variable name d v
+  declares_function name t
+  pure so_far
 
-abbrev pub declaration : Ty → List Init → Rule Declaring
-declaration b [] = pure nothing_done
-declaration b (x ∷ xs) = do
-  d ← declared x.declarator (whole b) []
-  name ← given d.name
-  first ← declares name d.derived x.value
-  rest ← declaration b xs
-  pure (joined first rest)
+abbrev pub declares : List ℕ → Derived → Option Initialiser → Declaring → Rule Declaring
+declares name (whole (function r ps)) v so_far = declares_function_there name (function r ps) v so_far
+declares name d v so_far = declares_variable name d v so_far
 
-abbrev pub declaration_of : SpecifierNode → List Init → Rule Declaring
-declaration_of s xs = do
+-- a declarator of this type, with its initializer
+abbrev pub declares_one : Ty → Declarator → Option Initialiser → Declaring → Rule Declaring
+declares_one b d v so_far = do
+  x ← declared d (whole b) []
+  name ← given x.name
+  declares name x.derived v so_far
+
+-- declarators in order, behind what is declared so far
+abbrev pub declaration : Ty → List Init → Declaring → Rule Declaring
+declaration b [] so_far = pure so_far
+declaration b (x ∷ xs) so_far = do
+  more ← declares_one b x.declarator x.value so_far
+  declaration b xs more
+
+abbrev pub declaration_of : SpecifierNode → List Init → Declaring → Rule Declaring
+declaration_of s xs so_far = do
   b ← specified s
-  declaration b xs
+  declaration b xs so_far
 
 -- ---- clauses of statements
 
-abbrev condition : Expr → Rule to.Expr
+abbrev pub condition : Expr → Rule to.Expr
 condition e = do
   x ← typing e
   condition_of x
 
-abbrev performed : Expr → Rule to.Expr
+abbrev pub performed : Expr → Rule to.Expr
 performed e = do
   x ← typing e
   thrown_away x
 
 -- a missing test holds (6.8.5.3)
-abbrev test_of : Option Expr → Rule to.Expr
+abbrev pub test_of : Option Expr → Rule to.Expr
 test_of None = pure (to.number Int 1)
 test_of (Some e) = condition e
 
-abbrev step_of : Option Expr → Rule (Option to.Expr)
+abbrev pub step_of : Option Expr → Rule (Option to.Expr)
 step_of None = pure None
 step_of (Some e) = do
   v ← performed e
   pure (Some v)
 
-abbrev first_of : ForFirstNode → Rule Declaring
+abbrev pub first_of : ForFirstNode → Rule Declaring
 first_of firsts.Nothing = pure nothing_done
 first_of (firsts.Expr e) = do
   v ← performed e
-  pure (record { slots = []; done = to.perform v ∷ [] })
-first_of (firsts.Declaration s xs) = declaration_of s xs
+  pure (and_done nothing_done (to.perform v))
+first_of (firsts.Declaration s xs) = declaration_of s xs nothing_done
 
-abbrev in_front_of_loop : ForFirstNode → Declaring → Stmt → Stmt
+abbrev pub in_front_of_loop : ForFirstNode → Declaring → Stmt → Stmt
 in_front_of_loop firsts.Nothing d s = s
-in_front_of_loop _ d s = to.scope d.slots (sequence (d.done ++ s ∷ []))
+in_front_of_loop _ d s = scope_of (and_done d s)
 
 -- results are converted as if by assignment (6.8.6.4)
-abbrev returned : Ty → Expr → Rule Stmt
+abbrev pub returned : Ty → Expr → Rule Stmt
 returned result e = do
   x ← typing e
   v ← assigned_to result x
   pure (to.return v)
 
-abbrev is_void : Ty → Bool
+abbrev pub is_void : Ty → Bool
 is_void void = true
 is_void _ = false
 
@@ -129,7 +137,7 @@ abbrev mutual
   pub statement : Statement → (result : Ty) → (in_loop : Bool) → Rule Stmt
   statement (tree.block is) r l = do
     opened
-    d ← items is r l
+    d ← items is r l nothing_done
     closed
     pure (scope_of d)
   statement (tree.plain e) r l = do
@@ -169,13 +177,12 @@ abbrev mutual
     only_if l
     pure to.continue
 
-  pub items : Items → (result : Ty) → (in_loop : Bool) → Rule Declaring
-  items tree.no_items r l = pure nothing_done
-  items (tree.statement_and s is) r l = do
+  -- what stands in a block, behind what is done so far
+  pub items : Items → (result : Ty) → (in_loop : Bool) → Declaring → Rule Declaring
+  items tree.no_items r l so_far = pure so_far
+  items (tree.statement_and s is) r l so_far = do
     t ← statement s r l
-    rest ← items is r l
-    pure (joined (record { slots = []; done = t ∷ [] }) rest)
-  items (tree.declaration_and s xs is) r l = do
-    d ← declaration_of s xs
-    rest ← items is r l
-    pure (joined d rest)
+    items is r l (and_done so_far t)
+  items (tree.declaration_and s xs is) r l so_far = do
+    d ← declaration_of s xs so_far
+    items is r l d

@@ -16,7 +16,7 @@ typed_state s =
     record { structs = s.structs; globals = s.globals; made = s.made; values = s.values; functions = s.functions }
 
 -- behind one declaration, which begins there
-abbrev going_on : (at : ℕ) → Option (Unit {0} × State) → (State → Result Typed ℕ) → Result Typed ℕ
+abbrev pub going_on : (at : ℕ) → Option (Unit {0} × State) → (State → Result Typed ℕ) → Result Typed ℕ
 going_on at None next = Err at
 going_on at (Some (u, s)) next = next s
 

@@ -1,12 +1,10 @@
-//! Typing of C (C11, 6.5 to 6.9): from what was written to the typed tree.
+//! Typing of C's units (C11, 6.7 to 6.9): from what was written to the typed tree.
 //!
-//! Each form of a tree has a rule in `specs/`, which gives the typed tree or has no answer; conversions, decays, readings
-//! and tests become nodes. It stands on `c_check_types`, names, types and constant expressions, and `c_typed`, the typed
-//! tree. Read `specs/Expressions.antt` first, and `specs/Units.antt` for the whole.
+//! Initializers, statements, declarations and units have rules in `specs/`, which give the typed tree or have no answer. The
+//! code so far is that of expressions, in `c_check_exprs`, on which this crate stands. Read `specs/Units.antt` first, then
+//! `specs/Statements.antt`; `proofs/Computed.antt` has units whose typing is computed.
 #![tactic(auto)]
 
 mod fault;
-mod form;
 
 pub use fault::CCheck;
-pub use form::{Form, as_place, at_type, null_of};

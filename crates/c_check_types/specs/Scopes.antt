@@ -5,7 +5,9 @@ use Rattle.c_types.specs.Types.{Ty}
 use Rattle.c_typed.specs.Tree.{Function}
 use Rattle.c_check_types.specs.declared.entity.Entity.{Entity}
 use Rattle.c_check_types.specs.declared.entity.Entity.TheVariants as entities
-use Rattle.c_check_types.specs.State.{State, Scope, number_of, Rule, ◌>>=◌, ◌>>◌, pure, given, only_if, state, change, and_then}
+use Rattle.c_check_types.specs.declared.prelude.LibraryName.{LibraryName}
+use Rattle.c_check_types.specs.declared.prelude.LibraryName.TheVariants as prelude
+use Rattle.c_check_types.specs.State.{Scope, number_of, Rule, ◌>>=◌, ◌>>◌, pure, given, only_if, state, change, and_then}
 use Rattle.c_check_types.specs.TypeEquality.{same_type}
 
 -- ---- the names that stand before the unit (7.19, 7.21, 7.22)
@@ -31,36 +33,27 @@ name_null = 78 ∷ 85 ∷ 76 ∷ 76 ∷ []
 abbrev name_eof : List ℕ
 name_eof = 69 ∷ 79 ∷ 70 ∷ []
 
-pub data Library : Type 0 where
-  putchar : Library
-  getchar : Library
-  abort : Library
-  malloc : Library
-  free : Library
-  null : Library
-  eof : Library
-
 abbrev is : List ℕ → List ℕ → Bool
 is name other = pointwise nat_eq name other
 
-abbrev pub library : List ℕ → Option Library
+abbrev pub library : List ℕ → Option LibraryName
 library name =
     if is name name_putchar
-    then Some putchar
+    then Some prelude.Putchar
     else (if is name name_getchar
-    then Some getchar
+    then Some prelude.Getchar
     else (if is name name_abort
-    then Some abort
+    then Some prelude.Abort
     else (if is name name_malloc
-    then Some malloc
-    else (if is name name_free then Some free else (if is name name_null then Some null else (if is name name_eof then Some eof else None))))))
+    then Some prelude.Malloc
+    else (if is name name_free then Some prelude.Free else (if is name name_null then Some prelude.Null else (if is name name_eof then Some prelude.Eof else None))))))
 
 -- ---- looking up
 
 abbrev pub entity_in : Scope → List ℕ → Option Entity
 entity_in scope name = and_then (number_of scope.names name) (λ n. slice_get scope.entities n)
 
-abbrev or_else : Option Entity → Option Entity → Option Entity
+abbrev pub or_else : Option Entity → Option Entity → Option Entity
 or_else None other = other
 or_else (Some e) other = Some e
 
@@ -83,21 +76,21 @@ no_names = record { names = []; entities = [] }
 abbrev pub opened : Rule (Unit {0})
 opened = change (λ s. record s { scopes = no_names ∷ s.scopes })
 
-abbrev outer : List Scope → List Scope
+abbrev pub outer : List Scope → List Scope
 outer [] = []
 outer (scope ∷ scopes) = scopes
 
 abbrev pub closed : Rule (Unit {0})
 closed = change (λ s. record s { scopes = outer s.scopes })
 
-abbrev with_name : Scope → List ℕ → Entity → Scope
+abbrev pub with_name : Scope → List ℕ → Entity → Scope
 with_name scope name e = record { names = scope.names ++ name ∷ []; entities = scope.entities ++ e ∷ [] }
 
-abbrev in_front : List Scope → List ℕ → Entity → List Scope
+abbrev pub in_front : List Scope → List ℕ → Entity → List Scope
 in_front [] name e = []
 in_front (scope ∷ scopes) name e = with_name scope name e ∷ scopes
 
-abbrev is_known : List Scope → List ℕ → Bool
+abbrev pub is_known : List Scope → List ℕ → Bool
 is_known [] name = false
 is_known (scope ∷ scopes) name = is_some (number_of scope.names name)
 
@@ -120,16 +113,16 @@ enters_local name t = do
 
 -- ---- functions (6.2.7, 6.7, paragraph 4)
 
-abbrev is_function : Option Entity → ℕ → Bool
+abbrev pub is_function : Option Entity → ℕ → Bool
 is_function (Some (entities.Function m)) n = nat_eq m n
 is_function _ n = false
 
-abbrev entity_in_front : List Scope → List ℕ → Option Entity
+abbrev pub entity_in_front : List Scope → List ℕ → Option Entity
 entity_in_front [] name = None
 entity_in_front (scope ∷ scopes) name = entity_in scope name
 
 -- A function that is named in the innermost scope already may be named there again.
-abbrev enters_function : List ℕ → ℕ → Rule (Unit {0})
+abbrev pub enters_function : List ℕ → ℕ → Rule (Unit {0})
 enters_function name n = do
   s ← state
   if is_function (entity_in_front s.scopes name) n then pure tt else enters name (entities.Function n)
@@ -139,35 +132,38 @@ file_scope [] = None
 file_scope (scope ∷ []) = Some scope
 file_scope (scope ∷ more ∷ scopes) = file_scope (more ∷ scopes)
 
-abbrev is_global : Option Entity → Bool
+abbrev pub is_global : Option Entity → Bool
 is_global (Some (entities.Global n)) = true
 is_global _ = false
 
-abbrev names_variable : State → List ℕ → Bool
-names_variable s name = is_global (and_then (file_scope s.scopes) (λ scope. entity_in scope name))
+abbrev pub names_variable : List Scope → List ℕ → Bool
+names_variable scopes name = is_global (and_then (file_scope scopes) (λ scope. entity_in scope name))
 
-abbrev a_function : List ℕ → Ty → Function
+abbrev pub a_function : List ℕ → Ty → Function
 a_function name t = record { name = name; ty = t; slots = []; body = None }
 
 -- a function that is declared for the first time gets the next number
-abbrev new_function : List ℕ → Ty → Rule ℕ
+abbrev pub new_function : List ℕ → Ty → Rule ℕ
 new_function name t = do
   s ← state
-  only_if (not (names_variable s name))
+  only_if (not (names_variable s.scopes name))
   change (λ s. record s { function_names = s.function_names ++ name ∷ []; functions = s.functions ++ a_function name t ∷ [] })
   enters_function name (length s.functions)
   pure (length s.functions)
 
+abbrev pub has_type : Option Function → Ty → Bool
+has_type None t = false
+has_type (Some f) t = same_type f.ty t
+
 -- all declarations of a function agree, wherever they stand
-abbrev old_function : List ℕ → Ty → ℕ → Rule ℕ
+abbrev pub old_function : List ℕ → Ty → ℕ → Rule ℕ
 old_function name t n = do
   s ← state
-  f ← given (slice_get s.functions n)
-  only_if (same_type f.ty t)
+  only_if (has_type (slice_get s.functions n) t)
   enters_function name n
   pure n
 
-abbrev old_or_new : List ℕ → Ty → Option ℕ → Rule ℕ
+abbrev pub old_or_new : List ℕ → Ty → Option ℕ → Rule ℕ
 old_or_new name t None = new_function name t
 old_or_new name t (Some n) = old_function name t n
 
@@ -194,7 +190,7 @@ new_tag tag = do
   change (λ s. record s { tags = s.tags ++ tag ∷ []; structs = s.structs ++ None ∷ []; members = s.members ++ [] ∷ [] })
   pure (length s.structs)
 
-abbrev old_or_new_tag : List ℕ → Option ℕ → Rule ℕ
+abbrev pub old_or_new_tag : List ℕ → Option ℕ → Rule ℕ
 old_or_new_tag tag None = new_tag tag
 old_or_new_tag tag (Some n) = pure n
 

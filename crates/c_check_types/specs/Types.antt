@@ -1,6 +1,6 @@
 -- Types as they are written: specifiers (C11, 6.7.2), declarators (6.7.6), names of types (6.7.7), and the integer constant
 -- expressions (6.6) that stand in them. Sizes of types (6.5.3.4).
-use Rattle.std.specs.Prelude.{ℕ, ◌*◌, ◌/◌, ◌&&◌, nat_lt, nat_le, Bool, true, false, List, [], ◌∷◌, ◌++◌, map, Option, Some, None, if◌then◌else◌}
+use Rattle.std.specs.Prelude.{ℕ, ◌*◌, ◌/◌, ◌&&◌, not, nat_lt, nat_le, Bool, true, false, List, [], ◌∷◌, ◌++◌, map, is_some, Option, Some, None, if◌then◌else◌}
 use Rattle.c_types.specs.declared.integers.IntType.{IntType}
 use Rattle.c_types.specs.declared.integers.IntType.TheVariants.{Char, SignedChar, UnsignedChar, Short, UnsignedShort, Int, UnsignedInt, Long, UnsignedLong, LongLong, UnsignedLongLong}
 use Rattle.c_types.specs.Integers.{bits}
@@ -16,8 +16,8 @@ use Rattle.c_tree.specs.declared.specifier.Width.TheVariants as widths
 use Rattle.c_tree.specs.Operators.{combination}
 use Rattle.c_tree.specs.Tree as tree
 use Rattle.c_tree.specs.Tree.{Expr, Declarator, Parameters}
-use Rattle.c_check_types.specs.State.{Rule, ◌>>=◌, ◌>>◌, pure, none, given, state, and_then}
-use Rattle.c_check_types.specs.Scopes.{tag_number}
+use Rattle.c_check_types.specs.State.{Names, number_of, Rule, ◌>>=◌, ◌>>◌, pure, none, given, state, and_then}
+use Rattle.c_check_types.specs.Scopes.{library, tag_number}
 use Rattle.c_check_types.specs.TypeEquality.{tys_of}
 use Rattle.c_check_types.specs.declared.constants.Constant.{Constant}
 use Rattle.c_check_types.specs.Constants.{a_number, constant_type, constant_bits, character_bits, binary, unary, choice, cast, natural}
@@ -151,13 +151,20 @@ abbrev pub integer_type : Ty → Option IntType
 integer_type (integer t) = Some t
 integer_type _ = None
 
--- a parameter: what is declared of its specifier's type
-abbrev pub a_parameter : SpecifierNode → (Ty → Rule Declared) → Rule Parameter
-a_parameter s declares = do
+-- The names of a function's parameters differ (6.2.1, paragraph 4; 6.7, paragraph 3), and none stands before the unit.
+abbrev pub with_name : Names → Option (List ℕ) → Option Names
+with_name names None = Some names
+with_name names (Some name) =
+    if not (is_some (library name)) && not (is_some (number_of names name)) then Some (names ++ name ∷ []) else None
+
+-- a parameter, which is what is declared of its specifier's type, and the names with its own
+abbrev pub a_parameter : SpecifierNode → (Ty → Rule Declared) → Names → Rule (Parameter × Names)
+a_parameter s declares names = do
   b ← specified s
   x ← declares b
   t ← given (adjusted x.derived)
-  pure (record { name = x.name; ty = t })
+  more ← given (with_name names x.name)
+  pure (record { name = x.name; ty = t }, more)
 
 -- A declarator is read from the outside in: in `*a[1]` the array is of what the pointer is declared to be.
 abbrev mutual
@@ -181,19 +188,19 @@ abbrev mutual
   -- 6.7.6.3
   declared (tree.function inner written) d ps = do
     r ← given (result_type d)
-    qs ← parameters written []
+    qs ← parameters written [] []
     f ← function_of r qs
     declared inner (whole f) qs
   declared (tree.function_void inner) d ps = do
     r ← given (result_type d)
     declared inner (whole (function r no_types)) []
 
-  -- parameters in order, behind those so far
-  pub parameters : Parameters → List Parameter → Rule (List Parameter)
-  parameters tree.no_parameters qs = pure qs
-  parameters (tree.parameter_and s d ps) qs = do
-    q ← a_parameter s (λ b. declared d (whole b) [])
-    parameters ps (qs ++ q ∷ [])
+  -- parameters in order, behind those so far with their names
+  pub parameters : Parameters → Names → List Parameter → Rule (List Parameter)
+  parameters tree.no_parameters names qs = pure qs
+  parameters (tree.parameter_and s d ps) names qs = do
+    q ← a_parameter s (λ b. declared d (whole b) []) names
+    parameters ps q.1 (qs ++ q.0 ∷ [])
 
   -- integer constant expressions (6.6, paragraph 6)
   pub constant : Expr → Rule Constant

@@ -5,7 +5,7 @@ ghost use Rattle.c_types.specs.Types.{type_of};
 ghost use Rattle.c_types.specs.Views.{types_in};
 ghost use Rattle.c_check_types.specs.Fits.{Fits};
 ghost use Rattle.c_check_types.specs.Types as words;
-ghost use Rattle.c_check_types.specs.Views.{Answers, Gives, declared_of, derived_of, parameter_of, parameters_in, state_of};
+ghost use Rattle.c_check_types.specs.Views.{Answers, Gives, declared_of, derived_of, name_of, parameter_of, parameters_in, state_of};
 
 use crate::checker::Checker;
 use crate::constants::{
@@ -16,7 +16,9 @@ use crate::declared::{
     Declared, Derived, Parameter, adjusted, pointer_to, result_type, whole_type,
 };
 use crate::fault::Stop;
+use crate::names::Names;
 use crate::operators::operator_of;
+use crate::prelude::library;
 use crate::types::function_type;
 use c_tree::{Declarator, DeclaratorNode, Expr, ExprNode, Infix, Parameters, Specifier};
 use c_types::{CType, IntType};
@@ -77,11 +79,12 @@ impl<'a> Checker<'a> {
     /// The parameters of a function (C11, 6.7.6.3).
     #[cycle(types)]
     fn parameters(&mut self, ps: &'a Parameters) -> Result<Vec<Parameter<'a>>, Stop>
-        ensures { Answers (λ v. parameters_in v.items) (words.parameters ps.now []) (state_of self.old) (state_of self.new) result }
+        ensures { Answers (λ v. parameters_in v.items) (words.parameters ps.now [] []) (state_of self.old) (state_of self.new) result }
     {
+        let mut names = Names::new(self.alloc);
         let mut params = Vec::new(self.alloc);
         for p in ps.items() {
-            match self.parameter(p) {
+            match self.parameter(p, &mut names) {
                 Ok(q) => params.push(q)?,
                 Err(e) => return Err(e),
             }
@@ -89,14 +92,19 @@ impl<'a> Checker<'a> {
         Ok(params)
     }
 
-    /// A parameter.
+    /// A parameter, whose name isn't among these.
     #[cycle(types)]
-    fn parameter(&mut self, p: &'a c_tree::Parameter) -> Result<Parameter<'a>, Stop>
-        ensures { Answers parameter_of (words.a_parameter p.now.specifier (λ b. words.declared p.now.declarator (words.whole b) [])) (state_of self.old) (state_of self.new) result }
+    fn parameter(
+        &mut self,
+        p: &'a c_tree::Parameter,
+        names: &mut Names<'a>,
+    ) -> Result<Parameter<'a>, Stop>
+        ensures { Answers (λ q. (parameter_of q, names.new)) (words.a_parameter p.now.specifier (λ b. words.declared p.now.declarator (words.whole b) []) names.old) (state_of self.old) (state_of self.new) result }
     {
         let b = self.specified(p.specifier.node())?;
         let x = self.declared(&p.declarator, Derived::Whole(b), Vec::new(self.alloc))?;
         let ty = adjusted(self.alloc, x.derived)?;
+        add_name(names, x.name)?;
         Ok(Parameter { name: x.name, ty })
     }
 
@@ -199,6 +207,23 @@ impl<'a> Checker<'a> {
         let types = parameter_types(self.alloc, ps)?;
         Ok(function_type(self.alloc, r, types)?)
     }
+}
+
+/// Adds the name of a parameter, if it has one (C11, 6.7, paragraph 3).
+fn add_name<'a>(names: &mut Names<'a>, name: Option<&'a [u8]>) -> Result<(), Stop>
+    ensures { Gives (λ _. names.new) (words.with_name names.old (name_of name.entry)) result }
+{
+    let Some(name) = name else {
+        return Ok(());
+    };
+    if library(name).is_some() {
+        return Err(Stop::NoTyping);
+    }
+    if names.find(name).is_some() {
+        return Err(Stop::NoTyping);
+    }
+    names.add(name)?;
+    Ok(())
 }
 
 /// The types of parameters, in order.

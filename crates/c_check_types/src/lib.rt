@@ -13,6 +13,7 @@ mod entity;
 mod fault;
 mod names;
 mod operators;
+mod prelude;
 mod types;
 
 pub use checker::{Checker, Scope};
@@ -25,4 +26,5 @@ pub use entity::Entity;
 pub use fault::Stop;
 pub use names::Names;
 pub use operators::{Operator, operator_of};
+pub use prelude::{LibraryName, library};
 pub use types::{function_type, measured, same_integer, same_type};

@@ -82,6 +82,17 @@ impl Structs {
         }
     }
 
+    /// Whether a tag has this number and its struct isn't defined.
+    pub fn is_undefined(&self, number: u32) -> bool
+        ensures { IsTrue result ↔ (slice_get self.now number ≡ Some None) }
+    {
+        match self.definitions.get(number as usize) {
+            Some(Some(_)) => false,
+            Some(None) => true,
+            None => false,
+        }
+    }
+
     /// The types of a struct's members, in order.
     pub fn members(&self, number: u32) -> &[CType]
         requires { IsDefined self.now number }

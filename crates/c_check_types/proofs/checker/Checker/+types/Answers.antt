@@ -5,7 +5,7 @@ use Rattle.c_check_types.specs.Types.{whole, a_parameter, declared, parameters}
 use Rattle.c_check_types.specs.Views.{parameter_of, parameters_in, state_of}
 use Rattle.c_check_types.specs.declared.declared.Parameter.{Parameter as Code}
 use Rattle.c_check_types.proofs.Rules.{stopped}
-use Rattle.c_check_types.proofs.Parameters.{front, one_falls}
+use Rattle.c_check_types.proofs.Parameters.{front, going_on, one_falls}
 use Rattle.c_check_types.proofs.checker.Checker.+types.Goals as goal
 
 pub parameters-parameter-requires : goal.parameters-parameter-requires
@@ -24,9 +24,9 @@ parameters-returns-in-Err n c =
     let new = state_of c.parameter.new.self in
     let rest = parameters_of (drop (suc c.loop-p.p-index) items) in
     let qs = parameters_in c.loop-p.params.items in
-    let e = front items c.loop-p.p-index p c.loop-p-test.true c.p-item.is qs s in
-    stopped {D = Vec Code Global} parameter_of (λ v. parameters_in v.items) (a_parameter p.specifier (λ b. declared p.declarator (whole b) [])) (parameters c.args.ps.now []) s new old new
-    (λ q. parameters rest (qs ++ q ∷ [])) c.in-Err.e (sym e ∙ c.loop-p.invariant) c.in-Err.ensures
+    let e = front items c.loop-p.p-index p c.loop-p-test.true c.p-item.is c.loop-p.names qs s in
+    stopped {D = Vec Code Global} (λ q. (parameter_of q, c.parameter.new.names)) (λ v. parameters_in v.items) (a_parameter p.specifier (λ b. declared p.declarator (whole b) []) c.loop-p.names) (parameters c.args.ps.now [] []) s new old new
+    (going_on rest qs) c.in-Err.e (sym e ∙ c.loop-p.invariant) c.in-Err.ensures
 
 pub parameter-declared-requires : goal.parameter-declared-requires
 parameter-declared-requires n c = let bound = c.decreases in (omega (arith, bound), tt)

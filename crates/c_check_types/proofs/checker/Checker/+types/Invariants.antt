@@ -6,7 +6,7 @@ use Rattle.c_check_types.proofs.checker.Checker.+types.Given as goal
 
 abbrev pub invariant-parameters-loop-p : goal.invariant-parameters-loop-p
 invariant-parameters-loop-p l =
-    parameters (parameters_of (drop l.p-index l.p-items)) (parameters_in l.params.items) (state_of l.self) ≡ parameters l.fn.ps [] (state_of l.fn.self)
+    parameters (parameters_of (drop l.p-index l.p-items)) l.names (parameters_in l.params.items) (state_of l.self) ≡ parameters l.fn.ps [] [] (state_of l.fn.self)
 
 abbrev pub decreases-parameter : goal.decreases-parameter
 decreases-parameter l = declarator_nodes l.p.now.declarator + 1

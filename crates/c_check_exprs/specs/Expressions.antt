@@ -1,5 +1,5 @@
 -- Expressions (C11, 6.5).
-use Rattle.std.specs.Prelude.{ℕ, ◌+◌, ◌-◌, ◌==◌, ◌^◌, Bool, true, false, List, [], length, slice_get, Option, Some, None, if◌then◌else◌}
+use Rattle.std.specs.Prelude.{ℕ, ◌+◌, ◌-◌, ◌==◌, ◌^◌, Bool, true, false, List, [], ◌∷◌, ◌++◌, length, slice_get, Option, Some, None, if◌then◌else◌}
 use Rattle.c_types.specs.declared.integers.IntType.{IntType}
 use Rattle.c_types.specs.declared.integers.IntType.TheVariants.{Int, UnsignedInt, LongLong}
 use Rattle.c_types.specs.declared.types.Scalar.{Scalar}
@@ -20,6 +20,7 @@ use Rattle.c_typed.specs.declared.ops.BinaryOp.{BinaryOp}
 use Rattle.c_typed.specs.declared.ops.BinaryOp.TheVariants as ops
 use Rattle.c_typed.specs.declared.ops.RelOp.{RelOp}
 use Rattle.c_typed.specs.declared.ops.RelOp.TheVariants as relations
+use Rattle.c_typed.specs.declared.ops.UnaryOp.{UnaryOp}
 use Rattle.c_typed.specs.declared.ops.UnaryOp.TheVariants as signs
 use Rattle.c_typed.specs.declared.ops.Variable.TheVariants as variables
 use Rattle.c_typed.specs.Tree as to
@@ -29,13 +30,15 @@ use Rattle.c_check_types.specs.declared.entity.Entity.TheVariants as entities
 use Rattle.c_check_types.specs.declared.operators.Operator.{Operator}
 use Rattle.c_check_types.specs.declared.operators.Operator.TheVariants.{And, Or, Equality, Order, Arithmetic, Shift, Plus, Minus}
 use Rattle.c_check_types.specs.State.{Rule, ◌>>=◌, ◌>>◌, pure, none, given, only_if, state, followed, number_of}
-use Rattle.c_check_types.specs.Scopes.{Library, putchar, getchar, abort, malloc, free, null, eof, library, named_entity}
+use Rattle.c_check_types.specs.Scopes.{library, named_entity}
+use Rattle.c_check_types.specs.declared.prelude.LibraryName.{LibraryName}
+use Rattle.c_check_types.specs.declared.prelude.LibraryName.TheVariants as prelude
 use Rattle.c_check_types.specs.TypeEquality.{same_type}
 use Rattle.c_check_types.specs.Operators.{operator_of}
 use Rattle.c_check_types.specs.Constants.{constant_type, constant_bits, character_bits}
 use Rattle.c_check_types.specs.Types.{size_of, type_name}
-use Rattle.c_check.specs.Forms as form
-use Rattle.c_check.specs.Forms.{Form, place, value, designator, text, zero, allocation, operand, value_of, integer_of, pointer_of, place_of, at_type, condition_of, null_of, assigned_to, thrown_away}
+use Rattle.c_check_exprs.specs.Forms as form
+use Rattle.c_check_exprs.specs.Forms.{Form, place, value, designator, text, zero, allocation, operand, value_of, integer_of, pointer_of, place_of, at_type, condition_of, null_of, assigned_to, thrown_away}
 
 -- ---- names (6.5.1)
 
@@ -67,9 +70,9 @@ entity_form (entities.Function n) = do
   pure (designator (to.function n) t)
 
 -- EOF is -1; the functions of the library stand where they are called alone
-abbrev pub name_form : List ℕ → Option Library → Rule Form
-name_form name (Some null) = pure form.null
-name_form name (Some eof) = pure (value (to.number Int (2 ^ 32 - 1)) (integer Int))
+abbrev pub name_form : List ℕ → Option LibraryName → Rule Form
+name_form name (Some prelude.Null) = pure form.null
+name_form name (Some prelude.Eof) = pure (value (to.number Int (2 ^ 32 - 1)) (integer Int))
 name_form name (Some _) = none
 name_form name None = do
   e ← named_entity name
@@ -80,15 +83,18 @@ name_form name None = do
 abbrev pub promoted_value : to.Expr × IntType → to.Expr
 promoted_value (e, t) = at_type t (promoted t) e
 
--- both operands at their common type (6.3.1.8)
-abbrev pub arithmetic : BinaryOp → to.Expr × IntType → to.Expr × IntType → Form
-arithmetic op (a, t) (b, u) =
-    let c = common t u in value (to.binary op c (at_type t c a) (at_type u c b)) (integer c)
+-- both operands at one type
+abbrev pub at_one_type : BinaryOp → IntType → to.Expr × IntType → to.Expr × IntType → Form
+at_one_type op c (a, t) (b, u) =
+    value (to.binary op c (at_type t c a) (at_type u c b)) (integer c)
 
--- 6.5.7
+-- at their common type (6.3.1.8)
+abbrev pub arithmetic : BinaryOp → to.Expr × IntType → to.Expr × IntType → Form
+arithmetic op x y = at_one_type op (common x.1 y.1) x y
+
+-- at the promoted type of the left one (6.5.7)
 abbrev pub shift : BinaryOp → to.Expr × IntType → to.Expr × IntType → Form
-shift op (a, t) (b, u) =
-    let c = promoted t in value (to.binary op c (at_type t c a) (at_type u c b)) (integer c)
+shift op x y = at_one_type op (promoted x.1) x y
 
 abbrev pub compared : RelOp → to.Expr × IntType → to.Expr × IntType → Form
 compared op (a, t) (b, u) =
@@ -229,6 +235,12 @@ choice c form.null (value b (pointer u)) = pure (chosen c (pointer u) (null_of u
 choice c (value a void) (value b void) = pure (chosen c void a b)
 choice c _ _ = none
 
+-- 6.5.17
+abbrev pub comma : to.Expr → Form → Rule Form
+comma e f = do
+  v ← value_of f
+  pure (value (to.comma e v.0) v.1)
+
 -- ---- unary operators (6.5.3)
 
 -- a function, and what a pointer to one leads to, are that function
@@ -246,6 +258,22 @@ address (place p t) = pure (value (to.address p) (pointer t))
 address (designator e t) = pure (value e (pointer t))
 address _ = none
 
+-- 6.5.3.3
+abbrev pub plus : Form → Rule Form
+plus f = do
+  v ← integer_of f
+  pure (value (promoted_value v) (integer (promoted v.1)))
+
+abbrev pub signed : UnaryOp → Form → Rule Form
+signed op f = do
+  v ← integer_of f
+  pure (value (to.unary op (promoted v.1) (promoted_value v)) (integer (promoted v.1)))
+
+abbrev pub negated : Form → Rule Form
+negated f = do
+  c ← condition_of f
+  pure (value (to.not c) (integer Int))
+
 -- functions, void, NULL and malloc's call have no size
 abbrev pub size : Form → Rule Form
 size (place p t) = do
@@ -260,6 +288,11 @@ size (zero t) = do
   pure (value (to.size_of_value n (to.number t 0)) (integer UnsignedInt))
 size _ = none
 
+abbrev pub size_of_value : Rule Form → Rule Form
+size_of_value rule = do
+  x ← rule
+  size x
+
 -- what stands in sizeof isn't evaluated, and its literals aren't made: they are counted anew, and forgotten
 abbrev pub unevaluated : {A : Type 0} → Rule A → Rule A
 unevaluated rule = λ s. followed (rule (record s { made = []; literals = 0 })) (λ a after. Some (a, record after { made = s.made; literals = s.literals }))
@@ -272,15 +305,18 @@ copied n p (q, t) = do
   size_of t
   pure (value (to.copy n p q) void)
 
+abbrev pub stored : Place → Ty → Form → Rule Form
+stored p t f = do
+  s ← given (scalar_of t)
+  e ← assigned_to t f
+  pure (value (to.assign s p e) t)
+
 -- a struct is assigned from a place, any other thing from a value
 abbrev pub assigned : Place × Ty → Form → Rule Form
 assigned (p, struct n) f = do
   q ← place_of f
   copied n p q
-assigned (p, t) f = do
-  s ← given (scalar_of t)
-  e ← assigned_to t f
-  pure (value (to.assign s p e) t)
+assigned (p, t) f = stored p t f
 
 -- the type at which `op=` works, of that of the place and that of the operand
 abbrev pub worked : Operator → IntType → IntType → Option (BinaryOp × IntType)
@@ -337,13 +373,19 @@ assign_operator assigns.BitOr = Some (Arithmetic ops.Or)
 
 -- ---- members and elements (6.5.2.1, 6.5.2.3)
 
-abbrev pub member_in : Place → Ty → List ℕ → Rule Form
-member_in p (struct n) name = do
+-- the number and the type of a struct's member
+abbrev pub member_named : ℕ → List ℕ → Rule (ℕ × Ty)
+member_named n name = do
   s ← state
   names ← given (slice_get s.members n)
   m ← given (number_of names name)
   t ← given (slice_get (members_of s.structs (struct n)) m)
-  pure (place (to.member p n m) t)
+  pure (m, t)
+
+abbrev pub member_in : Place → Ty → List ℕ → Rule Form
+member_in p (struct n) name = do
+  m ← member_named n name
+  pure (place (to.member p n m.0) m.1)
 member_in p t name = none
 
 abbrev pub member : Access → Form → List ℕ → Rule Form
@@ -361,15 +403,24 @@ element (p, t) (i, u) = do
 
 -- ---- calls (6.5.2.2)
 
-abbrev pub call_of : to.Expr → Ty → Option Scalar → to.Exprs → to.Expr
-call_of (to.function n) t s es = to.call n s es
-call_of e t s es = to.call_through t s e es
+abbrev pub exprs_of : List to.Expr → to.Exprs
+exprs_of [] = to.none
+exprs_of (e ∷ es) = to.more e (exprs_of es)
+
+-- the function that is called by its number, if it is
+abbrev pub function_number : to.Expr → Option ℕ
+function_number (to.function n) = Some n
+function_number _ = None
+
+abbrev pub call_of : Option ℕ → to.Expr → Ty → Option Scalar → to.Exprs → to.Expr
+call_of None e t s es = to.call_through t s e es
+call_of (Some n) e t s es = to.call n s es
 
 -- a call of what a value points to
-abbrev pub called : to.Expr × Ty → (Tys → Rule to.Exprs) → Rule Form
+abbrev pub called : to.Expr × Ty → (Tys → Rule (List to.Expr)) → Rule Form
 called (e, function r ps) arguments = do
   es ← arguments ps
-  pure (value (call_of e (function r ps) (scalar_of r) es) r)
+  pure (value (call_of (function_number e) e (function r ps) (scalar_of r) (exprs_of es)) r)
 called _ arguments = none
 
 -- free takes a pointer to an object or a null constant
@@ -379,36 +430,54 @@ freed (zero t) = Some (to.free to.null)
 freed form.null = Some (to.free to.null)
 freed _ = None
 
+abbrev pub freeing : Form → Rule Form
+freeing f = do
+  v ← operand f
+  e ← given (freed v)
+  pure (value e void)
+
+abbrev pub putting : Form → Rule Form
+putting f = do
+  e ← assigned_to (integer Int) f
+  pure (value (to.putchar e) (integer Int))
+
+abbrev pub allocating : Form → Rule Form
+allocating f = do
+  e ← assigned_to (integer UnsignedInt) f
+  pure (allocation e)
+
 abbrev pub no_arguments : Exprs → Bool
 no_arguments tree.no_exprs = true
 no_arguments (tree.expr_and e es) = false
 
 -- a call of the library: of which function, with which arguments, the form of the sole one
-abbrev pub library_call : Library → Exprs → Rule Form → Rule Form
-library_call putchar es only = do
+abbrev pub library_call : LibraryName → Exprs → Rule Form → Rule Form
+library_call prelude.Putchar es only = do
   x ← only
-  e ← assigned_to (integer Int) x
-  pure (value (to.putchar e) (integer Int))
-library_call getchar es only = do
+  putting x
+library_call prelude.Getchar es only = do
   only_if (no_arguments es)
   pure (value to.getchar (integer Int))
-library_call abort es only = do
+library_call prelude.Abort es only = do
   only_if (no_arguments es)
   pure (value to.abort void)
-library_call malloc es only = do
+library_call prelude.Malloc es only = do
   x ← only
-  e ← assigned_to (integer UnsignedInt) x
-  pure (allocation e)
-library_call free es only = do
+  allocating x
+library_call prelude.Free es only = do
   x ← only
-  v ← operand x
-  e ← given (freed v)
-  pure (value e void)
-library_call null es only = none
-library_call eof es only = none
+  freeing x
+library_call prelude.Null es only = none
+library_call prelude.Eof es only = none
+
+-- an argument of a parameter of this type
+abbrev pub argument : Ty → Rule Form → Rule to.Expr
+argument t rule = do
+  x ← rule
+  assigned_to t x
 
 -- a call: of the library, or of a function or a pointer to one
-abbrev pub calling : Option Library → Rule Form → Exprs → Rule Form → (Tys → Rule to.Exprs) → Rule Form
+abbrev pub calling : Option LibraryName → Rule Form → Exprs → Rule Form → (Tys → Rule (List to.Expr)) → Rule Form
 calling (Some l) callee es only arguments = library_call l es only
 calling None callee es only arguments = do
   x ← callee
@@ -430,11 +499,11 @@ cast _ f = none
 
 -- ---- the rules
 
-abbrev called_library : Expr → Option Library
+abbrev pub called_library : Expr → Option LibraryName
 called_library (tree.name n) = library n
 called_library _ = None
 
-abbrev constant_form : ℕ → IntType → Form
+abbrev pub constant_form : ℕ → IntType → Form
 constant_form n t = if n == 0 then zero t else value (to.number t n) (integer t)
 
 abbrev mutual
@@ -451,7 +520,7 @@ abbrev mutual
     y ← typing i
     j ← integer_of y
     element p j
-  typing (tree.call f es) = calling (called_library f) (typing f) es (sole es) (arguments es)
+  typing (tree.call f es) = calling (called_library f) (typing f) es (sole es) (λ ts. arguments es ts [])
   typing (tree.member op e n) = do
     x ← typing e
     member op x n
@@ -466,27 +535,23 @@ abbrev mutual
     deref x
   typing (tree.unary unaries.Plus e) = do
     x ← typing e
-    v ← integer_of x
-    pure (value (promoted_value v) (integer (promoted v.1)))
+    plus x
   typing (tree.unary unaries.Minus e) = do
     x ← typing e
-    v ← integer_of x
-    pure (value (to.unary signs.Negate (promoted v.1) (promoted_value v)) (integer (promoted v.1)))
+    signed signs.Negate x
   typing (tree.unary unaries.Complement e) = do
     x ← typing e
-    v ← integer_of x
-    pure (value (to.unary signs.Complement (promoted v.1) (promoted_value v)) (integer (promoted v.1)))
+    signed signs.Complement x
   typing (tree.unary unaries.Not e) = do
     x ← typing e
-    c ← condition_of x
-    pure (value (to.not c) (integer Int))
+    negated x
   typing (tree.unary unaries.Increment e) = do
     x ← typing e
     stepped false Plus x
   typing (tree.unary unaries.Decrement e) = do
     x ← typing e
     stepped false Minus x
-  typing (tree.unary unaries.SizeOf e) = unevaluated (typing e >>= (λ x. size x))
+  typing (tree.unary unaries.SizeOf e) = unevaluated (size_of_value (typing e))
   typing (tree.size_of_type s d) = do
     t ← type_name s d
     n ← size_of t
@@ -499,8 +564,7 @@ abbrev mutual
     x ← typing a
     e ← thrown_away x
     y ← typing b
-    v ← value_of y
-    pure (value (to.comma e v.0) v.1)
+    comma e y
   typing (tree.between (Assign op) a b) = do
     x ← typing a
     p ← place_of x
@@ -523,12 +587,10 @@ abbrev mutual
   sole (tree.expr_and e tree.no_exprs) = typing e
   sole _ = none
 
-  -- arguments, converted to the types of parameters, as many as there are
-  pub arguments : Exprs → Tys → Rule to.Exprs
-  arguments tree.no_exprs no_types = pure to.none
-  arguments (tree.expr_and e es) (types t ts) = do
-    x ← typing e
-    v ← assigned_to t x
-    vs ← arguments es ts
-    pure (to.more v vs)
-  arguments _ _ = none
+  -- arguments, converted to the types of parameters, as many as there are, behind those so far
+  pub arguments : Exprs → Tys → List to.Expr → Rule (List to.Expr)
+  arguments tree.no_exprs no_types vs = pure vs
+  arguments (tree.expr_and e es) (types t ts) vs = do
+    v ← argument t (typing e)
+    arguments es ts (vs ++ v ∷ [])
+  arguments _ _ vs = none

@@ -2,9 +2,10 @@
 
 ghost use Rattle.std.specs.Prelude.{◌≡◌, IfOk, Some};
 ghost use Rattle.c_types.specs.Types.{integer, pointer, scalar_of, type_of};
+ghost use Rattle.c_typed.specs.Tree as to;
 ghost use Rattle.c_typed.specs.Views.{expr_of, place_of};
-ghost use Rattle.c_check.specs.Forms as words;
-ghost use Rattle.c_check.specs.FormViews.{form_of, integer_pair, place_pair, value_pair};
+ghost use Rattle.c_check_exprs.specs.Forms as words;
+ghost use Rattle.c_check_exprs.specs.FormViews.{boxed_expr, form_of, integer_pair, place_pair, value_pair};
 ghost use Rattle.c_check_types.specs.Views.{Answers, Gives, state_of};
 
 use c_check_types::{Checker, Stop, same_integer, same_type};
@@ -16,11 +17,11 @@ use std::rc::Rc;
 /// What an expression is before it is used.
 #[derive(Drop)]
 pub enum Form<'a> {
-    Place(Place, CType),
+    Place(Box<Place>, CType),
     /// A value of an integer type or a pointer type, or a void expression.
-    Value(Expr, CType),
+    Value(Box<Expr>, CType),
     /// A function, by a pointer to it, and its type.
-    Designator(Expr, CType),
+    Designator(Box<Expr>, CType),
     /// A string literal.
     Text(&'a [u8]),
     /// The integer constant 0, which is a null constant, too.
@@ -28,17 +29,22 @@ pub enum Form<'a> {
     /// `NULL`.
     Null,
     /// A call of malloc with this argument.
-    Allocation(Expr),
+    Allocation(Box<Expr>),
 }
 
 /// An integer at a type (C11, 6.3.1.3).
-pub fn at_type(alloc: Global, from: IntType, to: IntType, e: Expr) -> Result<Expr, AllocError>
-    ensures { IfOk result (λ r. expr_of r ≡ words.at_type from to (expr_of e)) }
+pub fn at_type(
+    alloc: Global,
+    from: IntType,
+    to: IntType,
+    e: Box<Expr>,
+) -> Result<Box<Expr>, AllocError>
+    ensures { IfOk result (λ r. expr_of r.value ≡ words.at_type from to (expr_of e.value)) }
 {
     if same_integer(from, to) {
         Ok(e)
     } else {
-        Ok(Expr::Convert(from, to, boxed(alloc, e)?))
+        boxed(alloc, Expr::Convert(from, to, e))
     }
 }
 
@@ -53,13 +59,27 @@ pub fn null_of(t: &CType) -> Expr
     }
 }
 
+/// The null pointer to a type, in a box.
+pub fn null_at(alloc: Global, t: &CType) -> Result<Box<Expr>, AllocError>
+    ensures { IfOk result (λ r. expr_of r.value ≡ words.null_of (type_of t.now)) }
+{
+    boxed(alloc, null_of(t))
+}
+
+/// The number 0 of a type, in a box.
+pub fn zero_of(alloc: Global, t: IntType) -> Result<Box<Expr>, AllocError>
+    ensures { IfOk result (λ r. expr_of r.value ≡ to.number t 0) }
+{
+    boxed(alloc, Expr::Number(t, 0))
+}
+
 /// A value with its type; NULL has none.
-fn plain(f: Form) -> Result<(Expr, CType), Stop>
+fn plain(alloc: Global, f: Form) -> Result<(Box<Expr>, CType), Stop>
     ensures { Gives value_pair (words.plain (form_of f.entry)) result }
 {
     match f {
         Form::Value(e, t) => Ok((e, t)),
-        Form::Zero(t) => Ok((Expr::Number(t, 0), CType::Int(t))),
+        Form::Zero(t) => Ok((zero_of(alloc, t)?, CType::Int(t))),
         Form::Place(_, _) => Err(Stop::NoTyping),
         Form::Designator(_, _) => Err(Stop::NoTyping),
         Form::Text(_) => Err(Stop::NoTyping),
@@ -68,8 +88,8 @@ fn plain(f: Form) -> Result<(Expr, CType), Stop>
     }
 }
 
-fn as_integer(v: (Expr, CType)) -> Result<(Expr, IntType), Stop>
-    ensures { Gives integer_pair (words.as_integer (expr_of v.0, type_of v.1)) result }
+fn as_integer(v: (Box<Expr>, CType)) -> Result<(Box<Expr>, IntType), Stop>
+    ensures { Gives integer_pair (words.as_integer (expr_of v.0.value, type_of v.1)) result }
 {
     let (e, t) = v;
     match t {
@@ -83,8 +103,8 @@ fn as_integer(v: (Expr, CType)) -> Result<(Expr, IntType), Stop>
 }
 
 /// A pointer, and what it leads to.
-fn as_pointer(v: (Expr, CType)) -> Result<(Expr, CType), Stop>
-    ensures { Gives value_pair (words.as_pointer (expr_of v.0, type_of v.1)) result }
+fn as_pointer(v: (Box<Expr>, CType)) -> Result<(Box<Expr>, CType), Stop>
+    ensures { Gives value_pair (words.as_pointer (expr_of v.0.value, type_of v.1)) result }
 {
     let (e, t) = v;
     match t {
@@ -98,7 +118,7 @@ fn as_pointer(v: (Expr, CType)) -> Result<(Expr, CType), Stop>
 }
 
 /// A place with its type.
-pub fn as_place(f: Form) -> Result<(Place, CType), Stop>
+pub fn as_place(f: Form) -> Result<(Box<Place>, CType), Stop>
     ensures { Gives place_pair (words.as_place (form_of f.entry)) result }
 {
     match f {
@@ -113,13 +133,13 @@ pub fn as_place(f: Form) -> Result<(Place, CType), Stop>
 }
 
 /// A condition: an integer or a pointer (C11, 6.8.4.1).
-fn condition(alloc: Global, v: (Expr, CType)) -> Result<Expr, Stop>
-    ensures { Gives expr_of (words.condition (expr_of v.0, type_of v.1)) result }
+fn condition(alloc: Global, v: (Box<Expr>, CType)) -> Result<Box<Expr>, Stop>
+    ensures { Gives boxed_expr (words.condition (expr_of v.0.value, type_of v.1)) result }
 {
     let (e, t) = v;
     match t {
         CType::Int(t) => Ok(integer_condition(alloc, e, t)?),
-        CType::Pointer(t) => Ok(Expr::Truth(pointer_scalar(&t), boxed(alloc, e)?)),
+        CType::Pointer(t) => Ok(boxed(alloc, Expr::Truth(pointer_scalar(&t), e))?),
         CType::Void => Err(Stop::NoTyping),
         CType::Struct(_) => Err(Stop::NoTyping),
         CType::Array(_, _) => Err(Stop::NoTyping),
@@ -127,13 +147,13 @@ fn condition(alloc: Global, v: (Expr, CType)) -> Result<Expr, Stop>
     }
 }
 
-fn integer_condition(alloc: Global, e: Expr, t: IntType) -> Result<Expr, AllocError>
-    ensures { IfOk result (λ r. Some (expr_of r) ≡ words.condition (expr_of e, integer t)) }
+fn integer_condition(alloc: Global, e: Box<Expr>, t: IntType) -> Result<Box<Expr>, AllocError>
+    ensures { IfOk result (λ r. Some (expr_of r.value) ≡ words.condition (expr_of e.value, integer t)) }
 {
     if t.bits() <= 32 {
         Ok(e)
     } else {
-        Ok(Expr::Truth(Scalar::Int(t), boxed(alloc, e)?))
+        boxed(alloc, Expr::Truth(Scalar::Int(t), e))
     }
 }
 
@@ -149,12 +169,12 @@ fn pointer_scalar(t: &CType) -> Scalar
 }
 
 /// A form as an integer type, as if by assignment (C11, 6.5.16.1).
-fn to_integer(alloc: Global, t: IntType, f: Form) -> Result<Expr, Stop>
-    ensures { Gives expr_of (words.to_integer t (form_of f.entry)) result }
+fn to_integer(alloc: Global, t: IntType, f: Form) -> Result<Box<Expr>, Stop>
+    ensures { Gives boxed_expr (words.to_integer t (form_of f.entry)) result }
 {
     match f {
         Form::Value(e, u) => value_to_integer(alloc, t, e, u),
-        Form::Zero(u) => Ok(at_type(alloc, u, t, Expr::Number(u, 0))?),
+        Form::Zero(u) => Ok(at_type(alloc, u, t, zero_of(alloc, u)?)?),
         Form::Place(_, _) => Err(Stop::NoTyping),
         Form::Designator(_, _) => Err(Stop::NoTyping),
         Form::Text(_) => Err(Stop::NoTyping),
@@ -163,8 +183,8 @@ fn to_integer(alloc: Global, t: IntType, f: Form) -> Result<Expr, Stop>
     }
 }
 
-fn value_to_integer(alloc: Global, t: IntType, e: Expr, u: CType) -> Result<Expr, Stop>
-    ensures { Gives expr_of (words.to_integer t (words.value (expr_of e) (type_of u))) result }
+fn value_to_integer(alloc: Global, t: IntType, e: Box<Expr>, u: CType) -> Result<Box<Expr>, Stop>
+    ensures { Gives boxed_expr (words.to_integer t (words.value (expr_of e.value) (type_of u))) result }
 {
     match u {
         CType::Int(u) => Ok(at_type(alloc, u, t, e)?),
@@ -177,13 +197,13 @@ fn value_to_integer(alloc: Global, t: IntType, e: Expr, u: CType) -> Result<Expr
 }
 
 /// A form as a pointer to a type.
-fn to_pointer(t: &CType, f: Form) -> Result<Expr, Stop>
-    ensures { Gives expr_of (words.to_pointer (type_of t.now) (form_of f.entry)) result }
+fn to_pointer(alloc: Global, t: &CType, f: Form) -> Result<Box<Expr>, Stop>
+    ensures { Gives boxed_expr (words.to_pointer (type_of t.now) (form_of f.entry)) result }
 {
     match f {
         Form::Value(e, u) => value_to_pointer(t, e, u),
-        Form::Zero(_) => Ok(null_of(t)),
-        Form::Null => Ok(null_of(t)),
+        Form::Zero(_) => Ok(null_at(alloc, t)?),
+        Form::Null => Ok(null_at(alloc, t)?),
         Form::Place(_, _) => Err(Stop::NoTyping),
         Form::Designator(_, _) => Err(Stop::NoTyping),
         Form::Text(_) => Err(Stop::NoTyping),
@@ -191,8 +211,8 @@ fn to_pointer(t: &CType, f: Form) -> Result<Expr, Stop>
     }
 }
 
-fn value_to_pointer(t: &CType, e: Expr, u: CType) -> Result<Expr, Stop>
-    ensures { Gives expr_of (words.to_pointer (type_of t.now) (words.value (expr_of e) (type_of u))) result }
+fn value_to_pointer(t: &CType, e: Box<Expr>, u: CType) -> Result<Box<Expr>, Stop>
+    ensures { Gives boxed_expr (words.to_pointer (type_of t.now) (words.value (expr_of e.value) (type_of u))) result }
 {
     match u {
         CType::Pointer(u) => {
@@ -220,21 +240,28 @@ fn literal_pointer<'a>(checker: &mut Checker<'a>, bytes: &[u8]) -> Result<Form<'
     kept.extend_from_slice(bytes)?;
     checker.made.push(Made::Literal(kept))?;
     checker.literals = next;
-    Ok(Form::Value(
-        Expr::Literal(number),
-        CType::Pointer(Rc::new(checker.alloc, CType::Int(IntType::Char))?),
-    ))
+    let e = boxed(checker.alloc, Expr::Literal(number))?;
+    let char_type = Rc::new(checker.alloc, CType::Int(IntType::Char))?;
+    Ok(Form::Value(e, CType::Pointer(char_type)))
 }
 
 /// What a place holds: an array decays, another place is read, a struct's isn't (C11, 6.3.2.1).
-fn read_place<'a>(checker: &mut Checker<'a>, p: Place, t: CType) -> Result<Form<'a>, Stop>
-    ensures { Answers form_of (words.read_place (place_of p) (type_of t)) (state_of checker.old) (state_of checker.new) result }
+fn read_place<'a>(checker: &mut Checker<'a>, p: Box<Place>, t: CType) -> Result<Form<'a>, Stop>
+    ensures { Answers form_of (words.read_place (place_of p.value) (type_of t)) (state_of checker.old) (state_of checker.new) result }
 {
-    let p = boxed(checker.alloc, p)?;
     match t {
-        CType::Array(t, n) => Ok(Form::Value(Expr::Decay(t.share()?, n, p), CType::Pointer(t))),
-        CType::Int(t) => Ok(Form::Value(Expr::Read(Scalar::Int(t), p), CType::Int(t))),
-        CType::Pointer(t) => Ok(Form::Value(Expr::Read(pointer_scalar(&t), p), CType::Pointer(t))),
+        CType::Array(t, n) => {
+            let e = boxed(checker.alloc, Expr::Decay(t.share()?, n, p))?;
+            Ok(Form::Value(e, CType::Pointer(t)))
+        }
+        CType::Int(t) => {
+            let e = boxed(checker.alloc, Expr::Read(Scalar::Int(t), p))?;
+            Ok(Form::Value(e, CType::Int(t)))
+        }
+        CType::Pointer(t) => {
+            let e = boxed(checker.alloc, Expr::Read(pointer_scalar(&t), p))?;
+            Ok(Form::Value(e, CType::Pointer(t)))
+        }
         CType::Void => Err(Stop::NoTyping),
         CType::Struct(_) => Err(Stop::NoTyping),
         CType::Function(_) => Err(Stop::NoTyping),
@@ -257,15 +284,15 @@ pub fn operand<'a>(checker: &mut Checker<'a>, f: Form<'a>) -> Result<Form<'a>, S
 }
 
 /// A value and its type.
-pub fn value_of<'a>(checker: &mut Checker<'a>, f: Form<'a>) -> Result<(Expr, CType), Stop>
+pub fn value_of<'a>(checker: &mut Checker<'a>, f: Form<'a>) -> Result<(Box<Expr>, CType), Stop>
     ensures { Answers value_pair (words.value_of (form_of f.entry)) (state_of checker.old) (state_of checker.new) result }
 {
     let v = operand(checker, f)?;
-    plain(v)
+    plain(checker.alloc, v)
 }
 
 /// An integer and its type.
-pub fn integer_of<'a>(checker: &mut Checker<'a>, f: Form<'a>) -> Result<(Expr, IntType), Stop>
+pub fn integer_of<'a>(checker: &mut Checker<'a>, f: Form<'a>) -> Result<(Box<Expr>, IntType), Stop>
     ensures { Answers integer_pair (words.integer_of (form_of f.entry)) (state_of checker.old) (state_of checker.new) result }
 {
     let v = value_of(checker, f)?;
@@ -273,7 +300,7 @@ pub fn integer_of<'a>(checker: &mut Checker<'a>, f: Form<'a>) -> Result<(Expr, I
 }
 
 /// A pointer, and what it leads to.
-pub fn pointer_of<'a>(checker: &mut Checker<'a>, f: Form<'a>) -> Result<(Expr, CType), Stop>
+pub fn pointer_of<'a>(checker: &mut Checker<'a>, f: Form<'a>) -> Result<(Box<Expr>, CType), Stop>
     ensures { Answers value_pair (words.pointer_of (form_of f.entry)) (state_of checker.old) (state_of checker.new) result }
 {
     let v = value_of(checker, f)?;
@@ -281,16 +308,16 @@ pub fn pointer_of<'a>(checker: &mut Checker<'a>, f: Form<'a>) -> Result<(Expr, C
 }
 
 /// A condition.
-pub fn condition_of<'a>(checker: &mut Checker<'a>, f: Form<'a>) -> Result<Expr, Stop>
-    ensures { Answers expr_of (words.condition_of (form_of f.entry)) (state_of checker.old) (state_of checker.new) result }
+pub fn condition_of<'a>(checker: &mut Checker<'a>, f: Form<'a>) -> Result<Box<Expr>, Stop>
+    ensures { Answers boxed_expr (words.condition_of (form_of f.entry)) (state_of checker.old) (state_of checker.new) result }
 {
     let v = value_of(checker, f)?;
     condition(checker.alloc, v)
 }
 
 /// A form as a type, as if by assignment (C11, 6.5.16.1).
-pub fn assigned_to<'a>(checker: &mut Checker<'a>, t: &CType, f: Form<'a>) -> Result<Expr, Stop>
-    ensures { Answers expr_of (words.assigned_to (type_of t.now) (form_of f.entry)) (state_of checker.old) (state_of checker.new) result }
+pub fn assigned_to<'a>(checker: &mut Checker<'a>, t: &CType, f: Form<'a>) -> Result<Box<Expr>, Stop>
+    ensures { Answers boxed_expr (words.assigned_to (type_of t.now) (form_of f.entry)) (state_of checker.old) (state_of checker.new) result }
 {
     match t {
         CType::Int(t) => {
@@ -306,35 +333,39 @@ pub fn assigned_to<'a>(checker: &mut Checker<'a>, t: &CType, f: Form<'a>) -> Res
 }
 
 /// A form as a pointer to a type; malloc's call becomes one to a type with a size.
-fn pointer_from<'a>(checker: &mut Checker<'a>, t: &CType, f: Form<'a>) -> Result<Expr, Stop>
-    ensures { Answers expr_of (words.assigned_to (pointer (type_of t.now)) (form_of f.entry)) (state_of checker.old) (state_of checker.new) result }
+pub fn pointer_from<'a>(
+    checker: &mut Checker<'a>,
+    t: &CType,
+    f: Form<'a>,
+) -> Result<Box<Expr>, Stop>
+    ensures { Answers boxed_expr (words.assigned_to (pointer (type_of t.now)) (form_of f.entry)) (state_of checker.old) (state_of checker.new) result }
 {
     match f {
         Form::Allocation(e) => {
             checker.size_of(t)?;
-            Ok(Expr::Malloc(t.share()?, boxed(checker.alloc, e)?))
+            Ok(boxed(checker.alloc, Expr::Malloc(t.share()?, e))?)
         }
         Form::Place(p, u) => {
             let v = operand(checker, Form::Place(p, u))?;
-            to_pointer(t, v)
+            to_pointer(checker.alloc, t, v)
         }
-        Form::Value(e, u) => to_pointer(t, Form::Value(e, u)),
+        Form::Value(e, u) => to_pointer(checker.alloc, t, Form::Value(e, u)),
         Form::Designator(e, u) => {
             let v = operand(checker, Form::Designator(e, u))?;
-            to_pointer(t, v)
+            to_pointer(checker.alloc, t, v)
         }
         Form::Text(bytes) => {
             let v = operand(checker, Form::Text(bytes))?;
-            to_pointer(t, v)
+            to_pointer(checker.alloc, t, v)
         }
-        Form::Zero(u) => to_pointer(t, Form::Zero(u)),
-        Form::Null => to_pointer(t, Form::Null),
+        Form::Zero(u) => to_pointer(checker.alloc, t, Form::Zero(u)),
+        Form::Null => to_pointer(checker.alloc, t, Form::Null),
     }
 }
 
 /// A form that is thrown away (C11, 6.3.2.2).
-pub fn thrown_away<'a>(checker: &mut Checker<'a>, f: Form<'a>) -> Result<Expr, Stop>
-    ensures { Answers expr_of (words.thrown_away (form_of f.entry)) (state_of checker.old) (state_of checker.new) result }
+pub fn thrown_away<'a>(checker: &mut Checker<'a>, f: Form<'a>) -> Result<Box<Expr>, Stop>
+    ensures { Answers boxed_expr (words.thrown_away (form_of f.entry)) (state_of checker.old) (state_of checker.new) result }
 {
     match f {
         Form::Place(p, t) => place_thrown_away(checker, p, t),
@@ -359,13 +390,17 @@ pub fn thrown_away<'a>(checker: &mut Checker<'a>, f: Form<'a>) -> Result<Expr, S
     }
 }
 
-fn place_thrown_away<'a>(checker: &mut Checker<'a>, p: Place, t: CType) -> Result<Expr, Stop>
-    ensures { Answers expr_of (words.thrown_away (words.place (place_of p) (type_of t))) (state_of checker.old) (state_of checker.new) result }
+fn place_thrown_away<'a>(
+    checker: &mut Checker<'a>,
+    p: Box<Place>,
+    t: CType,
+) -> Result<Box<Expr>, Stop>
+    ensures { Answers boxed_expr (words.thrown_away (words.place (place_of p.value) (type_of t))) (state_of checker.old) (state_of checker.new) result }
 {
     match t {
         CType::Struct(n) => {
             checker.size_of(&CType::Struct(n))?;
-            Ok(Expr::Visit(boxed(checker.alloc, p)?))
+            Ok(boxed(checker.alloc, Expr::Visit(p))?)
         }
         CType::Int(t) => {
             let v = value_of(checker, Form::Place(p, CType::Int(t)))?;

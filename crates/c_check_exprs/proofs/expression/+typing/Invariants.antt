@@ -1,0 +1,45 @@
+use Rattle.std.proofs.Common.{◌≡◌, ◌+◌, ◌*◌, drop, length, []}
+use Rattle.c_types.specs.Views.{types_in}
+use Rattle.c_tree.specs.Views.{exprs_of, expr_nodes, exprs_nodes}
+use Rattle.c_check_types.specs.TypeEquality.{tys_of}
+use Rattle.c_check_types.specs.Views.{state_of}
+use Rattle.c_check_exprs.specs.Expressions.{arguments}
+use Rattle.c_check_exprs.specs.FormViews.{exprs_in}
+use Rattle.c_check_exprs.proofs.expression.+typing.Given as goal
+
+abbrev pub invariant-arguments-loop-i : goal.invariant-arguments-loop-i
+invariant-arguments-loop-i l =
+    (length l.items ≡ length l.types) × (arguments (exprs_of (drop l.i l.items)) (tys_of (types_in (drop l.i l.types))) (exprs_in l.values.items) (state_of l.checker) ≡ arguments l.fn.es (tys_of (types_in l.types)) [] (state_of l.fn.checker))
+
+abbrev pub decreases-typing : goal.decreases-typing
+decreases-typing l = 8 * expr_nodes l.e.now
+
+abbrev pub decreases-unary : goal.decreases-unary
+decreases-unary l = 8 * expr_nodes l.e.now + 2
+
+abbrev pub decreases-size_of : goal.decreases-size_of
+decreases-size_of l = 8 * expr_nodes l.e.now + 1
+
+abbrev pub decreases-operating : goal.decreases-operating
+decreases-operating l = 8 * expr_nodes l.b.now + 1
+
+abbrev pub decreases-call : goal.decreases-call
+decreases-call l = 8 * (expr_nodes l.f.now + exprs_nodes l.es.now) + 4
+
+abbrev pub decreases-library_call : goal.decreases-library_call
+decreases-library_call l = 8 * exprs_nodes l.es.now + 2
+
+abbrev pub decreases-sole : goal.decreases-sole
+decreases-sole l = 8 * exprs_nodes l.es.now + 1
+
+abbrev pub decreases-called : goal.decreases-called
+decreases-called l = 8 * exprs_nodes l.es.now + 3
+
+abbrev pub decreases-called_function : goal.decreases-called_function
+decreases-called_function l = 8 * exprs_nodes l.es.now + 2
+
+abbrev pub decreases-arguments : goal.decreases-arguments
+decreases-arguments l = 8 * exprs_nodes l.es.now + 1
+
+abbrev pub decreases-argument : goal.decreases-argument
+decreases-argument l = 8 * expr_nodes l.e.now + 1
