@@ -1,13 +1,11 @@
 -- One module more in two parts is one module more.
-use Rattle.std.proofs.Common.{◌≡◌, ◌≤◌, ℕ, List, [], ◌∷◌, ◌++◌, All, Bool, true, false, nat_le, if◌then◌else◌, length, map, Option, Some, None, Ok, Err, refl, sym, ap, ◌∙◌, subst}
+use Rattle.std.proofs.Common.{◌≡◌, ◌≤◌, ℕ, List, [], ◌∷◌, ◌++◌, All, Bool, true, false, nat_le, if◌then◌else◌, length, Option, Some, None, Ok, Err, refl, sym, ap, ◌∙◌, subst}
 use Rattle.std.proofs.lemmas.Bool.{leb-true}
 use Rattle.std.proofs.lemmas.List.Elements.{All-cons, All-nil}
 use Rattle.ms_linear.specs.Memory.{most_pages}
 use Rattle.ms_linear.specs.Table.{most_entries}
 use Rattle.ms_module.specs.declared.module.Export.{Export}
 use Rattle.ms_module.specs.declared.module.Module.{Module}
-use Rattle.ms_names.specs.Numbered.{number_of}
-use Rattle.ms_rules.specs.Modules.{AreDistinct}
 use Rattle.ms_types.specs.declared.types.FuncType.{FuncType}
 use Rattle.ms_types.specs.declared.types.Limits.{Limits}
 use Rattle.ms_machine.specs.declared.externs.Extern.{Extern}
@@ -15,10 +13,11 @@ use Rattle.ms_machine.specs.declared.externs.Why.TheVariants.{TooLarge}
 use Rattle.ms_machine.specs.declared.store.Instance.{Instance}
 use Rattle.ms_machine.specs.Externs.{Fault, Made, fault_at}
 use Rattle.ms_machine.specs.Linked.{if_inside, instance_in, or_next, outside, sizes_fit, too_large, unless, with_module}
-use Rattle.ms_link.specs.Adding.{Begins, Ends}
+use Rattle.ms_import.specs.Adding.{Adds}
+use Rattle.ms_link.specs.Adding.{Begins}
 use Rattle.ms_link.specs.Answers.{Answers, Tests}
 use Rattle.ms_link.specs.declared.fault.LinkFault.{LinkFault}
-use Rattle.ms_link.specs.declared.linker.Begun.{Begun}
+use Rattle.ms_link.specs.declared.adding.Begun.{Begun}
 use Rattle.ms_link.proofs.Refusing.{fit_refuses}
 
 -- ---- sizes that are small
@@ -67,16 +66,16 @@ module _ (made : Made) (name : List ℕ) (m : Module) (es : List Extern) (b : Be
   next = with_module made name m es
 
   abbrev tested : Option Fault
-  tested = outside (length b.linker.instances) b.linker.globals b.linker.tables b.linker.memories b.instance b.own_elements b.own_fills
+  tested = outside (length b.made.instances) b.made.globals b.made.tables b.made.memories b.instance b.own_elements b.own_fills
 
   abbrev wanted : Option Fault
   wanted = outside (length made.instances) next.globals next.tables next.memories (instance_in made m es) m.elements m.fills
 
   same_fault : tested ≡ wanted
   same_fault =
-      ap (λ x. outside (length x) b.linker.globals b.linker.tables b.linker.memories b.instance b.own_elements b.own_fills) begins.instances
-      ∙ ap (λ x. outside (length made.instances) x b.linker.tables b.linker.memories b.instance b.own_elements b.own_fills) begins.globals
-      ∙ ap (λ x. outside (length made.instances) next.globals x b.linker.memories b.instance b.own_elements b.own_fills) begins.tables
+      ap (λ x. outside (length x) b.made.globals b.made.tables b.made.memories b.instance b.own_elements b.own_fills) begins.instances
+      ∙ ap (λ x. outside (length made.instances) x b.made.tables b.made.memories b.instance b.own_elements b.own_fills) begins.globals
+      ∙ ap (λ x. outside (length made.instances) next.globals x b.made.memories b.instance b.own_elements b.own_fills) begins.tables
       ∙ ap (λ x. outside (length made.instances) next.globals next.tables x b.instance b.own_elements b.own_fills) begins.memories
       ∙ ap (λ x. outside (length made.instances) next.globals next.tables next.memories x b.own_elements b.own_fills) begins.instance
       ∙ ap (λ x. outside (length made.instances) next.globals next.tables next.memories (instance_in made m es) x b.own_fills) begins.own_elements
@@ -85,7 +84,7 @@ module _ (made : Made) (name : List ℕ) (m : Module) (es : List Extern) (b : Be
   pub fit_is_refused : (e : LinkFault) → Tests {A = Unit {0}} tested (Err e) → Answers (if_inside made name m es) (Err e)
   fit_is_refused e tests = fit_refuses (Unit {0}) wanted next e (subst (λ o. Tests {A = Unit {0}} o (Err e)) same_fault tests)
 
-  pub ended_is : (last : Made) → tested ≡ None → Ends b.linker b.instance b.own_elements b.own_fills name last → if_inside made name m es ≡ Ok last
+  pub ended_is : (last : Made) → tested ≡ None → Adds b.made b.instance b.own_elements b.own_fills name last → if_inside made name m es ≡ Ok last
   ended_is last fits ends =
       ap (λ o. unless o next) (sym same_fault ∙ fits)
       ∙ ap Ok (sym (same_made last next
@@ -97,9 +96,3 @@ module _ (made : Made) (name : List ℕ) (m : Module) (es : List Extern) (b : Be
       (ends.globals ∙ begins.globals)
       (ends.elements ∙ ap (λ x. x ++ b.own_elements ∷ []) begins.elements ∙ ap (λ x. made.elements ++ x ∷ []) begins.own_elements)
       (ends.fills ∙ ap (λ x. x ++ b.own_fills ∷ []) begins.fills ∙ ap (λ x. made.fills ++ x ∷ []) begins.own_fills)))
-
-  pub still_new : number_of made.names name ≡ None → number_of b.linker.names name ≡ None
-  still_new new = ap (λ ns. number_of ns name) begins.names ∙ new
-
-  pub still_distinct : AreDistinct (map (λ (e : Export). e.name) m.exports) → AreDistinct (map (λ (e : Export). e.name) b.instance.exports)
-  still_distinct distinct = subst (λ (i : Instance). AreDistinct (map (λ (e : Export). e.name) i.exports)) (sym begins.instance) distinct

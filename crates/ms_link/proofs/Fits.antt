@@ -17,7 +17,8 @@ use Rattle.ms_machine.specs.declared.externs.Why.TheVariants.{Fit}
 use Rattle.ms_machine.specs.declared.store.Instance.{Instance}
 use Rattle.ms_machine.specs.Externs.{Fault, Made, externs, fault_at}
 use Rattle.ms_machine.specs.Linked.{StartTyped, all_more, and_then, bytes_of, elements_fit, entries_of, fills_fit, if_inside, if_small, instance_in, nothing_made, one_more, or_next, outside, reach, too_large, table_in, memory_in, unless, value_at, values_at, with_externs, with_module}
-use Rattle.ms_machine.specs.Linking.{constant_of, empty_table, index_of, zeroed}
+use Rattle.ms_machine.specs.Constants.{constant_of, index_of}
+use Rattle.ms_machine.specs.Writing.{empty_table, zeroed}
 use Rattle.ms_machine.specs.Store.{at}
 use Rattle.ms_machine.specs.Typing.{InstanceTyped}
 use Rattle.ms_link.proofs.Given.{AreGiven, externs_given}

@@ -1,4 +1,6 @@
 pub mod Standing
+pub mod Signatures
+pub mod Written
 pub mod Given
 pub mod Kept
 pub mod Imported
@@ -7,7 +9,6 @@ pub mod Fits
 pub mod Stores
 pub mod Plain
 pub mod Resolving
-pub mod SameTypes
 pub mod Puts
 pub mod Refusing
 pub mod Beginning

@@ -29,15 +29,16 @@ use Rattle.ms_types.specs.declared.types.ValType.TheVariants as kinds
 use Rattle.ms_machine.specs.declared.externs.Extern.{Extern}
 use Rattle.ms_machine.specs.declared.store.Instance.{Instance}
 use Rattle.ms_machine.specs.Externs.{Made}
-use Rattle.ms_machine.specs.Linked.{StartTyped, funcs_before, funcs_in, globals_in, host_body, host_func, host_funcs, instance_in, memory_in, or_own, own_func, own_global, table_in, values_at, with_module}
-use Rattle.ms_machine.specs.Linking.{constant, constant_of, empty_table, no_type, numbers, value_or_zero, zeroed}
+use Rattle.ms_machine.specs.Linked.{StartTyped, funcs_before, funcs_in, globals_in, host_body, host_func, host_funcs, instance_in, memory_in, no_type, numbers, or_own, own_func, own_global, table_in, values_at, with_module}
+use Rattle.ms_machine.specs.Constants.{constant, constant_of, value_or_zero}
+use Rattle.ms_machine.specs.Writing.{empty_table, zeroed}
 use Rattle.ms_machine.specs.Typing.{FuncTyped, InstanceTyped, IsBelow, Outline, any_size, context_at, context_in, func_type, global_type, host_type}
-use Rattle.ms_machine.proofs.LinkedIndices.{sigs_are}
 use Rattle.ms_machine.proofs.TypedCalls.{result_is}
 use Rattle.ms_machine.proofs.TypedValues.{all_at, get_mapped}
 use Rattle.ms_link.proofs.Given.{AreGiven}
 use Rattle.ms_link.proofs.Imported.{Counts, funcs_below, funcs_named, globals_below, globals_given, globals_named, host_at, memories_count, tables_count, values_typed}
 use Rattle.ms_link.proofs.Kept.{Extends, context_is, func_kept, instance_kept}
+use Rattle.ms_link.proofs.Signatures.{sigs_are}
 use Rattle.ms_link.proofs.Standing.{GoesOn, StandsFrom, appended, appended_map, appended_twice, get_on, get_only, get_parts, get_standing, map_numbers, mapped_at, numbers_standing, stands_last, stands_map, stands_middle}
 use Rattle.ms_link.specs.Fitting.{MadeTyped, outline}
 

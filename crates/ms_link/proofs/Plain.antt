@@ -21,7 +21,7 @@ use Rattle.ms_tagged.specs.Bytes.{Data, Piece}
 use Rattle.ms_machine.specs.Externs.{Fault, Made}
 use Rattle.ms_machine.specs.Holding.{Each, EachGlobal, Fits, StoreFits, ThreadHolds}
 use Rattle.ms_machine.specs.Linked.{all_more, and_then, globals_in, linked, nothing_made, one_more, own_global, store_of, value_at, values_at}
-use Rattle.ms_machine.specs.Linking.{constant, constant_in, value_or_zero}
+use Rattle.ms_machine.specs.Constants.{constant, constant_in, value_or_zero}
 use Rattle.ms_machine.specs.Safety.{IsMonitored, IsWithin, Knows, Sound}
 use Rattle.ms_machine.specs.Store.{Store}
 use Rattle.ms_machine.proofs.SafePaints.{Contains-none}

@@ -15,11 +15,12 @@ use Rattle.ms_task.specs.declared.func.FuncInst.{FuncInst}
 use Rattle.ms_types.specs.declared.types.FuncType.{FuncType}
 use Rattle.ms_machine.specs.declared.store.Instance.{Instance}
 use Rattle.ms_machine.specs.Linked.{entry_in, put_all_elements, put_all_fills, put_element, put_elements, put_fill, put_fills, values_at}
-use Rattle.ms_machine.specs.Linking.{constant_of, element_in, entry_at, fill_in, index_of, with_data, with_entries}
+use Rattle.ms_machine.specs.Constants.{constant_of, index_of}
+use Rattle.ms_machine.specs.Writing.{element_in, entry_at, fill_in, with_data, with_entries}
 use Rattle.ms_machine.specs.Store.{at}
-use Rattle.ms_machine.proofs.LinkingFits.{length-written, map-same, written-more}
 use Rattle.ms_machine.proofs.TypedValues.{get_mapped}
-use Rattle.ms_link.proofs.Resolving.{next_is}
+use Rattle.ms_import.proofs.Exports.{next_is}
+use Rattle.ms_link.proofs.Written.{length-written, map-same, written-more}
 use Rattle.ms_link.specs.Fitting.{ElementFits, ElementsThere, FillFits, FillsThere, byte_count, entry_count}
 
 -- ---- one entry more

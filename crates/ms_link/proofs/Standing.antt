@@ -1,11 +1,11 @@
 -- What stands in a list from a place on, and lists that go on.
-use Rattle.std.proofs.Common.{◌≡◌, ℕ, zero, suc, ◌+◌, ◌<◌, ◌⊎◌, inl, inr, List, [], ◌∷◌, ◌++◌, All, length, map, slice_get, Option, Some, refl, ap, ◌∙◌, arith}
+use Rattle.std.proofs.Common.{◌≡◌, ℕ, zero, suc, ◌+◌, ◌-◌, ◌<◌, ◌⊎◌, inl, inr, List, [], ◌∷◌, ◌++◌, All, length, map, slice_get, Option, Some, refl, sym, ap, ◌∙◌, append_assoc, arith}
 use Rattle.std.proofs.lemmas.List.{length-append, map-append}
 use Rattle.std.proofs.lemmas.List.Elements.{All-cons, All-head, All-nil, All-tail}
 use Rattle.std.proofs.lemmas.Option.{slice_get-map, slice_get_within}
 use Rattle.std.specs.Option.{option_map}
 use Rattle.std.specs.List.{AllZip}
-use Rattle.ms_machine.specs.Linking.{numbers}
+use Rattle.ms_machine.specs.Linked.{numbers}
 
 -- ---- these stand from a place on
 
@@ -108,3 +108,16 @@ zip_weaker P Q [] [] weaker all = tt
 zip_weaker P Q [] (b ∷ ys) weaker all = absurd all
 zip_weaker P Q (a ∷ xs) [] weaker all = absurd all
 zip_weaker P Q (a ∷ xs) (b ∷ ys) weaker all = (weaker a b 0 refl all.0, zip_weaker P Q xs ys (λ c d k e p. weaker c d (suc k) e p) all.1)
+
+-- ---- lists that are made item by item
+
+pub made-more : {A B : Type 0} (f : A → B) (made made' all : List B) (rest rest' : List A) (x : A) (y : B) → rest ≡ x ∷ rest' → y ≡ f x → made' ≡ made ++ y ∷ [] → made ++ map f rest ≡ all → made' ++ map f rest' ≡ all
+made-more f made made' all rest rest' x y left is pushed so =
+    ap (λ ys. ys ++ map f rest') pushed
+    ∙ append_assoc made (y ∷ []) (map f rest')
+    ∙ ap (λ z. made ++ z ∷ map f rest') is
+    ∙ ap (λ xs. made ++ map f xs) (sym left)
+    ∙ so
+
+pub numbers-more : (n count : ℕ) → n < count → numbers n (count - n) ≡ n ∷ numbers (n + 1) (count - (n + 1))
+numbers-more n count l = let e : count - n ≡ suc (count - (n + 1)) = omega arith in let f : suc n ≡ n + 1 = omega arith in ap (numbers n) e ∙ ap (λ k. n ∷ numbers k (count - (n + 1))) f

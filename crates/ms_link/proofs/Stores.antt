@@ -13,13 +13,13 @@ use Rattle.ms_task.specs.declared.func.FuncInst.{FuncInst}
 use Rattle.ms_machine.specs.declared.store.Instance.{Instance}
 use Rattle.ms_machine.specs.Externs.{Fault, Made}
 use Rattle.ms_machine.specs.Linked.{StartsTyped, all_more, entry_in, linked, nothing_made, put_all_elements, put_all_fills, put_element, put_elements, put_fill, put_fills, store_of, stored, values_at}
-use Rattle.ms_machine.specs.Linking.{constant_of, index_of}
+use Rattle.ms_machine.specs.Constants.{constant_of, index_of}
 use Rattle.ms_machine.specs.Store.{Store}
 use Rattle.ms_machine.specs.Typing.{EntryTyped, Outline, StoreTyped, outline_of}
-use Rattle.ms_machine.proofs.LinkedTables.{TableTyped, element_typed, entry_typed, length-element, length-fill}
 use Rattle.ms_machine.proofs.TypedValues.{all_at}
 use Rattle.ms_link.proofs.Fits.{all_more_typed, nothing_typed}
 use Rattle.ms_link.proofs.Kept.{Extends, func_kept, instance_kept}
+use Rattle.ms_link.proofs.Written.{TableTyped, element_typed, entry_typed, length-element, length-fill}
 use Rattle.ms_link.specs.Fitting.{IsEmpty, IsNoEntry, MadeTyped, outline}
 
 -- ---- how many tables and memories there are

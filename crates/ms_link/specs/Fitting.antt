@@ -13,7 +13,7 @@ use Rattle.ms_task.specs.declared.func.FuncInst.{FuncInst}
 use Rattle.ms_machine.specs.declared.store.Instance.{Instance}
 use Rattle.ms_machine.specs.Externs.{Made}
 use Rattle.ms_machine.specs.Linked.{StartTyped, values_at}
-use Rattle.ms_machine.specs.Linking.{constant_of, index_of}
+use Rattle.ms_machine.specs.Constants.{constant_of, index_of}
 use Rattle.ms_machine.specs.Store.{at}
 use Rattle.ms_machine.specs.Typing.{FuncTyped, InstanceTyped, Outline}
 

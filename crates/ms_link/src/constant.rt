@@ -3,8 +3,8 @@
 ghost use Rattle.std.specs.Prelude.{◌≡◌, slice_get};
 ghost use Rattle.ms_num.specs.Integers.{wrapped};
 ghost use Rattle.ms_linear.specs.declared.value.Value.TheVariants as values;
+ghost use Rattle.ms_machine.specs.Constants as constants;
 ghost use Rattle.ms_machine.specs.Linked as linked;
-ghost use Rattle.ms_machine.specs.Linking as link;
 
 use ms_handle::Handle;
 use ms_linear::{GlobalInst, Value};
@@ -12,7 +12,7 @@ use ms_module::{Code, Instr, Segment};
 
 /// The value of a constant expression that may name the globals of these addresses.
 pub(crate) fn constant(globals: &[GlobalInst], addresses: &[u32], code: &Code) -> Value
-    ensures { result ≡ link.constant_of (linked.values_at globals.now addresses.now) code.now }
+    ensures { result ≡ constants.constant_of (linked.values_at globals.now addresses.now) code.now }
 {
     prove!(code.len() > 0);
     match code.sequence(0) {
@@ -23,7 +23,7 @@ pub(crate) fn constant(globals: &[GlobalInst], addresses: &[u32], code: &Code) -
 
 /// The value of a constant instruction.
 fn constant_instr(globals: &[GlobalInst], addresses: &[u32], i: &Instr) -> Value
-    ensures { result ≡ link.constant (linked.values_at globals.now addresses.now) i.now }
+    ensures { result ≡ constants.constant (linked.values_at globals.now addresses.now) i.now }
 {
     match i {
         Instr::I32Const(n) => i32_value(*n),
@@ -50,7 +50,7 @@ fn i64_value(n: i64) -> Value
 
 /// The value of a global, by its index.
 fn value_named(globals: &[GlobalInst], addresses: &[u32], x: u32) -> Value
-    ensures { result ≡ link.value_or_zero (slice_get (linked.values_at globals.now addresses.now) x) }
+    ensures { result ≡ constants.value_or_zero (slice_get (linked.values_at globals.now addresses.now) x) }
 {
     match addresses.get(x as usize) {
         Some(a) => value_at(globals, *a),
@@ -70,7 +70,7 @@ fn value_at(globals: &[GlobalInst], a: u32) -> Value
 
 /// A value as a place: that of an `i32`.
 pub(crate) fn index_of(value: Value) -> u32
-    ensures { result ≡ link.index_of value }
+    ensures { result ≡ constants.index_of value }
 {
     match value {
         Value::I32(n) => n,

@@ -10,8 +10,10 @@ ghost use Rattle.ms_machine.specs.Safety.{Sound};
 ghost use Rattle.ms_machine.specs.Typing.{StoreTyped, outline_of};
 ghost use Rattle.ms_rules.specs.Modules.{AreDistinct};
 
+use crate::adding::add;
 use crate::fault::LinkFault;
-use crate::linker::Linker;
+use crate::storing::store_of;
+use ms_import::Made;
 use ms_live::Gaps;
 use ms_machine::Store;
 use ms_module::Name;
@@ -20,16 +22,16 @@ use ms_valid::Valid;
 use std::alloc::Global;
 
 /// What the modules make, in their order, or the first thing that refuses all.
-fn linker_of(alloc: Global, modules: Vec<(Name, Valid)>) -> Result<Linker, LinkFault>
+fn made_of(alloc: Global, modules: Vec<(Name, Valid)>) -> Result<Made, LinkFault>
     requires { AreDistinct (map (λ m. m.0) modules.items) }
     ensures made { Answers (linked.all_more modules.items linked.nothing_made) result }
     ensures typed { IfOk result MadeTyped }
 {
-    let mut linker = Linker::new(alloc)?;
+    let mut made = Made::new(alloc)?;
     for (name, valid) in modules {
-        linker = linker.add(alloc, name.as_str(), valid.into_module())?;
+        made = add(alloc, made, name.as_str(), valid.into_module())?;
     }
-    Ok(linker)
+    Ok(made)
 }
 
 /// The store of the modules.
@@ -43,8 +45,8 @@ fn store_or_fault<G: Gaps, T: Tagged>(
     ensures typed { IfOk result (λ s. StoreTyped (outline_of s)) }
     ensures starts { IfOk result StartsTyped }
 {
-    let linker = linker_of(alloc, modules)?;
-    let store = linker.store(alloc, capacity)?;
+    let made = made_of(alloc, modules)?;
+    let store = store_of(alloc, made, capacity)?;
     Ok(store)
 }
 

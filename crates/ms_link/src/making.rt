@@ -4,7 +4,7 @@ ghost use Rattle.std.specs.Prelude.{◌≡◌, ◌≤◌, ◌<◌, ◌++◌, ◌
 ghost use Rattle.ms_linear.specs.Memory.{most_pages};
 ghost use Rattle.ms_linear.specs.Table.{most_entries};
 ghost use Rattle.ms_machine.specs.Linked as linked;
-ghost use Rattle.ms_machine.specs.Linking as link;
+ghost use Rattle.ms_machine.specs.Writing as writing;
 ghost use Rattle.ms_machine.specs.declared.externs.Extern.{Extern as Given};
 ghost use Rattle.ms_module.specs.declared.module.Module.{Module};
 
@@ -17,20 +17,12 @@ use ms_task::FuncInst;
 use ms_types::{FuncType, Limits, SharedType};
 use std::alloc::{AllocError, Global};
 
-/// Adds an item at the end.
-pub(crate) fn push<T: Drop>(all: &mut Vec<T>, item: T) -> Result<(), AllocError>
-    ensures { OnOk result (all.new.items ≡ all.old.items ++ item ∷ []) }
-{
-    all.push(item)?;
-    Ok(())
-}
-
 /// Adds items at the end.
 fn append<T: Drop>(all: &mut Vec<T>, items: Vec<T>) -> Result<(), AllocError>
     ensures { OnOk result (all.new.items ≡ all.old.items ++ items.items) }
 {
     for item in items {
-        push(all, item)?;
+        all.push(item)?;
     }
     Ok(())
 }
@@ -48,7 +40,7 @@ pub(crate) fn share_types(alloc: Global, sigs: Vec<FuncType>) -> Result<Vec<Shar
 
 /// Adds the numbers from one on, so many.
 fn push_numbers(all: &mut Vec<u32>, from: usize, count: usize) -> Result<(), AllocError>
-    ensures { OnOk result (all.new.items ≡ all.old.items ++ link.numbers from count) }
+    ensures { OnOk result (all.new.items ≡ all.old.items ++ linked.numbers from count) }
 {
     let Ok(first) = u32::try_from(from) else {
         return Err(AllocError);
@@ -107,7 +99,7 @@ pub(crate) fn with_funcs(
     funcs: Vec<Func>,
 ) -> Result<(Vec<FuncInst>, Vec<u32>), AllocError>
     requires { All (λ f. f.sig < length types.now) funcs.items }
-    ensures { («module» : Module) → types.now ≡ «module».sigs → IfOk result (λ r. (r.0.items ≡ all.items ++ linked.host_funcs instance 0 externs.now ++ map (linked.own_func «module» instance) funcs.items) × (r.1.items ≡ linked.funcs_in (length all.items) externs.now ++ link.numbers (length (all.items ++ linked.host_funcs instance 0 externs.now)) (length funcs.items))) }
+    ensures { («module» : Module) → types.now ≡ «module».sigs → IfOk result (λ r. (r.0.items ≡ all.items ++ linked.host_funcs instance 0 externs.now ++ map (linked.own_func «module» instance) funcs.items) × (r.1.items ≡ linked.funcs_in (length all.items) externs.now ++ linked.numbers (length (all.items ++ linked.host_funcs instance 0 externs.now)) (length funcs.items))) }
 {
     let mut addresses = funcs_in(alloc, all.len(), externs)?;
     push_hosts(alloc, &mut all, instance, externs)?;
@@ -173,7 +165,7 @@ pub(crate) fn with_globals(
     externs: &[Extern],
     globals: &[ModuleGlobal],
 ) -> Result<(Vec<GlobalInst>, Vec<u32>), AllocError>
-    ensures { IfOk result (λ r. (r.0.items ≡ all.items ++ map (linked.own_global (linked.values_at all.items (linked.globals_in externs.now))) globals.now) × (r.1.items ≡ linked.globals_in externs.now ++ link.numbers (length all.items) (length globals.now))) }
+    ensures { IfOk result (λ r. (r.0.items ≡ all.items ++ map (linked.own_global (linked.values_at all.items (linked.globals_in externs.now))) globals.now) × (r.1.items ≡ linked.globals_in externs.now ++ linked.numbers (length all.items) (length globals.now))) }
 {
     let mut addresses = globals_in(alloc, externs)?;
     let own = own_globals(alloc, all.as_slice(), addresses.as_slice(), globals)?;
@@ -230,7 +222,7 @@ pub(crate) fn with_tables(
     limits: &[Limits],
 ) -> Result<(Vec<Table>, Option<u32>), AllocError>
     requires { All (λ l. l.min ≤ most_entries) limits.now }
-    ensures { IfOk result (λ r. (r.0.items ≡ all.items ++ map link.empty_table limits.now) × (r.1 ≡ linked.or_own (linked.table_in externs.now) (length all.items) limits.now)) }
+    ensures { IfOk result (λ r. (r.0.items ≡ all.items ++ map writing.empty_table limits.now) × (r.1 ≡ linked.or_own (linked.table_in externs.now) (length all.items) limits.now)) }
 {
     let address = or_own(table_in(externs), all.len(), limits)?;
     for l in limits {
@@ -247,7 +239,7 @@ pub(crate) fn with_memories(
     limits: &[Limits],
 ) -> Result<(Vec<Linear>, Option<u32>), AllocError>
     requires { All (λ l. l.min ≤ most_pages) limits.now }
-    ensures { IfOk result (λ r. (r.0.items ≡ all.items ++ map link.zeroed limits.now) × (r.1 ≡ linked.or_own (linked.memory_in externs.now) (length all.items) limits.now)) }
+    ensures { IfOk result (λ r. (r.0.items ≡ all.items ++ map writing.zeroed limits.now) × (r.1 ≡ linked.or_own (linked.memory_in externs.now) (length all.items) limits.now)) }
 {
     let address = or_own(memory_in(externs), all.len(), limits)?;
     for l in limits {

@@ -4,10 +4,10 @@ ghost use Rattle.std.specs.Prelude.{◌≡◌, ◌<◌, ◌≤◌, ◌+◌, All,
 ghost use Rattle.std.specs.List.{AllZip};
 ghost use Rattle.ms_link.specs.Fitting.{ElementFits, ElementsThere, FillFits, FillsThere, byte_count, entry_count};
 ghost use Rattle.ms_machine.specs.Linked as linked;
-ghost use Rattle.ms_machine.specs.Linking as link;
+ghost use Rattle.ms_machine.specs.Writing as writing;
 
 use crate::constant::{constant, index_of};
-use crate::known::Known;
+use ms_import::Known;
 use ms_linear::{Entry, FuncRef, GlobalInst, Linear, Table};
 use ms_machine::Instance;
 use ms_module::{Element, Fill};
@@ -26,7 +26,7 @@ fn put_entries(
     requires room { at + length indices.now ≤ length table.old.entries }
     requires there { All (λ f. f < length addresses.now) indices.now }
     requires funcs { All (λ a. a < length funcs.now) addresses.now }
-    ensures { OnOk result (table.new ≡ link.with_entries table.old at (map (λ f. linked.entry_in funcs.now (slice_get addresses.now f)) indices.now)) }
+    ensures { OnOk result (table.new ≡ writing.with_entries table.old at (map (λ f. linked.entry_in funcs.now (slice_get addresses.now f)) indices.now)) }
 {
     prove!(indices.len() <= table.len() as usize);
     for (i, f) in indices.iter().enumerate() {

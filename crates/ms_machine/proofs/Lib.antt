@@ -2,7 +2,6 @@ pub mod Branches
 pub mod Memories
 pub mod Performing
 pub mod Starts
-pub mod Fitting
 pub mod TypedValues
 pub mod TypedWork
 pub mod TypedBlocks
@@ -13,7 +12,6 @@ pub mod TypedStores
 pub mod TypedPlain
 pub mod TypedActs
 pub mod TypedSteps
-pub mod Unstuck
 pub mod HeldValues
 pub mod HeldControl
 pub mod HeldPlain
@@ -22,13 +20,6 @@ pub mod HeldActs
 pub mod HeldWork
 pub mod HeldMemory
 pub mod HeldFits
-pub mod LinkedIndices
-pub mod LinkedGlobals
-pub mod LinkedTables
-pub mod LinkedTypes
-pub mod LinkedStores
-pub mod LinkingFits
-pub mod LinkingRoom
 pub mod SafePaints
 pub mod SafeStates
 pub mod SafeMaking
@@ -40,12 +31,8 @@ pub mod SafeSegments
 pub mod SafeSizes
 pub mod SafeSteps
 pub mod SafeStarts
-pub mod SafeAnswers
 pub mod Moving
 pub mod SafeMoves
 pub mod Asking
 pub mod Outsides
-pub mod Runs
-pub mod Budgets
-pub mod Coming
-pub mod SafeRuns
+pub mod Quiet

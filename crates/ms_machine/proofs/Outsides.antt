@@ -5,7 +5,7 @@ use Rattle.ms_outside.specs.Source.{Takes}
 use Rattle.ms_outside.specs.declared.sink.Put.TheVariants as puts
 use Rattle.ms_outside.specs.declared.source.Got.TheVariants as gots
 use Rattle.ms_machine.specs.Moves.{first_of, rest_of}
-use Rattle.ms_machine.specs.Running.{IsLeft, MayGive, TellsAlike, with_byte}
+use Rattle.ms_machine.specs.Running.{IsLeft, MayGive, TellsAlike}
 use Rattle.ms_machine.specs.Stepped.{InputAfter, OutAfter}
 
 abbrev pub Input : Type 0
@@ -91,6 +91,11 @@ before true (Some b) (Some bytes) left' is rest may =
 
 -- ---- puts
 
+-- the byte, if there is one, in front of later ones
+abbrev pub with_byte : Option ℕ → List ℕ → List ℕ
+with_byte None bytes = bytes
+with_byte (Some b) bytes = b ∷ bytes
+
 pub puts_none : (held held' : Told) → held' ≡ held → Puts puts.Done [] held held'
 puts_none None held' same = same
 puts_none (Some bytes) held' same = same ∙ ap Some (sym (append-nil bytes))
@@ -104,10 +109,6 @@ puts_on a b (Some bytes) mid held' x y =
 pub puts_after : (put : Option ℕ) (held held' : Told) → OutAfter put held held' → Puts puts.Done (with_byte put []) held held'
 puts_after None held held' is = puts_none held held' is
 puts_after (Some b) held held' is = is
-
-pub byte_before : (put : Option ℕ) (bytes : List ℕ) → with_byte put bytes ≡ with_byte put [] ++ bytes
-byte_before None bytes = refl
-byte_before (Some b) bytes = refl
 
 -- a put that failed has put a front
 pub front_put : (piece : List ℕ) (held held' : Told) → Puts puts.Failed piece held held' → (front : List ℕ) × IsFront front piece × Puts puts.Done front held held'

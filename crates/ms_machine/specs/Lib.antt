@@ -6,8 +6,8 @@ pub mod Moves
 pub mod Stepped
 pub mod Running
 pub mod Crews
-pub mod Parts
-pub mod Linking
+pub mod Constants
+pub mod Writing
 pub mod Externs
 pub mod Linked
 pub mod Safety

@@ -1,6 +1,6 @@
 -- The store of several modules (WebAssembly 1.0, 4.5.4), or the first fault. Module by module: its imports, then what of its
 -- own is too large, then elements and data that reach past the end. They are written when all modules are there.
-use Rattle.std.specs.Prelude.{◌≡◌, ℕ, suc, false, ◌+◌, if◌then◌else◌, List, [], ◌∷◌, ◌++◌, get_or, length, map, nat_le, replicate, slice_get, Option, Some, None, option_and_then, Result, Ok, Err}
+use Rattle.std.specs.Prelude.{◌≡◌, ℕ, zero, suc, false, ◌+◌, if◌then◌else◌, List, [], ◌∷◌, ◌++◌, get_or, length, map, nat_le, replicate, slice_get, Option, Some, None, option_and_then, Result, Ok, Err}
 use Rattle.ms_host.specs.declared.host.Host.{Host as HostFunc}
 use Rattle.ms_host.specs.declared.host.Host.TheVariants as hosts
 use Rattle.ms_linear.specs.declared.global.GlobalInst.{GlobalInst}
@@ -18,15 +18,17 @@ use Rattle.ms_module.specs.declared.module.Global.{Global as ModuleGlobal}
 use Rattle.ms_module.specs.declared.module.Module.{Module}
 use Rattle.ms_tagged.specs.Bytes.{Data}
 use Rattle.ms_task.specs.declared.func.FuncInst.{FuncInst}
+use Rattle.ms_types.specs.declared.types.FuncType.{FuncType}
 use Rattle.ms_types.specs.declared.types.Limits.{Limits}
 use Rattle.ms_machine.specs.declared.externs.Extern.{Extern}
 use Rattle.ms_machine.specs.declared.externs.Extern.TheVariants.{Host, Func, Table, Memory, Global}
 use Rattle.ms_machine.specs.declared.externs.Why.TheVariants.{Fit, TooLarge}
 use Rattle.ms_machine.specs.declared.store.Instance.{Instance}
+use Rattle.ms_machine.specs.Constants.{constant_of, index_of}
 use Rattle.ms_machine.specs.Externs.{Fault, Made, externs, fault_at}
-use Rattle.ms_machine.specs.Linking.{constant_of, element_in, empty_table, entry_for, fill_in, index_of, no_type, numbers, zeroed}
 use Rattle.ms_machine.specs.Store.{Store, at}
 use Rattle.ms_machine.specs.Typing.{host_type}
+use Rattle.ms_machine.specs.Writing.{element_in, empty_table, entry_for, fill_in, zeroed}
 
 -- ---- a function of the host that is imported: its body is the one call of it, by its own index
 
@@ -69,6 +71,15 @@ globals_in (Global a ∷ es) = a ∷ globals_in es
 globals_in (_ ∷ es) = globals_in es
 
 -- ---- what a module adds: functions of the host, then its own functions, tables, memories and globals
+
+-- the numbers from one on, so many
+abbrev pub numbers : (from count : ℕ) → List ℕ
+numbers from zero = []
+numbers from (suc count) = from ∷ numbers (suc from) count
+
+-- in a valid module each function has a type
+abbrev pub no_type : FuncType
+no_type = record { params = []; results = [] }
 
 abbrev pub own_func : Module → (instance : ℕ) → ModuleFunc → FuncInst
 own_func m instance f = record { instance = instance; ty = get_or m.sigs f.sig no_type; host = None; locals = f.locals; body = f.body }

@@ -30,6 +30,7 @@ use ms_tagged::Tagged;
 use ms_task::Task;
 
 /// The same with a word on what follows.
+#[inline(always)]
 fn and_more(
     outcome: Result<Option<Event>, Fault>,
     more: bool,
@@ -43,6 +44,7 @@ fn and_more(
 }
 
 /// Carries out the first instruction. It says `true` only where another instruction is then the first thing left to do.
+#[inline(always)]
 fn perform<G: Gaps, T: Tagged>(
     store: &mut Store<G, T>,
     task: &mut Task,
@@ -93,6 +95,7 @@ fn perform<G: Gaps, T: Tagged>(
 }
 
 /// One step of a task that is not stuck.
+#[inline(always)]
 fn advance<G: Gaps, T: Tagged, I: Source, O: Sink>(
     store: &mut Store<G, T>,
     task: &mut Task,
@@ -133,6 +136,7 @@ fn advance<G: Gaps, T: Tagged, I: Source, O: Sink>(
 /// `ReadFault` comes only where the input's count of faults rose, `WriteFault` only where that of the output did. After
 /// them, and after `Memory`, the task is not to be run again; the output then has the byte of this step at most, and the
 /// input is as before.
+#[inline(always)]
 #[tactic(auto, using(crate::proofs::Moving::move_unstuck, crate::proofs::TypedSteps::begins_well, crate::proofs::Moving::does_step_typed, crate::proofs::Moving::does_step_fits))]
 pub fn step<G: Gaps, T: Tagged, I: Source, O: Sink>(
     store: &mut Store<G, T>,

@@ -4,7 +4,8 @@ use Rattle.std.proofs.lemmas.List.{map-append}
 use Rattle.ms_event.specs.declared.event.Event.{Event}
 use Rattle.ms_event.specs.declared.event.Event.TheVariants.{Alloc, Free, Read, Refused, Slice, Write}
 use Rattle.ms_machine.specs.Crews.{Deeds, Run, Whose, behind, both, bytes_of, deed, events_of, nothing}
-use Rattle.ms_machine.specs.Running.{with_byte, with_event}
+use Rattle.ms_machine.specs.Running.{with_event}
+use Rattle.ms_machine.proofs.Outsides.{with_byte}
 use Rattle.ms_tasks.specs.Logs.{IsWithin, Log, Told, all_seen, logged, seen}
 
 deeds_is : (d e : Deeds) → d.puts ≡ e.puts → d.events ≡ e.events → d.used ≡ e.used → d ≡ e

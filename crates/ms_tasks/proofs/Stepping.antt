@@ -9,7 +9,7 @@ use Rattle.ms_machine.specs.Running.{with_event}
 use Rattle.ms_machine.specs.Stepped.{Went}
 use Rattle.ms_machine.specs.Store.{Store}
 use Rattle.ms_machine.proofs.Outsides.{Told as Tells, before, front_put, left_all, puts_after, puts_none, tells_after, tells_same}
-use Rattle.ms_machine.proofs.Runs.{moves_so}
+use Rattle.ms_machine.proofs.Quiet.{moves_so}
 use Rattle.ms_outside.specs.Sink.{IsFront, Puts}
 use Rattle.ms_outside.specs.declared.sink.Put.TheVariants as puts
 use Rattle.ms_task.specs.Thread.{Thread}

@@ -75,8 +75,9 @@ pub(crate) fn burst<G: Gaps, T: Tagged, I: Source, O: Sink>(
     while left > 0 {
         left -= 1;
         match step(store, task, input, out) {
-            Stepped::On(event) => {
-                let Ok(()) = log.see(event) else {
+            Stepped::On(None) => {}
+            Stepped::On(Some(event)) => {
+                let Ok(()) = log.see(Some(event)) else {
                     return (Halt::Memory, left);
                 };
             }

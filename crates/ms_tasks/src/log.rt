@@ -126,6 +126,7 @@ impl Log {
     }
 
     /// What a step told.
+    #[inline(always)]
     pub(crate) fn see(&mut self, event: Option<Event>) -> Result<(), AllocError>
         requires { IsWithin (2 ^ 63) self.old.told }
         ensures entries { self.new.entries ≡ self.old.entries }

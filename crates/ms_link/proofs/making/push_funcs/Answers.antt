@@ -3,7 +3,7 @@ use Rattle.std.proofs.lemmas.List.Elements.{All-tail}
 use Rattle.std.specs.Vec.Iter.{into_iter_items}
 use Rattle.ms_module.specs.declared.module.Func.{Func}
 use Rattle.ms_machine.specs.Linked.{own_func}
-use Rattle.ms_machine.proofs.LinkingFits.{made-more}
+use Rattle.ms_link.proofs.Standing.{made-more}
 use Rattle.ms_link.proofs.making.push_funcs.Goals as goal
 
 pub loop-func-preserved : goal.loop-func-preserved

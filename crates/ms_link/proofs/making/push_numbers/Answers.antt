@@ -1,6 +1,6 @@
 use Rattle.std.proofs.Common.{arith}
 use Rattle.std.proofs.lemmas.Grind.{common_steps}
-use Rattle.ms_machine.proofs.LinkingFits.{numbers-more}
+use Rattle.ms_link.proofs.Standing.{numbers-more}
 use Rattle.ms_link.proofs.making.push_numbers.Goals as goal
 
 pub loop-n-preserved : goal.loop-n-preserved

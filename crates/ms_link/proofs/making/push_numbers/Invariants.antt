@@ -1,5 +1,5 @@
 use Rattle.std.proofs.Common.{◌≡◌, ◌++◌, ◌-◌}
-use Rattle.ms_machine.specs.Linking.{numbers}
+use Rattle.ms_machine.specs.Linked.{numbers}
 use Rattle.ms_link.proofs.making.push_numbers.Given as goal
 
 abbrev pub invariant-loop-n : goal.invariant-loop-n

@@ -1,5 +1,5 @@
 use Rattle.std.proofs.Common.{◌≡◌, ◌++◌, drop, map}
-use Rattle.ms_machine.specs.Linking.{zeroed}
+use Rattle.ms_machine.specs.Writing.{zeroed}
 use Rattle.ms_link.proofs.making.with_memories.Given as goal
 
 abbrev pub invariant-loop-l : goal.invariant-loop-l

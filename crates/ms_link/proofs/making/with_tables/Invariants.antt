@@ -1,5 +1,5 @@
 use Rattle.std.proofs.Common.{◌≡◌, ◌++◌, drop, map}
-use Rattle.ms_machine.specs.Linking.{empty_table}
+use Rattle.ms_machine.specs.Writing.{empty_table}
 use Rattle.ms_link.proofs.making.with_tables.Given as goal
 
 abbrev pub invariant-loop-l : goal.invariant-loop-l

@@ -1,6 +1,6 @@
 use Rattle.std.proofs.Common.{◌≡◌, ◌+◌, drop, length, map, slice_get}
 use Rattle.ms_machine.specs.Linked.{entry_in}
-use Rattle.ms_machine.specs.Linking.{with_entries}
+use Rattle.ms_machine.specs.Writing.{with_entries}
 use Rattle.ms_link.proofs.putting.put_entries.Given as goal
 
 abbrev pub invariant-loop-i : goal.invariant-loop-i

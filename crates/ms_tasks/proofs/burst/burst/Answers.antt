@@ -1,4 +1,7 @@
-use Rattle.std.proofs.Common.{rules, ◌≡◌, ◌+◌, ◌-◌, refl, ◌∙◌, arith}
+use Rattle.std.proofs.Common.{rules, ◌≡◌, ◌+◌, ◌-◌, [], Option, refl, ap, sym, ◌∙◌, arith}
+use Rattle.ms_event.specs.declared.event.Event.{Event}
+use Rattle.ms_machine.specs.Running.{with_event}
+use Rattle.ms_tasks.specs.Logs.{all_seen}
 use Rattle.ms_machine.proofs.Outsides.{none_taken}
 use Rattle.ms_task.specs.View.{thread_of}
 use Rattle.ms_machine.specs.Crews.{run_entries}
@@ -40,9 +43,9 @@ loop-left-preserved g c =
     let held = g.O.Sink.held in
     let s' = c.step.new.store in
     let t' = thread_of s'.funcs c.step.new.task in
-    let e = c.in-On.ensures in
-    let event = c.in-On.event in
-    let tells = c.in-Ok.ensures.told in
+    let e = c.in-On-Some.ensures in
+    let event = c.in-On-Some.field-0 in
+    let tells = c.in-Ok.ensures.told ∙ ap (λ (o : Option Event). all_seen (with_event o []) l.log.told) (sym c.in-On-Some.field-0-is) in
     record {
       runs = λ whose next entries row. goes_way whose next entries c.args.most s0 t0 log0.told l.left s t l.log.told (left c.args.input.now) (left l.input) (left c.step.new.input) (held c.args.out.now) (held l.out) (held c.step.new.out) c.loop-left-test.true v.left v.going (v.runs whose next entries row) s' t' event c.see.new.self.told e.step.0 tells;
       outline = e.outline tt ∙ v.outline;
@@ -55,6 +58,38 @@ loop-left-preserved g c =
       left = let x = v.left in omega (arith, x);
       entries = c.in-Ok.ensures.entries ∙ v.entries;
       within = let x = v.left in told_within (log0.entries + (c.args.most - l.left)) (log0.entries + (c.args.most - (l.left - 1))) event l.log.told c.see.new.self.told (omega (arith, x, c.loop-left-test.true)) tells v.within;
+      input = e.input_faults ∙ v.input;
+      out = e.out_faults ∙ v.out;
+    }
+
+pub loop-left-preserved-in-On-None : goal.loop-left-preserved-in-On-None
+loop-left-preserved-in-On-None g c =
+    let l = c.loop-left in
+    let v = l.invariant in
+    let s0 = c.args.store.now in
+    let t0 = thread_of s0.funcs c.args.task.now in
+    let log0 = c.args.log.now in
+    let s = l.store in
+    let t = thread_of s.funcs l.task in
+    let left = g.I.Source.left in
+    let held = g.O.Sink.held in
+    let s' = c.step.new.store in
+    let t' = thread_of s'.funcs c.step.new.task in
+    let e = c.in-On-None.ensures in
+    let event = c.in-On-None.field-0 in
+    let tells = ap (λ (o : Option Event). all_seen (with_event o []) l.log.told) (sym c.in-On-None.field-0-is) in
+    record {
+      runs = λ whose next entries row. goes_way whose next entries c.args.most s0 t0 log0.told l.left s t l.log.told (left c.args.input.now) (left l.input) (left c.step.new.input) (held c.args.out.now) (held l.out) (held c.step.new.out) c.loop-left-test.true v.left v.going (v.runs whose next entries row) s' t' event l.log.told e.step.0 tells;
+      outline = e.outline tt ∙ v.outline;
+      task = e.task tt;
+      going = e.step.1;
+      store_fits = e.store_fits tt;
+      task_fits = e.task_fits tt;
+      others = λ h fit. e.others tt h (v.others h fit);
+      made = let m = e.made tt in omega (arith, m, v.made, c.loop-left-test.true);
+      left = let x = v.left in omega (arith, x);
+      entries = v.entries;
+      within = let x = v.left in told_within (log0.entries + (c.args.most - l.left)) (log0.entries + (c.args.most - (l.left - 1))) event l.log.told l.log.told (omega (arith, x, c.loop-left-test.true)) tells v.within;
       input = e.input_faults ∙ v.input;
       out = e.out_faults ∙ v.out;
     }
@@ -76,7 +111,7 @@ returns-in_default-clause-run g c = λ whose next entries row.
     let held = g.O.Sink.held in
     let s' = c.step.new.store in
     let t' = thread_of s'.funcs c.step.new.task in
-    stops_behind whose next entries c.args.most s0 t0 log0.told l.left s t l.log.told (left c.args.input.now) (left l.input) (left c.step.new.input) (held c.args.out.now) (held l.out) (held c.step.new.out) c.loop-left-test.true v.left v.going (v.runs whose next entries row) s' t' c.in-On.event log0 c.see.new.self refl c.in_default.ensures.lost c.in-On.ensures.step.0
+    stops_behind whose next entries c.args.most s0 t0 log0.told l.left s t l.log.told (left c.args.input.now) (left l.input) (left c.step.new.input) (held c.args.out.now) (held l.out) (held c.step.new.out) c.loop-left-test.true v.left v.going (v.runs whose next entries row) s' t' c.in-On-Some.field-0 log0 c.see.new.self refl c.in_default.ensures.lost c.in-On-Some.ensures.step.0
 
 pub returns-in_default-see-clause-run : goal.returns-in_default-see-clause-run
 returns-in_default-see-clause-run g c = λ whose next entries row.

@@ -1,0 +1,2 @@
+pub mod SameTypes
+pub mod Exports

@@ -1,6 +1,0 @@
-use Rattle.std.proofs.Common.{◌≡◌, drop}
-use Rattle.ms_machine.specs.Linking.{sizes_fit}
-use Rattle.ms_machine.proofs.linking.fitting.too_large.Given as goal
-
-abbrev pub invariant-loop-l : goal.invariant-loop-l
-invariant-loop-l l = sizes_fit l.item l.most (drop l.l-index l.limits) ≡ sizes_fit l.item l.most l.limits

@@ -1,7 +1,0 @@
-use Rattle.std.proofs.Common.{arith}
-use Rattle.std.proofs.lemmas.Grind.{common_steps}
-use Rattle.ms_machine.proofs.LinkingFits.{numbers-more}
-use Rattle.ms_machine.proofs.linking.making.numbers.Goals as goal
-
-pub loop-n-preserved : goal.loop-n-preserved
-loop-n-preserved c = let e = numbers-more c.loop-n.n c.args.count c.loop-n-test.true in grind (arith, common_steps)
