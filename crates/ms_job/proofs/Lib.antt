@@ -1,3 +1,4 @@
+pub mod Bounded
 pub mod LineParts
 pub mod NumberLaws
 pub mod PlacedWords

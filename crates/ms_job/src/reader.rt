@@ -1,7 +1,8 @@
 //! The reader of jobs.
 
-ghost use Rattle.std.specs.Prelude.{◌≡◌, MatchResult, Ok, Err};
+ghost use Rattle.std.specs.Prelude.{◌≡◌, IfOk, MatchResult, Ok, Err};
 ghost use Rattle.std.specs.Str.Lines.{lines};
+ghost use Rattle.ms_job.specs.Bounds.{IsBounded};
 ghost use Rattle.ms_job.specs.Jobs.{checked, job_in, no_lines, with_lines};
 ghost use Rattle.ms_job.specs.Reading.{ReadsJob, ReadsLines};
 
@@ -26,7 +27,8 @@ const MEMORY: u32 = 1_048_576;
 /// A text is lines, ended by LF or CR LF, the last one perhaps by nothing. Empty lines and those that begin with `#` say
 /// nothing; each other one is words separated by spaces, as `module NAME FILE`.
 pub fn parse(alloc: Global, text: &[u8]) -> Result<Job, JobFault>
-    ensures { ReadsJob (job_in text.now) result }
+    ensures job { ReadsJob (job_in text.now) result }
+    ensures bounds { IfOk result IsBounded }
 {
     finish(draft(alloc, text)?)
 }

@@ -7,7 +7,7 @@ use Rattle.std.specs.Str.Parse.{digits_value, without_leading_plus}
 use Rattle.clap.specs.Words.{Row, Text, fault_of, first_of, subcommand_of}
 use Rattle.clap.specs.Walk.{is_empty}
 use Rattle.clap.specs.ValueTests.{is_unsigned_in}
-use Rattle.ms_words.specs.Commands.{IsWithin, NumberOption, asm, budget, check, commands, dis, exec, file, memory, mswasm, out}
+use Rattle.ms_words.specs.Commands.{IsWithin, NumberOption, asm, budget, check, commands, dis, exec, file, job, memory, mswasm, out, run}
 use Rattle.ms_words.specs.declared.request.Request.{Request}
 use Rattle.ms_words.specs.declared.request.Request.TheVariants as request
 use Rattle.ms_words.specs.declared.request.WordsFault.{WordsFault}
@@ -16,6 +16,8 @@ use Rattle.ms_words.specs.declared.request.WordsFault.TheVariants.{Refused, Memo
 pub data Asked : Type 0 where
   -- the file, the budget and the bytes of segment memory
   Exec : Text → ℕ → ℕ → Asked
+  -- the file of a job
+  Run : Text → Asked
   Check : Text → Asked
   -- the file, and the file that is written
   Asm : Text → Text → Asked
@@ -34,10 +36,11 @@ number o rows = digits_value 10 (without_leading_plus (word o.name rows))
 abbrev pub asked_by : Text → List Row → Option Asked
 asked_by name rows =
     if bytes_eq name exec.name then Some (Exec (word file rows) (number budget rows) (number memory rows))
+    else (if bytes_eq name run.name then Some (Run (word job rows))
     else (if bytes_eq name check.name then Some (Check (word file rows))
     else (if bytes_eq name asm.name then Some (Asm (word file rows) (word out rows))
     else (if bytes_eq name dis.name then Some (Dis (word file rows) (word out rows))
-    else None)))
+    else None))))
 
 -- ---- what the words ask for
 
@@ -74,6 +77,7 @@ IsWhole words = IfSome (subcommand_of mswasm words) (λ p. is_complete p.0 p.1 �
 
 abbrev pub view : Request → Asked
 view (request.Exec f steps bytes) = Exec f.now steps bytes
+view (request.Run j) = Run j.now
 view (request.Check f) = Check f.now
 view (request.Asm f o) = Asm f.now o.now
 view (request.Dis f o) = Dis f.now o.now

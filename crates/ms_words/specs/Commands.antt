@@ -39,6 +39,9 @@ file = codes "FILE"
 abbrev pub out : Text
 out = codes "OUT"
 
+abbrev pub job : Text
+job = codes "JOB"
+
 -- how many steps a run may take
 abbrev pub budget : NumberOption
 budget = record { name = codes "budget"; least = 0; most = 1000000000000; default = codes "1000000" }
@@ -50,6 +53,9 @@ memory = record { name = codes "memory"; least = 16; most = 16777216; default = 
 abbrev pub exec : CommandRow
 exec = record { name = codes "exec"; places = file ∷ []; options = budget ∷ memory ∷ [] }
 
+abbrev pub run : CommandRow
+run = record { name = codes "run"; places = job ∷ []; options = [] }
+
 abbrev pub check : CommandRow
 check = record { name = codes "check"; places = file ∷ []; options = [] }
 
@@ -60,7 +66,7 @@ abbrev pub dis : CommandRow
 dis = record { name = codes "dis"; places = file ∷ out ∷ []; options = [] }
 
 abbrev pub commands : List CommandRow
-commands = exec ∷ check ∷ asm ∷ dis ∷ []
+commands = exec ∷ run ∷ check ∷ asm ∷ dis ∷ []
 
 abbrev pub default_budget : ℕ
 default_budget = default_of budget

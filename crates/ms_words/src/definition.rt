@@ -35,6 +35,9 @@ pub const FILE: &str = "FILE";
 /// The file that a command writes.
 pub const OUT: &str = "OUT";
 
+/// The file of a job.
+pub const JOB: &str = "JOB";
+
 /// How many steps a run may take.
 pub const BUDGET: NumberOption = NumberOption {
     name: "budget",
@@ -56,6 +59,13 @@ pub const EXEC: CommandRow = CommandRow {
     name: "exec",
     places: &[FILE],
     options: &[BUDGET, MEMORY],
+};
+
+/// Runs the modules and the tasks that a job names.
+pub const RUN: CommandRow = CommandRow {
+    name: "run",
+    places: &[JOB],
+    options: &[],
 };
 
 /// Validates the module in a file.
@@ -80,7 +90,7 @@ pub const DIS: CommandRow = CommandRow {
 };
 
 /// The commands, in the order of their usage lines.
-const COMMANDS: [CommandRow; 4] = [EXEC, CHECK, ASM, DIS];
+const COMMANDS: [CommandRow; 5] = [EXEC, RUN, CHECK, ASM, DIS];
 
 /// The command line of the program.
 pub fn command_line<'a>(alloc: Global) -> Result<Command<'a>, AllocError>

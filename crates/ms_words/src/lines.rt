@@ -9,6 +9,7 @@ pub fn usage() -> &'static str
 {
     concat!(
         "usage: mswasm exec FILE [--budget N] [--memory N]\n",
+        "usage: mswasm run JOB\n",
         "usage: mswasm check FILE\n",
         "usage: mswasm asm FILE OUT\n",
         "usage: mswasm dis FILE OUT\n",

@@ -7,7 +7,7 @@ ghost use Rattle.ms_words.specs.Asked as asked;
 ghost use Rattle.ms_words.specs.Commands.{IsWithin};
 ghost use Rattle.ms_words.specs.Rows.{option_said};
 
-use super::definition::{ASM, BUDGET, CHECK, EXEC, FILE, MEMORY, NumberOption, OUT};
+use super::definition::{ASM, BUDGET, CHECK, EXEC, FILE, JOB, MEMORY, NumberOption, OUT, RUN};
 use super::request::Request;
 use clap::ArgMatches;
 
@@ -26,6 +26,10 @@ fn request_by<'a>(name: &str, matches: &ArgMatches<'a>) -> Request<'a>
     ensures asked { asked_by name.now (rows_of (found_of matches.now)) ≡ Some (view result) }
     ensures ranges { IsInRange result }
 {
+    if name == RUN.name {
+        let job = word(matches, JOB);
+        return Request::Run { job };
+    }
     let file = word(matches, FILE);
     if name == EXEC.name {
         return Request::Exec {

@@ -11,6 +11,10 @@ pub enum Request<'a> {
         budget: u64,
         memory: u32,
     },
+    /// Run the modules and the tasks that a job names.
+    Run {
+        job: &'a str,
+    },
     /// Validate the module in the file.
     Check {
         file: &'a str,

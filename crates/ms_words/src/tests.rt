@@ -8,7 +8,7 @@ struct Taken {
     request: Request<'static>,
 }
 
-const TAKEN: [Taken; 15] = [
+const TAKEN: [Taken; 16] = [
     Taken {
         words: &["mswasm", "exec", "a"],
         request: Request::Exec {
@@ -82,6 +82,10 @@ const TAKEN: [Taken; 15] = [
         },
     },
     Taken {
+        words: &["mswasm", "run", "a"],
+        request: Request::Run { job: "a" },
+    },
+    Taken {
         words: &["mswasm", "check", "help"],
         request: Request::Check { file: "help" },
     },
@@ -120,7 +124,7 @@ const TAKEN: [Taken; 15] = [
     },
 ];
 
-const REFUSED: [&[&str]; 42] = [
+const REFUSED: [&[&str]; 44] = [
     &[],
     &["mswasm"],
     &["mswasm", "help"],
@@ -134,7 +138,6 @@ const REFUSED: [&[&str]; 42] = [
     &["mswasm", "exec", "a", "-V"],
     &["mswasm", "ex", "a"],
     &["mswasm", "exec", "a", "--budge", "5"],
-    &["mswasm", "run", "a"],
     &["mswasm", "Exec", "a"],
     &["mswasm", ""],
     &["mswasm", "--budget", "5", "exec", "a"],
@@ -142,6 +145,7 @@ const REFUSED: [&[&str]; 42] = [
     &["mswasm", "exec", "a", "--budget", "5", "--budget", "5"],
     &["mswasm", "exec", "a", "--budget", "5", "--budget=6"],
     &["mswasm", "exec"],
+    &["mswasm", "run"],
     &["mswasm", "asm", "a"],
     &["mswasm", "dis"],
     &["mswasm", "exec", "a", "--budget"],
@@ -149,6 +153,7 @@ const REFUSED: [&[&str]; 42] = [
     &["mswasm", "exec", "a", "--budget="],
     &["mswasm", "exec", "--budget", "5"],
     &["mswasm", "exec", "a", "b"],
+    &["mswasm", "run", "a", "b"],
     &["mswasm", "check", "a", "b"],
     &["mswasm", "dis", "a", "b", "c"],
     &["mswasm", "exec", "a", "--budget", "1000000000001"],
@@ -158,6 +163,7 @@ const REFUSED: [&[&str]; 42] = [
     &["mswasm", "exec", "a", "--budget", "-5"],
     &["mswasm", "exec", "a", "--budget", "5k"],
     &["mswasm", "exec", "a", "--budget", "5", "6"],
+    &["mswasm", "run", "a", "--budget", "5"],
     &["mswasm", "check", "a", "--budget", "5"],
     &["mswasm", "exec", "a", "--fuel", "5"],
     &["mswasm", "exec", "a", "-b", "5"],
@@ -182,5 +188,5 @@ fn words_ask_or_are_refused(rt: HostRuntime) {
             "line {at}"
         );
     }
-    assert_eq!(rt; usage().lines().count(), 4);
+    assert_eq!(rt; usage().lines().count(), 5);
 }

@@ -1,0 +1,250 @@
+-- Each line keeps the bounds of a draft, and so each job that a text says is within them.
+use Rattle.std.proofs.Common.{◌≡◌, ◌≢◌, ◌∙◌, ℕ, zero, suc, ◌+◌, ◌<◌, ◌≤◌, ◌&&◌, ◌||◌, ◌==◌, Bool, true, false, cond, not, List, [], ◌∷◌, ◌++◌, Option, Some, None, Result, Ok, Err, IfOk, IfSome, is_none, is_some, length, map, nat_le, nat_lt, option_map, option_and_then, unwrap_or, codes, refl, sym, subst, ltb-true, leb-true, length-append, true≢false, arith}
+use Rattle.std.specs.List.{position_from}
+use Rattle.std.specs.Option.{option_map_or}
+use Rattle.std.specs.Str.{bytes_eq, is_utf8}
+use Rattle.std.specs.Str.Lines.{lines}
+use Rattle.std.proofs.lemmas.Iterator.Adapters.{position_from-zero}
+use Rattle.std.proofs.lemmas.Option.{none-some}
+use Rattle.std.proofs.lemmas.Slice.Eq.{bytes_eq-Decides}
+use Rattle.ms_rules.specs.Modules.{AreDistinct, IsNotAmong}
+use Rattle.ms_job.specs.Bounds.{IsBounded}
+use Rattle.ms_job.specs.Jobs.{checked, has_outer_space, is_name, is_passed_over, job_in, job_of, no_lines, number_of, takes_traces, with_budget, with_dump, with_line, with_lines, with_memory, with_module, with_schedule, with_task, with_trace, with_turns, with_words}
+use Rattle.ms_job.specs.Words.{number_behind, number_within, within, words}
+use Rattle.ms_job.specs.declared.draft.Draft.{Draft}
+use Rattle.ms_job.specs.declared.job.Job.{Job}
+use Rattle.ms_job.specs.declared.fault.JobFault.{JobFault}
+
+-- what holds of what the lines say so far
+record AreBounded (d : Draft) : Type 0 where
+  names : AreDistinct (map (λ m. m.0) d.modules)
+  few : length d.tasks ≤ 64
+  turns : IfSome d.turns (λ n. 0 < n)
+  budget : IfSome d.budget (λ n. n ≤ 1000000000000)
+  memory : IfSome d.memory (λ n. n ≤ 16777216)
+
+-- a line that is taken leaves a draft within the bounds
+abbrev Keeps : Option Draft → Type 0
+Keeps answer = IfSome answer AreBounded
+
+-- ---- choices
+
+both : (a b : Bool) → (a && b) ≡ true → (a ≡ true) × (b ≡ true)
+both true true e = (refl, refl)
+both true false e = absurd (true≢false (sym e))
+both false b e = absurd (true≢false (sym e))
+
+either : (b : Bool) (x y : Option Draft) → Keeps x → Keeps y → Keeps (cond b x y)
+either true x y h k = h
+either false x y h k = k
+
+-- a line that breaks a rule, or else is this one
+unless : (b : Bool) (x : Option Draft) → Keeps x → Keeps (cond b None x)
+unless b x h = either b None x tt h
+
+-- a line that is this one only where a rule holds
+where_true : (b : Bool) (x : Option Draft) → (b ≡ true → Keeps x) → Keeps (cond b x None)
+where_true true x h = h refl
+where_true false x h = tt
+
+-- a number that is put into a draft
+put : (o : Option ℕ) (f : ℕ → Draft) → ((n : ℕ) → o ≡ Some n → AreBounded (f n)) → Keeps (option_map f o)
+put None f h = tt
+put (Some n) f h = h n refl
+
+-- ---- numbers
+
+abbrev IsFrom : ℕ → ℕ → ℕ → Type 0
+IsFrom low high n = (low ≤ n) × (n ≤ high)
+
+tested : (low high n : ℕ) (b : Bool) → (nat_le low n && nat_le n high) ≡ b → IfSome (cond b (Some n) None) (IsFrom low high)
+tested low high n true e = let passed = both (nat_le low n) (nat_le n high) e in (leb-true low n passed.0, leb-true n high passed.1)
+tested low high n false e = tt
+
+read : (low high : ℕ) (empty : Bool) (o : Option ℕ) → IfSome (cond empty None (option_and_then (within low high) o)) (IsFrom low high)
+read low high true o = tt
+read low high false None = tt
+read low high false (Some n) = tested low high n (nat_le low n && nat_le n high) refl
+
+-- a number of a word is in its range
+in_range : (low high : ℕ) (word : List ℕ) (n : ℕ) → number_within low high word ≡ Some n → IsFrom low high n
+in_range low high word n e =
+    let P : Option ℕ → Type 0 = λ o. IfSome o (IsFrom low high) in
+    subst P e (read low high (length word == 0) (number_behind 0 word))
+
+-- ---- names
+
+abbrev Entry : Type 0
+Entry = List ℕ × List ℕ
+
+abbrev names_of : List Entry → List (List ℕ)
+names_of entries = map (λ m. m.0) entries
+
+nowhere : (b : Bool) (i : ℕ) (o : Option ℕ) → cond b (Some i) o ≡ None → (b ≡ false) × (o ≡ None)
+nowhere true i o e = absurd (none-some i (sym e))
+nowhere false i o e = (refl, e)
+
+empty : (o : Option ℕ) → is_none o ≡ true → o ≡ None
+empty None e = refl
+empty (Some n) e = absurd (true≢false (sym e))
+
+differs : (x y : List ℕ) → bytes_eq x y ≡ false → x ≢ y
+differs x y e same = true≢false (sym ((bytes_eq-Decides x y).1 same) ∙ e)
+
+not_among_more : (x name file : List ℕ) (entries : List Entry) → IsNotAmong x (names_of entries) → x ≢ name
+    → IsNotAmong x (names_of (entries ++ (name, file) ∷ []))
+not_among_more x name file [] h ne = (ne, tt)
+not_among_more x name file (m ∷ ms) h ne = (h.0, not_among_more x name file ms h.1 ne)
+
+-- a name that is nowhere among distinct ones is distinct from them
+distinct_more : (name file : List ℕ) (i : ℕ) (entries : List Entry) → position_from (λ m. bytes_eq m.0 name) i entries ≡ None
+    → AreDistinct (names_of entries) → AreDistinct (names_of (entries ++ (name, file) ∷ []))
+distinct_more name file i [] e h = (tt, tt)
+distinct_more name file i (m ∷ ms) e h =
+    let here = nowhere (bytes_eq m.0 name) i (position_from (λ x. bytes_eq x.0 name) (i + 1) ms) e in
+    (not_among_more m.0 name file ms h.0 (differs m.0 name here.0), distinct_more name file (i + 1) ms here.1 h.1)
+
+-- ---- the lines
+
+module _ (d : Draft) (h : AreBounded d) where
+  module_keeps : (name file : List ℕ) → Keeps (with_module d name file)
+  module_keeps name file =
+      where_true (is_name name && is_none (number_of d name) && nat_lt (length d.modules) 64) _ (λ e.
+      let named = both (is_name name && is_none (number_of d name)) (nat_lt (length d.modules) 64) e in
+      let new = both (is_name name) (is_none (number_of d name)) named.0 in
+      let unused = sym (position_from-zero (λ (m : Entry). bytes_eq m.0 name) d.modules) ∙ empty (number_of d name) new.1 in
+      record {
+        names = distinct_more name file 0 d.modules unused h.names;
+        few = h.few;
+        turns = h.turns;
+        budget = h.budget;
+        memory = h.memory;
+      })
+
+  task_keeps : (name export : List ℕ) → Keeps (with_task d name export)
+  task_keeps name export =
+      where_true (nat_lt (length d.tasks) 64) _ (λ e.
+      put (number_of d name) _ (λ n is.
+      record {
+        names = h.names;
+        few = omega (arith, ltb-true _ _ e, length-append d.tasks ((n, export) ∷ []));
+        turns = h.turns;
+        budget = h.budget;
+        memory = h.memory;
+      }))
+
+  turns_keep : (word : List ℕ) → Keeps (with_turns d word)
+  turns_keep word =
+      unless (is_some d.turns || is_some d.schedule) _ (put (number_within 1 1000000 word) _ (λ n is.
+      record {
+        names = h.names;
+        few = h.few;
+        turns = omega (arith, (in_range 1 1000000 word n is).0);
+        budget = h.budget;
+        memory = h.memory;
+      }))
+
+  schedule_keeps : (file : List ℕ) → Keeps (with_schedule d file)
+  schedule_keeps file =
+      unless (is_some d.turns || is_some d.schedule) _
+      (record { names = h.names; few = h.few; turns = h.turns; budget = h.budget; memory = h.memory })
+
+  budget_keeps : (word : List ℕ) → Keeps (with_budget d word)
+  budget_keeps word =
+      unless (is_some d.budget) _ (put (number_within 0 1000000000000 word) _ (λ n is.
+      record {
+        names = h.names;
+        few = h.few;
+        turns = h.turns;
+        budget = (in_range 0 1000000000000 word n is).1;
+        memory = h.memory;
+      }))
+
+  memory_keeps : (word : List ℕ) → Keeps (with_memory d word)
+  memory_keeps word =
+      unless (is_some d.memory) _ (put (number_within 16 16777216 word) _ (λ n is.
+      record {
+        names = h.names;
+        few = h.few;
+        turns = h.turns;
+        budget = h.budget;
+        memory = (in_range 16 16777216 word n is).1;
+      }))
+
+  trace_keeps : (file : List ℕ) → Keeps (with_trace d file)
+  trace_keeps file =
+      unless (is_some d.trace) _
+      (record { names = h.names; few = h.few; turns = h.turns; budget = h.budget; memory = h.memory })
+
+  dump_keeps : Keeps (with_dump d)
+  dump_keeps =
+      unless d.dump _ (record { names = h.names; few = h.few; turns = h.turns; budget = h.budget; memory = h.memory })
+
+  words_keep : (words : List (List ℕ)) → Keeps (with_words d words)
+  words_keep [] = tt
+  words_keep (word ∷ []) = either (bytes_eq word (codes "dump") && takes_traces) _ _ dump_keeps tt
+  words_keep (word ∷ x ∷ []) =
+      either (bytes_eq word (codes "turns")) _ _ (turns_keep x)
+      (either (bytes_eq word (codes "schedule")) _ _ (schedule_keeps x)
+      (either (bytes_eq word (codes "budget")) _ _ (budget_keeps x)
+      (either (bytes_eq word (codes "memory")) _ _ (memory_keeps x)
+      (either (bytes_eq word (codes "trace") && takes_traces) _ _ (trace_keeps x) tt))))
+  words_keep (word ∷ x ∷ y ∷ []) =
+      either (bytes_eq word (codes "module")) _ _ (module_keeps x y)
+      (either (bytes_eq word (codes "task")) _ _ (task_keeps x y) tt)
+  words_keep (word ∷ x ∷ y ∷ z ∷ more) = tt
+
+  line_keeps : (line : List ℕ) → Keeps (with_line d line)
+  line_keeps line =
+      unless (not (is_utf8 line)) _
+      (either (is_passed_over line) (Some d) _ h (unless (has_outer_space line) _ (words_keep (words line))))
+
+-- ---- a text
+
+goes_on : (o : Option Draft) (f : Draft → Result Draft ℕ) (n : ℕ) → Keeps o → ((d : Draft) → AreBounded d → IfOk (f d) AreBounded)
+    → IfOk (option_map_or f o (Err n)) AreBounded
+goes_on None f n h k = tt
+goes_on (Some d) f n h k = k d h
+
+lines_keep : (n : ℕ) (d : Draft) (ls : List (List ℕ)) → AreBounded d → IfOk (with_lines n d ls) AreBounded
+lines_keep n d [] h = h
+lines_keep n d (line ∷ more) h =
+    goes_on (with_line d line) (λ e. with_lines (n + 1) e more) n (line_keeps d h line) (λ e k. lines_keep (n + 1) e more k)
+
+or_else : (o : Option ℕ) (n : ℕ) (P : ℕ → Type 0) → IfSome o P → P n → P (unwrap_or o n)
+or_else None n P h k = k
+or_else (Some m) n P h k = h
+
+job_bounded : (d : Draft) → AreBounded d → 0 < length d.tasks → IsBounded (job_of d)
+job_bounded d h some = record {
+  names = h.names;
+  some = some;
+  few = h.few;
+  turns = or_else d.turns 1 (λ n. 0 < n) h.turns (omega arith);
+  budget = or_else d.budget 1000000 (λ n. n ≤ 1000000000000) h.budget (omega arith);
+  memory = or_else d.memory 1048576 (λ n. n ≤ 16777216) h.memory (omega arith);
+}
+
+nonzero : (n : ℕ) → (n == 0) ≡ false → 0 < n
+nonzero zero e = absurd (true≢false e)
+nonzero (suc n) e = omega arith
+
+finished : (a b : Bool) (x y : JobFault) (j : Job) → (a ≡ false → IsBounded j) → IfOk (cond a (Err x) (cond b (Err y) (Ok j))) IsBounded
+finished true b x y j h = tt
+finished false true x y j h = tt
+finished false false x y j h = h refl
+
+checked_bounded : (r : Result Draft ℕ) → IfOk r AreBounded → IfOk (checked r) IsBounded
+checked_bounded (Err n) h = tt
+checked_bounded (Ok d) h = finished (length d.tasks == 0) _ _ _ (job_of d) (λ e. job_bounded d h (nonzero (length d.tasks) e))
+
+-- what is answered to a text
+pub answer_is_bounded : (text : List ℕ) (r : Result Job JobFault) → job_in text ≡ r → IfOk r IsBounded
+answer_is_bounded text r e =
+    let P : Result Job JobFault → Type 0 = λ answer. IfOk answer IsBounded in
+    let none : AreBounded no_lines = record { names = tt; few = omega arith; turns = tt; budget = tt; memory = tt } in
+    subst P e (checked_bounded (with_lines 1 no_lines (lines text)) (lines_keep 1 no_lines (lines text) none))
+
+-- a job that a text says is within the bounds
+pub job_is_bounded : (text : List ℕ) (j : Job) → job_in text ≡ Ok j → IsBounded j
+job_is_bounded text j e = answer_is_bounded text (Ok j) e
