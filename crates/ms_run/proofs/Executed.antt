@@ -1,95 +1,74 @@
--- What executing a well-typed module comes to, by what was found of it.
-use Rattle.std.proofs.Common.{◌≡◌, ◌≢◌, ℕ, ◌==◌, List, [], length, Bool, true, refl, sym, ap, ◌∙◌, subst, cond, inl, inr}
-use Rattle.std.specs.Prelude.{Option, Some, None, Ok, MatchOption, option_and_then, slice_get}
-use Rattle.std.proofs.lemmas.Bool.{and_parts, eqb-true}
-use Rattle.std.proofs.lemmas.List.{nil_from_length}
-use Rattle.std.proofs.lemmas.Option.{get_or_from_slice_get}
-use Rattle.ms_bytes.specs.ResultLaws.{chosen}
-use Rattle.ms_machine.proofs.LinkedStores.{linked_func, linked_func_typed, linked_is}
-use Rattle.ms_machine.specs.Linking.{func_of, linked, misfit, no_type, store_of}
-use Rattle.ms_machine.specs.Running.{CountsInput, CountsOut, DoesWholeRun, IsAlone, run_from}
-use Rattle.ms_machine.specs.Store.{Store}
-use Rattle.ms_machine.specs.Typing.{outline_of}
-use Rattle.ms_machine.specs.declared.running.Ran.{Ran as Ending}
-use Rattle.ms_module.specs.declared.module.Export.{Export}
-use Rattle.ms_module.specs.declared.module.ExportDesc.{ExportDesc}
-use Rattle.ms_module.specs.declared.module.ExportDesc.TheVariants as exports
-use Rattle.ms_module.specs.declared.module.Func.{Func}
+-- What was put of an execution, by what linking and the making of a crew answered.
+use Rattle.std.proofs.Common.{◌≡◌, ◌∙◌, ◌+◌, ◌<◌, ℕ, suc, List, [], ◌∷◌, length, refl, sym, ap, subst, arith}
+use Rattle.std.specs.Prelude.{Option, Some, None, Result, Ok, Err}
 use Rattle.ms_module.specs.declared.module.Module.{Module}
-use Rattle.ms_rules.specs.Modules.{StartTyped, WellTyped}
-use Rattle.ms_types.specs.declared.types.FuncType.{FuncType}
-use Rattle.ms_run.specs.Executions.{DoesOutcome, Runs, execution_within, with_fit, with_imports, with_task}
-use Rattle.ms_run.specs.Observed.{Flow}
-use Rattle.ms_run.specs.Tasks.{exported_task, is_task_result, is_task_type, main_name, of_task_type, task_index}
-use Rattle.ms_run.specs.declared.execution.Outcome.TheVariants.{Ran}
+use Rattle.ms_task.specs.Thread.{Thread}
+use Rattle.ms_machine.specs.Crews.{Crew, Input, Run, run_of}
+use Rattle.ms_machine.specs.Externs.{Fault}
+use Rattle.ms_machine.specs.Linked.{linked}
+use Rattle.ms_machine.specs.Store.{Store}
+use Rattle.ms_link.proofs.Stores.{linked_made}
+use Rattle.ms_tasks.specs.Making.{IsCrewOf}
+use Rattle.ms_tasks.specs.Schedules.{entries_of}
+use Rattle.ms_tasks.specs.declared.schedule.Schedule.{Schedule}
+use Rattle.ms_tasks.specs.Tasks.{and_thread, crew_of, task_address, thread_at, threads_from}
+use Rattle.ms_run.specs.Executions.{Execution, NoTask, Ran, Unlinked, execution, if_linked, in_store, with_threads}
+use Rattle.ms_run.specs.Flows.{IsQuiet, TellsEnd, TellsExecution, nothing_told, refused, run_told}
+use Rattle.ms_run.specs.Lines.{link_line, task_line}
+use Rattle.ms_run.specs.Observed.{Flow, Report}
+use Rattle.ms_run.specs.Reporting.{Reports}
+use Rattle.ms_run.specs.declared.status.Status.{Status}
+use Rattle.ms_run.specs.declared.status.Status.TheVariants.{Refused}
 
--- ---- lists that are empty
+-- ---- the crew of a store has a thread for each task
 
-of_no_length : {A : Type 0} (xs : List A) → (length xs == 0) ≡ true → xs ≡ []
-of_no_length xs e = nil_from_length xs (eqb-true (length xs) 0 e)
+same_threads : (a b : List Thread) → ◌≡◌ {A = Result (List Thread) ℕ} (Ok a) (Ok b) → a ≡ b
+same_threads a b e = cc
 
-pub empty_is : {A : Type 0} (is_empty : Bool) (xs : List A) → is_empty ≡ (length xs == 0) → is_empty ≡ true → xs ≡ []
-empty_is b xs e true_is = of_no_length xs (sym e ∙ true_is)
+threads_length : (s : Store) (tasks : List (ℕ × List ℕ)) (number : ℕ) (threads : List Thread) → threads_from s tasks number ≡ Ok threads → length threads ≡ length tasks
+threads_length s [] number threads e = ap length (sym (same_threads [] threads e))
+threads_length s (t ∷ ts) number threads e =
+    by (λ us is. threads_length s ts (suc number) us is) (thread_at s (task_address s t.0 t.1)) (threads_from s ts (suc number)) refl e
+  where
+    by : ((us : List Thread) → threads_from s ts (suc number) ≡ Ok us → length us ≡ length ts) → (o : Option Thread) (r : Result (List Thread) ℕ) → threads_from s ts (suc number) ≡ r → and_thread o number r ≡ Ok threads → length threads ≡ suc (length ts)
+    by rest None r is e = absurd cc
+    by rest (Some u) (Ok us) is e = ap length (sym (same_threads (u ∷ us) threads e)) ∙ ap suc (rest us is)
+    by rest (Some u) (Err other) is e = absurd cc
 
--- ---- what executing the module comes to, where it is run
+pub crew_length : (s : Store) (tasks : List (ℕ × List ℕ)) (c : Crew) → IsCrewOf s tasks c → length c.tasks ≡ length tasks
+crew_length s tasks c (threads, found, is) = ap (λ (x : Crew). length x.tasks) is ∙ threads_length s tasks 0 threads found
 
-runs_main : (budget capacity : ℕ) (given : List (Option ℕ)) (m : Module) (main : ℕ) → m.imports ≡ [] → misfit m ≡ None → task_index m main_name ≡ Some main → execution_within budget capacity given m ≡ Runs (run_from budget (store_of m capacity) m.start main given)
-runs_main budget capacity given m main alone fits some = ap (with_imports budget capacity given m) alone ∙ ap (with_fit budget capacity given m) fits ∙ ap (with_task budget capacity given m) some
+pub crew_made : (s : Store) (tasks : List (ℕ × List ℕ)) (c : Crew) → IsCrewOf s tasks c → c.store.segments.made ≡ s.segments.made
+crew_made s tasks c (threads, found, is) = ap (λ (x : Crew). x.store.segments.made) is
 
--- ---- what running the module answered
+-- ---- the store of linked modules has made no segment
 
-pub run_comes : (m : Module) (budget capacity : ℕ) (s after : Store) (main : ℕ) (ran : Ending) (f : Flow) → m.imports ≡ [] → linked m capacity ≡ Ok s → task_index m main_name ≡ Some main → CountsInput ran f.takes_old f.takes_new → CountsOut ran f.puts_old f.puts_new
-    → (given : List (Option ℕ)) × DoesWholeRun ran after f.left_old f.left_new f.held_old f.held_new given (run_from budget s m.start main given) → DoesOutcome budget capacity m f (Ok (Ran ran))
-run_comes m budget capacity s after main ran f alone links some takes puts (given, runs) =
-    let is = linked_is m capacity s links in
-    let run = run_from budget (store_of m capacity) m.start main given in
-    let does = subst (λ (x : Store). DoesWholeRun ran after f.left_old f.left_new f.held_old f.held_new given (run_from budget x m.start main given)) is.1 runs in
-    (given, run, after, runs_main budget capacity given m main alone is.0 some, takes, puts, does)
+pub linked_none_made : (modules : List (List ℕ × Module)) (capacity : ℕ) (s : Store) → linked modules capacity ≡ Ok s → s.segments.made ≡ 0
+linked_none_made modules capacity s e = let made = linked_made modules capacity s e in ap (λ (x : Store). x.segments.made) (sym made.2)
 
--- ---- the functions that are run have no parameters
+-- ---- what was put
 
-and_then_some : {A B : Type 0} (f : A → Option B) (o : Option A) (y : B) → option_and_then f o ≡ Some y → (x : A) × (o ≡ Some x) × (f x ≡ Some y)
-and_then_some f None y e = absurd cc
-and_then_some f (Some x) y e = (x, refl, e)
+module _ (r : Report) (f : Flow) where
+  same_told : (e e' : Input → Execution) → ((given : Input) → e' given ≡ e given) → (result : Status) → TellsExecution e r f result → TellsExecution e' r f result
+  same_told e e' same result (refused x line is answers still reports) = refused x line (λ given. same given ∙ is given) answers still reports
+  same_told e e' same result (run_told runs is tell) = run_told runs (λ given. same given ∙ is given) tell
+  same_told e e' same result (nothing_told still kept) = nothing_told still kept
 
-some_is : {A : Type 0} (x y : A) → ◌≡◌ {A = Option A} (Some x) (Some y) → x ≡ y
-some_is x y e = cc
+  -- the entries are those of a schedule for so many tasks
+  pub crew_told : (tasks : List (ℕ × List ℕ)) (schedule : Schedule) (budget : ℕ) (s : Store) (c : Crew) → IsCrewOf s tasks c → (result : Status) → TellsEnd (run_of (entries_of schedule (length c.tasks) budget) c) r f result
+      → TellsExecution (in_store tasks (entries_of schedule (length tasks) budget) s) r f result
+  crew_told tasks schedule budget s c (threads, found, is) result tell =
+      let entries = entries_of schedule (length tasks) budget in
+      run_told (run_of entries c) (λ given. ap (with_threads entries s given) found ∙ ap (λ (x : Crew). Ran (run_of entries x given)) (sym is))
+      (subst (λ n. TellsEnd (run_of (entries_of schedule n budget) c) r f result) (crew_length s tasks c (threads, found, is)) tell)
 
-no_params : (t : FuncType) → is_task_type t ≡ true → t.params ≡ []
-no_params t e = of_no_length t.params (and_parts (length t.params == 0) (is_task_result t.results) e).0
+  module _ (tasks : List (ℕ × List ℕ)) (entries : List ℕ) where
+    pub no_task_told : (s : Store) (number : ℕ) → threads_from s tasks 0 ≡ Err number → IsQuiet f → (result : Status) → Reports Refused (task_line number) r result → TellsExecution (in_store tasks entries s) r f result
+    no_task_told s number found still result reports = refused (NoTask number) (task_line number) (λ given. ap (with_threads entries s given) found) (refl, refl) still reports
 
--- a task's function, and that it has no parameters
-task_found : (m : Module) (index main : ℕ) (g : Func) → of_task_type m index g ≡ Some main → (index ≡ main) × (t : FuncType) × (slice_get m.sigs g.sig ≡ Some t) × (t.params ≡ [])
-task_found m index main g e =
-    let t = and_then_some (λ t. cond (is_task_type t) (Some index) None) (slice_get m.sigs g.sig) main e in
-    elim (chosen (is_task_type t.0) _ _ _ t.2) [
-      | inl h ↦ (some_is index main h.1, t.0, t.1, no_params t.0 h.0)
-      | inr h ↦ absurd (let n = h.1 in cc)
-    ]
+    module _ (modules : List (List ℕ × Module)) (capacity : ℕ) where
+      pub linked_told : (s : Store) → linked modules capacity ≡ Ok s → (result : Status) → TellsExecution (in_store tasks entries s) r f result → TellsExecution (execution modules tasks entries capacity) r f result
+      linked_told s e result tell = same_told (in_store tasks entries s) (execution modules tasks entries capacity) (λ given. ap (if_linked tasks entries given) e) result tell
 
-func_alone : (m : Module) (capacity index main : ℕ) (g : Func) → slice_get m.funcs index ≡ Some g → of_task_type m index g ≡ Some main → IsAlone (outline_of (store_of m capacity)) main
-func_alone m capacity index main g found e =
-    let t = task_found m index main g e in
-    let at : slice_get (store_of m capacity).funcs main ≡ Some (func_of m g) = subst (λ (i : ℕ). slice_get (store_of m capacity).funcs i ≡ Some (func_of m g)) t.0 (linked_func m capacity index g found) in
-    (func_of m g, at, ap (λ (ty : FuncType). ty.params) (get_or_from_slice_get m.sigs g.sig t.1 no_type t.2) ∙ t.3)
-
-export_alone : (m : Module) (capacity main : ℕ) (desc : ExportDesc) → exported_task m desc ≡ Some main → IsAlone (outline_of (store_of m capacity)) main
-export_alone m capacity main (exports.Func index) e =
-    let g = and_then_some (of_task_type m index) (slice_get m.funcs index) main e in
-    func_alone m capacity index main g.0 g.1 g.2
-export_alone m capacity main (exports.Table i) e = absurd cc
-export_alone m capacity main (exports.Memory i) e = absurd cc
-export_alone m capacity main (exports.Global i) e = absurd cc
-
-pub main_alone : (m : Module) (capacity : ℕ) (s : Store) (main : ℕ) → linked m capacity ≡ Ok s → task_index m main_name ≡ Some main → IsAlone (outline_of s) main
-main_alone m capacity s main links some =
-    let x = and_then_some (λ (x : Export). exported_task m x.desc) _ main some in
-    subst (λ (y : Store). IsAlone (outline_of y) main) (sym (linked_is m capacity s links).1) (export_alone m capacity main x.0.desc x.2)
-
-pub first_alone : (m : Module) (capacity : ℕ) (s : Store) → WellTyped m → m.imports ≡ [] → linked m capacity ≡ Ok s → MatchOption m.start (Unit {0}) (λ f. IsAlone (outline_of s) f)
-first_alone m capacity s well alone links = given m.start well.head.start where
-  given : (o : Option ℕ) → StartTyped m o → MatchOption o (Unit {0}) (λ f. IsAlone (outline_of s) f)
-  given None typed = tt
-  given (Some f) typed =
-      let g = linked_func_typed m capacity f typed.0 typed.1 alone in
-      subst (λ (y : Store). IsAlone (outline_of y) f) (sym (linked_is m capacity s links).1) (g.0, g.1, ap (λ (ty : FuncType). ty.params) g.2 ∙ typed.2)
+      pub unlinked_told : (fault : Fault) → linked modules capacity ≡ Err fault → IsQuiet f → (result : Status) → Reports Refused (link_line fault) r result → TellsExecution (execution modules tasks entries capacity) r f result
+      unlinked_told fault e still result reports = refused (Unlinked fault) (link_line fault) (λ given. ap (if_linked tasks entries given) e) (refl, refl) still reports

@@ -1,7 +1,12 @@
-pub mod Executed
-pub mod Safe
 pub mod Once
+pub mod Finding
+pub mod Later
+pub mod Done
 pub mod Told
 pub mod Written
-pub mod Done
-pub mod Flowing
+pub mod Counting
+pub mod Ending
+pub mod Executed
+pub mod Gathered
+pub mod Jobs
+pub mod Safe

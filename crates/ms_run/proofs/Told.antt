@@ -1,5 +1,5 @@
--- What was put of a module's file is what the command makes of its bytes.
-use Rattle.std.proofs.Common.{◌≡◌, ◌≢◌, ℕ, List, refl, sym, subst}
+-- Why a file has no module, and that it was put.
+use Rattle.std.proofs.Common.{◌≡◌, ◌≢◌, ℕ, inr, List, [], refl, sym, subst}
 use Rattle.std.specs.Prelude.{None}
 use Rattle.ms_bin_grammar.specs.declared.fault.ReadFault.{ReadFault}
 use Rattle.ms_bin_grammar.specs.Module.{Stops as BinaryStops}
@@ -7,14 +7,15 @@ use Rattle.ms_text_grammar.specs.declared.fault.TextFault.{TextFault}
 use Rattle.ms_text_grammar.specs.TextSpells.{Stops as TextStops, TextStop}
 use Rattle.ms_text_read.specs.Answers.{told as told_of}
 use Rattle.ms_module.specs.declared.module.Module.{Module}
+use Rattle.ms_outside.specs.Shelf.{SameCounts}
 use Rattle.ms_rules.specs.Modules.{WellTyped}
 use Rattle.ms_valid.specs.declared.refusal.Refusal.{Refusal}
 use Rattle.ms_valid.specs.declared.refusal.Refusal.TheVariants as refusals
-use Rattle.ms_run.specs.Answers.{Command, Loads, invalid, unread, valid}
-use Rattle.ms_run.specs.Lines.{fault_line, text_fault_line}
-use Rattle.ms_run.specs.Loading.{Binary, Form, IsInvalid, IsRead, Refuses, Spells, Text, Unread, binary, load_line, text}
-use Rattle.ms_run.specs.Observed.{Report}
-use Rattle.ms_run.specs.Reporting.{IsStarved, Reports, ReportsFault, Tells, told, told_none}
+use Rattle.ms_run.specs.Answers.{Found, HasBytes, Unloaded, invalid, unread}
+use Rattle.ms_run.specs.Lines.{fault_words, refused_line, text_fault_words}
+use Rattle.ms_run.specs.Loading.{Binary, Form, IsInvalid, IsRead, Refuses, Spells, Text, Unread, binary, form_of, load_words, text}
+use Rattle.ms_run.specs.Observed.{Report, Shelved}
+use Rattle.ms_run.specs.Reporting.{KeepsFiles, Reports, ReportsFault, Tells, told, untold}
 use Rattle.ms_run.specs.declared.loading.LoadFault.{LoadFault}
 use Rattle.ms_run.specs.declared.loading.LoadFault.TheVariants as faults
 use Rattle.ms_run.specs.declared.status.Status.{Status}
@@ -25,43 +26,42 @@ use Rattle.ms_run.proofs.Once.{never_both, never_wrong, one_module}
 
 -- ---- a fault
 
-pub unread_binary : (bytes : List ℕ) (fault : ReadFault) → IsRead fault → BinaryStops bytes fault → Unread bytes Binary (fault_line fault)
+pub unread_binary : (bytes : List ℕ) (fault : ReadFault) → IsRead fault → BinaryStops bytes fault → Unread bytes Binary (fault_words fault)
 unread_binary bytes fault is_read stops = binary fault stops
 
-pub unread_text : (bytes : List ℕ) (fault : TextFault) (why : TextStop) → told_of why ≡ fault → TextStops bytes why → Unread bytes Text (text_fault_line fault)
-unread_text bytes fault why is stops = subst (λ (f : TextFault). Unread bytes Text (text_fault_line f)) is (text why stops)
+pub unread_text : (bytes : List ℕ) (fault : TextFault) (why : TextStop) → told_of why ≡ fault → TextStops bytes why → Unread bytes Text (text_fault_words fault)
+unread_text bytes fault why is stops = subst (λ (f : TextFault). Unread bytes Text (text_fault_words f)) is (text why stops)
 
-pub starved : (Does : Command) (bytes : List ℕ) (r : Report) (result : Status) → IsStarved r result → Tells Does bytes r result
-starved Does bytes r result h = subst (λ (x : Status). Tells Does bytes r x) (sym h.0) (told_none h.1)
+module _ (Has : List ℕ → Found → Type 0) (what name bytes : List ℕ) (has : HasBytes Has name bytes) where
+  abbrev Untold : List ℕ → Type 0
+  Untold words = Unloaded Has what name Refused (refused_line what words)
 
-module _ (After : Module → Status → List ℕ → Type 0) (bytes : List ℕ) (r : Report) (result : Status) where
-  abbrev Does : Form → Command
-  Does form b s l f = Loads form b After s l × (f ≡ None)
+  of_form : (form : Form) → form_of name ≡ form → (fault : LoadFault) → fault ≢ faults.Memory → Refuses form bytes fault → Untold (load_words fault)
+  of_form Binary is (faults.Read fault) not h = unread bytes has (subst (λ (f : Form). Unread bytes f (fault_words fault)) (sym is) (unread_binary bytes fault h.0 h.1))
+  of_form Text is (faults.Read fault) not h = absurd h
+  of_form Binary is (faults.Text fault) not h = absurd h
+  of_form Text is (faults.Text fault) not h = unread bytes has (subst (λ (f : Form). Unread bytes f (text_fault_words fault)) (sym is) (unread_text bytes fault h.0 h.1 h.2))
+  of_form Binary is (faults.Invalid (refusals.Invalid part)) not h = invalid bytes h.0 part has (subst (λ (f : Form). Spells f bytes h.0) (sym is) h.1) h.2
+  of_form Text is (faults.Invalid (refusals.Invalid part)) not h = invalid bytes h.0 part has (subst (λ (f : Form). Spells f bytes h.0) (sym is) h.1) h.2
+  of_form Binary is (faults.Invalid refusals.Memory) not h = absurd h
+  of_form Text is (faults.Invalid refusals.Memory) not h = absurd h
+  of_form Binary is faults.Memory not h = absurd (not refl)
+  of_form Text is faults.Memory not h = absurd (not refl)
 
-  of_invalid : (form : Form) (refusal : Refusal) → IsInvalid form bytes refusal → Reports Refused (load_line (faults.Invalid refusal)) r result → Tells (Does form) bytes r result
-  of_invalid form (refusals.Invalid part) h reports = told Refused (load_line (faults.Invalid (refusals.Invalid part))) (invalid h.0 part h.1 h.2, refl) reports
-  of_invalid form refusals.Memory h reports = absurd h
-
-  pub fault_told : (form : Form) (fault : LoadFault) → Refuses form bytes fault → ReportsFault fault r result → Tells (Does form) bytes r result
-  fault_told Binary (faults.Read fault) h reports = told Refused (fault_line fault) (unread (unread_binary bytes fault h.0 h.1), refl) reports
-  fault_told Text (faults.Read fault) h reports = absurd h
-  fault_told Binary (faults.Text fault) h reports = absurd h
-  fault_told Text (faults.Text fault) h reports = told Refused (text_fault_line fault) (unread (unread_text bytes fault h.0 h.1 h.2), refl) reports
-  fault_told Binary (faults.Invalid refusal) h reports = of_invalid Binary refusal h reports
-  fault_told Text (faults.Invalid refusal) h reports = of_invalid Text refusal h reports
-  fault_told Binary faults.Memory h reports = starved (Does Binary) bytes r result reports
-  fault_told Text faults.Memory h reports = starved (Does Text) bytes r result reports
-
-  pub valid_told : (form : Form) (m : Module) (status : Status) (line : List ℕ) → Spells form bytes m → WellTyped m → After m status line → Reports status line r result → Tells (Does form) bytes r result
-  valid_told form m status line spelled well after reports = told status line (valid m spelled well after, refl) reports
+  -- it was put, after the file was read
+  pub fault_told : (s : Shelved) (r : Report) (result : Status) → SameCounts s.reads_old s.reads_new → KeepsFiles s → (fault : LoadFault) → Refuses (form_of name) bytes fault → ReportsFault what fault r result → Tells (Unloaded Has what name) s r result
+  fault_told s r result counts files (faults.Read fault) h reports = told Refused (refused_line what (fault_words fault)) (of_form (form_of name) refl (faults.Read fault) (λ e. let n = e in cc) h) (inr counts) files reports
+  fault_told s r result counts files (faults.Text fault) h reports = told Refused (refused_line what (text_fault_words fault)) (of_form (form_of name) refl (faults.Text fault) (λ e. let n = e in cc) h) (inr counts) files reports
+  fault_told s r result counts files (faults.Invalid refusal) h reports = told Refused (refused_line what (load_words (faults.Invalid refusal))) (of_form (form_of name) refl (faults.Invalid refusal) (λ e. let n = e in cc) h) (inr counts) files reports
+  fault_told s r result counts files faults.Memory h reports = subst (λ (x : Status). Tells (Unloaded Has what name) s r x) (sym reports.0) (untold counts files reports.1)
 
 -- ---- why there is no module, and that it was put
 
-pub fault_reported : (fault : LoadFault) (r : Report) (result : Status) → fault ≢ faults.Memory → Reports Refused (load_line fault) r result → ReportsFault fault r result
-fault_reported (faults.Read fault) r result not h = h
-fault_reported (faults.Text fault) r result not h = h
-fault_reported (faults.Invalid refusal) r result not h = h
-fault_reported faults.Memory r result not h = absurd (not refl)
+pub fault_reported : (what : List ℕ) (fault : LoadFault) (r : Report) (result : Status) → fault ≢ faults.Memory → Reports Refused (refused_line what (load_words fault)) r result → ReportsFault what fault r result
+fault_reported what (faults.Read fault) r result not h = h
+fault_reported what (faults.Text fault) r result not h = h
+fault_reported what (faults.Invalid refusal) r result not h = h
+fault_reported what faults.Memory r result not h = absurd (not refl)
 
 -- ---- a module that the bytes spell and that is well typed is refused for want of memory alone
 
@@ -75,10 +75,10 @@ never_refused form bytes refused m refusal part e wrong spelled spelled' well =
     never_wrong m part well (subst (λ (x : Module). IsWrong x part) (one_module form bytes refused m spelled spelled') is)
 
 pub refused_only : (form : Form) (bytes : List ℕ) (fault : LoadFault) → Refuses form bytes fault → (m : Module) → Spells form bytes m → WellTyped m → fault ≡ faults.Memory
-refused_only Binary bytes (faults.Read fault) h m spelled well = absurd (never_both bytes Binary (fault_line fault) m (unread_binary bytes fault h.0 h.1) spelled)
+refused_only Binary bytes (faults.Read fault) h m spelled well = absurd (never_both bytes Binary (fault_words fault) m (unread_binary bytes fault h.0 h.1) spelled)
 refused_only Text bytes (faults.Read fault) h m spelled well = absurd h
 refused_only Binary bytes (faults.Text fault) h m spelled well = absurd h
-refused_only Text bytes (faults.Text fault) h m spelled well = absurd (never_both bytes Text (text_fault_line fault) m (unread_text bytes fault h.0 h.1 h.2) spelled)
+refused_only Text bytes (faults.Text fault) h m spelled well = absurd (never_both bytes Text (text_fault_words fault) m (unread_text bytes fault h.0 h.1 h.2) spelled)
 refused_only Binary bytes (faults.Invalid refusal) h m spelled well = absurd (never_invalid Binary bytes refusal h m spelled well)
 refused_only Text bytes (faults.Invalid refusal) h m spelled well = absurd (never_invalid Text bytes refusal h m spelled well)
 refused_only Binary bytes faults.Memory h m spelled well = refl

@@ -1,5 +1,5 @@
 -- What was made of a file's bytes where a module is written in the other form.
-use Rattle.std.proofs.Common.{◌≡◌, ℕ, List, length, sym, subst}
+use Rattle.std.proofs.Common.{◌≡◌, ℕ, List, [], length, sym, subst}
 use Rattle.std.specs.Prelude.{Some, None}
 use Rattle.ms_bin_grammar.specs.Bounds.{usual}
 use Rattle.ms_bin_grammar.specs.Module.{SpellsWithin}
@@ -8,7 +8,7 @@ use Rattle.ms_module.specs.declared.module.Module.{Module}
 use Rattle.ms_text_grammar.specs.TextSpells.{TextSpells}
 use Rattle.ms_text_write.specs.Shown.{shown}
 use Rattle.ms_run.specs.Answers.{Assembles, Command, Disassembles, assembled, disassembled, large, unread_binary as not_binary, unread_text as not_text}
-use Rattle.ms_run.specs.Lines.{fault_line, large_line, text_fault_line, written_line}
+use Rattle.ms_run.specs.Lines.{fault_words, large_line, refused_line, text_fault_words, written_line}
 use Rattle.ms_run.specs.Loading.{Binary, IsOfReading, Refuses, Text}
 use Rattle.ms_run.specs.Observed.{Report, Shelved}
 use Rattle.ms_run.specs.Reporting.{Delivers, IsStarved, KeepsFiles, Makes, Reports, ReportsFault, made, made_none, put}
@@ -24,9 +24,9 @@ starved_makes Does bytes s r result kept h = subst (λ (x : Status). Makes Does 
 module _ (out bytes : List ℕ) (s : Shelved) (r : Report) (result : Status) where
   -- ---- from text to binary
 
-  pub text_fault_makes : (fault : LoadFault) → Refuses Text bytes fault → IsOfReading fault → KeepsFiles s → ReportsFault fault r result → Makes (Assembles out) bytes s r result
+  pub text_fault_makes : (fault : LoadFault) → Refuses Text bytes fault → IsOfReading fault → KeepsFiles s → ReportsFault [] fault r result → Makes (Assembles out) bytes s r result
   text_fault_makes (faults.Read fault) h reading kept reports = absurd h
-  text_fault_makes (faults.Text fault) h reading kept reports = made Refused (text_fault_line fault) None (not_text (unread_text bytes fault h.0 h.1 h.2)) (put kept reports)
+  text_fault_makes (faults.Text fault) h reading kept reports = made Refused (refused_line [] (text_fault_words fault)) None (not_text (unread_text bytes fault h.0 h.1 h.2)) (put kept reports)
   text_fault_makes (faults.Invalid refusal) h reading kept reports = absurd reading
   text_fault_makes faults.Memory h reading kept reports = starved_makes (Assembles out) bytes s r result kept reports
 
@@ -41,8 +41,8 @@ module _ (out bytes : List ℕ) (s : Shelved) (r : Report) (result : Status) whe
 
   -- ---- from binary to text
 
-  pub binary_fault_makes : (fault : LoadFault) → Refuses Binary bytes fault → IsOfReading fault → KeepsFiles s → ReportsFault fault r result → Makes (Disassembles out) bytes s r result
-  binary_fault_makes (faults.Read fault) h reading kept reports = made Refused (fault_line fault) None (not_binary (unread_binary bytes fault h.0 h.1)) (put kept reports)
+  pub binary_fault_makes : (fault : LoadFault) → Refuses Binary bytes fault → IsOfReading fault → KeepsFiles s → ReportsFault [] fault r result → Makes (Disassembles out) bytes s r result
+  binary_fault_makes (faults.Read fault) h reading kept reports = made Refused (refused_line [] (fault_words fault)) None (not_binary (unread_binary bytes fault h.0 h.1)) (put kept reports)
   binary_fault_makes (faults.Text fault) h reading kept reports = absurd h
   binary_fault_makes (faults.Invalid refusal) h reading kept reports = absurd reading
   binary_fault_makes faults.Memory h reading kept reports = starved_makes (Disassembles out) bytes s r result kept reports

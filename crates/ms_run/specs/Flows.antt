@@ -1,20 +1,45 @@
--- What `exec` did to the input and the output of the program that it ran, and what it answered where one of them failed.
+-- What `exec` and `run` did to the input and the output of the program that they ran, and what they answered where one of them
+-- failed.
 use Rattle.std.specs.Prelude.{◌≡◌, ℕ, List, Option}
-use Rattle.ms_machine.specs.Running.{Run}
-use Rattle.ms_module.specs.declared.module.Module.{Module}
+use Rattle.ms_machine.specs.Crews.{Input, Run, bytes_of}
+use Rattle.ms_machine.specs.Running.{IsLeft, MayGive, TellsAlike}
 use Rattle.ms_outside.specs.Faults.{Rose}
 use Rattle.ms_outside.specs.Shelf.{SameCounts}
-use Rattle.ms_rules.specs.Modules.{WellTyped}
-use Rattle.ms_run.specs.Answers.{Command, Contents, Executes}
-use Rattle.ms_run.specs.Executions.{IsQuiet, Runs, RunsPart, RunsWhole, execution_within}
+use Rattle.ms_outside.specs.Sink.{IsFront, Puts}
+use Rattle.ms_outside.specs.declared.sink.Put.TheVariants as putting
+use Rattle.ms_run.specs.Executions.{AnswersAs, EndsAs, Execution, Ran}
 use Rattle.ms_run.specs.Lines.{input_fault_line}
-use Rattle.ms_run.specs.Loading.{Spells, form_of}
 use Rattle.ms_run.specs.Observed.{Flow, Report, Shelved}
-use Rattle.ms_run.specs.Reporting.{Did, IsFound, IsKept, KeepsFiles, Reports, Tells}
+use Rattle.ms_run.specs.Reporting.{IsKept, KeepsFiles, Reports, Tells}
 use Rattle.ms_run.specs.declared.status.Status.{Status}
 use Rattle.ms_run.specs.declared.status.Status.TheVariants.{Done, OutOfBudget, OutOfMemory, ReadFault, Refused, TooLong, Trapped, Usage, WriteFault}
 
 -- ---- the input and the output
+
+-- they are as before, and no call of theirs has failed
+abbrev pub IsQuiet : Flow → Type 0
+IsQuiet f = (f.left_new ≡ f.left_old) × (f.takes_new ≡ f.takes_old) × (f.held_new ≡ f.held_old) × (f.puts_new ≡ f.puts_old)
+
+-- After a whole run over what the input gave: the input has left what the run leaves, and the output has got all its bytes.
+pub record RunsWhole (given : Input) (f : Flow) (run : Run) : Type 0 where
+  pub takes : f.takes_new ≡ f.takes_old
+  pub puts : f.puts_new ≡ f.puts_old
+  pub alike : TellsAlike f.left_old f.left_new
+  pub may : MayGive f.left_old given
+  pub rest : MayGive f.left_new run.input
+  pub out : Puts putting.Done (bytes_of run.deeds) f.held_old f.held_new
+
+-- After a part of it: the input has lost only what the run takes, and the output has got a front of the run's bytes.
+pub record RunsPart (given : Input) (f : Flow) (run : Run) : Type 0 where
+  pub alike : TellsAlike f.left_old f.left_new
+  pub may : MayGive f.left_old given
+  pub now : Input
+  pub rest : MayGive f.left_new now
+  pub taken : IsLeft now given
+  pub to_take : IsLeft run.input now
+  pub front : List ℕ
+  pub is_front : IsFront front (bytes_of run.deeds)
+  pub out : Puts putting.Done front f.held_old f.held_new
 
 -- no answer of a run that came to an end
 abbrev pub IsUnrun : Status → Type 0
@@ -24,7 +49,7 @@ IsUnrun OutOfBudget = ⊥
 IsUnrun _ = Unit {0}
 
 -- After the end of a run they are so as the whole run leaves them; after a fault, and where memory ran out, as a part does.
-abbrev pub Flowed : (given : List (Option ℕ)) → Flow → Run → Status → Type 0
+abbrev pub Flowed : (given : Input) → Flow → Run → Status → Type 0
 Flowed given f run Done = RunsWhole given f run
 Flowed given f run Trapped = RunsWhole given f run
 Flowed given f run OutOfBudget = RunsWhole given f run
@@ -35,32 +60,33 @@ Flowed given f run Usage = ⊥
 Flowed given f run Refused = ⊥
 Flowed given f run TooLong = ⊥
 
--- The file of this name has such bytes: nothing was taken and put, or by the run of the module that they spell.
-pub data Flows (name : List ℕ) (budget capacity : ℕ) (given : List (Option ℕ)) (Has : List ℕ → Type 0) (f : Flow) : Status → Type 0 where
-  quiet : {result : Status} → IsUnrun result → IsQuiet f → Flows name budget capacity given Has f result
-  ran : {result : Status} (bytes : List ℕ) (m : Module) (run : Run) → Has bytes → Spells (form_of name) bytes m → WellTyped m → execution_within budget capacity given m ≡ Runs run → Flowed given f run result
-      → Flows name budget capacity given Has f result
+-- Nothing was taken and put, or by one of these runs.
+pub data Flows (given : Input) (IsRun : Run → Type 0) (f : Flow) : Status → Type 0 where
+  quiet : {result : Status} → IsUnrun result → IsQuiet f → Flows given IsRun f result
+  ran : {result : Status} (run : Run) → IsRun run → Flowed given f run result → Flows given IsRun f result
 
--- ---- faults of theirs
+-- ---- the answer
 
 -- A take from the input failed in the run, which was put; or a put to the output failed, and nothing was put to the report.
 pub data Cuts (r : Report) (f : Flow) : Status → Type 0 where
   input_failed : {result : Status} → Rose f.takes_old f.takes_new → Reports ReadFault input_fault_line r result → Cuts r f result
   out_failed : Rose f.puts_old f.puts_new → IsKept r → Cuts r f WriteFault
 
--- What was made of a file's bytes was put, where no file is written; or the run was cut short.
-pub data TellsRun (Does : Command) (bytes : List ℕ) (r : Report) (f : Flow) : Status → Type 0 where
-  tells : {result : Status} → Tells Does bytes r result → TellsRun Does bytes r f result
-  cuts : {result : Status} → Cuts r f result → TellsRun Does bytes r f result
+-- What a command did that runs a program and writes no file: it put one of these answers, or the run was cut short.
+pub data TellsRun (Gives : Status → List ℕ → Type 0) (s : Shelved) (r : Report) (f : Flow) : Status → Type 0 where
+  tells : {result : Status} → Tells Gives s r result → TellsRun Gives s r f result
+  cut : {result : Status} → SameCounts s.reads_old s.reads_new → KeepsFiles s → Cuts r f result → TellsRun Gives s r f result
 
--- What `exec` did with the file of this name: its answer over what the input gives; or the run was cut short.
-pub data DidRun (name : List ℕ) (Does : Command) (s : Shelved) (r : Report) (f : Flow) : Status → Type 0 where
-  did : {result : Status} → Did name Does s r result → DidRun name Does s r f result
-  cut : {result : Status} (bytes : List ℕ) → IsFound s name (Contents bytes) → SameCounts s.reads_old s.reads_new → KeepsFiles s → Cuts r f result → DidRun name Does s r f result
+-- ---- the same in parts
 
--- ---- the same with what the input gave
+-- What was put of the end of a run over what the input gave, which may be cut short.
+pub data TellsEnd (run_over : Input → Run) (r : Report) (f : Flow) : Status → Type 0 where
+  end_told : {result : Status} (given : Input) (status : Status) (line : List ℕ) → EndsAs (run_over given).end status line → RunsWhole given f (run_over given) → Reports status line r result → TellsEnd run_over r f result
+  end_cut : {result : Status} (given : Input) → RunsPart given f (run_over given) → Flowed given f (run_over given) result → Cuts r f result → TellsEnd run_over r f result
+  end_untold : (given : Input) → RunsPart given f (run_over given) → IsKept r → TellsEnd run_over r f OutOfMemory
 
--- over the module of these bytes
-abbrev pub TellsExec : (name bytes : List ℕ) (budget capacity : ℕ) → (given : List (Option ℕ)) → Report → Flow → Status → Type 0
-TellsExec name bytes budget capacity given r f result =
-    TellsRun (Executes name budget capacity given) bytes r f result × Flows name budget capacity given (λ b. b ≡ bytes) f result
+-- What was put of an execution: that nothing was run, whatever the input gives; or of the end of its run.
+pub data TellsExecution (executed : Input → Execution) (r : Report) (f : Flow) : Status → Type 0 where
+  refused : {result : Status} (e : Execution) (line : List ℕ) → ((given : Input) → executed given ≡ e) → AnswersAs e Refused line → IsQuiet f → Reports Refused line r result → TellsExecution executed r f result
+  run_told : {result : Status} (run_over : Input → Run) → ((given : Input) → executed given ≡ Ran (run_over given)) → TellsEnd run_over r f result → TellsExecution executed r f result
+  nothing_told : IsQuiet f → IsKept r → TellsExecution executed r f OutOfMemory

@@ -1,5 +1,5 @@
 -- The lines of the report.
-use Rattle.std.specs.Prelude.{ℕ, List, [], ◌∷◌, ◌++◌, codes, Option, Some, None}
+use Rattle.std.specs.Prelude.{ℕ, List, [], ◌∷◌, ◌++◌, codes, flat_map, Option, Some, None}
 use Rattle.std.specs.Fmt.{decimal, signed_decimal}
 use Rattle.ms_bin_grammar.specs.declared.fault.Counted.{Counted}
 use Rattle.ms_bin_grammar.specs.declared.fault.Counted.TheVariants.{Blocks, Locals}
@@ -7,8 +7,11 @@ use Rattle.ms_bin_grammar.specs.declared.fault.ReadFault.{ReadFault}
 use Rattle.ms_bin_grammar.specs.declared.fault.ReadFault.TheVariants.{Float, Limit, Malformed, Memory}
 use Rattle.ms_linear.specs.declared.value.Value.{Value}
 use Rattle.ms_linear.specs.declared.value.Value.TheVariants as values
-use Rattle.ms_machine.specs.declared.linking.Misfit.{Misfit}
-use Rattle.ms_machine.specs.declared.linking.Misfit.TheVariants.{Outside, TooLarge}
+use Rattle.ms_machine.specs.declared.externs.Why.{Why}
+use Rattle.ms_machine.specs.declared.externs.Why.TheVariants as whys
+use Rattle.ms_machine.specs.Externs.{Fault}
+use Rattle.ms_job.specs.declared.fault.JobFault.{JobFault}
+use Rattle.ms_job.specs.declared.fault.JobFault.TheVariants as jobs
 use Rattle.ms_host.specs.declared.trap.TrapKind.{TrapKind}
 use Rattle.ms_host.specs.Words.{trap_word}
 use Rattle.ms_num.specs.Integers.{signed}
@@ -42,23 +45,29 @@ valid_line = line (codes "valid")
 abbrev pub written_line : ℕ → List ℕ
 written_line size = line (codes "written " ++ decimal size)
 
+-- ---- refusals
+
+-- what is refused: nothing stands for the only file, and a module of a job is told by its number
+abbrev pub refused_line : (what words : List ℕ) → List ℕ
+refused_line what words = line (codes "refused " ++ what ++ words)
+
+abbrev pub module_word : (number : ℕ) → List ℕ
+module_word number = codes "module " ++ decimal number ++ codes " "
+
 -- a section or a body would have 2^32 bytes or more
 abbrev pub large_line : List ℕ
-large_line = line (codes "refused large")
-
-abbrev pub no_task_line : List ℕ
-no_task_line = line (codes "refused task 0")
+large_line = refused_line [] (codes "large")
 
 abbrev pub counted_word : Counted → List ℕ
 counted_word Blocks = codes "blocks"
 counted_word Locals = codes "locals"
 
--- of binary modules; want of memory is no fault of bytes, and has no line
-abbrev pub fault_line : ReadFault → List ℕ
-fault_line (Malformed at) = line (codes "refused malformed " ++ decimal at)
-fault_line (Float at) = line (codes "refused float " ++ decimal at)
-fault_line (Limit which at) = line (codes "refused limit " ++ counted_word which ++ codes " " ++ decimal at)
-fault_line Memory = []
+-- of binary modules; want of memory is no fault of bytes, and has no words
+abbrev pub fault_words : ReadFault → List ℕ
+fault_words (Malformed at) = codes "malformed " ++ decimal at
+fault_words (Float at) = codes "float " ++ decimal at
+fault_words (Limit which at) = codes "limit " ++ counted_word which ++ codes " " ++ decimal at
+fault_words Memory = []
 
 -- of texts
 abbrev pub text_counted_word : TextCounted → List ℕ
@@ -66,31 +75,51 @@ text_counted_word counted.Blocks = codes "blocks"
 text_counted_word counted.Locals = codes "locals"
 text_counted_word counted.Parens = codes "parens"
 
-abbrev pub lexing_line : LexFault → List ℕ
-lexing_line (lexing.Char at) = line (codes "refused char " ++ decimal at)
-lexing_line (lexing.Unclosed at) = line (codes "refused unclosed " ++ decimal at)
-lexing_line lexing.Memory = []
+abbrev pub lexing_words : LexFault → List ℕ
+lexing_words (lexing.Char at) = codes "char " ++ decimal at
+lexing_words (lexing.Unclosed at) = codes "unclosed " ++ decimal at
+lexing_words lexing.Memory = []
 
-abbrev pub text_fault_line : TextFault → List ℕ
-text_fault_line (text.Lex fault) = lexing_line fault
-text_fault_line (text.Syntax at) = line (codes "refused syntax " ++ decimal at)
-text_fault_line (text.Range at) = line (codes "refused range " ++ decimal at)
-text_fault_line (text.Float at) = line (codes "refused float " ++ decimal at)
-text_fault_line (text.Limit which at) = line (codes "refused limit " ++ text_counted_word which ++ codes " " ++ decimal at)
-text_fault_line (text.Name at) = line (codes "refused name " ++ decimal at)
-text_fault_line text.Memory = []
+abbrev pub text_fault_words : TextFault → List ℕ
+text_fault_words (text.Lex fault) = lexing_words fault
+text_fault_words (text.Syntax at) = codes "syntax " ++ decimal at
+text_fault_words (text.Range at) = codes "range " ++ decimal at
+text_fault_words (text.Float at) = codes "float " ++ decimal at
+text_fault_words (text.Limit which at) = codes "limit " ++ text_counted_word which ++ codes " " ++ decimal at
+text_fault_words (text.Name at) = codes "name " ++ decimal at
+text_fault_words text.Memory = []
 
-abbrev pub part_line : Part → List ℕ
-part_line Head = line (codes "refused invalid head")
-part_line (Function n) = line (codes "refused invalid function " ++ decimal n)
+abbrev pub part_words : Part → List ℕ
+part_words Head = codes "invalid head"
+part_words (Function n) = codes "invalid function " ++ decimal n
 
--- of the module 0: what isn't there, or doesn't fit
-abbrev pub no_export_line : List ℕ
-no_export_line = line (codes "refused link 0 0 noexport")
+-- of a job: its text, and that of its schedule
+abbrev pub job_line : JobFault → List ℕ
+job_line (jobs.Line n) = line (codes "refused job line " ++ decimal n)
+job_line jobs.NoTask = line (codes "refused job task")
+job_line jobs.Budget = line (codes "refused job budget")
+job_line jobs.Memory = []
 
-abbrev pub misfit_line : Misfit → List ℕ
-misfit_line (TooLarge item) = line (codes "refused link 0 " ++ decimal item ++ codes " toolarge")
-misfit_line (Outside item) = line (codes "refused link 0 " ++ decimal item ++ codes " fit")
+abbrev pub schedule_line : (at : ℕ) → List ℕ
+schedule_line at = line (codes "refused schedule " ++ decimal at)
+
+-- of modules that are linked: the item of a module, both by their numbers
+abbrev pub why_word : Why → List ℕ
+why_word whys.NoModule = codes "nomodule"
+why_word whys.NoExport = codes "noexport"
+why_word whys.Kind = codes "kind"
+why_word whys.Signature = codes "signature"
+why_word whys.TooLarge = codes "toolarge"
+why_word whys.Fit = codes "fit"
+
+abbrev pub link_line : Fault → List ℕ
+link_line fault = line (codes "refused link " ++ decimal fault.«module» ++ codes " " ++ decimal fault.item ++ codes " " ++ why_word fault.why)
+
+-- of tasks: this one has no function
+abbrev pub task_line : (number : ℕ) → List ℕ
+task_line number = line (codes "refused task " ++ decimal number)
+
+-- ---- the ends of runs
 
 abbrev pub trap_line : TrapKind → List ℕ
 trap_line trap = line (codes "trap " ++ trap_word trap)
@@ -105,3 +134,7 @@ result_line (Some (values.I32 n)) = line (codes "result " ++ signed_decimal (sig
 result_line (Some (values.I64 n)) = line (codes "result " ++ signed_decimal (signed 64 n))
 -- no task has such a type
 result_line (Some (values.Handle h)) = line (codes "done")
+
+-- a line for each task, in order
+abbrev pub result_lines : List (Option Value) → List ℕ
+result_lines = flat_map result_line

@@ -14,7 +14,7 @@ use Rattle.ms_valid.specs.declared.refusal.Refusal.TheVariants.{Invalid}
 use Rattle.ms_valid.specs.Refusals.{IsWrong}
 use Rattle.ms_run.specs.declared.loading.LoadFault.{LoadFault}
 use Rattle.ms_run.specs.declared.loading.LoadFault.TheVariants as faults
-use Rattle.ms_run.specs.Lines.{fault_line, part_line, text_fault_line}
+use Rattle.ms_run.specs.Lines.{fault_words, part_words, text_fault_words}
 
 pub data Form : Type 0 where
   Binary : Form
@@ -36,10 +36,10 @@ abbrev pub Spells : Form → List ℕ → Module → Type 0
 Spells Binary bytes m = SpellsWithin usual bytes m
 Spells Text bytes m = TextSpells bytes m
 
--- They spell none: the line of the first fault, with its place.
+-- They spell none: the words of the first fault, with its place.
 pub data Unread (bytes : List ℕ) : Form → List ℕ → Type 0 where
-  binary : (fault : ReadFault) → BinaryStops bytes fault → Unread bytes Binary (fault_line fault)
-  text : (why : TextStop) → TextStops bytes why → Unread bytes Text (text_fault_line (told why))
+  binary : (fault : ReadFault) → BinaryStops bytes fault → Unread bytes Binary (fault_words fault)
+  text : (why : TextStop) → TextStops bytes why → Unread bytes Text (text_fault_words (told why))
 
 -- ---- what loading a file's module gives
 
@@ -72,12 +72,12 @@ abbrev pub Reads : Form → List ℕ → Result Module LoadFault → Type 0
 Reads form bytes (Ok m) = Spells form bytes m
 Reads form bytes (Err fault) = Refuses form bytes fault
 
-abbrev pub refusal_line : Refusal → List ℕ
-refusal_line (Invalid part) = part_line part
-refusal_line refusals.Memory = []
+abbrev pub refusal_words : Refusal → List ℕ
+refusal_words (Invalid part) = part_words part
+refusal_words refusals.Memory = []
 
-abbrev pub load_line : LoadFault → List ℕ
-load_line (faults.Read fault) = fault_line fault
-load_line (faults.Text fault) = text_fault_line fault
-load_line (faults.Invalid refusal) = refusal_line refusal
-load_line faults.Memory = []
+abbrev pub load_words : LoadFault → List ℕ
+load_words (faults.Read fault) = fault_words fault
+load_words (faults.Text fault) = text_fault_words fault
+load_words (faults.Invalid refusal) = refusal_words refusal
+load_words faults.Memory = []

@@ -1,21 +1,20 @@
 -- What the objects outside have to do with an answer: the file that is read, the file that is written, and the report.
-use Rattle.std.specs.Prelude.{◌≡◌, ◌≤◌, ◌⊎◌, ℕ, List, ◌++◌, length, Option, Some, None, MatchOption}
+use Rattle.std.specs.Prelude.{◌≡◌, ◌⊎◌, ℕ, List, ◌++◌, Option, Some, None, MatchOption}
 use Rattle.ms_outside.specs.Faults.{CountsFault, Rose}
-use Rattle.ms_outside.specs.Shelf.{CountsReadFault, SameCounts, Told, Writes}
+use Rattle.ms_outside.specs.Files.{Files}
+use Rattle.ms_outside.specs.Shelf.{SameCounts, Told, Writes}
 use Rattle.ms_outside.specs.Sink.{IsFront}
 use Rattle.ms_outside.specs.declared.sink.Put.TheVariants as puts
-use Rattle.ms_run.specs.Answers.{Answers, Command, Contents, Fault, File, Found, most_bytes}
-use Rattle.ms_machine.specs.declared.running.Ran.{Ran}
-use Rattle.ms_machine.specs.declared.running.Ran.TheVariants as endings
-use Rattle.ms_run.specs.Lines.{budget_line, input_fault_line, misfit_line, no_export_line, no_task_line, result_line, trap_line}
-use Rattle.ms_run.specs.Loading.{load_line}
+use Rattle.ms_run.specs.Answers.{Command, Contents, Fault, File, Found}
+use Rattle.ms_job.specs.declared.fault.JobFault.{JobFault}
+use Rattle.ms_job.specs.declared.fault.JobFault.TheVariants as job_faults
+use Rattle.ms_run.specs.Lines.{job_line, refused_line}
+use Rattle.ms_run.specs.Loading.{load_words}
 use Rattle.ms_run.specs.Observed.{Report, Shelved}
-use Rattle.ms_run.specs.declared.execution.Outcome.{Outcome}
-use Rattle.ms_run.specs.declared.execution.Outcome.TheVariants as outcomes
 use Rattle.ms_run.specs.declared.loading.LoadFault.{LoadFault}
 use Rattle.ms_run.specs.declared.loading.LoadFault.TheVariants.{Memory}
 use Rattle.ms_run.specs.declared.status.Status.{Status}
-use Rattle.ms_run.specs.declared.status.Status.TheVariants.{Done, OutOfBudget, OutOfMemory, ReadFault, Refused, Trapped, WriteFault}
+use Rattle.ms_run.specs.declared.status.Status.TheVariants.{OutOfMemory, ReadFault, Refused, WriteFault}
 
 -- ---- the report
 
@@ -47,9 +46,10 @@ abbrev pub IsFound : Shelved → List ℕ → Found → Type 0
 IsFound s name (Contents bytes) = Told s.old name (λ known. bytes ≡ known)
 IsFound s name Fault = Rose (s.reads_old name) (s.reads_new name)
 
-abbrev pub CountsFound : List ℕ → Shelved → Found → Type 0
-CountsFound name s (Contents bytes) = SameCounts s.reads_old s.reads_new
-CountsFound name s Fault = CountsReadFault name s.reads_old s.reads_new
+-- the same of what the files are known to be
+abbrev pub Holds : Option Files → List ℕ → Found → Type 0
+Holds files name (Contents bytes) = Told files name (λ known. bytes ≡ known)
+Holds files name Fault = ⊥
 
 -- ---- the file that is written
 
@@ -75,23 +75,26 @@ pub data Delivers (status : Status) (line : List ℕ) (file : Option File) (s : 
   failed : HasFailed s file → IsKept r → Delivers status line file s r WriteFault
   starved : KeepsFiles s → IsKept r → Delivers status line file s r OutOfMemory
 
--- What a command on the file of this name did: it delivered its answer, or memory ran out before there was one.
-pub data Did (name : List ℕ) (Does : Command) (s : Shelved) (r : Report) : Status → Type 0 where
-  answered : {result : Status} (found : Found) (status : Status) (line : List ℕ) (file : Option File)
-      → IsFound s name found → CountsFound name s found → Answers name Does found status line file → Delivers status line file s r result
-      → Did name Does s r result
-  ran_out : SameCounts s.reads_old s.reads_new → KeepsFiles s → IsKept r → Did name Does s r OutOfMemory
+-- no read has failed, or the answer is that one did
+abbrev pub CountsReads : Shelved → Status → Type 0
+CountsReads s status = (status ≡ ReadFault) ⊎ SameCounts s.reads_old s.reads_new
+
+-- What a command did that may write a file: it delivered one of these answers, or memory ran out before there was one.
+pub data Did (Gives : Status → List ℕ → Option File → Type 0) (s : Shelved) (r : Report) : Status → Type 0 where
+  answered : {result : Status} (status : Status) (line : List ℕ) (file : Option File)
+      → Gives status line file → CountsReads s status → Delivers status line file s r result
+      → Did Gives s r result
+  ran_out : SameCounts s.reads_old s.reads_new → KeepsFiles s → IsKept r → Did Gives s r OutOfMemory
+
+-- What a command did that writes none.
+pub data Tells (Gives : Status → List ℕ → Type 0) (s : Shelved) (r : Report) : Status → Type 0 where
+  told : {result : Status} (status : Status) (line : List ℕ) → Gives status line → CountsReads s status → KeepsFiles s → Reports status line r result → Tells Gives s r result
+  untold : SameCounts s.reads_old s.reads_new → KeepsFiles s → IsKept r → Tells Gives s r OutOfMemory
 
 -- ---- the same in parts
 
--- a command that was not reached
-abbrev pub Nothing : Command
-Nothing bytes status line file = ⊥
-
--- the bytes of the file, not too many, were found, and nothing else happened
-pub record HasFetched (name : List ℕ) (bytes : List ℕ) (s : Shelved) (r : Report) : Type 0 where
-  pub few : length bytes ≤ most_bytes
-  pub found : IsFound s name (Contents bytes)
+-- no read has failed, no file was written, and nothing was put
+pub record IsUntouched (s : Shelved) (r : Report) : Type 0 where
   pub counts : SameCounts s.reads_old s.reads_new
   pub files : KeepsFiles s
   pub report : IsKept r
@@ -101,28 +104,12 @@ pub data Makes (Does : Command) (bytes : List ℕ) (s : Shelved) (r : Report) : 
   made : {result : Status} (status : Status) (line : List ℕ) (file : Option File) → Does bytes status line file → Delivers status line file s r result → Makes Does bytes s r result
   made_none : KeepsFiles s → IsKept r → Makes Does bytes s r OutOfMemory
 
--- the same where no file is written
-pub data Tells (Does : Command) (bytes : List ℕ) (r : Report) : Status → Type 0 where
-  told : {result : Status} (status : Status) (line : List ℕ) → Does bytes status line None → Reports status line r result → Tells Does bytes r result
-  told_none : IsKept r → Tells Does bytes r OutOfMemory
+-- why there is no module was put, `what` being refused; where memory ran out, nothing
+abbrev pub ReportsFault : (what : List ℕ) → LoadFault → Report → Status → Type 0
+ReportsFault what Memory r result = IsStarved r result
+ReportsFault what fault r result = Reports Refused (refused_line what (load_words fault)) r result
 
--- why there is no module was put; where memory ran out, nothing
-abbrev pub ReportsFault : LoadFault → Report → Status → Type 0
-ReportsFault Memory r result = IsStarved r result
-ReportsFault fault r result = Reports Refused (load_line fault) r result
-
--- what was put of the end of a run
-abbrev pub AnswersRun : Ran → Report → Status → Type 0
-AnswersRun (endings.Result value) r result = Reports Done (result_line value) r result
-AnswersRun (endings.Trap kind) r result = Reports Trapped (trap_line kind) r result
-AnswersRun endings.Budget r result = Reports OutOfBudget budget_line r result
-AnswersRun endings.ReadFault r result = Reports ReadFault input_fault_line r result
-AnswersRun endings.WriteFault r result = (result ≡ WriteFault) × IsKept r
-AnswersRun endings.Memory r result = IsStarved r result
-
--- and of an outcome
-abbrev pub AnswersOutcome : Outcome → Report → Status → Type 0
-AnswersOutcome outcomes.Imports r result = Reports Refused no_export_line r result
-AnswersOutcome (outcomes.Misfit fault) r result = Reports Refused (misfit_line fault) r result
-AnswersOutcome outcomes.NoTask r result = Reports Refused no_task_line r result
-AnswersOutcome (outcomes.Ran ran) r result = AnswersRun ran r result
+-- why a text is no job was put; where memory ran out, nothing
+abbrev pub ReportsJobFault : JobFault → Report → Status → Type 0
+ReportsJobFault job_faults.Memory r result = IsStarved r result
+ReportsJobFault fault r result = Reports Refused (job_line fault) r result

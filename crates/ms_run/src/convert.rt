@@ -2,9 +2,9 @@
 
 ghost use Rattle.std.specs.Prelude.{◌≡◌, Some, length};
 ghost use Rattle.ms_outside.specs.Shelf.{SameCounts};
-ghost use Rattle.ms_run.specs.Answers.{Assembles, Disassembles};
+ghost use Rattle.ms_run.specs.Answers.{Assembles, Disassembles, OnFile};
 ghost use Rattle.ms_run.specs.Lines.{written_line};
-ghost use Rattle.ms_run.specs.Reporting.{Delivers, Did, Makes};
+ghost use Rattle.ms_run.specs.Reporting.{Delivers, Did, IsFound, Makes};
 ghost use Rattle.ms_run.specs.declared.status.Status.{Status};
 ghost use Rattle.ms_run.specs.Observed.{reported, shelved};
 
@@ -57,7 +57,7 @@ fn asm_bytes<F: Shelf, R: Sink>(
 {
     let module = match read_text(alloc, bytes) {
         Ok(module) => module,
-        Err(fault) => return answer_fault(alloc, fault, report),
+        Err(fault) => return answer_fault(alloc, "", fault, report),
     };
     match ms_bin_write::write(alloc, &module) {
         Ok(binary) => deliver(alloc, target, binary.as_slice(), shelf, report),
@@ -77,7 +77,7 @@ pub fn asm_file<F: Shelf, I: Source, O: Sink, R: Sink>(
     _out: &mut O,
     report: &mut R,
 ) -> Status
-    ensures did { Did file.now (Assembles target.now)
+    ensures did { Did (OnFile (IsFound (shelved F.files F.read_faults F.write_faults shelf.old shelf.new)) file.now (Assembles target.now))
         (shelved F.files F.read_faults F.write_faults shelf.old shelf.new)
         (reported R.held R.faults report.old report.new)
         result }
@@ -105,7 +105,7 @@ fn dis_bytes<F: Shelf, R: Sink>(
 {
     let module = match read_binary(alloc, bytes) {
         Ok(module) => module,
-        Err(fault) => return answer_fault(alloc, fault, report),
+        Err(fault) => return answer_fault(alloc, "", fault, report),
     };
     match ms_text_write::write(alloc, &module) {
         Ok(text) => deliver(alloc, target, text.as_slice(), shelf, report),
@@ -124,7 +124,7 @@ pub fn dis_file<F: Shelf, I: Source, O: Sink, R: Sink>(
     _out: &mut O,
     report: &mut R,
 ) -> Status
-    ensures did { Did file.now (Disassembles target.now)
+    ensures did { Did (OnFile (IsFound (shelved F.files F.read_faults F.write_faults shelf.old shelf.new)) file.now (Disassembles target.now))
         (shelved F.files F.read_faults F.write_faults shelf.old shelf.new)
         (reported R.held R.faults report.old report.new)
         result }

@@ -1,7 +1,8 @@
 //! Reading the bytes of a file from the shelf.
 
 ghost use Rattle.std.specs.Prelude.{IfErr, IfOk};
-ghost use Rattle.ms_run.specs.Reporting.{Did, HasFetched, Nothing};
+ghost use Rattle.ms_run.specs.Answers.{HasBytes, Unfound};
+ghost use Rattle.ms_run.specs.Reporting.{Holds, IsFound, IsUntouched, Tells};
 ghost use Rattle.ms_run.specs.Observed.{reported, shelved};
 
 use crate::lines::file_line;
@@ -20,10 +21,12 @@ pub fn fetch<F: Shelf, R: Sink>(
     shelf: &mut F,
     report: &mut R,
 ) -> Result<Vec<u8>, Status>
-    ensures bytes { IfOk result (λ bytes. HasFetched file.now bytes.items
+    ensures bytes { IfOk result (λ bytes. HasBytes (Holds (F.files shelf.old)) file.now bytes.items) }
+    ensures untouched { IfOk result (λ _. IsUntouched
         (shelved F.files F.read_faults F.write_faults shelf.old shelf.new)
         (reported R.held R.faults report.old report.new)) }
-    ensures answered { IfErr result (Did file.now Nothing
+    ensures told { IfErr result (Tells
+        (Unfound (IsFound (shelved F.files F.read_faults F.write_faults shelf.old shelf.new)) file.now)
         (shelved F.files F.read_faults F.write_faults shelf.old shelf.new)
         (reported R.held R.faults report.old report.new)) }
 {

@@ -3,14 +3,15 @@
 ghost use Rattle.std.specs.Prelude.{◌≡◌, ◌++◌, IfOk, codes, string_bytes};
 ghost use Rattle.std.specs.Fmt.{decimal};
 ghost use Rattle.ms_num.specs.Integers.{signed};
-ghost use Rattle.ms_run.specs.Lines.{counted_word, fault_line, lexing_line, line, misfit_line, part_line, result_line, text_counted_word, text_fault_line, trap_line, written_line};
-ghost use Rattle.ms_run.specs.Loading.{load_line, refusal_line};
+ghost use Rattle.ms_run.specs.Lines.{counted_word, fault_words, job_line, lexing_words, line, link_line, part_words, refused_line, result_line, schedule_line, task_line, text_counted_word, text_fault_words, trap_line, why_word, written_line};
+ghost use Rattle.ms_run.specs.Loading.{load_words, refusal_words};
 
 use crate::loading::LoadFault;
 use ms_bin_read::{Counted, ReadFault};
 use ms_host::TrapKind;
+use ms_job::JobFault;
 use ms_linear::Value;
-use ms_machine::Misfit;
+use ms_machine::Why;
 use ms_text_grammar::{Counted as TextCounted, TextFault};
 use ms_text_lex::LexFault;
 use ms_valid::{Part, Refusal};
@@ -32,22 +33,22 @@ fn counted_word(which: Counted) -> &'static str
     }
 }
 
-/// The first fault of bytes that spell no module. Want of memory has no line.
-fn fault_line(alloc: Global, fault: ReadFault) -> Result<String, AllocError>
-    ensures { IfOk result (λ t. string_bytes t ≡ fault_line fault) }
+/// The first fault of bytes that spell no module. Want of memory has no words.
+fn fault_words(alloc: Global, fault: ReadFault) -> Result<String, AllocError>
+    ensures { IfOk result (λ t. string_bytes t ≡ fault_words fault) }
 {
     match fault {
-        ReadFault::Malformed { at } => format!(in alloc; "refused malformed {at}\n"),
-        ReadFault::Float { at } => format!(in alloc; "refused float {at}\n"),
-        ReadFault::Limit { which, at } => limit_line(alloc, counted_word(which), at),
+        ReadFault::Malformed { at } => format!(in alloc; "malformed {at}"),
+        ReadFault::Float { at } => format!(in alloc; "float {at}"),
+        ReadFault::Limit { which, at } => limit_words(alloc, counted_word(which), at),
         ReadFault::Memory => Err(AllocError),
     }
 }
 
-fn limit_line(alloc: Global, which: &str, at: usize) -> Result<String, AllocError>
-    ensures { IfOk result (λ t. string_bytes t ≡ line (codes "refused limit " ++ which.now ++ codes " " ++ decimal at)) }
+fn limit_words(alloc: Global, which: &str, at: usize) -> Result<String, AllocError>
+    ensures { IfOk result (λ t. string_bytes t ≡ codes "limit " ++ which.now ++ codes " " ++ decimal at) }
 {
-    format!(in alloc; "refused limit {which} {at}\n")
+    format!(in alloc; "limit {which} {at}")
 }
 
 fn text_counted_word(which: TextCounted) -> &'static str
@@ -60,50 +61,121 @@ fn text_counted_word(which: TextCounted) -> &'static str
     }
 }
 
-fn lexing_line(alloc: Global, fault: LexFault) -> Result<String, AllocError>
-    ensures { IfOk result (λ t. string_bytes t ≡ lexing_line fault) }
+fn lexing_words(alloc: Global, fault: LexFault) -> Result<String, AllocError>
+    ensures { IfOk result (λ t. string_bytes t ≡ lexing_words fault) }
 {
     match fault {
-        LexFault::Char { at } => format!(in alloc; "refused char {at}\n"),
-        LexFault::Unclosed { at } => format!(in alloc; "refused unclosed {at}\n"),
+        LexFault::Char { at } => format!(in alloc; "char {at}"),
+        LexFault::Unclosed { at } => format!(in alloc; "unclosed {at}"),
         LexFault::Memory => Err(AllocError),
     }
 }
 
-/// Why a text spells no module. Want of memory has no line.
-fn text_fault_line(alloc: Global, fault: TextFault) -> Result<String, AllocError>
-    ensures { IfOk result (λ t. string_bytes t ≡ text_fault_line fault) }
+/// Why a text spells no module. Want of memory has no words.
+fn text_fault_words(alloc: Global, fault: TextFault) -> Result<String, AllocError>
+    ensures { IfOk result (λ t. string_bytes t ≡ text_fault_words fault) }
 {
     match fault {
-        TextFault::Lex(fault) => lexing_line(alloc, fault),
-        TextFault::Syntax { at } => format!(in alloc; "refused syntax {at}\n"),
-        TextFault::Range { at } => format!(in alloc; "refused range {at}\n"),
-        TextFault::Float { at } => format!(in alloc; "refused float {at}\n"),
-        TextFault::Limit { which, at } => limit_line(alloc, text_counted_word(which), at),
-        TextFault::Name { at } => format!(in alloc; "refused name {at}\n"),
+        TextFault::Lex(fault) => lexing_words(alloc, fault),
+        TextFault::Syntax { at } => format!(in alloc; "syntax {at}"),
+        TextFault::Range { at } => format!(in alloc; "range {at}"),
+        TextFault::Float { at } => format!(in alloc; "float {at}"),
+        TextFault::Limit { which, at } => limit_words(alloc, text_counted_word(which), at),
+        TextFault::Name { at } => format!(in alloc; "name {at}"),
         TextFault::Memory => Err(AllocError),
     }
 }
 
-fn refusal_line(alloc: Global, refusal: Refusal) -> Result<String, AllocError>
-    ensures { IfOk result (λ t. string_bytes t ≡ refusal_line refusal) }
+/// The part of a module that isn't well typed.
+fn part_words(alloc: Global, part: Part) -> Result<String, AllocError>
+    ensures { IfOk result (λ t. string_bytes t ≡ part_words part) }
+{
+    match part {
+        Part::Head => format!(in alloc; "invalid head"),
+        Part::Function(index) => format!(in alloc; "invalid function {index}"),
+    }
+}
+
+fn refusal_words(alloc: Global, refusal: Refusal) -> Result<String, AllocError>
+    ensures { IfOk result (λ t. string_bytes t ≡ refusal_words refusal) }
 {
     match refusal {
-        Refusal::Invalid { part } => part_line(alloc, part),
+        Refusal::Invalid { part } => part_words(alloc, part),
         Refusal::Memory => Err(AllocError),
     }
 }
 
-/// Why a file is no valid module. Want of memory has no line.
-pub fn load_line(alloc: Global, fault: LoadFault) -> Result<String, AllocError>
-    ensures { IfOk result (λ t. string_bytes t ≡ load_line fault) }
+/// Why a file is no valid module. Want of memory has no words.
+fn load_words(alloc: Global, fault: LoadFault) -> Result<String, AllocError>
+    ensures { IfOk result (λ t. string_bytes t ≡ load_words fault) }
 {
     match fault {
-        LoadFault::Read(fault) => fault_line(alloc, fault),
-        LoadFault::Text(fault) => text_fault_line(alloc, fault),
-        LoadFault::Invalid(refusal) => refusal_line(alloc, refusal),
+        LoadFault::Read(fault) => fault_words(alloc, fault),
+        LoadFault::Text(fault) => text_fault_words(alloc, fault),
+        LoadFault::Invalid(refusal) => refusal_words(alloc, refusal),
         LoadFault::Memory => Err(AllocError),
     }
+}
+
+fn refused_line(alloc: Global, what: &str, words: &str) -> Result<String, AllocError>
+    ensures { IfOk result (λ t. string_bytes t ≡ refused_line what.now words.now) }
+{
+    format!(in alloc; "refused {what}{words}\n")
+}
+
+/// Why a file is no valid module, `what` being refused. Want of memory has no line.
+pub fn load_line(alloc: Global, what: &str, fault: LoadFault) -> Result<String, AllocError>
+    ensures { IfOk result (λ t. string_bytes t ≡ refused_line what.now (load_words fault)) }
+{
+    let words = load_words(alloc, fault)?;
+    refused_line(alloc, what, words.as_str())
+}
+
+/// Why a text is no job. Want of memory has no line.
+pub fn job_line(alloc: Global, fault: JobFault) -> Result<String, AllocError>
+    ensures { IfOk result (λ t. string_bytes t ≡ job_line fault) }
+{
+    match fault {
+        JobFault::Line { n } => format!(in alloc; "refused job line {n}\n"),
+        JobFault::NoTask => format!(in alloc; "refused job task\n"),
+        JobFault::Budget => format!(in alloc; "refused job budget\n"),
+        JobFault::Memory => Err(AllocError),
+    }
+}
+
+/// The place of the first word of a schedule that is no number.
+pub fn schedule_line(alloc: Global, at: usize) -> Result<String, AllocError>
+    ensures { IfOk result (λ t. string_bytes t ≡ schedule_line at) }
+{
+    format!(in alloc; "refused schedule {at}\n")
+}
+
+fn why_word(why: Why) -> &'static str
+    ensures { result.now ≡ why_word why }
+{
+    match why {
+        Why::NoModule => "nomodule",
+        Why::NoExport => "noexport",
+        Why::Kind => "kind",
+        Why::Signature => "signature",
+        Why::TooLarge => "toolarge",
+        Why::Fit => "fit",
+    }
+}
+
+/// The item of a module that isn't linked, both by their numbers.
+pub fn link_line(alloc: Global, number: u32, item: u32, why: Why) -> Result<String, AllocError>
+    ensures { IfOk result (λ t. string_bytes t ≡ link_line (record { «module» = number; item = item; why = why })) }
+{
+    let word = why_word(why);
+    format!(in alloc; "refused link {number} {item} {word}\n")
+}
+
+/// The task that has no function.
+pub fn task_line(alloc: Global, number: u32) -> Result<String, AllocError>
+    ensures { IfOk result (λ t. string_bytes t ≡ task_line number) }
+{
+    format!(in alloc; "refused task {number}\n")
 }
 
 /// That a file of so many bytes was written.
@@ -111,26 +183,6 @@ pub fn written_line(alloc: Global, size: usize) -> Result<String, AllocError>
     ensures { IfOk result (λ t. string_bytes t ≡ written_line size) }
 {
     format!(in alloc; "written {size}\n")
-}
-
-/// The part of a module that isn't well typed.
-fn part_line(alloc: Global, part: Part) -> Result<String, AllocError>
-    ensures { IfOk result (λ t. string_bytes t ≡ part_line part) }
-{
-    match part {
-        Part::Head => format!(in alloc; "refused invalid head\n"),
-        Part::Function(index) => format!(in alloc; "refused invalid function {index}\n"),
-    }
-}
-
-/// What of a module doesn't fit.
-pub fn misfit_line(alloc: Global, misfit: Misfit) -> Result<String, AllocError>
-    ensures { IfOk result (λ t. string_bytes t ≡ misfit_line misfit) }
-{
-    match misfit {
-        Misfit::TooLarge(item) => format!(in alloc; "refused link 0 {item} toolarge\n"),
-        Misfit::Outside(item) => format!(in alloc; "refused link 0 {item} fit\n"),
-    }
 }
 
 /// Why a program was stopped.

@@ -4,11 +4,18 @@ ghost use Rattle.std.specs.Prelude.{◌≡◌, ◌==◌, ◌⊎◌, Ok, Err, IfE
 ghost use Rattle.std.specs.List.{ends_with};
 ghost use Rattle.ms_module.specs.declared.module.Module.{Module};
 ghost use Rattle.ms_rules.specs.Modules.{WellTyped};
+ghost use Rattle.ms_run.specs.Answers.{HasModule, Unloaded};
+ghost use Rattle.ms_run.specs.Observed.{reported, shelved};
+ghost use Rattle.ms_run.specs.Reporting.{Holds, IsFound, IsUntouched, Tells};
 ghost use Rattle.ms_run.specs.Loading.{Binary, IsOfReading, Reads, Refuses, Spells, Text, form_of, text_ending};
 ghost use Rattle.ms_run.specs.declared.loading.LoadFault.TheVariants.{Memory};
 
+use crate::fetch::fetch;
+use crate::report::answer_fault;
+use crate::status::Status;
 use ms_bin_read::ReadFault;
 use ms_module::Module;
+use ms_outside::{Shelf, Sink};
 use ms_text_grammar::TextFault;
 use ms_valid::{Refusal, Valid, validate};
 use std::alloc::Global;
@@ -97,5 +104,32 @@ pub fn load_module(alloc: Global, name: &str, bytes: &[u8]) -> Result<Valid, Loa
             Err(LoadFault::Invalid(Refusal::Invalid { part }))
         }
         Err((_, Refusal::Memory)) => Err(LoadFault::Memory),
+    }
+}
+
+/// The module of a file, or the status where there is none, with its line put into the report: `what` is refused.
+pub fn load_file<F: Shelf, R: Sink>(
+    alloc: Global,
+    what: &str,
+    file: &str,
+    shelf: &mut F,
+    report: &mut R,
+) -> Result<Valid, Status>
+    ensures module { IfOk result (HasModule (Holds (F.files shelf.old)) file.now) }
+    ensures untouched { IfOk result (λ _. IsUntouched
+        (shelved F.files F.read_faults F.write_faults shelf.old shelf.new)
+        (reported R.held R.faults report.old report.new)) }
+    ensures told { IfErr result (Tells
+        (Unloaded (IsFound (shelved F.files F.read_faults F.write_faults shelf.old shelf.new)) what.now file.now)
+        (shelved F.files F.read_faults F.write_faults shelf.old shelf.new)
+        (reported R.held R.faults report.old report.new)) }
+{
+    let bytes = match fetch(alloc, file, shelf, report) {
+        Ok(bytes) => bytes,
+        Err(status) => return Err(status),
+    };
+    match load_module(alloc, file, bytes.as_slice()) {
+        Ok(valid) => Ok(valid),
+        Err(fault) => Err(answer_fault(alloc, what, fault, report)),
     }
 }

@@ -1,12 +1,13 @@
 //! Putting an answer into the report.
 
 ghost use Rattle.std.specs.Prelude.{◌≡◌, ℕ, List, IfOk, string_bytes};
-ghost use Rattle.ms_run.specs.Reporting.{Reports, ReportsFault};
+ghost use Rattle.ms_run.specs.Reporting.{Reports, ReportsFault, ReportsJobFault};
 ghost use Rattle.ms_run.specs.Observed.{reported};
 
-use crate::lines::load_line;
+use crate::lines::{job_line, load_line};
 use crate::loading::LoadFault;
 use crate::status::Status;
+use ms_job::JobFault;
 use ms_outside::{Put, Sink};
 use std::alloc::{AllocError, Global};
 
@@ -39,14 +40,26 @@ pub fn answer_line<R: Sink>(
     }
 }
 
-/// Puts why a file is no valid module, if it isn't want of memory, and gives the status, or that of a fault.
-pub fn answer_fault<R: Sink>(alloc: Global, fault: LoadFault, report: &mut R) -> Status
-    ensures { ReportsFault fault
+/// Puts why a file is no valid module, `what` being refused, if it isn't want of memory, and gives the status, or that of a fault.
+pub fn answer_fault<R: Sink>(alloc: Global, what: &str, fault: LoadFault, report: &mut R) -> Status
+    ensures { ReportsFault what.now fault
         (reported R.held R.faults report.old report.new)
         result }
 {
     match fault {
         LoadFault::Memory => Status::OutOfMemory,
-        fault => answer_line(report, Status::Refused, load_line(alloc, fault)),
+        fault => answer_line(report, Status::Refused, load_line(alloc, what, fault)),
+    }
+}
+
+/// Puts why a text is no job, if it isn't want of memory, and gives the status, or that of a fault.
+pub fn answer_job_fault<R: Sink>(alloc: Global, fault: JobFault, report: &mut R) -> Status
+    ensures { ReportsJobFault fault
+        (reported R.held R.faults report.old report.new)
+        result }
+{
+    match fault {
+        JobFault::Memory => Status::OutOfMemory,
+        fault => answer_line(report, Status::Refused, job_line(alloc, fault)),
     }
 }

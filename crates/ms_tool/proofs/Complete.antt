@@ -1,65 +1,111 @@
 -- What the program did in one piece, as its clauses say it.
-use Rattle.std.proofs.Common.{◌≡◌, ◌∙◌, ◌<◌, ℕ, ◌⊎◌, inl, inr, List, [], false, refl, sym, ap, subst, arith, cond}
-use Rattle.std.specs.Prelude.{⊤, MatchOption, Option, Some, None, IsSomeAnd}
+use Rattle.std.proofs.Common.{◌≡◌, ◌∙◌, ◌<◌, ℕ, ◌⊎◌, inl, inr, List, false, refl, sym, ap, subst, arith, cond}
+use Rattle.std.specs.Prelude.{MatchOption, Option, Some, None, IsSomeAnd}
 use Rattle.std.specs.declared.cmp.Ordering.{Ordering}
 use Rattle.std.specs.declared.cmp.Ordering.TheVariants.{Less, Equal, Greater}
 use Rattle.std.specs.Cmp.Lexicographic.{nat_list_cmp_total}
 use Rattle.std.specs.FinMap.{get, insert, get-insert, nat_cmp-IsAntisymmetric, slice_cmp-IsAntisymmetric}
 use Rattle.std.specs.Ordering.{eq_by_cmp, is_eq}
-use Rattle.ms_outside.specs.Files.{Files, bytes_of, name_cmp}
-use Rattle.ms_outside.specs.Shelf.{SameCounts, Told, Writes}
+use Rattle.ms_outside.specs.Files.{Files, name_cmp}
+use Rattle.ms_outside.specs.Shelf.{SameCounts, Writes}
 use Rattle.ms_outside.specs.declared.sink.Put.TheVariants as putting
-use Rattle.ms_words.specs.Asked.{Asked, Asm, Check, Dis, Exec, asked_of, is_taken}
+use Rattle.ms_words.specs.Asked.{Asked, Asm, Check, Dis, Exec, Run, asked_of, is_taken}
 use Rattle.ms_words.specs.Commands.{usage_lines}
-use Rattle.ms_run.specs.Answers.{Answers, Command, Contents, Executes, Fault, File, Found, read_fault, too_long, within}
+use Rattle.ms_machine.specs.Crews.{Input, Run as MachineRun}
+use Rattle.ms_machine.specs.Running.{MayGive}
+use Rattle.ms_run.specs.Answers.{Assembles, Checks, Disassembles, File, Found, OnFile}
 use Rattle.ms_run.specs.Answers as table
+use Rattle.ms_run.specs.Flows.{Flowed, Flows, IsQuiet, TellsRun, cut, input_failed, out_failed, quiet, ran, tells}
+use Rattle.ms_run.specs.Jobs.{RunOfFile, RunOfJob, RunsFile, RunsJob, exec_job}
+use Rattle.ms_run.specs.Lines.{input_fault_line}
 use Rattle.ms_run.specs.Observed.{Flow, Report, Shelved}
-use Rattle.ms_run.specs.Reporting.{CountsFound, Delivers, Did, Grows, HasFailed, HasWritten, IsFound, IsKept, KeepsFiles, Reports, answered, failed, put, ran_out, starved}
+use Rattle.ms_run.specs.Reporting.{CountsReads, Delivers, Did, Grows, HasFailed, HasWritten, Holds, IsFound, IsKept, KeepsFiles, Reports, Tells, answered, failed, put, ran_out, starved, told, untold}
+use Rattle.ms_run.specs.declared.gathering.Naming.TheVariants.{Only}
 use Rattle.ms_run.specs.declared.status.Status.{Status}
 use Rattle.ms_run.specs.declared.status.Status.TheVariants as statuses
-use Rattle.ms_run.proofs.Once.{AllOrdinary, IsOnce, IsOrdinary, Same, answers_once, answers_ordinary, assembles_once, assembles_ordinary, checks_once, checks_ordinary, disassembles_once, disassembles_ordinary, executes_once, executes_ordinary}
-use Rattle.ms_run.specs.Executions.{IsQuiet}
-use Rattle.ms_run.specs.Flows.{DidRun, Flowed, cut, did, input_failed, out_failed, quiet, ran}
-use Rattle.ms_run.specs.Lines.{input_fault_line}
-use Rattle.ms_machine.specs.Running.{MayGive}
+use Rattle.ms_run.proofs.Once.{DoesOne, IsOrdinary, Same, assembles_once, assembles_ordinary, checks_known, checks_once, checks_ordinary, disassembles_once, disassembles_ordinary, file_known, file_once, file_ordinary, found_held, holds_one, runs_file_known, runs_file_once, runs_file_ordinary, runs_job_known, runs_job_once, runs_job_ordinary}
 use Rattle.ms_tool.specs.Responding.{Responds, gave, nothing, stopped}
-use Rattle.ms_tool.specs.Top.{FlowsFor, Gives, IsAnswer, IsCutOff, IsExec, IsFaulty, IsKnown, IsOutFault, IsPutFault, IsStarved, IsTarget, IsUnwritten, Stays, command_of, file_of}
+use Rattle.ms_tool.specs.Top.{AsksRun, FlowsFor, Gives, GivesFor, IsAnswer, IsCutOff, IsFaulty, IsOutFault, IsPutFault, IsStarved, IsTarget, IsUnwritten, Stays}
 
--- ---- the table
+-- ---- the table, by what the words ask for
 
-once : (given : List (Option ℕ)) (a : Asked) → IsOnce (command_of given a)
-once given (Exec file budget memory) = executes_once file budget memory given
-once given (Check file) = checks_once file
-once given (Asm file out) = assembles_once out
-once given (Dis file out) = disassembles_once out
+module _ (Has : List ℕ → Found → Type 0) (given : Input) where
+  abbrev GivesTo : Option Asked → Status → List ℕ → Option File → Type 0
+  GivesTo o status line file = MatchOption o ((status ≡ statuses.Usage) × (line ≡ usage_lines) × (file ≡ None)) (λ a. GivesFor Has given a status line file)
 
-ordinary : (given : List (Option ℕ)) (a : Asked) → AllOrdinary (command_of given a)
-ordinary given (Exec file budget memory) = executes_ordinary file budget memory given
-ordinary given (Check file) = checks_ordinary file
-ordinary given (Asm file out) = assembles_ordinary out
-ordinary given (Dis file out) = disassembles_ordinary out
+  module _ (one_found : (name : List ℕ) (a b : Found) → Has name a → Has name b → a ≡ b) where
+    without_file : (s : Status) (t : List ℕ) (f : Option File) (s' : Status) (t' : List ℕ) (f' : Option File) → (s ≡ s') × (t ≡ t') → f ≡ None → f' ≡ None → Same s t f s' t' f'
+    without_file s t f s' t' f' same none none' = record { status = same.0; line = same.1; file = none ∙ sym none' }
+
+    -- it gives one answer at most
+    once : (o : Option Asked) → DoesOne (GivesTo o)
+    once None s t f s' t' f' h k = record { status = h.0 ∙ sym k.0; line = h.1 ∙ sym k.1; file = h.2 ∙ sym k.2 }
+    once (Some (Exec name budget memory)) s t f s' t' f' h k = without_file s t f s' t' f' (runs_job_once Has one_found Only given (exec_job name budget memory) s t s' t' h.0 k.0) h.1 k.1
+    once (Some (Run name)) s t f s' t' f' h k = without_file s t f s' t' f' (runs_file_once Has one_found given name s t s' t' h.0 k.0) h.1 k.1
+    once (Some (Check name)) s t f s' t' f' h k = without_file s t f s' t' f' (checks_once Has one_found name s t s' t' h.0 k.0) h.1 k.1
+    once (Some (Asm name out)) s t f s' t' f' h k = file_once Has one_found name (Assembles out) (assembles_once out) s t f s' t' f' h k
+    once (Some (Dis name out)) s t f s' t' f' h k = file_once Has one_found name (Disassembles out) (disassembles_once out) s t f s' t' f' h k
+
+  ordinary : (a : Asked) (status : Status) (line : List ℕ) (file : Option File) → GivesFor Has given a status line file → IsOrdinary status
+  ordinary (Exec name budget memory) status line file h = runs_job_ordinary Has Only given (exec_job name budget memory) status line h.0
+  ordinary (Run name) status line file h = runs_file_ordinary Has given name status line h.0
+  ordinary (Check name) status line file h = checks_ordinary Has name status line h.0
+  ordinary (Asm name out) status line file h = file_ordinary Has name (Assembles out) (assembles_ordinary out) status line file h
+  ordinary (Dis name out) status line file h = file_ordinary Has name (Disassembles out) (disassembles_ordinary out) status line file h
+
+-- what it gives for what was found it gives for known files, or a read fault
+given_known : (Has Has' : List ℕ → Found → Type 0) (given : Input) → ((name bytes : List ℕ) → Has name (table.Contents bytes) → Has' name (table.Contents bytes))
+    → (o : Option Asked) (status : Status) (line : List ℕ) (file : Option File) → GivesTo Has given o status line file → (status ≡ statuses.ReadFault) ⊎ GivesTo Has' given o status line file
+given_known Has Has' given known None status line file h = inr h
+given_known Has Has' given known (Some (Exec name budget memory)) status line file h =
+    elim (runs_job_known Has Has' known Only given (exec_job name budget memory) status line h.0) [
+      | inl e ↦ inl e
+      | inr k ↦ inr (k, h.1)
+    ]
+given_known Has Has' given known (Some (Run name)) status line file h =
+    elim (runs_file_known Has Has' known given name status line h.0) [
+      | inl e ↦ inl e
+      | inr k ↦ inr (k, h.1)
+    ]
+given_known Has Has' given known (Some (Check name)) status line file h =
+    elim (checks_known Has Has' known name status line h.0) [
+      | inl e ↦ inl e
+      | inr k ↦ inr (k, h.1)
+    ]
+given_known Has Has' given known (Some (Asm name out)) status line file h = file_known Has Has' known name (Assembles out) status line file h
+given_known Has Has' given known (Some (Dis name out)) status line file h = file_known Has Has' known name (Disassembles out) status line file h
 
 -- ---- the words
 
 asked_none : (words : List (List ℕ)) → is_taken words ≡ false → asked_of words ≡ None
 asked_none words h = rw h refl
 
-module _ (words : List (List ℕ)) (given : List (Option ℕ)) (s : Shelved) (r : Report) (f : Flow) where
+module _ (words : List (List ℕ)) (given : Input) (s : Shelved) (r : Report) (f : Flow) where
   usage_gave : (result : Status) → is_taken words ≡ false → SameCounts s.reads_old s.reads_new → KeepsFiles s → Reports statuses.Usage usage_lines r result → Responds words given s r f result
   usage_gave result h same kept reports =
-      gave (Contents []) statuses.Usage usage_lines None (rw (asked_none words h) tt) (rw (asked_none words h) same) (rw (asked_none words h) (refl, refl, refl)) (put kept reports) (λ _. h) (λ _. refl)
+      gave statuses.Usage usage_lines None (rw (asked_none words h) (refl, refl, refl)) (inr same) (put kept reports) (λ _. h) (λ _. refl)
 
-  command_gave : (a : Asked) (result : Status) → asked_of words ≡ Some a → Did (file_of a) (command_of given a) s r result → Responds words given s r f result
-  command_gave a result e (answered found status line file is counts answers delivers) =
-      let plain = answers_ordinary (file_of a) (command_of given a) (ordinary given a) found status line file answers in
-      gave found status line file (rw e is) (rw e counts) (rw e answers) delivers
-      (λ u. absurd (subst IsOrdinary u plain)) (λ h. absurd (let both = sym (asked_none words h) ∙ e in cc))
-  command_gave a result e (ran_out same kept report) = nothing same kept report
+  module _ (a : Asked) (e : asked_of words ≡ Some a) where
+    one_gave : (result status : Status) (line : List ℕ) (file : Option File) → GivesFor (IsFound s) given a status line file → CountsReads s status → Delivers status line file s r result → Responds words given s r f result
+    one_gave result status line file gives counts delivers =
+        gave status line file (rw e gives) counts delivers
+        (λ u. absurd (subst IsOrdinary u (ordinary (IsFound s) given a status line file gives))) (λ h. absurd (let both = sym (asked_none words h) ∙ e in cc))
 
-  -- a run, which may be cut short
-  run_gave : (file : List ℕ) (budget memory : ℕ) (result : Status) → asked_of words ≡ Some (Exec file budget memory) → DidRun file (Executes file budget memory given) s r f result → Responds words given s r f result
-  run_gave file budget memory result e (did d) = command_gave (Exec file budget memory) result e d
-  run_gave file budget memory result e (cut bytes found same files c) = stopped (Contents bytes) (rw e tt) (rw e found) same files c
+    did_gave : (Does : Status → List ℕ → Option File → Type 0) → ((status : Status) (line : List ℕ) (file : Option File) → Does status line file → GivesFor (IsFound s) given a status line file)
+        → (result : Status) → Did Does s r result → Responds words given s r f result
+    did_gave Does gives result (answered status line file does counts delivers) = one_gave result status line file (gives status line file does) counts delivers
+    did_gave Does gives result (ran_out same files kept) = nothing same files kept
+
+    tells_gave : (Does : Status → List ℕ → Type 0) → ((status : Status) (line : List ℕ) → Does status line → GivesFor (IsFound s) given a status line None)
+        → (result : Status) → Tells Does s r result → Responds words given s r f result
+    tells_gave Does gives result (told status line does counts files reports) = one_gave result status line None (gives status line does) counts (put files reports)
+    tells_gave Does gives result (untold same files kept) = nothing same files kept
+
+    -- a run, which may be cut short
+    run_gave : (Does : Status → List ℕ → Type 0) → ((status : Status) (line : List ℕ) → Does status line → GivesFor (IsFound s) given a status line None)
+        → AsksRun (Some a) → (result : Status) → TellsRun Does s r f result → Responds words given s r f result
+    run_gave Does gives asks result (tells h) = tells_gave Does gives result h
+    run_gave Does gives asks result (cut same files c) = stopped (rw e asks) same files c
 
 -- ---- what is given
 
@@ -79,41 +125,39 @@ of_ordinary statuses.WriteFault h = absurd h
 of_ordinary statuses.OutOfMemory h = absurd h
 of_ordinary statuses.TooLong h = tt
 
-module _ (given : List (Option ℕ)) (found : Found) (status : Status) (line : List ℕ) (file : Option File) where
-  abbrev GivesFor : Option Asked → Type 0
-  GivesFor o = MatchOption o ((status ≡ statuses.Usage) × (line ≡ usage_lines) × (file ≡ None)) (λ a. Answers (file_of a) (command_of given a) found status line file)
-
-  unfaulty : (o : Option Asked) → GivesFor o → IsUnfaulty status
-  unfaulty None h = subst IsUnfaulty (sym h.0) tt
-  unfaulty (Some a) h = of_ordinary status (answers_ordinary (file_of a) (command_of given a) (ordinary given a) found status line file h)
-
--- a fault of reading is answered as one
-fault_answer : (name : List ℕ) (Does : Command) (found : Found) (status : Status) (line : List ℕ) (file : Option File) → Answers name Does found status line file → found ≡ Fault → status ≡ statuses.ReadFault
-fault_answer name Does found status line file read_fault e = refl
-fault_answer name Does found status line file (too_long h) e = absurd cc
-fault_answer name Does found status line file (within h d) e = absurd cc
+unfaulty : (Has : List ℕ → Found → Type 0) (given : Input) (o : Option Asked) (status : Status) (line : List ℕ) (file : Option File) → GivesTo Has given o status line file → IsUnfaulty status
+unfaulty Has given None status line file h = subst IsUnfaulty (sym h.0) tt
+unfaulty Has given (Some a) status line file h = of_ordinary status (ordinary Has given a status line file h)
 
 -- what a written file is to the words
-target_of : (given : List (Option ℕ)) (a : Asked) (bytes : List ℕ) (status : Status) (line : List ℕ) (file : File) (f : Option File) → f ≡ Some file → command_of given a bytes status line f → IsTarget (Some a) file.name
-target_of given (Exec name budget memory) bytes status line file f e h = absurd (let both = sym h.1 ∙ e in cc)
-target_of given (Check name) bytes status line file f e h = absurd (let both = sym h.1 ∙ e in cc)
-target_of given (Asm name out) bytes status line file f e (table.unread_text h) = absurd cc
-target_of given (Asm name out) bytes status line file f e (table.large m h is) = absurd cc
-target_of given (Asm name out) bytes status line file f e (table.assembled m h not) = let same = some_file _ file e in ap (λ (x : File). x.name) (sym same)
-  where
-    some_file : (x y : File) → ◌≡◌ {A = Option File} (Some x) (Some y) → x ≡ y
-    some_file x y e = cc
-target_of given (Dis name out) bytes status line file f e (table.unread_binary h) = absurd cc
-target_of given (Dis name out) bytes status line file f e (table.disassembled m h) = let same = some_file _ file e in ap (λ (x : File). x.name) (sym same)
-  where
-    some_file : (x y : File) → ◌≡◌ {A = Option File} (Some x) (Some y) → x ≡ y
-    some_file x y e = cc
+some_file : (x y : File) → ◌≡◌ {A = Option File} (Some x) (Some y) → x ≡ y
+some_file x y e = cc
 
-target_given : (given : List (Option ℕ)) (o : Option Asked) (found : Found) (status : Status) (line : List ℕ) (file : File) (f : Option File) → f ≡ Some file → GivesFor given found status line f o → IsTarget o file.name
-target_given given None found status line file f e h = absurd (let both = sym h.2 ∙ e in cc)
-target_given given (Some a) found status line file f e read_fault = absurd cc
-target_given given (Some a) found status line file f e (too_long h) = absurd cc
-target_given given (Some a) found status line file f e (within {bytes = bytes} h d) = target_of given a bytes status line file f e d
+never_none : {A : Type 0} (o : Option A) (x : A) → o ≡ None → o ≡ Some x → ⊥
+never_none o x none some = let both = sym none ∙ some in cc
+
+assembled_target : (name out bytes : List ℕ) (status : Status) (line : List ℕ) (file : File) (f : Option File) → f ≡ Some file → Assembles out bytes status line f → file.name ≡ out
+assembled_target name out bytes status line file f e (table.unread_text h) = absurd cc
+assembled_target name out bytes status line file f e (table.large m h is) = absurd cc
+assembled_target name out bytes status line file f e (table.assembled m h not) = ap (λ (x : File). x.name) (sym (some_file _ file e))
+
+disassembled_target : (name out bytes : List ℕ) (status : Status) (line : List ℕ) (file : File) (f : Option File) → f ≡ Some file → Disassembles out bytes status line f → file.name ≡ out
+disassembled_target name out bytes status line file f e (table.unread_binary h) = absurd cc
+disassembled_target name out bytes status line file f e (table.disassembled m h) = ap (λ (x : File). x.name) (sym (some_file _ file e))
+
+module _ (Has : List ℕ → Found → Type 0) where
+  file_target : (name out : List ℕ) (Does : table.Command) (status : Status) (line : List ℕ) (file : File) (f : Option File)
+      → ((bytes : List ℕ) (status : Status) (line : List ℕ) (f : Option File) → f ≡ Some file → Does bytes status line f → file.name ≡ out) → f ≡ Some file → OnFile Has name Does status line f → file.name ≡ out
+  file_target name out Does status line file f targets e (table.no_file h) = absurd cc
+  file_target name out Does status line file f targets e (table.on_file bytes h does) = targets bytes status line f e does
+
+  target_given : (given : Input) (o : Option Asked) (status : Status) (line : List ℕ) (file : File) (f : Option File) → f ≡ Some file → GivesTo Has given o status line f → IsTarget o file.name
+  target_given given None status line file f e h = absurd (never_none f file h.2 e)
+  target_given given (Some (Exec name budget memory)) status line file f e h = absurd (never_none f file h.1 e)
+  target_given given (Some (Run name)) status line file f e h = absurd (never_none f file h.1 e)
+  target_given given (Some (Check name)) status line file f e h = absurd (never_none f file h.1 e)
+  target_given given (Some (Asm name out)) status line file f e h = file_target name out (Assembles out) status line file f (λ b s t g. assembled_target name out b s t file g) e h
+  target_given given (Some (Dis name out)) status line file f e h = file_target name out (Disassembles out) status line file f (λ b s t g. disassembled_target name out b s t file g) e h
 
 -- ---- names of files
 
@@ -134,77 +178,81 @@ other_name name target not =
 less_than_itself : (a b : ℕ) → b ≡ a → a < b → ⊥
 less_than_itself a b e h = omega arith
 
-module _ (words : List (List ℕ)) (given : List (Option ℕ)) (s : Shelved) (r : Report) (f : Flow) where
+module _ (words : List (List ℕ)) (given : Input) (s : Shelved) (r : Report) (f : Flow) where
   pub answer_clause : (result : Status) → MayGive f.left_old given → Responds words given s r f result → FlowsFor s (asked_of words) given f result → IsPutFault result ⊎ IsAnswer s words r f result
-  answer_clause result may (gave found status line file is counts gives (put written (inl h)) u v) flows =
-      inr (subst (λ (x : Status). IsAnswer s words r f x) (sym h.0) (given, found, line, file, may, is, inl gives, h.1, written, subst (FlowsFor s (asked_of words) given f) h.0 flows))
-  answer_clause result may (gave found status line file is counts gives (put written (inr (inl h))) u v) flows = inl (inl h.0)
-  answer_clause result may (gave found status line file is counts gives (put written (inr (inr h))) u v) flows = inl (inr h.0)
-  answer_clause result may (gave found status line file is counts gives (failed f kept) u v) flows = inl (inl refl)
-  answer_clause result may (gave found status line file is counts gives (starved files kept) u v) flows = inl (inr refl)
-  answer_clause result may (stopped found exec is same files (input_failed rose (inl h))) flows =
-      inr (given, found, input_fault_line, None, may, is, inr (exec, h.0, refl, refl, rose), h.1, files, flows)
-  answer_clause result may (stopped found exec is same files (input_failed rose (inr (inl h)))) flows = inl (inl h.0)
-  answer_clause result may (stopped found exec is same files (input_failed rose (inr (inr h)))) flows = inl (inr h.0)
-  answer_clause result may (stopped found exec is same files (out_failed rose kept)) flows = inl (inl refl)
+  answer_clause result may (gave status line file gives counts (put written (inl h)) u v) flows =
+      inr (subst (λ (x : Status). IsAnswer s words r f x) (sym h.0) (given, line, file, may, inl gives, h.1, written, subst (FlowsFor s (asked_of words) given f) h.0 flows))
+  answer_clause result may (gave status line file gives counts (put written (inr (inl h))) u v) flows = inl (inl h.0)
+  answer_clause result may (gave status line file gives counts (put written (inr (inr h))) u v) flows = inl (inr h.0)
+  answer_clause result may (gave status line file gives counts (failed part kept) u v) flows = inl (inl refl)
+  answer_clause result may (gave status line file gives counts (starved files kept) u v) flows = inl (inr refl)
+  answer_clause result may (stopped asks same files (input_failed rose (inl h))) flows = inr (given, input_fault_line, None, may, inr (asks, h.0, refl, refl, rose), h.1, files, flows)
+  answer_clause result may (stopped asks same files (input_failed rose (inr (inl h)))) flows = inl (inl h.0)
+  answer_clause result may (stopped asks same files (input_failed rose (inr (inr h)))) flows = inl (inr h.0)
+  answer_clause result may (stopped asks same files (out_failed rose kept)) flows = inl (inl refl)
   answer_clause result may (nothing same files kept) flows = inl (inr refl)
 
   pub usage_clause : (result : Status) → Responds words given s r f result → result ≡ statuses.Usage → is_taken words ≡ false
-  usage_clause result (gave found status line file is counts gives (put written (inl h)) u v) e = u (sym h.0 ∙ e)
-  usage_clause result (gave found status line file is counts gives (put written (inr (inl h))) u v) e = absurd (let both = sym h.0 ∙ e in cc)
-  usage_clause result (gave found status line file is counts gives (put written (inr (inr h))) u v) e = absurd (let both = sym h.0 ∙ e in cc)
-  usage_clause result (gave found status line file is counts gives (failed f kept) u v) e = absurd cc
-  usage_clause result (gave found status line file is counts gives (starved files kept) u v) e = absurd cc
-  usage_clause result (stopped found exec is same files (input_failed rose (inl h))) e = absurd (let both = sym h.0 ∙ e in cc)
-  usage_clause result (stopped found exec is same files (input_failed rose (inr (inl h)))) e = absurd (let both = sym h.0 ∙ e in cc)
-  usage_clause result (stopped found exec is same files (input_failed rose (inr (inr h)))) e = absurd (let both = sym h.0 ∙ e in cc)
-  usage_clause result (stopped found exec is same files (out_failed rose kept)) e = absurd cc
+  usage_clause result (gave status line file gives counts (put written (inl h)) u v) e = u (sym h.0 ∙ e)
+  usage_clause result (gave status line file gives counts (put written (inr (inl h))) u v) e = absurd (let both = sym h.0 ∙ e in cc)
+  usage_clause result (gave status line file gives counts (put written (inr (inr h))) u v) e = absurd (let both = sym h.0 ∙ e in cc)
+  usage_clause result (gave status line file gives counts (failed part kept) u v) e = absurd cc
+  usage_clause result (gave status line file gives counts (starved files kept) u v) e = absurd cc
+  usage_clause result (stopped asks same files (input_failed rose (inl h))) e = absurd (let both = sym h.0 ∙ e in cc)
+  usage_clause result (stopped asks same files (input_failed rose (inr (inl h)))) e = absurd (let both = sym h.0 ∙ e in cc)
+  usage_clause result (stopped asks same files (input_failed rose (inr (inr h)))) e = absurd (let both = sym h.0 ∙ e in cc)
+  usage_clause result (stopped asks same files (out_failed rose kept)) e = absurd cc
   usage_clause result (nothing same files kept) e = absurd cc
 
   pub refused_clause : (result : Status) → Responds words given s r f result → is_taken words ≡ false → (result ≡ statuses.Usage) ⊎ IsPutFault result
-  refused_clause result (gave found status line file is counts gives (put written (inl h)) u v) e = inl (h.0 ∙ v e)
-  refused_clause result (gave found status line file is counts gives (put written (inr (inl h))) u v) e = inr (inl h.0)
-  refused_clause result (gave found status line file is counts gives (put written (inr (inr h))) u v) e = inr (inr h.0)
-  refused_clause result (gave found status line file is counts gives (failed f kept) u v) e = inr (inl refl)
-  refused_clause result (gave found status line file is counts gives (starved files kept) u v) e = inr (inr refl)
-  refused_clause result (stopped found exec is same files c) e = absurd (subst IsExec (asked_none words e) exec)
+  refused_clause result (gave status line file gives counts (put written (inl h)) u v) e = inl (h.0 ∙ v e)
+  refused_clause result (gave status line file gives counts (put written (inr (inl h))) u v) e = inr (inl h.0)
+  refused_clause result (gave status line file gives counts (put written (inr (inr h))) u v) e = inr (inr h.0)
+  refused_clause result (gave status line file gives counts (failed part kept) u v) e = inr (inl refl)
+  refused_clause result (gave status line file gives counts (starved files kept) u v) e = inr (inr refl)
+  refused_clause result (stopped asks same files c) e = absurd (subst AsksRun (asked_none words e) asks)
   refused_clause result (nothing same files kept) e = inr (inr refl)
 
   pub write_fault_clause : (result : Status) → MayGive f.left_old given → Responds words given s r f result → result ≡ statuses.WriteFault → IsCutOff s words r f ⊎ (IsUnwritten s words r f ⊎ IsOutFault s words r f)
-  write_fault_clause result may (gave found status line file is counts gives (put written (inl h)) u v) e =
-      absurd (subst IsUnfaulty (sym h.0 ∙ e) (unfaulty given found status line file (asked_of words) gives))
-  write_fault_clause result may (gave found status line file is counts gives (put written (inr (inl h))) u v) e =
-      inl (given, found, status, line, file, h.1, may, is, inl gives, h.2, h.3, written, h.4.rose)
-  write_fault_clause result may (gave found status line file is counts gives (put written (inr (inr h))) u v) e = absurd (let both = sym h.0 ∙ e in cc)
-  write_fault_clause result may (gave found status line file is counts gives (failed part kept) u v) e = inr (inl (given, found, status, line, file, may, is, gives, part, kept.0))
-  write_fault_clause result may (gave found status line file is counts gives (starved files kept) u v) e = absurd cc
-  write_fault_clause result may (stopped found exec is same files (input_failed rose (inl h))) e = absurd (let both = sym h.0 ∙ e in cc)
-  write_fault_clause result may (stopped found exec is same files (input_failed rose (inr (inl h)))) e =
-      inl (given, found, statuses.ReadFault, input_fault_line, None, h.1, may, is, inr (exec, refl, refl, refl, rose), h.2, h.3, files, h.4.rose)
-  write_fault_clause result may (stopped found exec is same files (input_failed rose (inr (inr h)))) e = absurd (let both = sym h.0 ∙ e in cc)
-  write_fault_clause result may (stopped found exec is same files (out_failed rose kept)) e = inr (inr (exec, rose, kept.0, files))
+  write_fault_clause result may (gave status line file gives counts (put written (inl h)) u v) e =
+      absurd (subst IsUnfaulty (sym h.0 ∙ e) (unfaulty (IsFound s) given (asked_of words) status line file gives))
+  write_fault_clause result may (gave status line file gives counts (put written (inr (inl h))) u v) e =
+      inl (given, status, line, file, h.1, may, inl gives, h.2, h.3, written, h.4.rose)
+  write_fault_clause result may (gave status line file gives counts (put written (inr (inr h))) u v) e = absurd (let both = sym h.0 ∙ e in cc)
+  write_fault_clause result may (gave status line file gives counts (failed part kept) u v) e = inr (inl (given, status, line, file, may, gives, part, kept.0))
+  write_fault_clause result may (gave status line file gives counts (starved files kept) u v) e = absurd cc
+  write_fault_clause result may (stopped asks same files (input_failed rose (inl h))) e = absurd (let both = sym h.0 ∙ e in cc)
+  write_fault_clause result may (stopped asks same files (input_failed rose (inr (inl h)))) e =
+      inl (given, statuses.ReadFault, input_fault_line, None, h.1, may, inr (asks, refl, refl, refl, rose), h.2, h.3, files, h.4.rose)
+  write_fault_clause result may (stopped asks same files (input_failed rose (inr (inr h)))) e = absurd (let both = sym h.0 ∙ e in cc)
+  write_fault_clause result may (stopped asks same files (out_failed rose kept)) e = inr (inr (asks, rose, kept.0, files))
   write_fault_clause result may (nothing same files kept) e = absurd cc
 
   pub memory_clause : (result : Status) → MayGive f.left_old given → Responds words given s r f result → result ≡ statuses.OutOfMemory → IsStarved s words r f
-  memory_clause result may (gave found status line file is counts gives (put written (inl h)) u v) e =
-      absurd (subst IsUnfaulty (sym h.0 ∙ e) (unfaulty given found status line file (asked_of words) gives))
-  memory_clause result may (gave found status line file is counts gives (put written (inr (inl h))) u v) e = absurd (let both = sym h.0 ∙ e in cc)
-  memory_clause result may (gave found status line file is counts gives (put written (inr (inr h))) u v) e = (h.1.0, inr (given, found, status, line, file, may, is, gives, written))
-  memory_clause result may (gave found status line file is counts gives (failed f kept) u v) e = absurd cc
-  memory_clause result may (gave found status line file is counts gives (starved files kept) u v) e = (kept.0, inl files)
-  memory_clause result may (stopped found exec is same files (input_failed rose (inl h))) e = absurd (let both = sym h.0 ∙ e in cc)
-  memory_clause result may (stopped found exec is same files (input_failed rose (inr (inl h)))) e = absurd (let both = sym h.0 ∙ e in cc)
-  memory_clause result may (stopped found exec is same files (input_failed rose (inr (inr h)))) e = (h.1.0, inl files)
-  memory_clause result may (stopped found exec is same files (out_failed rose kept)) e = absurd cc
+  memory_clause result may (gave status line file gives counts (put written (inl h)) u v) e =
+      absurd (subst IsUnfaulty (sym h.0 ∙ e) (unfaulty (IsFound s) given (asked_of words) status line file gives))
+  memory_clause result may (gave status line file gives counts (put written (inr (inl h))) u v) e = absurd (let both = sym h.0 ∙ e in cc)
+  memory_clause result may (gave status line file gives counts (put written (inr (inr h))) u v) e = (h.1.0, inr (given, status, line, file, may, gives, written))
+  memory_clause result may (gave status line file gives counts (failed part kept) u v) e = absurd cc
+  memory_clause result may (gave status line file gives counts (starved files kept) u v) e = (kept.0, inl files)
+  memory_clause result may (stopped asks same files (input_failed rose (inl h))) e = absurd (let both = sym h.0 ∙ e in cc)
+  memory_clause result may (stopped asks same files (input_failed rose (inr (inl h)))) e = absurd (let both = sym h.0 ∙ e in cc)
+  memory_clause result may (stopped asks same files (input_failed rose (inr (inr h)))) e = (h.1.0, inl files)
+  memory_clause result may (stopped asks same files (out_failed rose kept)) e = absurd cc
   memory_clause result may (nothing same files kept) e = (kept.0, inl files)
 
-  -- ---- what the table gives for a known file
+  -- ---- an answer that is a read fault
 
-  known_is : (files : Option Files) (name b bytes : List ℕ) → Told files name (λ known. b ≡ known) → IsSomeAnd files (λ known. bytes ≡ bytes_of known name) → b ≡ bytes
-  known_is None name b bytes told known = absurd known
-  known_is (Some f) name b bytes told known = told ∙ sym known
+  as_fault : (result status : Status) (line : List ℕ) (file : Option File) → status ≡ statuses.ReadFault → Delivers status line file s r result → IsFaulty result
+  as_fault result status line file e (put written (inl h)) = inl (h.0 ∙ e)
+  as_fault result status line file e (put written (inr (inl h))) = inr (inl h.0)
+  as_fault result status line file e (put written (inr (inr h))) = inr (inr h.0)
+  as_fault result status line file e (failed part kept) = inr (inl refl)
+  as_fault result status line file e (starved files kept) = inr (inr refl)
 
-  module _ (bytes : List ℕ) (status' : Status) (line' : List ℕ) (file' : Option File) where
+  -- ---- what the table gives for known files
+
+  module _ (known : Files) (status' : Status) (line' : List ℕ) (file' : Option File) where
     abbrev Completes : Status → Type 0
     Completes result = ((result ≡ status') × Grows r line' × HasWritten s file') ⊎ IsFaulty result
 
@@ -212,49 +260,30 @@ module _ (words : List (List ℕ)) (given : List (Option ℕ)) (s : Shelved) (r 
     as_given result status line file same (put written (inl h)) = inl (h.0 ∙ same.status, subst (Grows r) same.line h.1, subst (HasWritten s) same.file written)
     as_given result status line file same (put written (inr (inl h))) = inr (inr (inl h.0))
     as_given result status line file same (put written (inr (inr h))) = inr (inr (inr h.0))
-    as_given result status line file same (failed f kept) = inr (inr (inl refl))
+    as_given result status line file same (failed part kept) = inr (inr (inl refl))
     as_given result status line file same (starved files kept) = inr (inr (inr refl))
 
-    as_fault : (result status : Status) (line : List ℕ) (file : Option File) → status ≡ statuses.ReadFault → Delivers status line file s r result → IsFaulty result
-    as_fault result status line file e (put written (inl h)) = inl (h.0 ∙ e)
-    as_fault result status line file e (put written (inr (inl h))) = inr (inl h.0)
-    as_fault result status line file e (put written (inr (inr h))) = inr (inr h.0)
-    as_fault result status line file e (failed f kept) = inr (inl refl)
-    as_fault result status line file e (starved files kept) = inr (inr refl)
+    of_known : (result status : Status) (line : List ℕ) (file : Option File) → Delivers status line file s r result → Gives words (Holds (Some known)) given status' line' file'
+        → (status ≡ statuses.ReadFault) ⊎ GivesTo (Holds (Some known)) given (asked_of words) status line file → Completes result
+    of_known result status line file delivers gives' (inl e) = inr (as_fault result status line file e delivers)
+    of_known result status line file delivers gives' (inr gives) =
+        as_given result status line file (once (Holds (Some known)) given (holds_one known) (asked_of words) status line file status' line' file' gives gives') delivers
 
-    of_asked : (o : Option Asked) (result : Status) (found : Found) (status : Status) (line : List ℕ) (file : Option File)
-        → MatchOption o ⊤ (λ a. IsFound s (file_of a) found) → GivesFor given found status line file o → Delivers status line file s r result
-        → MatchOption o ⊤ (λ a. IsSomeAnd s.old (λ known. bytes ≡ bytes_of known (file_of a))) → GivesFor given (Contents bytes) status' line' file' o → Completes result
-    of_asked None result found status line file is gives delivers known gives' =
-        as_given result status line file (record { status = gives.0 ∙ sym gives'.0; line = gives.1 ∙ sym gives'.1; file = gives.2 ∙ sym gives'.2 }) delivers
-    of_asked (Some a) result (Contents b) status line file is gives delivers known gives' =
-        let same = known_is s.old (file_of a) b bytes is known in
-        let here : Answers (file_of a) (command_of given a) (Contents bytes) status line file = subst (λ (x : List ℕ). Answers (file_of a) (command_of given a) (Contents x) status line file) same gives in
-        as_given result status line file (answers_once (file_of a) (command_of given a) (once given a) (Contents bytes) status line file status' line' file' here gives') delivers
-    of_asked (Some a) result Fault status line file is gives delivers known gives' =
-        inr (as_fault result status line file (fault_answer (file_of a) (command_of given a) Fault status line file gives refl) delivers)
-
-    pub complete_clause : (result : Status) → Responds words given s r f result → IsKnown s.old words bytes → Gives words given (Contents bytes) status' line' file' → Completes result
-    complete_clause result (gave found status line file is counts gives delivers u v) known gives' = of_asked (asked_of words) result found status line file is gives delivers known gives'
-    complete_clause result (stopped found exec is same files (input_failed rose (inl h))) known gives' = inr (inl h.0)
-    complete_clause result (stopped found exec is same files (input_failed rose (inr (inl h)))) known gives' = inr (inr (inl h.0))
-    complete_clause result (stopped found exec is same files (input_failed rose (inr (inr h)))) known gives' = inr (inr (inr h.0))
-    complete_clause result (stopped found exec is same files (out_failed rose kept)) known gives' = inr (inr (inl refl))
-    complete_clause result (nothing same files kept) known gives' = inr (inr (inr refl))
+    pub complete_clause : (result : Status) → Responds words given s r f result → s.old ≡ Some known → Gives words (Holds (Some known)) given status' line' file' → Completes result
+    complete_clause result (gave status line file gives counts delivers u v) e gives' =
+        of_known result status line file delivers gives' (given_known (IsFound s) (Holds (Some known)) given (found_held s known e) (asked_of words) status line file gives)
+    complete_clause result (stopped asks same files (input_failed rose (inl h))) e gives' = inr (inl h.0)
+    complete_clause result (stopped asks same files (input_failed rose (inr (inl h)))) e gives' = inr (inr (inl h.0))
+    complete_clause result (stopped asks same files (input_failed rose (inr (inr h)))) e gives' = inr (inr (inr h.0))
+    complete_clause result (stopped asks same files (out_failed rose kept)) e gives' = inr (inr (inl refl))
+    complete_clause result (nothing same files kept) e gives' = inr (inr (inr refl))
 
   -- ---- counted faults
 
-  reads_of : (o : Option Asked) (result : Status) (found : Found) (status : Status) (line : List ℕ) (file : Option File) (name : List ℕ)
-      → MatchOption o (SameCounts s.reads_old s.reads_new) (λ a. CountsFound (file_of a) s found) → GivesFor given found status line file o → Delivers status line file s r result
-      → s.reads_old name < s.reads_new name → IsFaulty result
-  reads_of None result found status line file name counts gives delivers lt = absurd (less_than_itself (s.reads_old name) (s.reads_new name) (counts name) lt)
-  reads_of (Some a) result (Contents b) status line file name counts gives delivers lt = absurd (less_than_itself (s.reads_old name) (s.reads_new name) (counts name) lt)
-  reads_of (Some a) result Fault status line file name counts gives delivers lt =
-      as_fault [] status line file result status line file (fault_answer (file_of a) (command_of given a) Fault status line file gives refl) delivers
-
   pub reads_clause : (result : Status) → Responds words given s r f result → (name : List ℕ) → s.reads_old name < s.reads_new name → IsFaulty result
-  reads_clause result (gave found status line file is counts gives delivers u v) name lt = reads_of (asked_of words) result found status line file name counts gives delivers lt
-  reads_clause result (stopped found exec is same files c) name lt = absurd (less_than_itself (s.reads_old name) (s.reads_new name) (same name) lt)
+  reads_clause result (gave status line file gives (inl e) delivers u v) name lt = as_fault result status line file e delivers
+  reads_clause result (gave status line file gives (inr same) delivers u v) name lt = absurd (less_than_itself (s.reads_old name) (s.reads_new name) (same name) lt)
+  reads_clause result (stopped asks same files c) name lt = absurd (less_than_itself (s.reads_old name) (s.reads_new name) (same name) lt)
   reads_clause result (nothing same files kept) name lt = inr (inr refl)
 
   same_writes : (file : Option File) → HasWritten s file → s.writes_new ≡ s.writes_old
@@ -263,27 +292,27 @@ module _ (words : List (List ℕ)) (given : List (Option ℕ)) (s : Shelved) (r 
 
   writes_of : (result status : Status) (line : List ℕ) (file : Option File) → Delivers status line file s r result → s.writes_old < s.writes_new → IsPutFault result
   writes_of result status line file (put written h) lt = absurd (less_than_itself s.writes_old s.writes_new (same_writes file written) lt)
-  writes_of result status line file (failed f kept) lt = inl refl
+  writes_of result status line file (failed part kept) lt = inl refl
   writes_of result status line file (starved files kept) lt = inr refl
 
   pub writes_clause : (result : Status) → Responds words given s r f result → s.writes_old < s.writes_new → IsPutFault result
-  writes_clause result (gave found status line file is counts gives delivers u v) lt = writes_of result status line file delivers lt
-  writes_clause result (stopped found exec is same files c) lt = absurd (less_than_itself s.writes_old s.writes_new files.1 lt)
+  writes_clause result (gave status line file gives counts delivers u v) lt = writes_of result status line file delivers lt
+  writes_clause result (stopped asks same files c) lt = absurd (less_than_itself s.writes_old s.writes_new files.1 lt)
   writes_clause result (nothing same files kept) lt = inr refl
 
   puts_of : (result status : Status) (line : List ℕ) (file : Option File) → Delivers status line file s r result → r.puts_old < r.puts_new → IsPutFault result
   puts_of result status line file (put written (inl h)) lt = absurd (less_than_itself r.puts_old r.puts_new h.2 lt)
   puts_of result status line file (put written (inr (inl h))) lt = inl h.0
   puts_of result status line file (put written (inr (inr h))) lt = inr h.0
-  puts_of result status line file (failed f kept) lt = inl refl
+  puts_of result status line file (failed part kept) lt = inl refl
   puts_of result status line file (starved files kept) lt = inr refl
 
   pub puts_clause : (result : Status) → Responds words given s r f result → r.puts_old < r.puts_new → IsPutFault result
-  puts_clause result (gave found status line file is counts gives delivers u v) lt = puts_of result status line file delivers lt
-  puts_clause result (stopped found exec is same files (input_failed rose (inl h))) lt = absurd (less_than_itself r.puts_old r.puts_new h.2 lt)
-  puts_clause result (stopped found exec is same files (input_failed rose (inr (inl h)))) lt = inl h.0
-  puts_clause result (stopped found exec is same files (input_failed rose (inr (inr h)))) lt = inr h.0
-  puts_clause result (stopped found exec is same files (out_failed rose kept)) lt = absurd (less_than_itself r.puts_old r.puts_new kept.1 lt)
+  puts_clause result (gave status line file gives counts delivers u v) lt = puts_of result status line file delivers lt
+  puts_clause result (stopped asks same files (input_failed rose (inl h))) lt = absurd (less_than_itself r.puts_old r.puts_new h.2 lt)
+  puts_clause result (stopped asks same files (input_failed rose (inr (inl h)))) lt = inl h.0
+  puts_clause result (stopped asks same files (input_failed rose (inr (inr h)))) lt = inr h.0
+  puts_clause result (stopped asks same files (out_failed rose kept)) lt = absurd (less_than_itself r.puts_old r.puts_new kept.1 lt)
   puts_clause result (nothing same files kept) lt = inr refl
 
   -- ---- the files that stay
@@ -323,14 +352,14 @@ module _ (words : List (List ℕ)) (given : List (Option ℕ)) (s : Shelved) (r 
   delivered_stays name status result line file not (starved files kept) = kept_stays name s.old s.new files.0
 
   pub files_clause : (result : Status) → Responds words given s r f result → (name : List ℕ) → ¬ IsTarget (asked_of words) name → Stays s name
-  files_clause result (gave found status line file is counts gives delivers u v) name not =
-      delivered_stays name status result line file (λ f e. not_target (asked_of words) name f not (target_given given (asked_of words) found status line f file e gives)) delivers
-  files_clause result (stopped found exec is same files c) name not = kept_stays name s.old s.new files.0
+  files_clause result (gave status line file gives counts delivers u v) name not =
+      delivered_stays name status result line file (λ f e. not_target (asked_of words) name f not (target_given (IsFound s) given (asked_of words) status line f file e gives)) delivers
+  files_clause result (stopped asks same files c) name not = kept_stays name s.old s.new files.0
   files_clause result (nothing same files kept) name not = kept_stays name s.old s.new files.0
 
 -- ---- the input and the output
 
-module _ (s : Shelved) (given : List (Option ℕ)) (f : Flow) where
+module _ (s : Shelved) (given : Input) (f : Flow) where
   -- what is left by what the words ask for
   flows_as : (words : List (List ℕ)) (o : Option Asked) (result : Status) → asked_of words ≡ o → FlowsFor s o given f result → FlowsFor s (asked_of words) given f result
   flows_as words o result e flows = subst (λ (x : Option Asked). FlowsFor s x given f result) (sym e) flows
@@ -338,21 +367,21 @@ module _ (s : Shelved) (given : List (Option ℕ)) (f : Flow) where
   quiet_for : (o : Option Asked) → IsQuiet f → FlowsFor s o given f statuses.OutOfMemory
   quiet_for None still = still
   quiet_for (Some (Exec file budget memory)) still = quiet tt still
+  quiet_for (Some (Run job)) still = quiet tt still
   quiet_for (Some (Check file)) still = still
   quiet_for (Some (Asm file out)) still = still
   quiet_for (Some (Dis file out)) still = still
 
-  takes_clause : (o : Option Asked) (result : Status) → FlowsFor s o given f result → f.takes_old < f.takes_new → IsFaulty result
-  takes_clause None result still lt = absurd (less_than_itself f.takes_old f.takes_new still.1 lt)
-  takes_clause (Some (Check file)) result still lt = absurd (less_than_itself f.takes_old f.takes_new still.1 lt)
-  takes_clause (Some (Asm file out)) result still lt = absurd (less_than_itself f.takes_old f.takes_new still.1 lt)
-  takes_clause (Some (Dis file out)) result still lt = absurd (less_than_itself f.takes_old f.takes_new still.1 lt)
-  takes_clause (Some (Exec file budget memory)) result (quiet unrun still) lt = absurd (less_than_itself f.takes_old f.takes_new still.1 lt)
-  takes_clause (Some (Exec file budget memory)) result (ran bytes m run has spelled well e flowed) lt = by result flowed where
+  takes_still : (result : Status) → IsQuiet f → f.takes_old < f.takes_new → IsFaulty result
+  takes_still result still lt = absurd (less_than_itself f.takes_old f.takes_new still.1 lt)
+
+  takes_run : (IsRun : MachineRun → Type 0) (result : Status) → Flows given IsRun f result → f.takes_old < f.takes_new → IsFaulty result
+  takes_run IsRun result (quiet unrun still) lt = takes_still result still lt
+  takes_run IsRun result (ran run is flowed) lt = by result flowed where
     by : (x : Status) → Flowed given f run x → IsFaulty x
-    by statuses.Done h = absurd (less_than_itself f.takes_old f.takes_new h.0 lt)
-    by statuses.Trapped h = absurd (less_than_itself f.takes_old f.takes_new h.0 lt)
-    by statuses.OutOfBudget h = absurd (less_than_itself f.takes_old f.takes_new h.0 lt)
+    by statuses.Done h = absurd (less_than_itself f.takes_old f.takes_new h.takes lt)
+    by statuses.Trapped h = absurd (less_than_itself f.takes_old f.takes_new h.takes lt)
+    by statuses.OutOfBudget h = absurd (less_than_itself f.takes_old f.takes_new h.takes lt)
     by statuses.ReadFault h = inl refl
     by statuses.WriteFault h = inr (inl refl)
     by statuses.OutOfMemory h = inr (inr refl)
@@ -360,17 +389,24 @@ module _ (s : Shelved) (given : List (Option ℕ)) (f : Flow) where
     by statuses.Refused h = absurd h
     by statuses.TooLong h = absurd h
 
-  outs_clause : (o : Option Asked) (result : Status) → FlowsFor s o given f result → f.puts_old < f.puts_new → IsPutFault result
-  outs_clause None result still lt = absurd (less_than_itself f.puts_old f.puts_new still.3 lt)
-  outs_clause (Some (Check file)) result still lt = absurd (less_than_itself f.puts_old f.puts_new still.3 lt)
-  outs_clause (Some (Asm file out)) result still lt = absurd (less_than_itself f.puts_old f.puts_new still.3 lt)
-  outs_clause (Some (Dis file out)) result still lt = absurd (less_than_itself f.puts_old f.puts_new still.3 lt)
-  outs_clause (Some (Exec file budget memory)) result (quiet unrun still) lt = absurd (less_than_itself f.puts_old f.puts_new still.3 lt)
-  outs_clause (Some (Exec file budget memory)) result (ran bytes m run has spelled well e flowed) lt = by result flowed where
+  takes_clause : (o : Option Asked) (result : Status) → FlowsFor s o given f result → f.takes_old < f.takes_new → IsFaulty result
+  takes_clause None result still lt = takes_still result still lt
+  takes_clause (Some (Exec file budget memory)) result flows lt = takes_run _ result flows lt
+  takes_clause (Some (Run job)) result flows lt = takes_run _ result flows lt
+  takes_clause (Some (Check file)) result still lt = takes_still result still lt
+  takes_clause (Some (Asm file out)) result still lt = takes_still result still lt
+  takes_clause (Some (Dis file out)) result still lt = takes_still result still lt
+
+  outs_still : (result : Status) → IsQuiet f → f.puts_old < f.puts_new → IsPutFault result
+  outs_still result still lt = absurd (less_than_itself f.puts_old f.puts_new still.3 lt)
+
+  outs_run : (IsRun : MachineRun → Type 0) (result : Status) → Flows given IsRun f result → f.puts_old < f.puts_new → IsPutFault result
+  outs_run IsRun result (quiet unrun still) lt = outs_still result still lt
+  outs_run IsRun result (ran run is flowed) lt = by result flowed where
     by : (x : Status) → Flowed given f run x → IsPutFault x
-    by statuses.Done h = absurd (less_than_itself f.puts_old f.puts_new h.1 lt)
-    by statuses.Trapped h = absurd (less_than_itself f.puts_old f.puts_new h.1 lt)
-    by statuses.OutOfBudget h = absurd (less_than_itself f.puts_old f.puts_new h.1 lt)
+    by statuses.Done h = absurd (less_than_itself f.puts_old f.puts_new h.puts lt)
+    by statuses.Trapped h = absurd (less_than_itself f.puts_old f.puts_new h.puts lt)
+    by statuses.OutOfBudget h = absurd (less_than_itself f.puts_old f.puts_new h.puts lt)
     by statuses.ReadFault h = absurd (less_than_itself f.puts_old f.puts_new h.0 lt)
     by statuses.WriteFault h = inl refl
     by statuses.OutOfMemory h = inr refl
@@ -378,18 +414,56 @@ module _ (s : Shelved) (given : List (Option ℕ)) (f : Flow) where
     by statuses.Refused h = absurd h
     by statuses.TooLong h = absurd h
 
+  outs_clause : (o : Option Asked) (result : Status) → FlowsFor s o given f result → f.puts_old < f.puts_new → IsPutFault result
+  outs_clause None result still lt = outs_still result still lt
+  outs_clause (Some (Exec file budget memory)) result flows lt = outs_run _ result flows lt
+  outs_clause (Some (Run job)) result flows lt = outs_run _ result flows lt
+  outs_clause (Some (Check file)) result still lt = outs_still result still lt
+  outs_clause (Some (Asm file out)) result still lt = outs_still result still lt
+  outs_clause (Some (Dis file out)) result still lt = outs_still result still lt
+
+module _ (words : List (List ℕ)) (given : Input) (s : Shelved) (r : Report) (f : Flow) where
+  pub takes_both : (result : Status) → Responds words given s r f result → FlowsFor s (asked_of words) given f result → f.takes_old < f.takes_new → IsFaulty result
+  takes_both result responds flows lt = takes_clause s given f (asked_of words) result flows lt
+
+  pub outs_both : (result : Status) → Responds words given s r f result → FlowsFor s (asked_of words) given f result → f.puts_old < f.puts_new → IsPutFault result
+  outs_both result responds flows lt = outs_clause s given f (asked_of words) result flows lt
+
 -- ---- what was answered, and what became of the input and the output
 
 module _ (words : List (List ℕ)) (s : Shelved) (r : Report) (f : Flow) where
   abbrev Responded : Status → Type 0
-  Responded result = (given : List (Option ℕ)) × MayGive f.left_old given × Responds words given s r f result × FlowsFor s (asked_of words) given f result
+  Responded result = (given : Input) × MayGive f.left_old given × Responds words given s r f result × FlowsFor s (asked_of words) given f result
 
-  module _ (given : List (Option ℕ)) (may : MayGive f.left_old given) where
-    pub run_responded : (file : List ℕ) (budget memory : ℕ) (result : Status) → asked_of words ≡ Some (Exec file budget memory) → DidRun file (Executes file budget memory given) s r f result → FlowsFor s (Some (Exec file budget memory)) given f result → Responded result
-    run_responded file budget memory result e done flows = (given, may, run_gave words given s r f file budget memory result e done, flows_as s given f words (Some (Exec file budget memory)) result e flows)
+  module _ (given : Input) (may : MayGive f.left_old given) where
+    responded_as : (a : Asked) (result : Status) → asked_of words ≡ Some a → Responds words given s r f result → FlowsFor s (Some a) given f result → Responded result
+    responded_as a result e responds flows = (given, may, responds, flows_as s given f words (Some a) result e flows)
 
-    pub command_responded : (a : Asked) (result : Status) → asked_of words ≡ Some a → Did (file_of a) (command_of given a) s r result → FlowsFor s (Some a) given f result → Responded result
-    command_responded a result e done flows = (given, may, command_gave words given s r f a result e done, flows_as s given f words (Some a) result e flows)
+    pub exec_responded : (file : List ℕ) (budget memory : ℕ) (result : Status) → asked_of words ≡ Some (Exec file budget memory) → TellsRun (RunsJob (IsFound s) Only given (exec_job file budget memory)) s r f result
+        → Flows given (RunOfJob (Holds s.old) given (exec_job file budget memory)) f result → Responded result
+    exec_responded file budget memory result e done flows =
+        let a = Exec file budget memory in
+        responded_as a result e (run_gave words given s r f a e (RunsJob (IsFound s) Only given (exec_job file budget memory)) (λ status line gives. (gives, refl)) tt result done) flows
+
+    pub run_responded : (job : List ℕ) (result : Status) → asked_of words ≡ Some (Run job) → TellsRun (RunsFile (IsFound s) given job) s r f result → Flows given (RunOfFile (Holds s.old) given job) f result → Responded result
+    run_responded job result e done flows =
+        let a = Run job in
+        responded_as a result e (run_gave words given s r f a e (RunsFile (IsFound s) given job) (λ status line gives. (gives, refl)) tt result done) flows
+
+    pub check_responded : (file : List ℕ) (result : Status) → asked_of words ≡ Some (Check file) → Tells (Checks (IsFound s) file) s r result → IsQuiet f → Responded result
+    check_responded file result e done still =
+        let a = Check file in
+        responded_as a result e (tells_gave words given s r f a e (Checks (IsFound s) file) (λ status line gives. (gives, refl)) result done) still
+
+    pub asm_responded : (file out : List ℕ) (result : Status) → asked_of words ≡ Some (Asm file out) → Did (OnFile (IsFound s) file (Assembles out)) s r result → IsQuiet f → Responded result
+    asm_responded file out result e did still =
+        let a = Asm file out in
+        responded_as a result e (did_gave words given s r f a e (OnFile (IsFound s) file (Assembles out)) (λ status line target gives. gives) result did) still
+
+    pub dis_responded : (file out : List ℕ) (result : Status) → asked_of words ≡ Some (Dis file out) → Did (OnFile (IsFound s) file (Disassembles out)) s r result → IsQuiet f → Responded result
+    dis_responded file out result e did still =
+        let a = Dis file out in
+        responded_as a result e (did_gave words given s r f a e (OnFile (IsFound s) file (Disassembles out)) (λ status line target gives. gives) result did) still
 
     pub usage_responded : (result : Status) → is_taken words ≡ false → SameCounts s.reads_old s.reads_new → KeepsFiles s → Reports statuses.Usage usage_lines r result → IsQuiet f → Responded result
     usage_responded result refused same kept reports still =
@@ -397,10 +471,3 @@ module _ (words : List (List ℕ)) (s : Shelved) (r : Report) (f : Flow) where
 
     pub nothing_responded : SameCounts s.reads_old s.reads_new → KeepsFiles s → IsKept r → IsQuiet f → Responded statuses.OutOfMemory
     nothing_responded same files kept still = (given, may, nothing same files kept, quiet_for s given f (asked_of words) still)
-
-module _ (words : List (List ℕ)) (given : List (Option ℕ)) (s : Shelved) (r : Report) (f : Flow) where
-  pub takes_both : (result : Status) → Responds words given s r f result → FlowsFor s (asked_of words) given f result → f.takes_old < f.takes_new → IsFaulty result
-  takes_both result responds flows lt = takes_clause s given f (asked_of words) result flows lt
-
-  pub outs_both : (result : Status) → Responds words given s r f result → FlowsFor s (asked_of words) given f result → f.puts_old < f.puts_new → IsPutFault result
-  outs_both result responds flows lt = outs_clause s given f (asked_of words) result flows lt

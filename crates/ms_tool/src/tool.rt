@@ -1,28 +1,29 @@
 //! The program, over the objects outside.
 
-ghost use Rattle.std.specs.Prelude.{◌≡◌, ◌≢◌, ◌<◌, ◌^◌, ◌⊎◌, ℕ, List, Option, false, map};
+ghost use Rattle.std.specs.Prelude.{◌≡◌, ◌≢◌, ◌<◌, ◌^◌, ◌⊎◌, ℕ, All, List, Option, Some, false, map};
 ghost use Rattle.ms_event.specs.Monitor.{Accepts};
-ghost use Rattle.ms_machine.specs.Running.{MayGive, Run, Stuck};
+ghost use Rattle.ms_machine.specs.Crews.{Input, Run, Stuck, events_of};
+ghost use Rattle.ms_machine.specs.Running.{MayGive};
 ghost use Rattle.ms_module.specs.declared.module.Module.{Module};
+ghost use Rattle.ms_outside.specs.Files.{Files};
 ghost use Rattle.ms_rules.specs.Modules.{WellTyped};
-ghost use Rattle.ms_run.specs.Answers.{Contents, File};
-ghost use Rattle.ms_run.specs.Executions.{Runs, execution_within};
-ghost use Rattle.ms_run.specs.Loading.{Spells, form_of};
-ghost use Rattle.ms_run.specs.Reporting.{Grows, HasWritten};
+ghost use Rattle.ms_run.specs.Answers.{File};
+ghost use Rattle.ms_run.specs.Executions.{Ran, execution};
+ghost use Rattle.ms_run.specs.Reporting.{Grows, HasWritten, Holds};
 ghost use Rattle.ms_run.specs.declared.status.Status.{Status};
 ghost use Rattle.ms_words.specs.Asked.{asked_of, is_taken};
 ghost use Rattle.ms_tool.specs.Responding.{Responds};
-ghost use Rattle.ms_tool.specs.Top.{FlowsFor, Gives, IsAnswer, IsCutOff, IsFaulty, IsKnown, IsOutFault, IsPutFault, IsStarved, IsTarget, IsUnwritten, Stays};
+ghost use Rattle.ms_tool.specs.Top.{FlowsFor, Gives, IsAnswer, IsCutOff, IsFaulty, IsOutFault, IsPutFault, IsStarved, IsTarget, IsUnwritten, Stays};
 ghost use Rattle.ms_run.specs.Observed.{flowed, reported, shelved};
 
 use ms_outside::{Shelf, Sink, Source};
-use ms_run::{Status, answer, asm_file, check_file, dis_file, exec};
+use ms_run::{Status, answer, asm_file, check_file, dis_file, exec, run};
 use ms_words::{Request, WordsFault, parse_words, usage};
 use std::alloc::Global;
 
 /// Does what the words of the command line ask for, of which the first is the program's name: `exec` reads a file from
-/// the shelf, validates the module that it spells and runs it; `check` validates it; `asm` and `dis` write it in the
-/// other form.
+/// the shelf, validates the module that it spells and runs it; `run` does so with the modules and the tasks that a job names;
+/// `check` validates a module; `asm` and `dis` write it in the other form.
 ///
 /// The line of what came of it goes to the report. `input` and `out` are those of the module that is run.
 pub fn tool<F: Shelf, I: Source, O: Sink, R: Sink>(
@@ -73,23 +74,25 @@ pub fn tool<F: Shelf, I: Source, O: Sink, R: Sink>(
         (reported R.held R.faults report.old report.new)
         (flowed I.left I.faults O.held O.faults input.old input.new out.old out.new) }
 
-    // What the table gives for a known file, whatever the input may give, is the answer, unless a fault is met or memory
+    // What the table gives for known files, whatever the input may give, is the answer, unless a fault is met or memory
     // runs out. An input that tells its bytes gives these.
-    ensures complete { (bytes : List ℕ) (status : Status) (line : List ℕ) (file : Option File)
-        → IsKnown (F.files shelf.old) (map (λ w. w.now) words.now) bytes
-        → ((given : List (Option ℕ)) → MayGive (I.left input.old) given → Gives (map (λ w. w.now) words.now) given (Contents bytes) status line file)
+    ensures complete { (known : Files) (status : Status) (line : List ℕ) (file : Option File)
+        → F.files shelf.old ≡ Some known
+        → ((given : Input) → MayGive (I.left input.old) given → Gives (map (λ w. w.now) words.now) (Holds (Some known)) given status line file)
         → ((result ≡ status) × Grows (reported R.held R.faults report.old report.new) line
         × HasWritten (shelved F.files F.read_faults F.write_faults shelf.old shelf.new) file) ⊎ IsFaulty result }
 
-    // The allocations, slices, reads, writes and frees of a run are a trace that the colour monitor accepts: for all
-    // bytes that spell a valid module which is run, `run` being the one of which the answer tells.
-    ensures safe { (name bytes : List ℕ) (budget capacity : ℕ) (given : List (Option ℕ)) (m : Module) (run : Run)
-        → capacity < 2 ^ 32 → Spells (form_of name) bytes m → WellTyped m
-        → execution_within budget capacity given m ≡ Runs run → Accepts capacity run.events }
+    // The allocations, slices, reads, writes and frees of a run are a trace that the colour monitor accepts: for all modules
+    // that are well typed and link, whatever they share, all tasks, every schedule, as the list of its entries, which is cut at
+    // the budget, and whatever the input gives; `run` is the one of which the answer tells.
+    ensures safe { (modules : List (List ℕ × Module)) (tasks : List (ℕ × List ℕ)) (entries : List ℕ) (capacity : ℕ) (given : Input) (run : Run)
+        → capacity < 2 ^ 32 → All (λ (m : List ℕ × Module). WellTyped m.1) modules
+        → execution modules tasks entries capacity given ≡ Ran run → Accepts capacity (events_of run.deeds) }
 
     // And such a run has an end that the table answers: no task of it is ever stuck.
-    ensures never_stuck { (budget capacity : ℕ) (given : List (Option ℕ)) (m : Module) (run : Run)
-        → WellTyped m → execution_within budget capacity given m ≡ Runs run → run.end ≢ Stuck }
+    ensures never_stuck { (modules : List (List ℕ × Module)) (tasks : List (ℕ × List ℕ)) (entries : List ℕ) (capacity : ℕ) (given : Input) (run : Run)
+        → capacity < 2 ^ 32 → All (λ (m : List ℕ × Module). WellTyped m.1) modules
+        → execution modules tasks entries capacity given ≡ Ran run → run.end ≢ Stuck }
 
     // A fault that was counted is never passed over.
     ensures reads { (name : List ℕ) → F.read_faults shelf.old name < F.read_faults shelf.new name → IsFaulty result }
@@ -105,7 +108,7 @@ pub fn tool<F: Shelf, I: Source, O: Sink, R: Sink>(
     // The input and the output are as before, but for a run: after its end the output has grown by exactly its bytes, and
     // the input has lost exactly those that it takes; after a fault the output has got a front of them, and the input
     // has lost no others.
-    ensures flows { (given : List (Option ℕ)) × MayGive (I.left input.old) given × FlowsFor
+    ensures flows { (given : Input) × MayGive (I.left input.old) given × FlowsFor
         (shelved F.files F.read_faults F.write_faults shelf.old shelf.new)
         (asked_of (map (λ w. w.now) words.now)) given
         (flowed I.left I.faults O.held O.faults input.old input.new out.old out.new)
@@ -123,7 +126,7 @@ fn respond<F: Shelf, I: Source, O: Sink, R: Sink>(
     out: &mut O,
     report: &mut R,
 ) -> Status
-    ensures { (given : List (Option ℕ)) × MayGive (I.left input.old) given
+    ensures { (given : Input) × MayGive (I.left input.old) given
         × Responds (map (λ w. w.now) words.now) given
         (shelved F.files F.read_faults F.write_faults shelf.old shelf.new)
         (reported R.held R.faults report.old report.new)
@@ -143,6 +146,7 @@ fn respond<F: Shelf, I: Source, O: Sink, R: Sink>(
                 memory,
             },
         ) => { exec(alloc, file, budget, memory, shelf, input, out, report) }
+        Ok(Request::Run { job }) => run(alloc, job, shelf, input, out, report),
         Ok(Request::Check { file }) => check_file(alloc, file, shelf, input, out, report),
         Ok(Request::Asm { file, out: target }) => {
             asm_file(alloc, file, target, shelf, input, out, report)

@@ -1,10 +1,10 @@
 use Rattle.std.proofs.Common.{◌∙◌, ap, refl, subst}
 use Rattle.std.specs.Prelude.{Err, Some, map}
 use Rattle.ms_machine.proofs.Outsides.{some_input}
-use Rattle.ms_words.specs.Asked.{Answers, Asm, Check, Dis, Exec, view}
+use Rattle.ms_words.specs.Asked.{Answers, view}
 use Rattle.ms_words.specs.declared.request.Request.{Request}
 use Rattle.ms_words.specs.declared.request.WordsFault.{WordsFault}
-use Rattle.ms_tool.proofs.Complete.{command_responded, nothing_responded, run_responded, usage_responded}
+use Rattle.ms_tool.proofs.Complete.{asm_responded, check_responded, dis_responded, exec_responded, nothing_responded, run_responded, usage_responded}
 use Rattle.ms_tool.proofs.tool.respond.Goals as goal
 
 pub returns-in-Ok-Exec : goal.returns-in-Ok-Exec
@@ -13,7 +13,15 @@ returns-in-Ok-Exec g c =
     let words = map (λ w. w.now) c.args.words.now in
     let asked = it.ensures.answers ∙ ap (λ (r : Request). Some (view r)) it.field-0-is in
     let e = c.exec.ensures in
-    run_responded words _ _ _ e.0 e.1 it.file.now it.budget it.memory c.exec.result asked e.2 e.3
+    exec_responded words _ _ _ e.0 e.1 it.file.now it.budget it.memory c.exec.result asked e.2 e.3
+
+pub returns-in-Ok-Run : goal.returns-in-Ok-Run
+returns-in-Ok-Run g c =
+    let it = c.in-Ok-Run in
+    let words = map (λ w. w.now) c.args.words.now in
+    let asked = it.ensures.answers ∙ ap (λ (r : Request). Some (view r)) it.field-0-is in
+    let e = c.run.ensures in
+    run_responded words _ _ _ e.0 e.1 it.job.now c.run.result asked e.2 e.3
 
 pub returns-in-Ok-Check : goal.returns-in-Ok-Check
 returns-in-Ok-Check g c =
@@ -22,7 +30,7 @@ returns-in-Ok-Check g c =
     let asked = it.ensures.answers ∙ ap (λ (r : Request). Some (view r)) it.field-0-is in
     let input = some_input (g.I.Source.left c.args.input.now) in
     let e = c.check_file.ensures in
-    command_responded words _ _ _ input.0 input.1 (Check it.file.now) c.check_file.result asked e.did (e.input.0, e.input.1, e.out.0, e.out.1)
+    check_responded words _ _ _ input.0 input.1 it.file.now c.check_file.result asked e.told (e.input.0, e.input.1, e.out.0, e.out.1)
 
 pub returns-in-Ok-Asm : goal.returns-in-Ok-Asm
 returns-in-Ok-Asm g c =
@@ -31,7 +39,7 @@ returns-in-Ok-Asm g c =
     let asked = it.ensures.answers ∙ ap (λ (r : Request). Some (view r)) it.field-0-is in
     let input = some_input (g.I.Source.left c.args.input.now) in
     let e = c.asm_file.ensures in
-    command_responded words _ _ _ input.0 input.1 (Asm it.file.now it.target.now) c.asm_file.result asked e.did (e.input.0, e.input.1, e.out.0, e.out.1)
+    asm_responded words _ _ _ input.0 input.1 it.file.now it.target.now c.asm_file.result asked e.did (e.input.0, e.input.1, e.out.0, e.out.1)
 
 pub returns-in-Ok-Dis : goal.returns-in-Ok-Dis
 returns-in-Ok-Dis g c =
@@ -40,7 +48,7 @@ returns-in-Ok-Dis g c =
     let asked = it.ensures.answers ∙ ap (λ (r : Request). Some (view r)) it.field-0-is in
     let input = some_input (g.I.Source.left c.args.input.now) in
     let e = c.dis_file.ensures in
-    command_responded words _ _ _ input.0 input.1 (Dis it.file.now it.target.now) c.dis_file.result asked e.did (e.input.0, e.input.1, e.out.0, e.out.1)
+    dis_responded words _ _ _ input.0 input.1 it.file.now it.target.now c.dis_file.result asked e.did (e.input.0, e.input.1, e.out.0, e.out.1)
 
 pub returns-in-Err-Refused : goal.returns-in-Err-Refused
 returns-in-Err-Refused g c =

@@ -18,13 +18,13 @@ pub returns-clause-memory : goal.returns-clause-memory
 returns-clause-memory g c = let e = c.respond.ensures in memory_clause _ e.0 _ _ _ c.respond.result e.1 e.2
 
 pub returns-clause-complete : goal.returns-clause-complete
-returns-clause-complete g c = λ bytes status line file known gives. let e = c.respond.ensures in complete_clause _ e.0 _ _ _ bytes status line file c.respond.result e.2 known (gives e.0 e.1)
+returns-clause-complete g c = λ known status line file is gives. let e = c.respond.ensures in complete_clause _ e.0 _ _ _ known status line file c.respond.result e.2 is (gives e.0 e.1)
 
 pub returns-clause-safe : goal.returns-clause-safe
-returns-clause-safe g c = λ name bytes budget capacity given m run small spelled typed runs. execution_is_accepted budget capacity given m run small runs
+returns-clause-safe g c = λ modules tasks entries capacity given run small typed runs. execution_is_accepted modules tasks entries capacity given small typed run runs
 
 pub returns-clause-never_stuck : goal.returns-clause-never_stuck
-returns-clause-never_stuck g c = λ budget capacity given m run typed runs. execution_is_never_stuck budget capacity given m run typed runs
+returns-clause-never_stuck g c = λ modules tasks entries capacity given run small typed runs. execution_is_never_stuck modules tasks entries capacity given small typed run runs
 
 pub returns-clause-reads : goal.returns-clause-reads
 returns-clause-reads g c = λ name lt. let e = c.respond.ensures in reads_clause _ e.0 _ _ _ c.respond.result e.2 name lt

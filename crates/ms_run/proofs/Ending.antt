@@ -1,0 +1,91 @@
+-- What was put of the end of a run, by what the run of the crew answered.
+use Rattle.std.proofs.Common.{◌≡◌, ◌∙◌, ◌+◌, ℕ, suc, inl, inr, List, [], ◌++◌, append-nil, append_assoc, drop, length, slice_get, Option, Some, refl, sym, ap, subst, arith}
+use Rattle.ms_linear.specs.declared.value.Value.{Value}
+use Rattle.ms_task.specs.Thread.{Thread}
+use Rattle.ms_tasks.proofs.Chaining.{drop_at}
+use Rattle.ms_host.specs.declared.trap.TrapKind.{TrapKind}
+use Rattle.ms_machine.specs.Crews.{Crew, End, Input, OutOfBudget as BudgetEnd, Results, Run, Trap, begun, bytes_of, results, run_of}
+use Rattle.ms_machine.specs.Running.{IsLeft, MayGive, TellsAlike}
+use Rattle.ms_tasks.specs.Logs.{Log}
+use Rattle.ms_tasks.specs.Outside.{HasBegun, HasRun}
+use Rattle.ms_tasks.specs.Runs.{CountsInput, CountsOut, DoesRun}
+use Rattle.ms_tasks.specs.declared.ran.Ran.TheVariants as answers
+use Rattle.ms_run.specs.Executions.{EndsAs}
+use Rattle.ms_run.specs.Flows.{Cuts, Flowed, RunsPart, RunsWhole, TellsEnd, end_cut, end_told, end_untold, input_failed, out_failed}
+use Rattle.ms_run.specs.Lines.{budget_line, input_fault_line, result_line, result_lines, trap_line}
+use Rattle.ms_run.specs.Observed.{Flow, Report}
+use Rattle.ms_run.specs.Reporting.{IsKept, Reports}
+use Rattle.ms_run.specs.declared.status.Status.{Status}
+use Rattle.ms_run.specs.declared.status.Status.TheVariants.{Done, OutOfBudget, OutOfMemory, ReadFault, Trapped, WriteFault}
+use Rattle.ms_run.proofs.Counting.{run_counts}
+
+-- ---- the status of what was put
+
+module _ (P : Status → Type 0) (status : Status) (line : List ℕ) (r : Report) (result : Status) where
+  pub of_reports : P status → P WriteFault → P OutOfMemory → Reports status line r result → P result
+  of_reports a b c (inl h) = subst P (sym h.0) a
+  of_reports a b c (inr (inl h)) = subst P (sym h.0) b
+  of_reports a b c (inr (inr h)) = subst P (sym h.0) c
+
+-- ---- the input and the output
+
+module _ (f : Flow) (old new : Log) (given : Input) (run : Run) where
+  whole_of : f.takes_new ≡ f.takes_old → f.puts_new ≡ f.puts_old → HasRun f.left_old f.left_new f.held_old f.held_new old new given run → RunsWhole given f run
+  whole_of takes puts h = record { takes = takes; puts = puts; alike = h.alike; may = h.may; rest = h.rest; out = h.out }
+
+  part_of : HasBegun f.left_old f.left_new f.held_old f.held_new old new given run → RunsPart given f run
+  part_of h = record { alike = h.alike; may = h.may; now = h.now; rest = h.rest; taken = h.taken; to_take = h.to_take; front = h.front; is_front = h.is_front; out = h.out }
+
+-- a whole run is a part of it
+pub whole_part : (f : Flow) (given : Input) (run : Run) → IsLeft run.input given → RunsWhole given f run → RunsPart given f run
+whole_part f given run left h =
+    record { alike = h.alike; may = h.may; now = run.input; rest = h.rest; taken = left; to_take = ([], refl); front = bytes_of run.deeds; is_front = ([], sym (append-nil (bytes_of run.deeds))); out = h.out }
+
+-- ---- the answers of the run of a crew
+
+module _ (run_over : Input → Run) (c : Crew) (r : Report) (f : Flow) (old new : Log) (result : Status) where
+  ended : (given : Input) (end : End) (status : Status) (line : List ℕ) → (run_over given).end ≡ end → EndsAs end status line → f.takes_new ≡ f.takes_old → f.puts_new ≡ f.puts_old → HasRun f.left_old f.left_new f.held_old f.held_new old new given (run_over given) → Reports status line r result → TellsEnd run_over r f result
+  ended given end status line is ends takes puts has reports =
+      end_told given status line (subst (λ (e : End). EndsAs e status line) (sym is) ends) (whole_of f old new given (run_over given) takes puts has) reports
+
+  pub results_told : CountsInput answers.Results f.takes_old f.takes_new → CountsOut answers.Results f.puts_old f.puts_new → (given : Input) × DoesRun answers.Results c f.left_old f.left_new f.held_old f.held_new old new given (run_over given)
+      → Reports Done (result_lines (results c.tasks)) r result → TellsEnd run_over r f result
+  results_told takes puts (given, does) reports = ended given (Results (results c.tasks)) Done (result_lines (results c.tasks)) does.0 (refl, refl) takes puts does.2 reports
+
+  pub trap_told : (kind : TrapKind) → CountsInput (answers.Trap kind) f.takes_old f.takes_new → CountsOut (answers.Trap kind) f.puts_old f.puts_new → (given : Input) × DoesRun (answers.Trap kind) c f.left_old f.left_new f.held_old f.held_new old new given (run_over given)
+      → Reports Trapped (trap_line kind) r result → TellsEnd run_over r f result
+  trap_told kind takes puts (given, does) reports = ended given (Trap does.0 kind) Trapped (trap_line kind) does.1 (refl, refl) takes puts does.3 reports
+
+  pub budget_told : CountsInput answers.Budget f.takes_old f.takes_new → CountsOut answers.Budget f.puts_old f.puts_new → (given : Input) × DoesRun answers.Budget c f.left_old f.left_new f.held_old f.held_new old new given (run_over given)
+      → Reports OutOfBudget budget_line r result → TellsEnd run_over r f result
+  budget_told takes puts (given, does) reports = ended given BudgetEnd OutOfBudget budget_line does.0 (refl, refl) takes puts does.2 reports
+
+  pub read_fault_told : CountsInput answers.ReadFault f.takes_old f.takes_new → CountsOut answers.ReadFault f.puts_old f.puts_new → (given : Input) × DoesRun answers.ReadFault c f.left_old f.left_new f.held_old f.held_new old new given (run_over given)
+      → Reports ReadFault input_fault_line r result → TellsEnd run_over r f result
+  read_fault_told takes puts (given, does) reports =
+      let part = part_of f old new given (run_over given) does in
+      end_cut given part (of_reports (Flowed given f (run_over given)) ReadFault input_fault_line r result (puts, part) part part reports) (input_failed takes.rose reports)
+
+  pub write_fault_told : CountsInput answers.WriteFault f.takes_old f.takes_new → CountsOut answers.WriteFault f.puts_old f.puts_new → (given : Input) × DoesRun answers.WriteFault c f.left_old f.left_new f.held_old f.held_new old new given (run_over given)
+      → IsKept r → TellsEnd run_over r f WriteFault
+  write_fault_told takes puts (given, does) kept =
+      let part = part_of f old new given (run_over given) does in
+      end_cut given part part (out_failed puts.rose kept)
+
+  pub memory_told : (given : Input) × DoesRun answers.Memory c f.left_old f.left_new f.held_old f.held_new old new given (run_over given) → IsKept r → TellsEnd run_over r f OutOfMemory
+  memory_told (given, does) kept = end_untold given (part_of f old new given (run_over given) does) kept
+
+-- ---- the lines of the tasks
+
+pub lines_grow : (made more all : List ℕ) (tasks : List Thread) (k : ℕ) (t : Thread) (value : Option Value) → slice_get tasks k ≡ Some t → value ≡ slice_get t.operands 0 → more ≡ result_line value
+    → made ++ result_lines (results (drop k tasks)) ≡ all → (made ++ more) ++ result_lines (results (drop (k + 1) tasks)) ≡ all
+lines_grow made more all tasks k t value found is line so_far =
+    let rest = result_lines (results (drop (suc k) tasks)) in
+    let next : suc k ≡ k + 1 = omega arith in
+    let left : result_lines (results (drop k tasks)) ≡ more ++ rest =
+    ap (λ ts. result_lines (results ts)) (drop_at tasks k t found) ∙ ap (λ x. x ++ rest) (ap result_line (sym is) ∙ sym line) in
+    ap (λ j. (made ++ more) ++ result_lines (results (drop j tasks))) (sym next) ∙ (append_assoc made more rest ∙ (ap (λ x. made ++ x) (sym left) ∙ so_far))
+
+-- a run that has ended has as many tasks as before
+pub tasks_stay : (entries : List ℕ) (c after : Crew) (given : Input) → (run_of entries c given).crew ≡ begun after → length after.tasks ≡ length c.tasks
+tasks_stay entries c after given e = ap (λ (x : Crew). length x.tasks) (sym e) ∙ run_counts entries c given

@@ -1,0 +1,120 @@
+-- What was done after something else that left the shelf's files and the report as they were.
+use Rattle.std.proofs.Common.{◌≡◌, ◌∙◌, ℕ, ◌⊎◌, inl, inr, List, refl, sym, subst}
+use Rattle.std.specs.Prelude.{Option, Some, None}
+use Rattle.ms_outside.specs.Faults.{Rose}
+use Rattle.ms_outside.specs.Files.{Files}
+use Rattle.ms_outside.specs.Shelf.{SameCounts, Told}
+use Rattle.ms_run.specs.Answers.{Command, Contents, Fault, File, Found}
+use Rattle.ms_run.specs.Flows.{Cuts, TellsRun, cut, input_failed, out_failed, tells}
+use Rattle.ms_run.specs.Observed.{Flow, Report, Shelved}
+use Rattle.ms_run.specs.Reporting.{CountsReads, Delivers, Did, IsFound, IsKept, IsUntouched, KeepsFiles, Makes, Reports, Tells, answered, failed, made, made_none, put, ran_out, starved, told, untold}
+use Rattle.ms_run.specs.declared.status.Status.{Status}
+use Rattle.ms_run.specs.declared.status.Status.TheVariants.{ReadFault}
+
+-- ---- the report
+
+abbrev pub report_of : (old new : Option (List ℕ)) (puts_old puts_new : ℕ) → Report
+report_of old new puts_old puts_new = record { old = old; new = new; puts_old = puts_old; puts_new = puts_new }
+
+pub over_report : (P : Report → Type 0) (old mid new : Option (List ℕ)) (puts_old puts_mid puts_new : ℕ) → IsKept (report_of old mid puts_old puts_mid) → P (report_of mid new puts_mid puts_new) → P (report_of old new puts_old puts_new)
+over_report P old mid new puts_old puts_mid puts_new kept h =
+    subst (λ (x : Option (List ℕ)). P (report_of x new puts_old puts_new)) kept.0 (subst (λ (n : ℕ). P (report_of mid new n puts_new)) kept.1 h)
+
+-- ---- a table, by another one
+
+module _ (Gives Gives' : Status → List ℕ → Type 0) (more : (status : Status) (line : List ℕ) → Gives status line → Gives' status line) where
+  pub tells_more : (s : Shelved) (r : Report) (result : Status) → Tells Gives s r result → Tells Gives' s r result
+  tells_more s r result (told status line gives counts files reports) = told status line (more status line gives) counts files reports
+  tells_more s r result (untold counts files kept) = untold counts files kept
+
+-- ---- the shelf
+
+abbrev pub shelved_of : (old new : Option Files) (reads_old reads_new : List ℕ → ℕ) (writes_old writes_new : ℕ) → Shelved
+shelved_of old new reads_old reads_new writes_old writes_new =
+    record { old = old; new = new; reads_old = reads_old; reads_new = reads_new; writes_old = writes_old; writes_new = writes_new }
+
+module _ (old mid new : Option Files) (reads_old reads_mid reads_new : List ℕ → ℕ) (writes_old writes_mid writes_new : ℕ)
+    (held held_mid held_new : Option (List ℕ)) (puts puts_mid puts_new : ℕ) where
+  abbrev pub first : Shelved
+  first = shelved_of old mid reads_old reads_mid writes_old writes_mid
+
+  abbrev pub second : Shelved
+  second = shelved_of mid new reads_mid reads_new writes_mid writes_new
+
+  abbrev pub whole : Shelved
+  whole = shelved_of old new reads_old reads_new writes_old writes_new
+
+  abbrev pub first_report : Report
+  first_report = report_of held held_mid puts puts_mid
+
+  abbrev pub second_report : Report
+  second_report = report_of held_mid held_new puts_mid puts_new
+
+  abbrev pub whole_report : Report
+  whole_report = report_of held held_new puts puts_new
+
+  abbrev Before : Type 0
+  Before = IsUntouched first first_report
+
+  pub found_later : Before → (name : List ℕ) (found : Found) → IsFound second name found → IsFound whole name found
+  found_later before name (Contents bytes) h = subst (λ (x : Option Files). Told x name (λ known. bytes ≡ known)) before.files.0 h
+  found_later before name Fault h = subst (λ (n : ℕ). Rose n (reads_new name)) (before.counts name) h
+
+  counts_later : Before → (status : Status) → CountsReads second status → CountsReads whole status
+  counts_later before status (inl h) = inl h
+  counts_later before status (inr same) = inr (λ n. same n ∙ before.counts n)
+
+  files_later : Before → KeepsFiles second → KeepsFiles whole
+  files_later before kept = (kept.0 ∙ before.files.0, kept.1 ∙ before.files.1)
+
+  kept_later : Before → IsKept second_report → IsKept whole_report
+  kept_later before kept = (kept.0 ∙ before.report.0, kept.1 ∙ before.report.1)
+
+  pub reports_later : Before → (status : Status) (line : List ℕ) (result : Status) → Reports status line second_report result → Reports status line whole_report result
+  reports_later before status line result h = over_report (λ (r : Report). Reports status line r result) held held_mid held_new puts puts_mid puts_new before.report h
+
+  pub untouched_later : Before → IsUntouched second second_report → IsUntouched whole whole_report
+  untouched_later before after =
+      record { counts = λ n. after.counts n ∙ before.counts n; files = files_later before after.files; report = kept_later before after.report }
+
+  pub tells_later : (Gives Gives' : Status → List ℕ → Type 0) → ((status : Status) (line : List ℕ) → Gives status line → Gives' status line) → Before → (result : Status) → Tells Gives second second_report result → Tells Gives' whole whole_report result
+  tells_later Gives Gives' more before result (told status line gives counts files reports) =
+      told status line (more status line gives) (counts_later before status counts) (files_later before files) (reports_later before status line result reports)
+  tells_later Gives Gives' more before result (untold counts files kept) =
+      untold (λ n. counts n ∙ before.counts n) (files_later before files) (kept_later before kept)
+
+  pub cuts_later : Before → (f : Flow) (result : Status) → Cuts second_report f result → Cuts whole_report f result
+  cuts_later before f result h = over_report (λ (r : Report). Cuts r f result) held held_mid held_new puts puts_mid puts_new before.report h
+
+  pub run_later : (Gives Gives' : Status → List ℕ → Type 0) → ((status : Status) (line : List ℕ) → Gives status line → Gives' status line) → Before → (f : Flow) (result : Status) → TellsRun Gives second second_report f result → TellsRun Gives' whole whole_report f result
+  run_later Gives Gives' more before f result (tells h) = tells (tells_later Gives Gives' more before result h)
+  run_later Gives Gives' more before f result (cut counts files h) = cut (λ n. counts n ∙ before.counts n) (files_later before files) (cuts_later before f result h)
+
+  -- ---- what was made of bytes, where a file may be written
+
+  delivers_later : Before → (status : Status) (line : List ℕ) (file : Option File) (result : Status) → Delivers status line file second second_report result → Delivers status line file whole whole_report result
+  delivers_later before status line file result h =
+      subst (λ (n : ℕ). Delivers status line file (shelved_of old new reads_old reads_new n writes_new) whole_report result) before.files.1
+      (subst (λ (x : Option Files). Delivers status line file (shelved_of x new reads_old reads_new writes_mid writes_new) whole_report result) before.files.0
+      (of_counts status line file result (over_report (λ (r : Report). Delivers status line file second r result) held held_mid held_new puts puts_mid puts_new before.report h)))
+    where
+      -- what is delivered doesn't speak of reads
+      of_counts : (status : Status) (line : List ℕ) (file : Option File) (result : Status) → Delivers status line file second whole_report result → Delivers status line file (shelved_of mid new reads_old reads_new writes_mid writes_new) whole_report result
+      of_counts status line None result (put written reports) = put written reports
+      of_counts status line (Some file) result (put written reports) = put written reports
+      of_counts status line None result (failed f kept) = absurd f
+      of_counts status line (Some file) result (failed f kept) = failed f kept
+      of_counts status line file result (starved files kept) = starved files kept
+
+  -- the table of what is made is one of answers
+  pub makes_later : (Gives : Status → List ℕ → Option File → Type 0) (Does : Command) (bytes : List ℕ) → ((status : Status) (line : List ℕ) (file : Option File) → Does bytes status line file → Gives status line file) → Before → SameCounts reads_mid reads_new
+      → (result : Status) → Makes Does bytes second second_report result → Did Gives whole whole_report result
+  makes_later Gives Does bytes more before same result (made status line file does delivers) =
+      answered status line file (more status line file does) (inr (λ n. same n ∙ before.counts n)) (delivers_later before status line file result delivers)
+  makes_later Gives Does bytes more before same result (made_none files kept) = ran_out (λ n. same n ∙ before.counts n) (files_later before files) (kept_later before kept)
+
+-- ---- an answer without a file
+
+pub did_without : (Gives : Status → List ℕ → Type 0) (Gives' : Status → List ℕ → Option File → Type 0) → ((status : Status) (line : List ℕ) → Gives status line → Gives' status line None) → (s : Shelved) (r : Report) (result : Status) → Tells Gives s r result → Did Gives' s r result
+did_without Gives Gives' more s r result (told status line gives counts files reports) = answered status line None (more status line gives) counts (put files reports)
+did_without Gives Gives' more s r result (untold counts files kept) = ran_out counts files kept

@@ -1,0 +1,8 @@
+use Rattle.std.proofs.Common.{refl}
+use Rattle.ms_run.specs.Jobs.{exec_job}
+use Rattle.ms_run.specs.declared.gathering.Naming.TheVariants.{Only}
+use Rattle.ms_run.proofs.Jobs.{job_starved}
+use Rattle.ms_run.proofs.running.exec.Goals as goal
+
+pub returns-in-Err : goal.returns-in-Err
+returns-in-Err g c = job_starved Only (exec_job c.args.file.now c.args.budget c.args.memory) _ _ _ (λ n. refl) (refl, refl) (refl, refl) (refl, refl, refl, refl)

@@ -1,0 +1,26 @@
+use Rattle.std.proofs.Common.{◌∙◌, List, ℕ, ap, refl, subst, sym}
+use Rattle.std.specs.Prelude.{Err}
+use Rattle.ms_job.specs.Jobs.{job_in}
+use Rattle.ms_job.specs.Reading.{ReadsJob}
+use Rattle.ms_run.specs.Observed.{Report}
+use Rattle.ms_run.specs.Reporting.{ReportsJobFault}
+use Rattle.ms_run.proofs.Jobs.{fault_answered, job_answered, unfound_answered}
+use Rattle.ms_run.proofs.Later.{over_report}
+use Rattle.ms_run.proofs.running.run.Goals as goal
+
+pub returns-in-Err : goal.returns-in-Err
+returns-in-Err g c = unfound_answered c.args.file.now _ _ _ (refl, refl, refl, refl) c.in-Err.status c.in-Err.ensures.told
+
+pub returns-in-Ok-parse : goal.returns-in-Ok-parse
+returns-in-Ok-parse g c =
+    let is = ap job_in (sym c.as_slice.ensures.value) ∙ c.in-Ok-parse.ensures.job in
+    job_answered _ _ _ _ _ _ _ _ _ _ _ _ _ _ _ c.args.file.now c.in-Ok.bytes.items _ c.run_job.result c.in-Ok.ensures.untouched c.in-Ok.ensures.bytes c.in-Ok-parse.job is c.run_job.ensures
+
+pub returns : goal.returns
+returns g c =
+    let before = c.in-Ok.ensures.untouched in
+    let bytes = c.in-Ok.bytes.items in
+    let fault = c.in-Err-parse.fault in
+    let is = subst (λ (text : List ℕ). ReadsJob (job_in text) (Err fault)) c.as_slice.ensures.value c.in-Err-parse.ensures.job in
+    fault_answered c.args.file.now _ _ _ bytes fault c.in-Ok.ensures.bytes is before.counts before.files (refl, refl, refl, refl) c.answer_job_fault.result
+    (over_report (λ (r : Report). ReportsJobFault fault r c.answer_job_fault.result) _ _ _ _ _ _ before.report c.answer_job_fault.ensures)

@@ -1,0 +1,167 @@
+//! `exec` and `run`: the files of a job are read, its modules are linked, and its tasks are run.
+
+ghost use Rattle.std.specs.Prelude.{◌≡◌, ◌≤◌, ◌<◌, ◌^◌, IfOk};
+ghost use Rattle.ms_job.specs.Bounds.{IsBounded};
+ghost use Rattle.ms_machine.specs.Crews.{Input};
+ghost use Rattle.ms_machine.specs.Running.{MayGive};
+ghost use Rattle.ms_run.specs.Flows.{Flows, TellsRun};
+ghost use Rattle.ms_run.specs.Jobs.{RunOfFile, RunOfJob, RunsFile, RunsJob, exec_job};
+ghost use Rattle.ms_run.specs.Observed.{flowed, reported, shelved};
+ghost use Rattle.ms_run.specs.Reporting.{Holds, IsFound};
+ghost use Rattle.ms_run.specs.declared.gathering.Naming.TheVariants.{Only};
+
+use crate::execution::execute;
+use crate::fetch::fetch;
+use crate::gathering::{Naming, load_all, schedule_of};
+use crate::report::answer_job_fault;
+use crate::status::Status;
+use ms_job::{Job, parse};
+use ms_live::{Gaps, TreeGaps};
+use ms_module::Name;
+use ms_outside::{Shelf, Sink, Source};
+use ms_tagged::{Granules, Tagged};
+use ms_types::Vector;
+use std::alloc::{AllocError, Global};
+
+/// How many entries in a row the task of `exec` has, which has all of them.
+const TURNS: u32 = 1_000_000;
+
+/// Reads the files of a job, links its modules and runs its tasks, however its segments are kept.
+#[allow(clippy::too_many_arguments)]
+fn run_job<G: Gaps, T: Tagged, F: Shelf, I: Source, O: Sink, R: Sink>(
+    alloc: Global,
+    naming: Naming,
+    job: Job,
+    shelf: &mut F,
+    input: &mut I,
+    out: &mut O,
+    report: &mut R,
+) -> Status
+    requires bounds { IsBounded job }
+    ensures { (given : Input) × MayGive (I.left input.old) given × TellsRun
+        (RunsJob (IsFound (shelved F.files F.read_faults F.write_faults shelf.old shelf.new)) naming given job)
+        (shelved F.files F.read_faults F.write_faults shelf.old shelf.new)
+        (reported R.held R.faults report.old report.new)
+        (flowed I.left I.faults O.held O.faults input.old input.new out.old out.new)
+        result
+        × Flows given (RunOfJob (Holds (F.files shelf.old)) given job)
+        (flowed I.left I.faults O.held O.faults input.old input.new out.old out.new)
+        result }
+{
+    let modules = match load_all(alloc, naming, job.modules.as_slice(), shelf, report) {
+        Ok(modules) => modules,
+        Err(status) => return status,
+    };
+    let schedule = match schedule_of(alloc, &job, shelf, report) {
+        Ok(schedule) => schedule,
+        Err(status) => return status,
+    };
+    let tasks = job.tasks.into_vec();
+    execute::<G, T, I, O, R>(
+        alloc, modules, tasks, &schedule, job.budget, job.memory, input, out, report,
+    )
+}
+
+/// The job of one module, whose task is its export `main`.
+fn exec_job(alloc: Global, file: &str, budget: u64, memory: u32) -> Result<Job, AllocError>
+    ensures { IfOk result (λ job. job ≡ exec_job file.now budget memory) }
+{
+    let name = Name::new(alloc, "")?;
+    let file = Name::new(alloc, file)?;
+    let main = Name::new(alloc, "main")?;
+    Ok(Job {
+        modules: Vector::from_vec(vec![in alloc; (name, file)]?),
+        tasks: Vector::from_vec(vec![in alloc; (0, main)]?),
+        turns: TURNS,
+        schedule: None,
+        budget,
+        memory,
+        trace: None,
+        dump: false,
+    })
+}
+
+/// `exec FILE`: reads a module from the shelf, validates it, links it with the host and runs its start function and then its
+/// `main`, at most `budget` steps (up to 10^12) with `memory` bytes of segment memory (up to 2^24). The end of the run goes to
+/// the report.
+///
+/// The run takes from `input` and puts to `out`: after its end `out` has grown by exactly its bytes, and `input` has lost
+/// exactly those that it takes. Where one of them failed the answer is a read fault or a write fault, `out` has grown by a
+/// front of the run's bytes, and `input` has lost only bytes that the run takes.
+#[allow(clippy::too_many_arguments)]
+pub fn exec<F: Shelf, I: Source, O: Sink, R: Sink>(
+    alloc: Global,
+    file: &str,
+    budget: u64,
+    memory: u32,
+    shelf: &mut F,
+    input: &mut I,
+    out: &mut O,
+    report: &mut R,
+) -> Status
+    requires budget { budget ≤ 1000000000000 }
+    requires memory { memory ≤ 16777216 }
+    ensures { (given : Input) × MayGive (I.left input.old) given × TellsRun
+        (RunsJob (IsFound (shelved F.files F.read_faults F.write_faults shelf.old shelf.new)) Only given (exec_job file.now budget memory))
+        (shelved F.files F.read_faults F.write_faults shelf.old shelf.new)
+        (reported R.held R.faults report.old report.new)
+        (flowed I.left I.faults O.held O.faults input.old input.new out.old out.new)
+        result
+        × Flows given (RunOfJob (Holds (F.files shelf.old)) given (exec_job file.now budget memory))
+        (flowed I.left I.faults O.held O.faults input.old input.new out.old out.new)
+        result }
+{
+    match exec_job(alloc, file, budget, memory) {
+        Ok(job) => run_job::<TreeGaps, Granules, F, I, O, R>(
+            alloc,
+            Naming::Only,
+            job,
+            shelf,
+            input,
+            out,
+            report,
+        ),
+        Err(_) => Status::OutOfMemory,
+    }
+}
+
+/// `run JOB`: reads a job from the shelf and the files that it names, validates its modules, links them in order with the host,
+/// and runs their start functions and then the tasks by the job's schedule. The end of the run goes to the report: a line for
+/// each task.
+///
+/// What becomes of `input` and `out` is as `exec` says.
+pub fn run<F: Shelf, I: Source, O: Sink, R: Sink>(
+    alloc: Global,
+    file: &str,
+    shelf: &mut F,
+    input: &mut I,
+    out: &mut O,
+    report: &mut R,
+) -> Status
+    ensures { (given : Input) × MayGive (I.left input.old) given × TellsRun
+        (RunsFile (IsFound (shelved F.files F.read_faults F.write_faults shelf.old shelf.new)) given file.now)
+        (shelved F.files F.read_faults F.write_faults shelf.old shelf.new)
+        (reported R.held R.faults report.old report.new)
+        (flowed I.left I.faults O.held O.faults input.old input.new out.old out.new)
+        result
+        × Flows given (RunOfFile (Holds (F.files shelf.old)) given file.now)
+        (flowed I.left I.faults O.held O.faults input.old input.new out.old out.new)
+        result }
+{
+    let bytes = match fetch(alloc, file, shelf, report) {
+        Ok(bytes) => bytes,
+        Err(status) => return status,
+    };
+    match parse(alloc, bytes.as_slice()) {
+        Ok(job) => run_job::<TreeGaps, Granules, F, I, O, R>(
+            alloc,
+            Naming::Numbered,
+            job,
+            shelf,
+            input,
+            out,
+            report,
+        ),
+        Err(fault) => answer_job_fault(alloc, fault, report),
+    }
+}
