@@ -1,3 +1,4 @@
 pub mod StepLoop
 pub mod Digits
 pub mod Ends
+pub mod Rising

@@ -1,6 +1,7 @@
 pub mod Fault
 pub mod Classes
 pub mod Numbers
+pub mod Places
 pub mod Keywords
 pub mod Marks
 pub mod Literals

@@ -1,9 +1,10 @@
 //! Lexing (C11, 6.4).
 
-ghost use Rattle.std.specs.Prelude.{◌≡◌, ◌⊎◌, ℕ, List, IfErr, IfOk, MatchResult, Ok, Err};
+ghost use Rattle.std.specs.Prelude.{◌≡◌, ◌⊎◌, ℕ, List, length, IfErr, IfOk, MatchResult, Ok, Err};
 ghost use Rattle.c_token.specs.declared.word.Token.{Token};
 ghost use Rattle.c_lex.specs.Fault.{Fault};
 ghost use Rattle.c_lex.specs.Lexing.{Lexes, Stops, behind, lexeme, lexemes, lexing_goes, settled, token_list, tokens_of, with_fresh, with_text, with_word, word_text};
+ghost use Rattle.c_lex.specs.Places.{Rises};
 ghost use Rattle.c_lex.specs.Readers.{FailsBy, FirstFault, Reads, ReadsPart, fault_of, told};
 
 use crate::class::{Class, run_len};
@@ -225,6 +226,8 @@ pub fn lex(alloc: Global, bytes: &[u8]) -> Result<Vec<Token>, CLex>
     ensures fault { IfErr result (λ e. FirstFault bytes.now (fault_of e)) }
     // The first fault that the bytes have is told, unless memory runs out.
     ensures stops { (first : Fault) → Stops bytes.now first → (result ≡ Err (told first)) ⊎ (result ≡ Err CLex.Memory) }
+    // Each token begins within the bytes, behind the place where the one before it begins.
+    ensures rises { (tokens : List Token) → Lexes bytes.now tokens → Rises 0 (length bytes.now) tokens }
 {
     let mut c = Cursor::new(bytes);
     match token_list(alloc, &mut c) {

@@ -49,6 +49,8 @@ fn texts_with_their_heights_and_faults(rt: HostRuntime) {
         (b"int a;1", Want::Syntax(6)),
         (b"char long a;", Want::Syntax(5)),
         (b"int a=1+2=3;", Want::Syntax(9)),
+        (b"int a=sizeof(int)[0];", Want::Syntax(17)),
+        (b"int a=sizeof(int b);", Want::Syntax(17)),
         (b"int a={};", Want::Syntax(7)),
         (b"void f(void){if(1);else;else;}", Want::Syntax(24)),
     ];
