@@ -1,7 +1,7 @@
 -- Structs (C11, 6.7.2.1), and declarations and definitions at file scope (6.9).
-use Rattle.std.specs.Prelude.{ℕ, nat_le, not, Bool, true, false, List, [], ◌∷◌, ◌++◌, length, is_some, slice_get, slice_set, Option, Some, None}
+use Rattle.std.specs.Prelude.{ℕ, nat_le, not, Bool, true, false, List, [], ◌∷◌, ◌++◌, length, is_some, slice_get, slice_set, Option, Some, None, if◌then◌else◌}
 use Rattle.c_types.specs.Layout.{Layout, laid_out}
-use Rattle.c_types.specs.Types.{Ty, struct, function}
+use Rattle.c_types.specs.Types.{Ty, struct, function, is_function}
 use Rattle.c_tree.specs.declared.external.ExternalForm.{ExternalForm}
 use Rattle.c_tree.specs.declared.external.ExternalForm.TheVariants as forms
 use Rattle.c_tree.specs.declared.external.External.{External}
@@ -18,9 +18,9 @@ use Rattle.c_tree.specs.Tree.{Declarator, Initialiser}
 use Rattle.c_typed.specs.declared.ops.Variable.TheVariants as variables
 use Rattle.c_typed.specs.Tree as to
 use Rattle.c_typed.specs.Tree.{Function, Stmt}
-use Rattle.c_check_types.specs.State.{Names, number_of, Rule, ◌>>=◌, ◌>>◌, pure, none, given, only_if, state, change}
+use Rattle.c_check_types.specs.State.{Names, number_of, Rule, ◌>>=◌, ◌>>◌, pure, none, given, only_if, state, change, and_then}
 use Rattle.c_check_types.specs.Scopes.{opened, closed, enters_local, enters_global, declares_function, tag_number}
-use Rattle.c_check_types.specs.Types.{Derived, whole, whole_type, Parameter, specified, declared, most_bytes, size_of}
+use Rattle.c_check_types.specs.Types.{Derived, whole, lengthless, whole_type, Parameter, specified, declared, most_bytes, size_of}
 use Rattle.c_check.specs.Initialisers.{initialised, variable_type}
 use Rattle.c_check.specs.Statements.{scope_of, items, nothing_done, is_missing}
 
@@ -106,12 +106,15 @@ abbrev pub last_one : List Open → Rule Ty
 last_one (o ∷ []) = defines o
 last_one _ = none
 
-abbrev pub outer : OuterSpecifier → Rule Ty
-outer (outers.Plain s) = specified s
-outer (outers.Struct tag ps) = do
+abbrev pub struct_defined : List ℕ → List Piece → Rule Ty
+struct_defined tag ps = do
   o ← opens_struct tag
   os ← all_pieces (o ∷ []) ps
   last_one os
+
+abbrev pub outer : OuterSpecifier → Rule Ty
+outer (outers.Plain s) = specified s
+outer (outers.Struct tag ps) = struct_defined tag ps
 
 -- ---- declarations at file scope
 
@@ -134,15 +137,19 @@ declares_global name d v = do
   made_first n
   global_value n t v
 
-abbrev pub declares_alone : List ℕ → Ty → Option Initialiser → Rule (Unit {0})
-declares_alone name t v = do
-  only_if (is_missing v)
+abbrev pub names_function : List ℕ → Ty → Rule (Unit {0})
+names_function name t = do
   declares_function name t
   pure tt
 
+abbrev pub declares_alone : List ℕ → Ty → Option Initialiser → Rule (Unit {0})
+declares_alone name t v = do
+  only_if (is_missing v)
+  names_function name t
+
 abbrev pub declares : List ℕ → Derived → Option Initialiser → Rule (Unit {0})
-declares name (whole (function r ps)) v = declares_alone name (function r ps) v
-declares name d v = declares_global name d v
+declares name (whole t) v = if is_function t then declares_alone name t v else declares_global name (whole t) v
+declares name (lengthless t) v = declares_global name (lengthless t) v
 
 abbrev pub declares_one : Ty → Declarator → Option Initialiser → Rule (Unit {0})
 declares_one b d v = do
@@ -183,11 +190,15 @@ is_declared_alone n = do
 abbrev pub defined : Function → List Ty → Stmt → Function
 defined f slots body = record f { slots = slots; body = Some body }
 
+abbrev pub with_definition : List Function → ℕ → List Ty → Stmt → Option (List Function)
+with_definition fs n slots body =
+    and_then (slice_get fs n) (λ f. Some (slice_set fs n (defined f slots body)))
+
 abbrev pub with_body : ℕ → Stmt → Rule (Unit {0})
 with_body n body = do
   s ← state
-  f ← given (slice_get s.functions n)
-  change (λ s. record s { functions = slice_set s.functions n (defined f s.slots body); slots = [] })
+  fs ← given (with_definition s.functions n s.slots body)
+  change (λ s. record s { functions = fs; slots = [] })
 
 abbrev pub result_in : Ty → Option Ty
 result_in (function r ps) = Some r

@@ -57,11 +57,14 @@ abbrev pub is_reference : Expr → Bool
 is_reference (tree.unary op e) = takes_address op
 is_reference _ = false
 
+abbrev pub is_known : Expr → Form → Bool
+is_known e x = if is_reference e then true else names_address x
+
 abbrev pub pointer_constant : Ty → Expr → Rule to.Expr
 pointer_constant t e = do
   only_if (is_address e)
   x ← typing e
-  only_if (if is_reference e then true else names_address x)
+  only_if (is_known e x)
   assigned_to (pointer t) x
 
 -- a value at file scope (6.7.9, paragraph 4)
@@ -124,6 +127,18 @@ member_type m i = do
   s ← state
   given (slice_get (members_of s.structs (struct m)) i)
 
+-- an element, no more than there are, by what its initializer gives at its place
+abbrev pub element : (Place → List Stmt → Rule (List Stmt)) → Place → Ty → (count index : ℕ) → List Stmt → Rule (List Stmt)
+element gives p t n i done = do
+  only_if (nat_lt i n)
+  gives (element_place p t n i) done
+
+-- a member, no more than there are, by what its initializer gives at its place and its type
+abbrev pub member : (Place → Ty → List Stmt → Rule (List Stmt)) → Place → (number index : ℕ) → List Stmt → Rule (List Stmt)
+member gives p m i done = do
+  t ← member_type m i
+  gives (to.member p m i) t done
+
 -- Inside braces a struct has braces of its own. A value is written before the next one is evaluated.
 abbrev mutual
   pub inside : (v : Initialiser) → (static : Bool) → Place → Ty → List Stmt → Rule (List Stmt)
@@ -132,20 +147,16 @@ abbrev mutual
   inside (tree.braces vs comma) static p (struct m) done = members vs static p m 0 done
   inside (tree.braces vs comma) static p t done = none
 
-  -- no more values than elements
   pub elements : (vs : Initialisers) → (static : Bool) → Place → Ty → (count index : ℕ) → List Stmt → Rule (List Stmt)
   elements tree.no_initialisers static p t n i done = pure done
   elements (tree.initialiser_and v vs) static p t n i done = do
-    only_if (nat_lt i n)
-    more ← inside v static (element_place p t n i) t done
+    more ← element (λ q so_far. inside v static q t so_far) p t n i done
     elements vs static p t n (i + 1) more
 
-  -- no more values than members
   pub members : (vs : Initialisers) → (static : Bool) → Place → (number index : ℕ) → List Stmt → Rule (List Stmt)
   members tree.no_initialisers static p m i done = pure done
   members (tree.initialiser_and v vs) static p m i done = do
-    t ← member_type m i
-    more ← inside v static (to.member p m i) t done
+    more ← member (λ q t so_far. inside v static q t so_far) p m i done
     members vs static p m (i + 1) more
 
 -- A variable's initializer. In a function a struct is initialized from a place, too (6.7.9, paragraph 13).

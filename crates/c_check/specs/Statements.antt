@@ -1,9 +1,10 @@
 -- Declarations in functions (C11, 6.7), statements (6.8) and the bodies of functions (6.9.1).
-use Rattle.std.specs.Prelude.{ℕ, Bool, true, false, List, [], ◌∷◌, ◌++◌, Option, Some, None}
+use Rattle.std.specs.Prelude.{ℕ, Bool, true, false, List, [], ◌∷◌, ◌++◌, Option, Some, None, if◌then◌else◌}
 use Rattle.c_types.specs.declared.integers.IntType.TheVariants.{Int}
-use Rattle.c_types.specs.Types.{Ty, void, function}
+use Rattle.c_types.specs.Types.{Ty, void, is_function}
 use Rattle.c_tree.specs.declared.first.ForFirstNode.{ForFirstNode}
 use Rattle.c_tree.specs.declared.first.ForFirstNode.TheVariants as firsts
+use Rattle.c_tree.specs.declared.first.Jump.{Jump}
 use Rattle.c_tree.specs.declared.first.Jump.TheVariants as jumps
 use Rattle.c_tree.specs.declared.initialiser.Init.{Init}
 use Rattle.c_tree.specs.declared.specifier.SpecifierNode.{SpecifierNode}
@@ -15,7 +16,7 @@ use Rattle.c_typed.specs.Tree as to
 use Rattle.c_typed.specs.Tree.{Stmt, Stmts}
 use Rattle.c_check_types.specs.State.{Rule, ◌>>=◌, ◌>>◌, pure, given, only_if}
 use Rattle.c_check_types.specs.Scopes.{opened, closed, enters_local, declares_function}
-use Rattle.c_check_types.specs.Types.{Derived, whole, specified, declared}
+use Rattle.c_check_types.specs.Types.{Derived, whole, lengthless, specified, declared}
 use Rattle.c_check_exprs.specs.Forms.{condition_of, assigned_to, thrown_away}
 use Rattle.c_check_exprs.specs.Expressions.{typing}
 use Rattle.c_check.specs.Initialisers.{initialised, variable_type}
@@ -64,8 +65,9 @@ declares_function_there name t v so_far = do
   pure so_far
 
 abbrev pub declares : List ℕ → Derived → Option Initialiser → Declaring → Rule Declaring
-declares name (whole (function r ps)) v so_far = declares_function_there name (function r ps) v so_far
-declares name d v so_far = declares_variable name d v so_far
+declares name (whole t) v so_far =
+    if is_function t then declares_function_there name t v so_far else declares_variable name (whole t) v so_far
+declares name (lengthless t) v so_far = declares_variable name (lengthless t) v so_far
 
 -- a declarator of this type, with its initializer
 abbrev pub declares_one : Ty → Declarator → Option Initialiser → Declaring → Rule Declaring
@@ -109,12 +111,12 @@ step_of (Some e) = do
   v ← performed e
   pure (Some v)
 
-abbrev pub first_of : ForFirstNode → Rule Declaring
-first_of firsts.Nothing = pure nothing_done
-first_of (firsts.Expr e) = do
+abbrev pub first_of : ForFirstNode → Declaring → Rule Declaring
+first_of firsts.Nothing so_far = pure so_far
+first_of (firsts.Expr e) so_far = do
   v ← performed e
-  pure (and_done nothing_done (to.perform v))
-first_of (firsts.Declaration s xs) = declaration_of s xs nothing_done
+  pure (and_done so_far (to.perform v))
+first_of (firsts.Declaration s xs) so_far = declaration_of s xs so_far
 
 abbrev pub in_front_of_loop : ForFirstNode → Declaring → Stmt → Stmt
 in_front_of_loop firsts.Nothing d s = s
@@ -130,6 +132,26 @@ returned result e = do
 abbrev pub is_void : Ty → Bool
 is_void void = true
 is_void _ = false
+
+abbrev pub returned_nothing : Ty → Rule Stmt
+returned_nothing result = do
+  only_if (is_void result)
+  pure to.return_nothing
+
+abbrev pub jump_of : Jump → Stmt
+jump_of jumps.Break = to.break
+jump_of jumps.Continue = to.continue
+
+abbrev pub jumped : Jump → (in_loop : Bool) → Rule Stmt
+jumped j in_loop = do
+  only_if in_loop
+  pure (jump_of j)
+
+-- behind what is done so far
+abbrev pub doing : Rule Stmt → Declaring → Rule Declaring
+doing rule so_far = do
+  s ← rule
+  pure (and_done so_far s)
 
 -- ---- statements: of a function with this result, inside a loop or not
 
@@ -160,29 +182,22 @@ abbrev mutual
   -- a `for` is a block of its own
   statement (tree.for_loop a c b body) r l = do
     opened
-    d ← first_of a
+    d ← first_of a nothing_done
     test ← test_of c
     step ← step_of b
     s ← statement body r true
     closed
     pure (in_front_of_loop a d (to.loop test step s))
-  statement tree.return_none r l = do
-    only_if (is_void r)
-    pure to.return_nothing
+  statement tree.return_none r l = returned_nothing r
   statement (tree.return_value e) r l = returned r e
-  statement (tree.jump jumps.Break) r l = do
-    only_if l
-    pure to.break
-  statement (tree.jump jumps.Continue) r l = do
-    only_if l
-    pure to.continue
+  statement (tree.jump j) r l = jumped j l
 
   -- what stands in a block, behind what is done so far
   pub items : Items → (result : Ty) → (in_loop : Bool) → Declaring → Rule Declaring
   items tree.no_items r l so_far = pure so_far
   items (tree.statement_and s is) r l so_far = do
-    t ← statement s r l
-    items is r l (and_done so_far t)
+    d ← doing (statement s r l) so_far
+    items is r l d
   items (tree.declaration_and s xs is) r l so_far = do
     d ← declaration_of s xs so_far
     items is r l d

@@ -1,10 +1,21 @@
 //! Typing of C's units (C11, 6.7 to 6.9): from what was written to the typed tree.
 //!
-//! Initializers, statements, declarations and units have rules in `specs/`, which give the typed tree or have no answer. The
-//! code so far is that of expressions, in `c_check_exprs`, on which this crate stands. Read `specs/Units.antt` first, then
-//! `specs/Statements.antt`; `proofs/Computed.antt` has units whose typing is computed.
+//! Initializers, statements, declarations and units have rules in `specs/`, which give the typed tree or have no answer; each
+//! rule is a function on what is known at a place in a unit. It stands on `c_check_exprs`, the typing of expressions. Read
+//! `specs/Units.antt` first, then `specs/Statements.antt`; `proofs/Computed.antt` has units whose typing is computed.
 #![tactic(auto)]
 
+mod build;
+mod declaring;
+mod definition;
 mod fault;
+mod global;
+mod initialiser;
+mod path;
+mod scope;
+mod statement;
+mod structs;
+mod unit;
 
 pub use fault::CCheck;
+pub use unit::check;
