@@ -140,218 +140,316 @@ fn expect<R: Abort + AllocGlobal>(
     Ok(())
 }
 
-#[test]
-fn worked_rows(rt: HostRuntime) -> Result<(), Fail> {
-    let table = [
-        ("exec a.wat", SEVEN, Status::Done, "result 7\n", QUIET),
-        ("check a.wat", SEVEN, Status::Done, "valid\n", QUIET),
-        (
-            "exec a.wat",
-            "(func (export \"main\") handle.null segment.free heap)",
-            Status::Trapped,
-            "trap null\n",
-            QUIET,
-        ),
-        // A segment keeps a handle to itself, and a number is stored over one byte of it.
-        (
-            "exec a.wat",
-            "(func (export \"main\") (result i32) (local $h handle)
+/// Words, the file `a.wat`, and what is wanted: the status, the report, the output, and the byte that the input gives next.
+#[derive(Clone, Copy)]
+struct Row {
+    words: &'static str,
+    text: &'static str,
+    status: Status,
+    report: &'static str,
+    output: &'static str,
+    next: u8,
+}
+
+const ROWS: [Row; 34] = [
+    Row {
+        words: "exec a.wat",
+        text: SEVEN,
+        status: Status::Done,
+        report: "result 7\n",
+        output: "",
+        next: b'i',
+    },
+    Row {
+        words: "check a.wat",
+        text: SEVEN,
+        status: Status::Done,
+        report: "valid\n",
+        output: "",
+        next: b'i',
+    },
+    Row {
+        words: "exec a.wat",
+        text: "(func (export \"main\") handle.null segment.free heap)",
+        status: Status::Trapped,
+        report: "trap null\n",
+        output: "",
+        next: b'i',
+    },
+    // A segment keeps a handle to itself, and a number is stored over one byte of it.
+    Row {
+        words: "exec a.wat",
+        text: "(func (export \"main\") (result i32) (local $h handle)
                i32.const 32 segment.new heap local.tee $h local.get $h handle.store
                local.get $h i64.const 5 handle.add 1 i32.const 0 i32.segstore8
                local.get $h handle.load i32.segload)",
-            Status::Trapped,
-            "trap invalid\n",
-            QUIET,
-        ),
-        (
-            "exec a.wat",
-            "(func (export \"main\") (result i32) (local $h handle)
+        status: Status::Trapped,
+        report: "trap invalid\n",
+        output: "",
+        next: b'i',
+    },
+    Row {
+        words: "exec a.wat",
+        text: "(func (export \"main\") (result i32) (local $h handle)
                i32.const 32 segment.new heap local.tee $h local.get $h handle.store local.get $h i32.segload)",
-            Status::Trapped,
-            "trap provenance\n",
-            QUIET,
-        ),
-        // In front of a slice, inside its segment.
-        (
-            "exec a.wat",
-            "(func (export \"main\") (result i32) i32.const 8 segment.new heap i32.const 4 i32.const 4
+        status: Status::Trapped,
+        report: "trap provenance\n",
+        output: "",
+        next: b'i',
+    },
+    // In front of a slice, inside its segment.
+    Row {
+        words: "exec a.wat",
+        text: "(func (export \"main\") (result i32) i32.const 8 segment.new heap i32.const 4 i32.const 4
                handle.slice i64.const -1 handle.add 4 i32.segload)",
-            Status::Trapped,
-            "trap bounds\n",
-            QUIET,
-        ),
-        (
-            "exec a.wat --budget 2",
-            SEVEN,
-            Status::Done,
-            "result 7\n",
-            QUIET,
-        ),
-        (
-            "exec a.wat --budget 0",
-            SEVEN,
-            Status::OutOfBudget,
-            "out of budget\n",
-            QUIET,
-        ),
-        (
-            "exec a.wat",
-            "(func)",
-            Status::Refused,
-            "refused task 0\n",
-            QUIET,
-        ),
-        (
-            "exec a.wat",
-            "(import \"c\" \"f\" (func)) (func (export \"main\"))",
-            Status::Refused,
-            "refused link 0 0 noexport\n",
-            QUIET,
-        ),
-        (
-            "check a.wat",
-            "(func (result i32) i32.const 0 i32.segload)",
-            Status::Refused,
-            "refused invalid function 0\n",
-            QUIET,
-        ),
-        (
-            "check a.wat",
-            "(func unreachable select drop)",
-            Status::Done,
-            "valid\n",
-            QUIET,
-        ),
-        (
-            "check a.wat",
-            "(func br 1)",
-            Status::Refused,
-            "refused invalid function 0\n",
-            QUIET,
-        ),
-        (
-            "check a.wat",
-            "(func call $f)",
-            Status::Refused,
-            "refused name 11\n",
-            QUIET,
-        ),
-        (
-            "check a.wat",
-            "(func f32.const 1 drop)",
-            Status::Refused,
-            "refused float 6\n",
-            QUIET,
-        ),
-        (
-            "asm a.wat o",
-            "(func br 1",
-            Status::Refused,
-            "refused syntax 10\n",
-            QUIET,
-        ),
-        (
-            "dis a.wat o",
-            SEVEN,
-            Status::Refused,
-            "refused malformed 0\n",
-            QUIET,
-        ),
-        (
-            "exec b.wat",
-            SEVEN,
-            Status::ReadFault,
-            "read fault b.wat\n",
-            QUIET,
-        ),
-        ("exec a.wat --memory 8", SEVEN, Status::Usage, USAGE, QUIET),
-        ("mswasm", SEVEN, Status::Usage, USAGE, QUIET),
-        (
-            "exec a.wat",
-            "(import \"env\" \"putchar\" (func $p (param i32) (result i32)))
+        status: Status::Trapped,
+        report: "trap bounds\n",
+        output: "",
+        next: b'i',
+    },
+    Row {
+        words: "exec a.wat --budget 2",
+        text: SEVEN,
+        status: Status::Done,
+        report: "result 7\n",
+        output: "",
+        next: b'i',
+    },
+    Row {
+        words: "exec a.wat --budget 0",
+        text: SEVEN,
+        status: Status::OutOfBudget,
+        report: "out of budget\n",
+        output: "",
+        next: b'i',
+    },
+    Row {
+        words: "exec a.wat",
+        text: "(func)",
+        status: Status::Refused,
+        report: "refused task 0\n",
+        output: "",
+        next: b'i',
+    },
+    Row {
+        words: "exec a.wat",
+        text: "(import \"c\" \"f\" (func)) (func (export \"main\"))",
+        status: Status::Refused,
+        report: "refused link 0 0 noexport\n",
+        output: "",
+        next: b'i',
+    },
+    Row {
+        words: "check a.wat",
+        text: "(func (result i32) i32.const 0 i32.segload)",
+        status: Status::Refused,
+        report: "refused invalid function 0\n",
+        output: "",
+        next: b'i',
+    },
+    Row {
+        words: "check a.wat",
+        text: "(func unreachable select drop)",
+        status: Status::Done,
+        report: "valid\n",
+        output: "",
+        next: b'i',
+    },
+    Row {
+        words: "check a.wat",
+        text: "(func br 1)",
+        status: Status::Refused,
+        report: "refused invalid function 0\n",
+        output: "",
+        next: b'i',
+    },
+    Row {
+        words: "check a.wat",
+        text: "(func call $f)",
+        status: Status::Refused,
+        report: "refused name 11\n",
+        output: "",
+        next: b'i',
+    },
+    Row {
+        words: "check a.wat",
+        text: "(func f32.const 1 drop)",
+        status: Status::Refused,
+        report: "refused float 6\n",
+        output: "",
+        next: b'i',
+    },
+    Row {
+        words: "asm a.wat o",
+        text: "(func br 1",
+        status: Status::Refused,
+        report: "refused syntax 10\n",
+        output: "",
+        next: b'i',
+    },
+    Row {
+        words: "dis a.wat o",
+        text: SEVEN,
+        status: Status::Refused,
+        report: "refused malformed 0\n",
+        output: "",
+        next: b'i',
+    },
+    Row {
+        words: "exec b.wat",
+        text: SEVEN,
+        status: Status::ReadFault,
+        report: "read fault b.wat\n",
+        output: "",
+        next: b'i',
+    },
+    Row {
+        words: "exec a.wat --memory 8",
+        text: SEVEN,
+        status: Status::Usage,
+        report: USAGE,
+        output: "",
+        next: b'i',
+    },
+    Row {
+        words: "mswasm",
+        text: SEVEN,
+        status: Status::Usage,
+        report: USAGE,
+        output: "",
+        next: b'i',
+    },
+    Row {
+        words: "exec a.wat",
+        text: "(import \"env\" \"putchar\" (func $p (param i32) (result i32)))
                (func (export \"main\") i32.const 65 call $p drop unreachable)",
-            Status::Trapped,
-            "trap unreachable\n",
-            ("A", b'i'),
-        ),
-        ("exec a.wat", PUTS, Status::Done, "done\n", ("AB", b'i')),
-        (
-            "exec a.wat",
-            TAKES,
-            Status::Done,
-            "result 105\n",
-            ("", b'n'),
-        ),
-        (
-            "run in-order",
-            HANDLE,
-            Status::Done,
-            "result 0\ndone\n",
-            QUIET,
-        ),
-        ("run freed", HANDLE, Status::Trapped, "trap freed\n", QUIET),
-        (
-            "run between",
-            HANDLE,
-            Status::Trapped,
-            "trap freed\n",
-            QUIET,
-        ),
-        (
-            "run short",
-            HANDLE,
-            Status::OutOfBudget,
-            "out of budget\n",
-            QUIET,
-        ),
-        (
-            "run in-order",
-            "(func",
-            Status::Refused,
-            "refused module 0 syntax 5\n",
-            QUIET,
-        ),
-        (
-            "run in-order",
-            "(func)",
-            Status::Refused,
-            "refused task 0\n",
-            QUIET,
-        ),
-        (
-            "run task",
-            SEVEN,
-            Status::Refused,
-            "refused job line 1\n",
-            QUIET,
-        ),
-        (
-            "run empty",
-            SEVEN,
-            Status::Refused,
-            "refused job task\n",
-            QUIET,
-        ),
-        (
-            "run 0011",
-            SEVEN,
-            Status::Refused,
-            "refused job line 1\n",
-            QUIET,
-        ),
-        (
-            "run missing",
-            SEVEN,
-            Status::ReadFault,
-            "read fault none.wasm\n",
-            QUIET,
-        ),
-        ("run a b", SEVEN, Status::Usage, USAGE, QUIET),
-    ];
-    for (command, text, status, report, flow) in table {
-        let world = world(rt.alloc(), "a.wat", text.as_bytes())?;
-        let line = format!(in rt.alloc(); "mswasm {command}")?;
-        expect(&rt, line.as_str(), world, status, report, flow, None)?;
+        status: Status::Trapped,
+        report: "trap unreachable\n",
+        output: "A",
+        next: b'i',
+    },
+    Row {
+        words: "exec a.wat",
+        text: PUTS,
+        status: Status::Done,
+        report: "done\n",
+        output: "AB",
+        next: b'i',
+    },
+    Row {
+        words: "exec a.wat",
+        text: TAKES,
+        status: Status::Done,
+        report: "result 105\n",
+        output: "",
+        next: b'n',
+    },
+    Row {
+        words: "run in-order",
+        text: HANDLE,
+        status: Status::Done,
+        report: "result 0\ndone\n",
+        output: "",
+        next: b'i',
+    },
+    Row {
+        words: "run freed",
+        text: HANDLE,
+        status: Status::Trapped,
+        report: "trap freed\n",
+        output: "",
+        next: b'i',
+    },
+    Row {
+        words: "run between",
+        text: HANDLE,
+        status: Status::Trapped,
+        report: "trap freed\n",
+        output: "",
+        next: b'i',
+    },
+    Row {
+        words: "run short",
+        text: HANDLE,
+        status: Status::OutOfBudget,
+        report: "out of budget\n",
+        output: "",
+        next: b'i',
+    },
+    Row {
+        words: "run in-order",
+        text: "(func",
+        status: Status::Refused,
+        report: "refused module 0 syntax 5\n",
+        output: "",
+        next: b'i',
+    },
+    Row {
+        words: "run in-order",
+        text: "(func)",
+        status: Status::Refused,
+        report: "refused task 0\n",
+        output: "",
+        next: b'i',
+    },
+    Row {
+        words: "run task",
+        text: SEVEN,
+        status: Status::Refused,
+        report: "refused job line 1\n",
+        output: "",
+        next: b'i',
+    },
+    Row {
+        words: "run empty",
+        text: SEVEN,
+        status: Status::Refused,
+        report: "refused job task\n",
+        output: "",
+        next: b'i',
+    },
+    Row {
+        words: "run 0011",
+        text: SEVEN,
+        status: Status::Refused,
+        report: "refused job line 1\n",
+        output: "",
+        next: b'i',
+    },
+    Row {
+        words: "run missing",
+        text: SEVEN,
+        status: Status::ReadFault,
+        report: "read fault none.wasm\n",
+        output: "",
+        next: b'i',
+    },
+    Row {
+        words: "run a b",
+        text: SEVEN,
+        status: Status::Usage,
+        report: USAGE,
+        output: "",
+        next: b'i',
+    },
+];
+
+#[test]
+fn worked_rows(rt: HostRuntime) -> Result<(), Fail> {
+    for row in ROWS {
+        let world = world(rt.alloc(), "a.wat", row.text.as_bytes())?;
+        let words = row.words;
+        let line = format!(in rt.alloc(); "mswasm {words}")?;
+        let flow = (row.output, row.next);
+        expect(
+            &rt,
+            line.as_str(),
+            world,
+            row.status,
+            row.report,
+            flow,
+            None,
+        )?;
     }
     Ok(())
 }
@@ -407,107 +505,161 @@ fn let_fail(world: &mut Outside, calls: [u64; 5]) -> Result<(), Fail> {
     Ok(())
 }
 
+/// A row, which calls fail in it (see `let_fail`), and whether the file `o` is written all the same.
+#[derive(Clone, Copy)]
+struct Faulty {
+    row: Row,
+    calls: [u64; 5],
+    written: bool,
+}
+
+const FAULTY: [Faulty; 10] = [
+    Faulty {
+        row: Row {
+            words: "asm a.wat o",
+            text: SEVEN,
+            status: Status::ReadFault,
+            report: "read fault a.wat\n",
+            output: "",
+            next: b'i',
+        },
+        calls: [1, 0, 0, 0, 0],
+        written: false,
+    },
+    Faulty {
+        row: Row {
+            words: "asm a.wat o",
+            text: SEVEN,
+            status: Status::WriteFault,
+            report: "",
+            output: "",
+            next: b'i',
+        },
+        calls: [0, 1, 0, 0, 0],
+        written: false,
+    },
+    Faulty {
+        row: Row {
+            words: "asm a.wat o",
+            text: SEVEN,
+            status: Status::WriteFault,
+            report: "",
+            output: "",
+            next: b'i',
+        },
+        calls: [0, 0, 1, 0, 0],
+        written: true,
+    },
+    Faulty {
+        row: Row {
+            words: "asm a.wat o",
+            text: SEVEN,
+            status: Status::WriteFault,
+            report: "",
+            output: "",
+            next: b'i',
+        },
+        calls: [1, 0, 1, 0, 0],
+        written: false,
+    },
+    Faulty {
+        row: Row {
+            words: "run in-order",
+            text: HANDLE,
+            status: Status::ReadFault,
+            report: "read fault in-order\n",
+            output: "",
+            next: b'i',
+        },
+        calls: [1, 0, 0, 0, 0],
+        written: false,
+    },
+    Faulty {
+        row: Row {
+            words: "run in-order",
+            text: HANDLE,
+            status: Status::ReadFault,
+            report: "read fault a.wat\n",
+            output: "",
+            next: b'i',
+        },
+        calls: [2, 0, 0, 0, 0],
+        written: false,
+    },
+    Faulty {
+        row: Row {
+            words: "run in-order",
+            text: HANDLE,
+            status: Status::ReadFault,
+            report: "read fault 0011\n",
+            output: "",
+            next: b'i',
+        },
+        calls: [3, 0, 0, 0, 0],
+        written: false,
+    },
+    Faulty {
+        row: Row {
+            words: "exec a.wat",
+            text: PUTS,
+            status: Status::WriteFault,
+            report: "",
+            output: "A",
+            next: b'i',
+        },
+        calls: [0, 0, 0, 0, 2],
+        written: false,
+    },
+    Faulty {
+        row: Row {
+            words: "exec a.wat",
+            text: PUTS,
+            status: Status::WriteFault,
+            report: "",
+            output: "AB",
+            next: b'i',
+        },
+        calls: [0, 0, 1, 0, 0],
+        written: false,
+    },
+    Faulty {
+        row: Row {
+            words: "exec a.wat",
+            text: TAKES,
+            status: Status::ReadFault,
+            report: "read fault\n",
+            output: "",
+            next: b'i',
+        },
+        calls: [0, 0, 0, 1, 0],
+        written: false,
+    },
+];
+
 #[test]
 fn scripted_faults(rt: HostRuntime) -> Result<(), Fail> {
     let binary = bytes_of(rt.alloc(), SEVEN_BINARY)?;
-    let assembled = Some(binary.as_slice());
-    let table = [
-        (
-            "asm a.wat o",
-            SEVEN,
-            [1, 0, 0, 0, 0],
-            Status::ReadFault,
-            "read fault a.wat\n",
-            QUIET,
-            None,
-        ),
-        (
-            "asm a.wat o",
-            SEVEN,
-            [0, 1, 0, 0, 0],
-            Status::WriteFault,
-            "",
-            QUIET,
-            None,
-        ),
-        (
-            "asm a.wat o",
-            SEVEN,
-            [0, 0, 1, 0, 0],
-            Status::WriteFault,
-            "",
-            QUIET,
-            assembled,
-        ),
-        (
-            "asm a.wat o",
-            SEVEN,
-            [1, 0, 1, 0, 0],
-            Status::WriteFault,
-            "",
-            QUIET,
-            None,
-        ),
-        (
-            "run in-order",
-            HANDLE,
-            [1, 0, 0, 0, 0],
-            Status::ReadFault,
-            "read fault in-order\n",
-            QUIET,
-            None,
-        ),
-        (
-            "run in-order",
-            HANDLE,
-            [2, 0, 0, 0, 0],
-            Status::ReadFault,
-            "read fault a.wat\n",
-            QUIET,
-            None,
-        ),
-        (
-            "run in-order",
-            HANDLE,
-            [3, 0, 0, 0, 0],
-            Status::ReadFault,
-            "read fault 0011\n",
-            QUIET,
-            None,
-        ),
-        (
-            "exec a.wat",
-            PUTS,
-            [0, 0, 0, 0, 2],
-            Status::WriteFault,
-            "",
-            ("A", b'i'),
-            None,
-        ),
-        (
-            "exec a.wat",
-            PUTS,
-            [0, 0, 1, 0, 0],
-            Status::WriteFault,
-            "",
-            ("AB", b'i'),
-            None,
-        ),
-        (
-            "exec a.wat",
-            TAKES,
-            [0, 0, 0, 1, 0],
-            Status::ReadFault,
-            "read fault\n",
-            QUIET,
-            None,
-        ),
-    ];
-    for (command, text, calls, status, report, flow, written) in table {
-        let mut world = world(rt.alloc(), "a.wat", text.as_bytes())?;
-        let_fail(&mut world, calls)?;
-        let line = format!(in rt.alloc(); "mswasm {command}")?;
-        expect(&rt, line.as_str(), world, status, report, flow, written)?;
+    for faulty in FAULTY {
+        let row = faulty.row;
+        let mut world = world(rt.alloc(), "a.wat", row.text.as_bytes())?;
+        let_fail(&mut world, faulty.calls)?;
+        let words = row.words;
+        let line = format!(in rt.alloc(); "mswasm {words}")?;
+        let flow = (row.output, row.next);
+        let written = if faulty.written {
+            Some(binary.as_slice())
+        } else {
+            None
+        };
+        expect(
+            &rt,
+            line.as_str(),
+            world,
+            row.status,
+            row.report,
+            flow,
+            written,
+        )?;
     }
     Ok(())
 }
