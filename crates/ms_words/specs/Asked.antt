@@ -7,7 +7,7 @@ use Rattle.std.specs.Str.Parse.{digits_value, without_leading_plus}
 use Rattle.clap.specs.Words.{Row, Text, fault_of, first_of, subcommand_of}
 use Rattle.clap.specs.Walk.{is_empty}
 use Rattle.clap.specs.ValueTests.{is_unsigned_in}
-use Rattle.ms_words.specs.Commands.{IsWithin, NumberOption, asm, budget, check, commands, dis, exec, file, job, memory, mswasm, out, run}
+use Rattle.ms_words.specs.Commands.{IsWithin, NumberOption, asm, budget, check, commands, dis, exec, file, job, judge, memory, mswasm, out, run}
 use Rattle.ms_words.specs.declared.request.Request.{Request}
 use Rattle.ms_words.specs.declared.request.Request.TheVariants as request
 use Rattle.ms_words.specs.declared.request.WordsFault.{WordsFault}
@@ -22,6 +22,8 @@ pub data Asked : Type 0 where
   -- the file, and the file that is written
   Asm : Text → Text → Asked
   Dis : Text → Text → Asked
+  -- the file of a trace, and the bytes of segment memory
+  Judge : Text → ℕ → Asked
 
 -- ---- what a command's matches ask for
 
@@ -40,7 +42,8 @@ asked_by name rows =
     else (if bytes_eq name check.name then Some (Check (word file rows))
     else (if bytes_eq name asm.name then Some (Asm (word file rows) (word out rows))
     else (if bytes_eq name dis.name then Some (Dis (word file rows) (word out rows))
-    else None))))
+    else (if bytes_eq name judge.name then Some (Judge (word file rows) (number memory rows))
+    else None)))))
 
 -- ---- what the words ask for
 
@@ -81,10 +84,12 @@ view (request.Run j) = Run j.now
 view (request.Check f) = Check f.now
 view (request.Asm f o) = Asm f.now o.now
 view (request.Dis f o) = Dis f.now o.now
+view (request.Judge f bytes) = Judge f.now bytes
 
 -- the numbers lie in their ranges
 abbrev pub IsInRange : Request → Type 0
 IsInRange (request.Exec f steps bytes) = IsWithin budget steps × IsWithin memory bytes
+IsInRange (request.Judge f bytes) = IsWithin memory bytes
 IsInRange _ = ⊤
 
 -- the request is what the words ask for, and words are refused only where the definition refuses them

@@ -89,8 +89,15 @@ pub const DIS: CommandRow = CommandRow {
     options: &[],
 };
 
+/// Judges the trace in a file.
+pub const JUDGE: CommandRow = CommandRow {
+    name: "judge",
+    places: &[FILE],
+    options: &[MEMORY],
+};
+
 /// The commands, in the order of their usage lines.
-const COMMANDS: [CommandRow; 5] = [EXEC, RUN, CHECK, ASM, DIS];
+const COMMANDS: [CommandRow; 6] = [EXEC, RUN, CHECK, ASM, DIS, JUDGE];
 
 /// The command line of the program.
 pub fn command_line<'a>(alloc: Global) -> Result<Command<'a>, AllocError>

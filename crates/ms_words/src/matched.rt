@@ -7,7 +7,9 @@ ghost use Rattle.ms_words.specs.Asked as asked;
 ghost use Rattle.ms_words.specs.Commands.{IsWithin};
 ghost use Rattle.ms_words.specs.Rows.{option_said};
 
-use super::definition::{ASM, BUDGET, CHECK, EXEC, FILE, JOB, MEMORY, NumberOption, OUT, RUN};
+use super::definition::{
+    ASM, BUDGET, CHECK, EXEC, FILE, JOB, JUDGE, MEMORY, NumberOption, OUT, RUN,
+};
 use super::request::Request;
 use clap::ArgMatches;
 
@@ -40,6 +42,12 @@ fn request_by<'a>(name: &str, matches: &ArgMatches<'a>) -> Request<'a>
     }
     if name == CHECK.name {
         return Request::Check { file };
+    }
+    if name == JUDGE.name {
+        return Request::Judge {
+            file,
+            memory: number(matches, MEMORY) as u32,
+        };
     }
     let out = word(matches, OUT);
     if name == ASM.name {

@@ -8,7 +8,7 @@ struct Taken {
     request: Request<'static>,
 }
 
-const TAKEN: [Taken; 16] = [
+const TAKEN: [Taken; 18] = [
     Taken {
         words: &["mswasm", "exec", "a"],
         request: Request::Exec {
@@ -122,9 +122,23 @@ const TAKEN: [Taken; 16] = [
             out: "a.wat",
         },
     },
+    Taken {
+        words: &["mswasm", "judge", "a"],
+        request: Request::Judge {
+            file: "a",
+            memory: 1_048_576,
+        },
+    },
+    Taken {
+        words: &["mswasm", "judge", "--memory", "64", "a"],
+        request: Request::Judge {
+            file: "a",
+            memory: 64,
+        },
+    },
 ];
 
-const REFUSED: [&[&str]; 44] = [
+const REFUSED: [&[&str]; 46] = [
     &[],
     &["mswasm"],
     &["mswasm", "help"],
@@ -167,6 +181,8 @@ const REFUSED: [&[&str]; 44] = [
     &["mswasm", "check", "a", "--budget", "5"],
     &["mswasm", "exec", "a", "--fuel", "5"],
     &["mswasm", "exec", "a", "-b", "5"],
+    &["mswasm", "judge"],
+    &["mswasm", "judge", "a", "--budget", "5"],
     &["mswasm", "check", "-a"],
     &["mswasm", "check", "--a"],
 ];
@@ -188,5 +204,5 @@ fn words_ask_or_are_refused(rt: HostRuntime) {
             "line {at}"
         );
     }
-    assert_eq!(rt; usage().lines().count(), 5);
+    assert_eq!(rt; usage().lines().count(), 6);
 }
