@@ -9,7 +9,7 @@ use Rattle.std.proofs.lemmas.Option.{none-some}
 use Rattle.std.proofs.lemmas.Slice.Eq.{bytes_eq-Decides}
 use Rattle.ms_rules.specs.Modules.{AreDistinct, IsNotAmong}
 use Rattle.ms_job.specs.Bounds.{IsBounded}
-use Rattle.ms_job.specs.Jobs.{checked, has_outer_space, is_name, is_passed_over, job_in, job_of, no_lines, number_of, takes_traces, with_budget, with_dump, with_line, with_lines, with_memory, with_module, with_schedule, with_task, with_trace, with_turns, with_words}
+use Rattle.ms_job.specs.Jobs.{checked, has_outer_space, is_name, is_passed_over, job_in, job_of, no_lines, number_of, with_budget, with_dump, with_line, with_lines, with_memory, with_module, with_schedule, with_task, with_trace, with_turns, with_words}
 use Rattle.ms_job.specs.Words.{number_behind, number_within, within, words}
 use Rattle.ms_job.specs.declared.draft.Draft.{Draft}
 use Rattle.ms_job.specs.declared.job.Job.{Job}
@@ -182,13 +182,13 @@ module _ (d : Draft) (h : AreBounded d) where
 
   words_keep : (words : List (List ℕ)) → Keeps (with_words d words)
   words_keep [] = tt
-  words_keep (word ∷ []) = either (bytes_eq word (codes "dump") && takes_traces) _ _ dump_keeps tt
+  words_keep (word ∷ []) = either (bytes_eq word (codes "dump")) _ _ dump_keeps tt
   words_keep (word ∷ x ∷ []) =
       either (bytes_eq word (codes "turns")) _ _ (turns_keep x)
       (either (bytes_eq word (codes "schedule")) _ _ (schedule_keeps x)
       (either (bytes_eq word (codes "budget")) _ _ (budget_keeps x)
       (either (bytes_eq word (codes "memory")) _ _ (memory_keeps x)
-      (either (bytes_eq word (codes "trace") && takes_traces) _ _ (trace_keeps x) tt))))
+      (either (bytes_eq word (codes "trace")) _ _ (trace_keeps x) tt))))
   words_keep (word ∷ x ∷ y ∷ []) =
       either (bytes_eq word (codes "module")) _ _ (module_keeps x y)
       (either (bytes_eq word (codes "task")) _ _ (task_keeps x y) tt)

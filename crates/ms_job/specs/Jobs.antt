@@ -61,27 +61,23 @@ abbrev pub with_memory : Draft → List ℕ → Option Draft
 with_memory d word =
     if is_some d.memory then None else option_map (λ n. record d { memory = Some n }) (number_within 16 16777216 word)
 
--- `trace FILE`: once
+-- `trace FILE`, to which the events are written: once
 abbrev pub with_trace : Draft → List ℕ → Option Draft
 with_trace d file = if is_some d.trace then None else Some (record d { trace = Some file })
 
--- `dump`: once
+-- `dump`, which asks for the live segments: once
 abbrev pub with_dump : Draft → Option Draft
 with_dump d = if d.dump then None else Some (record d { dump = true })
 
--- whether the lines that tell of the segment memory, `trace` and `dump`, are taken: not yet
-abbrev pub takes_traces : Bool
-takes_traces = false
-
 -- a line of these words; any other words break a rule
 abbrev pub with_words : Draft → List (List ℕ) → Option Draft
-with_words d (word ∷ []) = if bytes_eq word (codes "dump") && takes_traces then with_dump d else None
+with_words d (word ∷ []) = if bytes_eq word (codes "dump") then with_dump d else None
 with_words d (word ∷ x ∷ []) =
     if bytes_eq word (codes "turns") then with_turns d x
     else if bytes_eq word (codes "schedule") then with_schedule d x
     else if bytes_eq word (codes "budget") then with_budget d x
     else if bytes_eq word (codes "memory") then with_memory d x
-    else if bytes_eq word (codes "trace") && takes_traces then with_trace d x
+    else if bytes_eq word (codes "trace") then with_trace d x
     else None
 with_words d (word ∷ x ∷ y ∷ []) =
     if bytes_eq word (codes "module") then with_module d x y

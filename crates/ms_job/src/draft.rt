@@ -15,9 +15,6 @@ use std::alloc::{AllocError, AllocFailed, Global};
 /// How many lines may name a module, and how many a task.
 const MOST_LINES: usize = 64;
 
-/// Whether the lines that tell of the segment memory, `trace` and `dump`, are taken.
-const TAKES_TRACES: bool = false;
-
 /// What the lines of a job say so far.
 #[derive(Drop)]
 pub(crate) struct Draft {
@@ -117,7 +114,7 @@ impl Draft {
         ensures { Follows (with_words self.old (word.now ∷ [])) self.new result }
     {
         match word {
-            "dump" if TAKES_TRACES => self.dump(),
+            "dump" => self.dump(),
             _ => Err(Stop::Broken),
         }
     }
@@ -131,7 +128,7 @@ impl Draft {
             "schedule" => self.schedule(alloc, argument),
             "budget" => self.budget(argument),
             "memory" => self.memory(argument),
-            "trace" if TAKES_TRACES => self.trace(alloc, argument),
+            "trace" => self.trace(alloc, argument),
             _ => Err(Stop::Broken),
         }
     }
