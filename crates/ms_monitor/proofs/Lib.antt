@@ -4,9 +4,15 @@ pub mod Begun
 pub mod Colouring
 pub mod Fields
 pub mod Filtering
+pub mod FirstLine
 pub mod Freed
+pub mod InTurn
+pub mod Judged
+pub mod Reading
 pub mod Refusing
 pub mod Rooming
 pub mod Seen
 pub mod Slicing
 pub mod Splitting
+pub mod Told
+pub mod Written

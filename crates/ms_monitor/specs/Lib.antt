@@ -4,3 +4,5 @@ pub mod Judging
 pub mod Kept
 pub mod Shades
 pub mod Showing
+pub mod Traces
+pub mod Answers

@@ -1,9 +1,61 @@
 //! Traces that were judged by hand, each with the event that is rejected, counted from 1.
 
-use crate::{Monitor, Verdict};
+use crate::{JudgeFault, Monitor, TraceFault, Verdict, judge, parse_trace, print_trace};
 use ms_event::Event;
 use std::alloc::{AllocError, Global};
 use std::test::Fail;
+
+/// A trace that is accepted.
+const EVENTS: [Event; 4] = [
+    Event::Alloc {
+        id: 1,
+        addr: 0,
+        size: 4,
+    },
+    Event::Free { id: 1 },
+    Event::Alloc {
+        id: 2,
+        addr: 0,
+        size: 4,
+    },
+    Event::Write {
+        id: 2,
+        lo: 0,
+        hi: 4,
+        addr: 0,
+        width: 4,
+    },
+];
+
+/// Its text.
+const TEXT: &str = "alloc 1 0 4\nfree 1\nalloc 2 0 4\nwrite 2 0 4 0 4\n";
+
+#[test]
+fn a_trace_is_printed(rt: HostRuntime) -> Result<(), Fail> {
+    let text = print_trace(rt.alloc(), &EVENTS)?;
+    assert_eq!(rt; text.as_slice(), TEXT.as_bytes());
+    Ok(())
+}
+
+#[test]
+fn a_trace_is_read(rt: HostRuntime) -> Result<(), Fail> {
+    let read = parse_trace(rt.alloc(), TEXT.as_bytes());
+    assert!(rt; matches!(&read, Ok(events) if events.as_slice() == EVENTS.as_slice()));
+    let cut_off = parse_trace(rt.alloc(), b"alloc 1 0");
+    assert!(rt; matches!(cut_off, Err(TraceFault::Line { n: 1 })));
+    Ok(())
+}
+
+#[test]
+fn a_trace_is_judged(rt: HostRuntime) -> Result<(), Fail> {
+    assert_eq!(rt; judge(rt.alloc(), 64, &EVENTS), Ok(()));
+    let painted_twice = [EVENTS[0], EVENTS[2]];
+    assert_eq!(rt;
+        judge(rt.alloc(), 64, &painted_twice),
+        Err(JudgeFault::Rejected { n: 2 })
+    );
+    Ok(())
+}
 
 /// The first event of a trace that is rejected, counted from 1, or 0 where none is.
 fn first_rejected(alloc: Global, capacity: u32, lines: &[&str]) -> Result<usize, AllocError> {
