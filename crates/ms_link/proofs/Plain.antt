@@ -112,7 +112,7 @@ plain_known (g ∷ gs) all = (known g.value all.0, plain_known gs all.1) where
   known (values.I64 n) plain = tt
   known (values.Handle h) plain = handle_known h plain
 
-new_monitored : (capacity : ℕ) → IsMonitored nothing_yet (record { bytes = replicate capacity (Data 0); live = []; made = 0 })
+new_monitored : (capacity : ℕ) → IsMonitored nothing_yet (record { bytes = replicate capacity (Data 0); live = []; made = 0; accesses = 0 })
 new_monitored capacity = record {
   live = refl;
   painted = λ p. (λ has. absurd (Contains-none p has), λ is. absurd (Contains-none is.0 is.1));

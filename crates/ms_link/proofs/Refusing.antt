@@ -33,10 +33,6 @@ fit_refuses A o next Memory is = tt
 
 -- ---- all modules
 
-pub all_refuse : (ms : List (List ℕ × Module)) (all : Result Made Fault) (made : Made) (m : List ℕ × Module) (e : LinkFault) → all_more (m ∷ ms) made ≡ all → Answers (one_more made m.0 m.1) (Err e) → Answers all (Err e)
-all_refuse ms all made m (Refused n item why) so is = sym so ∙ ap (λ r. and_then r (all_more ms)) is
-all_refuse ms all made m Memory so is = tt
-
 pub all_go_on : (ms : List (List ℕ × Module)) (all : Result Made Fault) (made next : Made) (m : List ℕ × Module) → all_more (m ∷ ms) made ≡ all → one_more made m.0 m.1 ≡ Ok next → all_more ms next ≡ all
 all_go_on ms all made next m so is = sym (ap (λ r. and_then r (all_more ms)) is) ∙ so
 

@@ -129,18 +129,8 @@ step_holds_after P Q int32 int64 null grows s s' t t' event fresh g h is =
     let all = subst (OutcomeHolds Q) is (stepped_holds Q int32 int64 null s t (global_grows P Q grows s.globals g) (thread_grows P Q grows t h) fresh) in
     (all.1, all.0)
 
-pub act_holds_after : (P Q : Value → Type 0) → ((n : ℕ) → Q (values.I32 n)) → ((n : ℕ) → Q (values.I64 n)) → Q (values.Handle handles.Null) → ((v : Value) → P v → Q v) → (s s' : Store) (i : Instr) (t t' : Thread) (event : Option Event) → FreshBy Q i s.segments t.operands → EachGlobal P s.globals → ThreadHolds P t → act s i t ≡ Next s' t' event → ThreadHolds Q t' × EachGlobal Q s'.globals
-act_holds_after P Q int32 int64 null grows s s' i t t' event fresh g h is =
-    let before = thread_grows P Q grows t h in
-    let all = subst (OutcomeHolds Q) is (instr_holds Q int32 int64 null s i t.frame t.operands t.work (global_grows P Q grows s.globals g) before.operands before.locals before.kept fresh) in
-    (all.1, all.0)
-
 -- ---- the same of a fact about the segment memory
 
 pub step_holds : (P : Memory → Value → Type 0) → ((m : Memory) (n : ℕ) → P m (values.I32 n)) → ((m : Memory) (n : ℕ) → P m (values.I64 n)) → ((m : Memory) → P m (values.Handle handles.Null)) → (s s' : Store) (t t' : Thread) (event : Option Event) → ((v : Value) → P s.segments v → P s'.segments v) → Fresh (P s'.segments) s.segments t.operands t.work → ThreadHolds (P s.segments) t → EachGlobal (P s.segments) s.globals → step_of s t ≡ Next s' t' event → ThreadHolds (P s'.segments) t' × EachGlobal (P s'.segments) s'.globals
 step_holds P int32 int64 null s s' t t' event grows fresh h g is =
     step_holds_after (P s.segments) (P s'.segments) (int32 s'.segments) (int64 s'.segments) (null s'.segments) grows s s' t t' event fresh g h is
-
-pub act_holds : (P : Memory → Value → Type 0) → ((m : Memory) (n : ℕ) → P m (values.I32 n)) → ((m : Memory) (n : ℕ) → P m (values.I64 n)) → ((m : Memory) → P m (values.Handle handles.Null)) → (s s' : Store) (i : Instr) (t t' : Thread) (event : Option Event) → ((v : Value) → P s.segments v → P s'.segments v) → FreshBy (P s'.segments) i s.segments t.operands → ThreadHolds (P s.segments) t → EachGlobal (P s.segments) s.globals → act s i t ≡ Next s' t' event → ThreadHolds (P s'.segments) t' × EachGlobal (P s'.segments) s'.globals
-act_holds P int32 int64 null s s' i t t' event grows fresh h g is =
-    act_holds_after (P s.segments) (P s'.segments) (int32 s'.segments) (int64 s'.segments) (null s'.segments) grows s s' i t t' event fresh g h is

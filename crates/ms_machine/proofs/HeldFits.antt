@@ -53,10 +53,6 @@ fits_grows m m' keeps (values.Handle h) fit = keeps h fit
 pub thread_fits_grows : (s s' : Store) (u : Thread) → ((h : H) → IsFit s.segments h → IsFit s'.segments h) → ThreadFits s u → ThreadFits s' u
 thread_fits_grows s s' u keeps fits = thread_grows (Fits s.segments) (Fits s'.segments) (fits_grows s.segments s'.segments keeps) u fits
 
--- the handles of other threads go on fitting
-pub others_fit : (s s' : Store) (t t' u : Thread) (event : Option Event) → step_of s t ≡ Next s' t' event → ThreadFits s u → ThreadFits s' u
-others_fit s s' t t' u event is fits = thread_fits_grows s s' u (step_grows s s' t t' event is) fits
-
 -- ---- the handles that a step makes
 
 -- what an instruction on segments leaves

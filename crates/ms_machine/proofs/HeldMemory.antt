@@ -15,9 +15,11 @@ use Rattle.ms_module.specs.declared.access.Segment.{Segment}
 use Rattle.ms_module.specs.declared.access.Segment.TheVariants.{Null, New, Free, Add, Slice, Eq, IsNull, Diff, LoadHandle, StoreHandle, Load, Store}
 use Rattle.ms_operate.specs.Accesses.{number_of, width_of}
 use Rattle.ms_segment.proofs.Effects.{add_fits, free_keeps, free_made, free_sound, load_handle_fits, make_fits, make_keeps, make_made, make_sound, slice_fits, store_handle_keeps, store_handle_made, store_handle_sound, store_keeps, store_made, store_sound}
+use Rattle.ms_segment.proofs.Fits.{IsFit-once_more}
+use Rattle.ms_segment.proofs.Sound.{IsSound-once_more}
 use Rattle.ms_segment.specs.Calls as call
 use Rattle.ms_segment.specs.Calls.{Change}
-use Rattle.ms_segment.specs.Memory.{IsFit, IsSound, Memory, loaded}
+use Rattle.ms_segment.specs.Memory.{IsFit, IsSound, Memory, loaded, once_more}
 use Rattle.ms_segment.specs.declared.trap.SegTrap.{SegTrap}
 use Rattle.ms_machine.specs.Holding.{Each, Fits}
 use Rattle.ms_machine.specs.Segments as segments
@@ -27,7 +29,7 @@ use Rattle.ms_machine.proofs.HeldWork.{MemoryLeft}
 
 -- ---- a fact about the memory, where it holds after each call
 
-module _ (R : Memory → Type 0) (m : Memory) (same : R m) where
+module _ (R : Memory → Type 0) (m : Memory) (same : R m) (reads : R (once_more m)) where
   changed_left : (rest : List Value) (r : Result Change SegTrap) → ((c : Change) → r ≡ Ok c → R c.memory) → MemoryLeft R (changed rest r)
   changed_left rest (Ok c) x = x c refl
   changed_left rest (Err e) x = tt
@@ -37,11 +39,11 @@ module _ (R : Memory → Type 0) (m : Memory) (same : R m) where
   measured_left rest (Err e) = tt
 
   handle_read_left : (rest : List Value) (r : Result (H × Event) SegTrap) → MemoryLeft R (handle_read m rest r)
-  handle_read_left rest (Ok x) = same
+  handle_read_left rest (Ok x) = reads
   handle_read_left rest (Err e) = tt
 
   number_read_left : (op : LoadOp) (rest : List Value) (r : Result (ℕ × Event) SegTrap) → MemoryLeft R (number_read op m rest r)
-  number_read_left op rest (Ok x) = same
+  number_read_left op rest (Ok x) = reads
   number_read_left op rest (Err e) = tt
 
   number_stored_left : (rest : List Value) (h : H) (width : ℕ) (n : Option ℕ) → ((value : ℕ) (c : Change) → call.store m h width value ≡ Ok c → R c.memory) → MemoryLeft R (number_stored m rest h width n)
@@ -69,7 +71,7 @@ module _ (R : Memory → Type 0) (m : Memory) (same : R m) where
 
 pub segment_sound : (i : Segment) (m : Memory) (vs : List Value) → IsSound m → Each (Fits m) vs → MemoryLeft IsSound (segment_on i m vs)
 segment_sound i m vs sound a =
-    segment_left IsSound m sound (Fits m) (λ size kind. make_sound m size kind sound) (λ h kind c is. free_sound m h kind c sound is)
+    segment_left IsSound m sound (IsSound-once_more m sound) (Fits m) (λ size kind. make_sound m size kind sound) (λ h kind c is. free_sound m h kind c sound is)
     (λ h width value c fit is. store_sound m h width value c sound fit is)
     (λ h v c fit fits is. store_handle_sound m h v c sound fit fits is)
     i vs a
@@ -89,7 +91,7 @@ each_any (v ∷ vs) = (tt, each_any vs)
 
 pub segment_grows : (i : Segment) (m : Memory) (vs : List Value) → MemoryLeft (Grows m) (segment_on i m vs)
 segment_grows i m vs =
-    segment_left (Grows m) m (grows_same m m (λ h fit. fit) refl) (λ v. Unit {0})
+    segment_left (Grows m) m (grows_same m m (λ h fit. fit) refl) (grows_same m (once_more m) (IsFit-once_more m) refl) (λ v. Unit {0})
     (λ size kind. record { keeps = make_keeps m size kind; least = (make_made m size kind).0; most = (make_made m size kind).1 })
     (λ h kind c is. grows_same m c.memory (λ x. free_keeps m h kind c x is) (free_made m h kind c is))
     (λ h width value c any is. grows_same m c.memory (λ x. store_keeps m h width value c x is) (store_made m h width value c is))

@@ -1,5 +1,5 @@
 -- What an instruction leaves of the segment memory and of the work.
-use Rattle.std.proofs.Common.{◌≡◌, ℕ, List, [], ◌∷◌, length, nat_lt, slice_get, slice_set, Option, Some, None, Bool, true, false, cond, Result, Ok, Err, refl, subst}
+use Rattle.std.proofs.Common.{◌≡◌, ℕ, List, [], ◌∷◌, length, nat_lt, slice_get, slice_set, Option, Some, None, Bool, true, false, cond, Result, Ok, Err, subst}
 use Rattle.ms_event.specs.declared.event.Event.{Event}
 use Rattle.ms_linear.specs.declared.global.GlobalInst.{GlobalInst}
 use Rattle.ms_linear.specs.declared.table.CallTrap.{CallTrap}
@@ -118,17 +118,6 @@ module _ (R : Memory → List Item → Type 0) where
   plain_over s (Linear i) t plain r x = linear_over s t i (memory_address (instance_of s t.frame)) r
   plain_over s (Segment i) t plain r x = in_segments_over s t (segment_on i s.segments t.operands) (x i)
   plain_over s _ t plain r x = absurd plain
-
--- the work is what follows the instruction
-pub plain_goes : (s s' : Store) (i : Instr) (t t' : Thread) (event : Option Event) → IsPlainInstr i → act s i t ≡ Next s' t' event → t'.work ≡ t.work
-plain_goes s s' i t t' event plain is =
-    let stays : Memory → List Item → Type 0 = λ m w. w ≡ t.work in
-    subst (OutcomeOver stays) is (plain_over stays s i t plain refl (λ j. leaves (segment_on j s.segments t.operands)))
-  where
-    leaves : (e : Effect) → EffectOver (λ m w. w ≡ t.work) t.work e
-    leaves (segments.Gives vs m event) = refl
-    leaves (segments.Trap trap) = tt
-    leaves segments.Stuck = tt
 
 -- ---- a fact about the segment memory
 

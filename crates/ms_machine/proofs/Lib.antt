@@ -1,6 +1,5 @@
 pub mod Branches
 pub mod Memories
-pub mod Performing
 pub mod Starts
 pub mod TypedValues
 pub mod TypedWork
@@ -33,6 +32,7 @@ pub mod SafeSteps
 pub mod SafeStarts
 pub mod Moving
 pub mod SafeMoves
+pub mod Counting
 pub mod Asking
 pub mod Outsides
 pub mod Quiet

@@ -44,6 +44,6 @@ same_store s0 s a m m' e read is =
     ap (λ x. with_memories s0 (slice_set s0.memories a x)) (is ∙ read) ∙ ap (with_memories s0) (set-get_or s0.memories a m) ∙ e
 
 pub linear_fails : (s0 s : Store) (i : LinearInstr) (f a : ℕ) (inst : Instance) (m m' : LinearMemory) (t : Thread) (u u' : List FuncInst → Thread) (vs : List Value) (fault : OperateFault) → s0 ≡ s → f ≡ t.frame.function → at s.instances (number_of_instance (slice_get s.funcs f)) ≡ Some inst → inst.memory ≡ Some a → linear s t i (memory_address (instance_of s t.frame)) ≢ Stuck → m ≡ get_or s0.memories a m → DoesInMemory (linear_on i m t.operands) t.operands vs m m' (Err fault) → ((funcs : List FuncInst) → vs ≡ t.operands → u' funcs ≡ u funcs) → DoesOutcome (linear s t i (memory_address (instance_of s t.frame))) s (u s.funcs) (with_memories s0 (slice_set s0.memories a m')) (u' s0.funcs) (Err (fault_of fault))
-linear_fails s0 s i f a inst m m' t u u' vs faults.Memory e function instance memory can read does is = tt
+linear_fails s0 s i f a inst m m' t u u' vs faults.Memory e function instance memory can read does is = same_store s0 s a m m' e read does.1
 linear_fails s0 s i f a inst m m' t u u' vs (faults.Trap trap) e function instance memory can read does is =
     (finds s0 s i f a inst m t e function instance memory can read ∙ ap (in_memory s t a) does.0, same_store s0 s a m m' e read does.2, ap (λ (x : Store). u' x.funcs) e ∙ is s.funcs does.1)

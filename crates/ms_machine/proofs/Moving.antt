@@ -1,5 +1,5 @@
 -- A step with the outside: well typed, with handles that fit, and never stuck.
-use Rattle.std.proofs.Common.{◌≡◌, ◌≢◌, ◌≤◌, ◌+◌, ℕ, Bool, true, false, List, [], ◌∷◌, ◌++◌, drop, slice_get, Option, Some, None, Ok, Err, refl, sym, ap, subst, ◌∙◌, arith}
+use Rattle.std.proofs.Common.{◌≡◌, ◌≢◌, ◌≤◌, ◌+◌, ℕ, Bool, true, false, List, [], ◌∷◌, ◌++◌, drop, slice_get, Option, Some, None, Ok, refl, sym, ap, subst, ◌∙◌, arith}
 use Rattle.ms_event.specs.declared.event.Event.{Event}
 use Rattle.ms_handle.specs.declared.handle.Handle.{Handle as H}
 use Rattle.ms_host.specs.Host.{given_by, lowest_byte, number_of}
@@ -7,10 +7,6 @@ use Rattle.ms_host.specs.declared.host.Host.{Host}
 use Rattle.ms_host.specs.declared.host.Host.TheVariants as hosts
 use Rattle.ms_linear.specs.declared.value.Value.{Value}
 use Rattle.ms_linear.specs.declared.value.Value.TheVariants as values
-use Rattle.ms_host.specs.declared.host.TakeFault.{TakeFault}
-use Rattle.ms_outside.specs.Sink.{Puts}
-use Rattle.ms_outside.specs.Source.{CountsTake}
-use Rattle.ms_outside.specs.declared.sink.Put.TheVariants as puts
 use Rattle.ms_outside.specs.declared.source.Got.{Got}
 use Rattle.ms_outside.specs.declared.source.Got.TheVariants as gots
 use Rattle.ms_rules.specs.Typing.{types}
@@ -18,18 +14,16 @@ use Rattle.ms_segment.specs.Memory.{IsFit}
 use Rattle.ms_task.specs.Control.{exited as exited_thread}
 use Rattle.ms_task.specs.Thread.{Thread, thread}
 use Rattle.ms_types.specs.declared.types.ValType.TheVariants.{I32}
-use Rattle.ms_machine.specs.Doing.{IsAsking}
 use Rattle.ms_machine.specs.Holding.{Each, Fits, StoreFits, ThreadFits, ThreadHolds}
 use Rattle.ms_machine.specs.Hosting as hosting
 use Rattle.ms_machine.specs.Hosting.{host_on, takes}
 use Rattle.ms_machine.specs.Moves as moves
 use Rattle.ms_machine.specs.Moves.{Goes, IsPutting, IsTaking, Move, hosted, move_for, move_on}
-use Rattle.ms_machine.specs.Step.{Calls, Next, Outcome, Stuck, Trap, begin, exited, step_of}
-use Rattle.ms_machine.specs.Stepped.{DoesStep, InputAfter, IsWell, DoesExit, OutAfter, Went, got_of}
+use Rattle.ms_machine.specs.Step.{Calls, Next, Outcome, Stuck, Trap, step_of}
+use Rattle.ms_machine.specs.Stepped.{DoesStep, InputAfter, IsWell, DoesExit, OutAfter, got_of}
 use Rattle.ms_machine.specs.Store.{Store}
 use Rattle.ms_machine.specs.declared.stepped.Stepped.{Stepped}
 use Rattle.ms_machine.specs.declared.stepped.Stepped.TheVariants as answers
-use Rattle.ms_host.specs.declared.trap.TrapKind.{TrapKind}
 use Rattle.ms_machine.specs.Typing.{Outline, StoreTyped, TaskTyped, outline_of}
 use Rattle.ms_machine.proofs.HeldActs.{stepped_calls}
 use Rattle.ms_machine.proofs.HeldControl.{exit_holds}
@@ -151,43 +145,6 @@ does_step_fits s s' t t' answers.ReadFault left left' held held' h well store fi
 does_step_fits s s' t t' answers.WriteFault left left' held held' h well store fits = absurd well
 does_step_fits s s' t t' answers.Memory left left' held held' h well store fits = absurd well
 
--- ---- what the code did
-
-pub can_begin : (s : Store) (t : Thread) → move_for s t None ≢ moves.Stuck → begin s t ≢ Stuck
-can_begin s t can is = can (ap (λ o. move_on s None (exited o)) is)
-
-pub can_ask : (s : Store) (t u : Thread) (h : Host) → move_for s t None ≢ moves.Stuck → begin s t ≡ Calls h u → host_on h None u.operands ≢ hosting.Stuck
-can_ask s t u h can is misses = can (ap (λ o. move_on s None (exited o)) is ∙ ap (hosted s u (takes h)) misses)
-
-pub went_quietly : (s s' : Store) (t t' : Thread) (event : Option Event) (left held : Option (List ℕ)) → step_of s t ≡ Next s' t' event → Went (move_for s t) event s' t' left left held held
-went_quietly s s' t t' event left held is = record { got = None; took = false; put = None; is = ap (move_on s None) is; input = refl; out = refl }
-
-pub stops_quietly : (s : Store) (t : Thread) (trap : TrapKind) → begin s t ≡ Trap trap → (got : Option ℕ) → move_for s t got ≡ moves.Trap trap
-stops_quietly s t trap is got = ap (λ o. move_on s got (exited o)) is
-
-never_traps : (s : Store) (u : Thread) (h : Host) (trap : TrapKind) → IsAsking h → ((got : Option ℕ) → hosted s u (takes h) (host_on h got u.operands) ≡ moves.Trap trap) → ⊥
-never_traps s u hosts.Putchar trap asking all = by u.operands (all None) where
-  by : (vs : List Value) → hosted s u false (host_on hosts.Putchar None vs) ≡ moves.Trap trap → ⊥
-  by [] is = cc
-  by (values.I32 n ∷ vs) is = cc
-  by (values.I64 n ∷ vs) is = cc
-  by (values.Handle h ∷ vs) is = cc
-never_traps s u hosts.Getchar trap asking all = let is = all None in cc
-never_traps s u hosts.Abort trap asking all = asking
-
-pub does_step_host : (s s' : Store) (t u u' : Thread) (h : Host) (r : Stepped) (left left' held held' : Option (List ℕ)) → begin s t ≡ Calls h u → s' ≡ s → IsAsking h → DoesStep r (λ got. hosted s' u (takes h) (host_on h got u.operands)) s' u s' u' left left' held held' → DoesStep r (move_for s t) s t s' u' left left' held held'
-does_step_host s s' t u u' h r left left' held held' begins same asking carries = by r carries where
-  same_move : (got : Option ℕ) → move_for s t got ≡ hosted s' u (takes h) (host_on h got u.operands)
-  same_move got = ap (λ o. move_on s got (exited o)) begins ∙ ap (λ x. hosted x u (takes h) (host_on h got u.operands)) (sym same)
-
-  by : (r : Stepped) → DoesStep r (λ got. hosted s' u (takes h) (host_on h got u.operands)) s' u s' u' left left' held held' → DoesStep r (move_for s t) s t s' u' left left' held held'
-  by (answers.On event) c = let w = c.0 in (record { got = w.got; took = w.took; put = w.put; is = same_move w.got ∙ w.is; input = w.input; out = w.out }, c.1)
-  by (answers.Ended value event) c = let w = c.0 in (record { got = w.got; took = w.took; put = w.put; is = same_move w.got ∙ w.is; input = w.input; out = w.out }, c.1, c.2)
-  by (answers.Trap trap) c = absurd (never_traps s' u h trap asking c.0)
-  by answers.ReadFault c = (λ got. subst IsTaking (sym (same_move got)) (c.0 got), c.1, c.2)
-  by answers.WriteFault c = (c.0, λ got. subst (IsPutting c.0) (sym (same_move got)) (c.1 got), c.2, c.3)
-  by answers.Memory c = c
-
 -- ---- what the host gave, and what was left then
 
 pub exit_does_step : (r : Stepped) (m : Option ℕ → Move) (s : Store) (t u t' : Thread) (took : Bool) (got put : Option ℕ) (left left' held held' : Option (List ℕ)) → m got ≡ Goes s (exited_thread u) took put None → InputAfter took got left left' → OutAfter put held held' → DoesExit r u t' → DoesStep r m s t s t' left left' held held'
@@ -206,18 +163,6 @@ puts_one s t n (v ∷ vs) e =
     let same : v ≡ values.I32 n = cc in
     subst (λ x. hosted s t false (host_on hosts.Putchar None (x ∷ vs)) ≡ Goes s (exited_thread (thread t.frame (values.I32 (lowest_byte n) ∷ vs) t.work)) false (Some (lowest_byte n)) None) (sym same) refl
 
--- the byte of a step that puts, whatever a take gives
-pub put_is : (s : Store) (t : Thread) (n : ℕ) (vs : List Value) → slice_get vs 0 ≡ Some (values.I32 n) → (got : Option ℕ) → IsPutting (lowest_byte n) (hosted s t false (host_on hosts.Putchar got vs))
-put_is s t n [] e got = cc
-put_is s t n (v ∷ vs) e got =
-    let same : v ≡ values.I32 n = cc in
-    subst (λ x. IsPutting (lowest_byte n) (hosted s t false (host_on hosts.Putchar got (x ∷ vs)))) (sym same) refl
-
--- want of memory puts nothing
-pub not_put : (piece : List ℕ) (held held' : Option (List ℕ)) → Puts puts.Memory piece held held' → held' ≡ held
-not_put piece None held' h = h
-not_put piece (Some bytes) held' h = h
-
 pub put_gives : (s : Store) (t : Thread) (n byte : ℕ) (us : List Value) → slice_get t.operands 0 ≡ Some (values.I32 n) → byte ≡ lowest_byte n → us ≡ values.I32 byte ∷ drop 1 t.operands → hosted s t false (host_on hosts.Putchar None t.operands) ≡ Goes s (exited_thread (thread t.frame us t.work)) false (Some (lowest_byte n)) None
 put_gives s t n byte us top is on =
     let all : values.I32 (lowest_byte n) ∷ drop 1 t.operands ≡ us = ap (λ b. values.I32 b ∷ drop 1 t.operands) (sym is) ∙ sym on in
@@ -227,17 +172,6 @@ pub taken : (got : Got) (number : ℕ) → Ok number ≡ given_by got → (answe
 taken (gots.Byte b) number is = (Some b, cc, refl)
 taken gots.End number is = (None, cc, refl)
 taken gots.Failed number is = cc
-
-pub not_taken : (got : Got) (fault : TakeFault) → Err fault ≡ given_by got → got ≡ gots.Failed
-not_taken (gots.Byte b) fault is = cc
-not_taken gots.End fault is = cc
-not_taken gots.Failed fault is = refl
-
--- the counts of the source's faults
-pub counts_taken : (got : Got) (number before after : ℕ) → Ok number ≡ given_by got → CountsTake got before after → after ≡ before
-counts_taken (gots.Byte b) number before after is counts = counts
-counts_taken gots.End number before after is counts = counts
-counts_taken gots.Failed number before after is counts = cc
 
 pub take_gives : (s : Store) (t : Thread) (number : ℕ) (answer : Option ℕ) (room us : List Value) → number ≡ number_of answer → room ≡ values.I32 0 ∷ t.operands → us ≡ values.I32 number ∷ drop 1 room → hosted s t true (host_on hosts.Getchar answer t.operands) ≡ Goes s (exited_thread (thread t.frame us t.work)) true None None
 take_gives s t number answer room us is reserved on =

@@ -13,7 +13,7 @@ use Rattle.ms_live.proofs.Found.{find-Some}
 use Rattle.ms_segment.specs.Calls.{Change, handle_at, handle_loaded_at, load_handle, store, store_handle, stored_at}
 use Rattle.ms_segment.specs.declared.trap.SegTrap.{SegTrap}
 use Rattle.ms_segment.specs.declared.trap.SegTrap.TheVariants as traps
-use Rattle.ms_segment.specs.Memory.{Access, IsFit, IsSound, Memory, access, accessed, accessed_if, aligned, as_number, handle_access, live_of, loaded, loaded_at, read_event, with_bytes, write_event}
+use Rattle.ms_segment.specs.Memory.{Access, IsFit, IsSound, Memory, access, accessed, accessed_if, aligned, as_number, handle_access, live_of, loaded, loaded_at, once_more, read_event, with_bytes, write_event}
 use Rattle.ms_segment.proofs.Finds.{Contains-drop, Contains-overwritten, Contains-take}
 use Rattle.ms_segment.proofs.Functions.{IsHandleAt-handle_at}
 use Rattle.ms_segment.proofs.Reach.{access-within, handle_access-within}
@@ -90,21 +90,26 @@ module _ (state : State) (m : Memory) (monitored : IsMonitored state m) where
 
   -- ---- reads
 
-  read_follows : (a : Access) (width : ℕ) → MayAccess state (shade_of a.id a.lo a.hi) a.address width → Follows state m (Some (read_event a width)) m
-  read_follows a width may = record { may = (may, tt); monitored = monitored; grows = grows-refl state; capacity = refl }
+  read_follows : (a : Access) (width : ℕ) → MayAccess state (shade_of a.id a.lo a.hi) a.address width → Follows state m (Some (read_event a width)) (once_more m)
+  read_follows a width may = record {
+    may = (may, tt);
+    monitored = record { live = monitored.live; painted = monitored.painted; roots = monitored.roots; used = monitored.used; pieces = monitored.pieces };
+    grows = grows-refl state;
+    capacity = refl;
+  }
 
-  number_follows : (o : Option ℕ) (a : Access) (width : ℕ) (x : ℕ × Event) → MayAccess state (shade_of a.id a.lo a.hi) a.address width → as_number o (read_event a width) ≡ Ok x → Follows state m (Some x.1) m
+  number_follows : (o : Option ℕ) (a : Access) (width : ℕ) (x : ℕ × Event) → MayAccess state (shade_of a.id a.lo a.hi) a.address width → as_number o (read_event a width) ≡ Ok x → Follows state m (Some x.1) (once_more m)
   number_follows (Some n) a width x may is =
       let same : (n, read_event a width) ≡ x = cc in
-      subst (λ (y : ℕ × Event). Follows state m (Some y.1) m) same (read_follows a width may)
+      subst (λ (y : ℕ × Event). Follows state m (Some y.1) (once_more m)) same (read_follows a width may)
   number_follows None a width x may is = absurd (cc)
 
-  loaded_at_follows : (r : Result Access SegTrap) (width : ℕ) (x : ℕ × Event) → ((a : Access) → r ≡ Ok a → MayAccess state (shade_of a.id a.lo a.hi) a.address width) → loaded_at m width r ≡ Ok x → Follows state m (Some x.1) m
+  loaded_at_follows : (r : Result Access SegTrap) (width : ℕ) (x : ℕ × Event) → ((a : Access) → r ≡ Ok a → MayAccess state (shade_of a.id a.lo a.hi) a.address width) → loaded_at m width r ≡ Ok x → Follows state m (Some x.1) (once_more m)
   loaded_at_follows (Ok a) width x may is = number_follows (number_at (range a.address width m.bytes)) a width x (may a refl) is
   loaded_at_follows (Err e) width x may is = absurd (cc)
 
   -- of a number
-  pub loaded_follows : (h : Handle) (width : ℕ) (x : ℕ × Event) → IsFit m h → KnowsHandle state h → loaded m h width ≡ Ok x → Follows state m (Some x.1) m
+  pub loaded_follows : (h : Handle) (width : ℕ) (x : ℕ × Event) → IsFit m h → KnowsHandle state h → loaded m h width ≡ Ok x → Follows state m (Some x.1) (once_more m)
   loaded_follows h width x fit known is = loaded_at_follows (access m h width) width x (λ a goes. access_may h width a fit known goes) is
 
   -- the handle that bytes of the memory are is known
@@ -118,14 +123,14 @@ module _ (state : State) (m : Memory) (monitored : IsMonitored state m) where
   range_known address within =
       handle_known (range address 16 m.bytes) (handle_at (range address 16 m.bytes)) (λ b has. Contains-drop address m.bytes b (Contains-take 16 _ b has)) (IsHandleAt-handle_at (range address 16 m.bytes) (length-range address 16 m.bytes within))
 
-  handle_loaded_at_follows : (r : Result Access SegTrap) (x : Handle × Event) → ((a : Access) → r ≡ Ok a → MayAccess state (shade_of a.id a.lo a.hi) a.address 16 × (a.address + 16 ≤ length m.bytes)) → handle_loaded_at m r ≡ Ok x → Follows state m (Some x.1) m × KnowsHandle state x.0
+  handle_loaded_at_follows : (r : Result Access SegTrap) (x : Handle × Event) → ((a : Access) → r ≡ Ok a → MayAccess state (shade_of a.id a.lo a.hi) a.address 16 × (a.address + 16 ≤ length m.bytes)) → handle_loaded_at m r ≡ Ok x → Follows state m (Some x.1) (once_more m) × KnowsHandle state x.0
   handle_loaded_at_follows (Ok a) x goes is =
       let same : (handle_at (range a.address 16 m.bytes), read_event a 16) ≡ x = cc in
-      subst (λ (y : Handle × Event). Follows state m (Some y.1) m × KnowsHandle state y.0) same (read_follows a 16 (goes a refl).0, range_known a.address (goes a refl).1)
+      subst (λ (y : Handle × Event). Follows state m (Some y.1) (once_more m) × KnowsHandle state y.0) same (read_follows a 16 (goes a refl).0, range_known a.address (goes a refl).1)
   handle_loaded_at_follows (Err e) x goes is = absurd (cc)
 
   -- of a handle, which is known then
-  pub load_handle_follows : (h : Handle) (x : Handle × Event) → IsSound m → IsFit m h → KnowsHandle state h → load_handle m h ≡ Ok x → Follows state m (Some x.1) m × KnowsHandle state x.0
+  pub load_handle_follows : (h : Handle) (x : Handle × Event) → IsSound m → IsFit m h → KnowsHandle state h → load_handle m h ≡ Ok x → Follows state m (Some x.1) (once_more m) × KnowsHandle state x.0
   load_handle_follows h x sound fit known is =
       handle_loaded_at_follows (handle_access m h) x (λ a goes. (handle_access_may h a fit known goes, (handle_access-within m h a sound fit goes).0)) is
 

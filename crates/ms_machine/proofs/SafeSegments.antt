@@ -16,7 +16,7 @@ use Rattle.ms_module.specs.declared.access.Segment.TheVariants.{Null, New, Free,
 use Rattle.ms_operate.specs.Accesses.{number_of, width_of}
 use Rattle.ms_segment.specs.Calls as call
 use Rattle.ms_segment.specs.Calls.{Change}
-use Rattle.ms_segment.specs.Memory.{IsFit, IsSound, Memory, loaded}
+use Rattle.ms_segment.specs.Memory.{IsFit, IsSound, Memory, loaded, once_more}
 use Rattle.ms_segment.specs.declared.trap.SegTrap.{SegTrap}
 use Rattle.ms_machine.specs.Holding.{Each, Fits}
 use Rattle.ms_machine.specs.Running.{with_event}
@@ -45,11 +45,11 @@ module _ (state : State) (m : Memory) (sound : IsSound m) (monitored : IsMonitor
   measured_follows rest (Ok n) = nothing_follows
   measured_follows rest (Err e) = tt
 
-  handle_read_follows : (rest : List Value) (r : Result (H × Event) SegTrap) → ((x : H × Event) → r ≡ Ok x → Follows state m (Some x.1) m) → ToldIn (Follows state m) (handle_read m rest r)
+  handle_read_follows : (rest : List Value) (r : Result (H × Event) SegTrap) → ((x : H × Event) → r ≡ Ok x → Follows state m (Some x.1) (once_more m)) → ToldIn (Follows state m) (handle_read m rest r)
   handle_read_follows rest (Ok x) f = f x refl
   handle_read_follows rest (Err e) f = tt
 
-  number_read_follows : (op : LoadOp) (rest : List Value) (r : Result (ℕ × Event) SegTrap) → ((x : ℕ × Event) → r ≡ Ok x → Follows state m (Some x.1) m) → ToldIn (Follows state m) (number_read op m rest r)
+  number_read_follows : (op : LoadOp) (rest : List Value) (r : Result (ℕ × Event) SegTrap) → ((x : ℕ × Event) → r ≡ Ok x → Follows state m (Some x.1) (once_more m)) → ToldIn (Follows state m) (number_read op m rest r)
   number_read_follows op rest (Ok x) f = f x refl
   number_read_follows op rest (Err e) f = tt
 
@@ -88,7 +88,7 @@ module _ (state : State) (m : Memory) (sound : IsSound m) (monitored : IsMonitor
   read_known : (rest us : List Value) (m' : Memory) (event : Option Event) (h : H) (r : Result (H × Event) SegTrap) → IsFit m h → KnowsHandle state h → call.load_handle m h ≡ r → handle_read m rest r ≡ segments.Gives us m' event → FreshRead (KnownAfter event) r
   read_known rest us m' event h (Ok x) fit known loads is =
       let follows = load_handle_follows state m monitored h x sound fit known loads in
-      subst (λ e. KnownAfter e (Handle x.0)) (leaves_event (Handle x.0 ∷ rest) us m m' (Some x.1) event is) (handle_grows state (after_all state (with_event (Some x.1) [])) follows.0.grows x.0 follows.1)
+      subst (λ e. KnownAfter e (Handle x.0)) (leaves_event (Handle x.0 ∷ rest) us (once_more m) m' (Some x.1) event is) (handle_grows state (after_all state (with_event (Some x.1) [])) follows.0.grows x.0 follows.1)
   read_known rest us m' event h (Err e) fit known loads is = tt
 
   pub segment_known : (i : Segment) (vs us : List Value) (m' : Memory) (event : Option Event) → Each (Fits m) vs → Each (Knows state) vs → segment_on i m vs ≡ segments.Gives us m' event → FreshIn (KnownAfter event) i m vs

@@ -1,7 +1,6 @@
 -- A well-typed task is never stuck, and stays well typed.
-use Rattle.std.proofs.Common.{◌≡◌, ◌≢◌, ℕ, List, [], ◌∷◌, ◌++◌, length, map, slice_get, Option, Some, None, refl, sym, ap, ◌∙◌, subst, arith}
+use Rattle.std.proofs.Common.{◌≡◌, ◌≢◌, ℕ, List, [], ◌∷◌, ◌++◌, length, map, slice_get, Some, None, refl, sym, ap, ◌∙◌, arith}
 use Rattle.std.proofs.lemmas.Option.{slice_get_past}
-use Rattle.ms_event.specs.declared.event.Event.{Event}
 use Rattle.ms_linear.specs.Values.{default_of}
 use Rattle.ms_linear.specs.declared.value.Value.{Value}
 use Rattle.ms_rules.specs.Typing.{types}
@@ -48,16 +47,8 @@ begin_typed s t store task going =
     let h = task.thread in
     first_typed s store t.frame t.operands t.work h.ts h.below h.operands h.frame h.work task.exited going
 
-pub never_stuck : (s : Store) (t : Thread) → StoreTyped (outline_of s) → TaskTyped (outline_of s) t → t.work ≢ [] → begin s t ≢ Stuck
-never_stuck s t store task going e = subst (OutcomeTyped (outline_of s)) e (begin_typed s t store task going)
-
 pub step_typed : (s : Store) (t : Thread) → StoreTyped (outline_of s) → TaskTyped (outline_of s) t → t.work ≢ [] → ExitedTyped (outline_of s) (step_of s t)
 step_typed s t store task going = exits (outline_of s) (begin s t) (begin_typed s t store task going)
-
-pub stays_typed : (s s' : Store) (t t' : Thread) (event : Option Event) → StoreTyped (outline_of s) → TaskTyped (outline_of s) t → t.work ≢ [] → step_of s t ≡ Next s' t' event → (outline_of s' ≡ outline_of s) × TaskTyped (outline_of s') t'
-stays_typed s s' t t' event store task going is =
-    let h = subst (ExitedTyped (outline_of s)) is (step_typed s t store task going) in
-    (h.0, subst (λ o. TaskTyped o t') (sym h.0) h.1)
 
 pub begins_well : (o : Outline) (t : Thread) → TaskTyped o t → t.work ≢ [] → Begins t.work
 begins_well o t task going = at t.work task.exited going where

@@ -27,20 +27,20 @@ abbrev pub IsAsking : Host → Type 0
 IsAsking hosts.Abort = ⊥
 IsAsking _ = Unit {0}
 
--- The operands, the memory and the event are those; or it stopped, and all is as before. Where memory ran out nothing is
--- said: such a task isn't run again.
+-- The operands, the memory and the event are those; or it stopped, and all is as before. Where memory ran out the memory is
+-- as before, and nothing is said of the operands: such a task isn't run again.
 abbrev pub DoesInSegments : Effect → List Value → List Value → Memory → Memory → Result (Option Event) Fault → Type 0
 DoesInSegments effect old new old-memory new-memory (Ok event) = effect ≡ segments.Gives new new-memory event
 DoesInSegments effect old new old-memory new-memory (Err (faults.Trap kind)) = (effect ≡ segments.Trap kind) × (new ≡ old) × (new-memory ≡ old-memory)
 DoesInSegments effect old new old-memory new-memory (Err (faults.Host h)) = ⊥
-DoesInSegments effect old new old-memory new-memory (Err faults.Memory) = Unit {0}
+DoesInSegments effect old new old-memory new-memory (Err faults.Memory) = new-memory ≡ old-memory
 
--- The same of a store and a thread.
+-- The same of a store and a thread: where memory ran out the store is as before.
 abbrev pub DoesOutcome : Outcome → Store → Thread → Store → Thread → Result (Option Event) Fault → Type 0
 DoesOutcome outcome old old-thread new new-thread (Ok event) = outcome ≡ Next new new-thread event
 DoesOutcome outcome old old-thread new new-thread (Err (faults.Trap kind)) = (outcome ≡ Trap kind) × (new ≡ old) × (new-thread ≡ old-thread)
 DoesOutcome outcome old old-thread new new-thread (Err (faults.Host h)) = (outcome ≡ Calls h new-thread) × (new ≡ old) × IsAsking h
-DoesOutcome outcome old old-thread new new-thread (Err faults.Memory) = Unit {0}
+DoesOutcome outcome old old-thread new new-thread (Err faults.Memory) = new ≡ old
 
 -- The instruction, behind which a task goes on at a place, finds what it takes.
 abbrev pub Can : Instr → ℕ → Store → Task → Type 0
@@ -60,4 +60,4 @@ abbrev pub DoesFirst : Outcome → Store → Thread → Store → Thread → Res
 DoesFirst outcome old old-thread new new-thread (Ok x) = outcome ≡ Next new new-thread x.0
 DoesFirst outcome old old-thread new new-thread (Err (faults.Trap kind)) = (outcome ≡ Trap kind) × (new ≡ old) × (new-thread ≡ old-thread)
 DoesFirst outcome old old-thread new new-thread (Err (faults.Host h)) = (outcome ≡ Calls h new-thread) × (new ≡ old) × IsAsking h
-DoesFirst outcome old old-thread new new-thread (Err faults.Memory) = Unit {0}
+DoesFirst outcome old old-thread new new-thread (Err faults.Memory) = new ≡ old

@@ -5,6 +5,7 @@ pub mod Hosting
 pub mod Moves
 pub mod Stepped
 pub mod Running
+pub mod Accesses
 pub mod Crews
 pub mod Constants
 pub mod Writing

@@ -247,7 +247,7 @@ store_of capacity made = record {
   tables = put_all_elements made.funcs made.globals made.instances made.elements made.tables;
   memories = put_all_fills made.globals made.instances made.fills made.memories;
   globals = made.globals;
-  segments = record { bytes = replicate capacity (Data 0); live = []; made = 0 };
+  segments = record { bytes = replicate capacity (Data 0); live = []; made = 0; accesses = 0 };
 }
 
 abbrev pub stored : (capacity : ℕ) → Result Made Fault → Result Store Fault

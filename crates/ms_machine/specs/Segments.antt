@@ -17,7 +17,7 @@ use Rattle.ms_module.specs.declared.access.Segment.TheVariants.{Null, New, Free,
 use Rattle.ms_operate.specs.Accesses.{number_of, value_of, width_of}
 use Rattle.ms_segment.specs.Calls as call
 use Rattle.ms_segment.specs.Calls.{Change, Made}
-use Rattle.ms_segment.specs.Memory.{Memory, loaded}
+use Rattle.ms_segment.specs.Memory.{Memory, loaded, once_more}
 use Rattle.ms_segment.specs.declared.trap.SegTrap.{SegTrap}
 use Rattle.ms_segment.specs.declared.trap.SegTrap.TheVariants as seg
 use Rattle.ms_host.specs.declared.trap.TrapKind.{TrapKind}
@@ -64,12 +64,13 @@ abbrev pub measured : Memory → List Value → Result ℤ Apart → Effect
 measured m rest (Ok n) = Gives (values.I64 (wrapped 64 n) ∷ rest) m None
 measured m rest (Err e) = Trap traps.Apart
 
+-- a load leaves the memory with one more access
 abbrev pub handle_read : Memory → List Value → Result (Handle × Event) SegTrap → Effect
-handle_read m rest (Ok x) = Gives (values.Handle x.0 ∷ rest) m (Some x.1)
+handle_read m rest (Ok x) = Gives (values.Handle x.0 ∷ rest) (once_more m) (Some x.1)
 handle_read m rest (Err e) = Trap (trap_of e)
 
 abbrev pub number_read : LoadOp → Memory → List Value → Result (ℕ × Event) SegTrap → Effect
-number_read op m rest (Ok x) = Gives (value_of op x.0 ∷ rest) m (Some x.1)
+number_read op m rest (Ok x) = Gives (value_of op x.0 ∷ rest) (once_more m) (Some x.1)
 number_read op m rest (Err e) = Trap (trap_of e)
 
 abbrev pub number_stored : Memory → List Value → Handle → ℕ → Option ℕ → Effect

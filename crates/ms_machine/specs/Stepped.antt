@@ -41,15 +41,15 @@ pub record Went (moves : Option ℕ → Move) (event : Option Event) (s' : Store
 -- ---- the answers
 
 -- The answer tells the step, from a store and a thread to a store and a thread, from an input and an output to an input and
--- an output. A trap changes nothing. After a fault of the outside, and where memory ran out, nothing is said of the store and
--- the thread; the output then has the byte of this step at most, and the input is as before.
+-- an output. A trap changes nothing. After a fault of the outside, and where memory ran out, the store is as before, and
+-- nothing is said of the thread; the output then has the byte of this step at most, and the input is as before.
 abbrev pub DoesStep : Stepped → (moves : Option ℕ → Move) → Store → Thread → Store → Thread → (left left' held held' : Option (List ℕ)) → Type 0
 DoesStep (answers.On event) m s t s' t' left left' held held' = Went m event s' t' left left' held held' × (t'.work ≢ [])
 DoesStep (answers.Ended value event) m s t s' t' left left' held held' = Went m event s' t' left left' held held' × (t'.work ≡ []) × (value ≡ slice_get t'.operands 0)
 DoesStep (answers.Trap kind) m s t s' t' left left' held held' = ((got : Option ℕ) → m got ≡ Trap kind) × (s' ≡ s) × (t' ≡ t) × (left' ≡ left) × (held' ≡ held)
-DoesStep answers.ReadFault m s t s' t' left left' held held' = ((got : Option ℕ) → IsTaking (m got)) × Takes gots.Failed left left' × (held' ≡ held)
-DoesStep answers.WriteFault m s t s' t' left left' held held' = (byte : ℕ) × ((got : Option ℕ) → IsPutting byte (m got)) × (left' ≡ left) × Puts puts.Failed (byte ∷ []) held held'
-DoesStep answers.Memory m s t s' t' left left' held held' = (left' ≡ left) × (held' ≡ held)
+DoesStep answers.ReadFault m s t s' t' left left' held held' = ((got : Option ℕ) → IsTaking (m got)) × (s' ≡ s) × Takes gots.Failed left left' × (held' ≡ held)
+DoesStep answers.WriteFault m s t s' t' left left' held held' = (byte : ℕ) × ((got : Option ℕ) → IsPutting byte (m got)) × (s' ≡ s) × (left' ≡ left) × Puts puts.Failed (byte ∷ []) held held'
+DoesStep answers.Memory m s t s' t' left left' held held' = (s' ≡ s) × (left' ≡ left) × (held' ≡ held)
 
 -- the count of faults of the input after an answer, and that of the output
 abbrev pub CountsInput : Stepped → (before after : ℕ) → Type 0

@@ -2,6 +2,7 @@
 
 ghost use Rattle.std.specs.Prelude.{◌≡◌, ◌≢◌, ℕ, ◌+◌, ◌<◌, ◌≤◌, ◌^◌, ◌++◌, List, [], ◌∷◌, length, IfOk, IsTrue, Option, None};
 ghost use Rattle.ms_handle.specs.declared.handle.Handle.{Handle};
+ghost use Rattle.ms_machine.specs.Accesses.{counted_all};
 ghost use Rattle.ms_machine.specs.Doing.{DoesFirst, with_more};
 ghost use Rattle.ms_machine.specs.Holding.{Each, Fits, StoreFits, ThreadFits};
 ghost use Rattle.ms_machine.specs.Moves as moves;
@@ -134,8 +135,8 @@ fn advance<G: Gaps, T: Tagged, I: Source, O: Sink>(
 /// trap changes nothing. The step is that for what the take from the input gave, if it takes.
 ///
 /// `ReadFault` comes only where the input's count of faults rose, `WriteFault` only where that of the output did. After
-/// them, and after `Memory`, the task is not to be run again; the output then has the byte of this step at most, and the
-/// input is as before.
+/// them, and after `Memory`, the store is as before and the task is not to be run again; the output then has the byte of this
+/// step at most, and the input is as before.
 #[inline(always)]
 #[tactic(auto, using(crate::proofs::Moving::move_unstuck, crate::proofs::TypedSteps::begins_well, crate::proofs::Moving::does_step_typed, crate::proofs::Moving::does_step_fits))]
 pub fn step<G: Gaps, T: Tagged, I: Source, O: Sink>(
@@ -161,6 +162,7 @@ pub fn step<G: Gaps, T: Tagged, I: Source, O: Sink>(
     ensures others { IsWell result → (h : Handle) → IsFit store.old.segments h → IsFit store.new.segments h }
     ensures sound { IsWell result → (events : List Event) (threads : List Thread) → Sound events store.old (thread_of store.old.funcs task.old ∷ threads) → Sound (events ++ with_event (event_of result) []) store.new (thread_of store.new.funcs task.new ∷ threads) × (length store.new.segments.bytes ≡ length store.old.segments.bytes) }
     ensures made { IsWell result → store.new.segments.made ≤ store.old.segments.made + 1 }
+    ensures accesses { IsWell result → store.new.segments.accesses ≡ counted_all (with_event (event_of result) []) store.old.segments.accesses }
 {
     advance(store, task, input, out)
 }

@@ -19,7 +19,8 @@ use ms_segment::Segments;
 use ms_tagged::Tagged;
 use ms_types::Stack;
 
-/// Carries out an instruction on handles and segments. Where it stops the program nothing has changed.
+/// Carries out an instruction on handles and segments. Where it stops the program nothing has changed, and where memory runs
+/// out the segment memory is as before.
 pub(crate) fn segment<G: Gaps, T: Tagged>(
     i: Segment,
     segments: &mut Segments<G, T>,
@@ -233,12 +234,12 @@ fn difference<G: Gaps, T: Tagged>(
 
 /// `handle.load`.
 fn load_handle<G: Gaps, T: Tagged>(
-    segments: &Segments<G, T>,
+    segments: &mut Segments<G, T>,
     operands: &mut Stack<Value>,
 ) -> Result<Option<Event>, Fault>
-    requires there { segment_on instr.LoadHandle segments.now operands.old ≢ Stuck }
-    requires fit { Each (Fits segments.now) operands.old }
-    ensures { DoesInSegments (segment_on instr.LoadHandle segments.now operands.old) operands.old operands.new segments.now segments.now result }
+    requires there { segment_on instr.LoadHandle segments.old operands.old ≢ Stuck }
+    requires fit { Each (Fits segments.old) operands.old }
+    ensures { DoesInSegments (segment_on instr.LoadHandle segments.old operands.old) operands.old operands.new segments.old segments.new result }
 {
     let Value::Handle(handle) = operands.get(0) else {
         unreachable!()
@@ -276,12 +277,12 @@ fn store_handle<G: Gaps, T: Tagged>(
 /// `i32.segload` and its kin.
 fn load<G: Gaps, T: Tagged>(
     op: LoadOp,
-    segments: &Segments<G, T>,
+    segments: &mut Segments<G, T>,
     operands: &mut Stack<Value>,
 ) -> Result<Option<Event>, Fault>
-    requires there { segment_on (instr.Load op) segments.now operands.old ≢ Stuck }
-    requires fit { Each (Fits segments.now) operands.old }
-    ensures { DoesInSegments (segment_on (instr.Load op) segments.now operands.old) operands.old operands.new segments.now segments.now result }
+    requires there { segment_on (instr.Load op) segments.old operands.old ≢ Stuck }
+    requires fit { Each (Fits segments.old) operands.old }
+    ensures { DoesInSegments (segment_on (instr.Load op) segments.old operands.old) operands.old operands.new segments.old segments.new result }
 {
     let Value::Handle(handle) = operands.get(0) else {
         unreachable!()

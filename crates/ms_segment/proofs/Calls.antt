@@ -11,33 +11,37 @@ use Rattle.ms_live.specs.Place.{IsPlace, without}
 use Rattle.ms_tagged.specs.Bytes.{Byte, Data, IsHandleAt, Piece, cleared, overwritten, range, torn, whole}
 use Rattle.ms_segment.specs.declared.trap.SegTrap.{SegTrap}
 use Rattle.ms_event.specs.Monitor.{most_live}
-use Rattle.ms_segment.specs.Memory.{Access, Frees, IsFit, IsSound, LoadsHandle, Makes, Memory, Stores, ended, full, made, no_room, read, read_event, stopped, stored, with_bytes, write_event}
+use Rattle.ms_segment.specs.Memory.{Access, Frees, IsFit, IsSound, LoadsHandle, Makes, Memory, Stores, ended, full, made, no_room, once_more, read, read_event, risen, stopped, stored, with_bytes, write_event}
 use Rattle.ms_segment.specs.Parts.{IsPlaceIn, entered, with_ended}
 use Rattle.ms_segment.proofs.Finds.{Contains-drop, Contains-take}
 
 -- ---- the memory after a call on its parts
 
-pub after-entered : (bytes bytes' : List Byte) (live live' : List Live) (count base size : ℕ) (kind : Kind) (m : Memory) → record { bytes = bytes; live = live; made = count } ≡ m → bytes' ≡ overwritten base (replicate size (Data 0)) bytes → live' ≡ live ++ record { id = count + 1; base = base; size = size; kind = kind } ∷ [] → record { bytes = bytes'; live = live'; made = count + 1 } ≡ entered m base size kind
-after-entered bytes bytes' live live' count base size kind m is written pushed =
-    ap (λ (b : List Byte). record { bytes = b; live = live'; made = count + 1 }) written ∙ (ap (λ (l : List Live). record { bytes = overwritten base (replicate size (Data 0)) bytes; live = l; made = count + 1 }) pushed ∙ ap (λ (n : Memory). entered n base size kind) is)
+pub after-entered : (bytes bytes' : List Byte) (live live' : List Live) (count accesses base size : ℕ) (kind : Kind) (m : Memory) → record { bytes = bytes; live = live; made = count; accesses = accesses } ≡ m → bytes' ≡ overwritten base (replicate size (Data 0)) bytes → live' ≡ live ++ record { id = count + 1; base = base; size = size; kind = kind } ∷ [] → record { bytes = bytes'; live = live'; made = count + 1; accesses = accesses } ≡ entered m base size kind
+after-entered bytes bytes' live live' count accesses base size kind m is written pushed =
+    ap (λ (b : List Byte). record { bytes = b; live = live'; made = count + 1; accesses = accesses }) written ∙ (ap (λ (l : List Live). record { bytes = overwritten base (replicate size (Data 0)) bytes; live = l; made = count + 1; accesses = accesses }) pushed ∙ ap (λ (n : Memory). entered n base size kind) is)
 
-pub after-ended : (bytes : List Byte) (live live' : List Live) (count id : ℕ) (m : Memory) → record { bytes = bytes; live = live; made = count } ≡ m → live' ≡ without id live → record { bytes = bytes; live = live'; made = count } ≡ with_ended m id
-after-ended bytes live live' count id m is left =
-    ap (λ (l : List Live). record { bytes = bytes; live = l; made = count }) left ∙ ap (λ (n : Memory). with_ended n id) is
+pub after-ended : (bytes : List Byte) (live live' : List Live) (count accesses id : ℕ) (m : Memory) → record { bytes = bytes; live = live; made = count; accesses = accesses } ≡ m → live' ≡ without id live → record { bytes = bytes; live = live'; made = count; accesses = accesses } ≡ with_ended m id
+after-ended bytes live live' count accesses id m is left =
+    ap (λ (l : List Live). record { bytes = bytes; live = l; made = count; accesses = accesses }) left ∙ ap (λ (n : Memory). with_ended n id) is
 
-pub after-written : (bytes bytes' : List Byte) (live : List Live) (count address : ℕ) (new : List Byte) (m : Memory) → record { bytes = bytes; live = live; made = count } ≡ m → bytes' ≡ overwritten address new bytes → record { bytes = bytes'; live = live; made = count } ≡ with_bytes m address new
-after-written bytes bytes' live count address new m is written =
-    ap (λ (b : List Byte). record { bytes = b; live = live; made = count }) written ∙ ap (λ (n : Memory). with_bytes n address new) is
+pub after-written : (bytes bytes' : List Byte) (live : List Live) (count accesses accesses' address : ℕ) (new : List Byte) (m : Memory) → record { bytes = bytes; live = live; made = count; accesses = accesses } ≡ m → bytes' ≡ overwritten address new bytes → accesses' ≡ risen accesses → record { bytes = bytes'; live = live; made = count; accesses = accesses' } ≡ with_bytes m address new
+after-written bytes bytes' live count accesses accesses' address new m is written rises =
+    ap (λ (b : List Byte). record { bytes = b; live = live; made = count; accesses = accesses' }) written ∙ (ap (λ (a : ℕ). record { bytes = overwritten address new bytes; live = live; made = count; accesses = a }) rises ∙ ap (λ (n : Memory). with_bytes n address new) is)
+
+pub after-read : (bytes : List Byte) (live : List Live) (count accesses accesses' : ℕ) (m : Memory) → record { bytes = bytes; live = live; made = count; accesses = accesses } ≡ m → accesses' ≡ risen accesses → record { bytes = bytes; live = live; made = count; accesses = accesses' } ≡ once_more m
+after-read bytes live count accesses accesses' m is rises =
+    ap (λ (a : ℕ). record { bytes = bytes; live = live; made = count; accesses = a }) rises ∙ ap once_more is
 
 -- ---- places
 
 -- between the parts and the whole
-pub placed-in : (bytes : List Byte) (live : List Live) (count addresses size : ℕ) (o : Option ℕ) (m : Memory) → record { bytes = bytes; live = live; made = count } ≡ m → addresses ≡ length bytes → IsPlace live addresses size o → IsPlace m.live (length m.bytes) size o
-placed-in bytes live count addresses size o m is as_many placed =
+pub placed-in : (bytes : List Byte) (live : List Live) (count accesses addresses size : ℕ) (o : Option ℕ) (m : Memory) → record { bytes = bytes; live = live; made = count; accesses = accesses } ≡ m → addresses ≡ length bytes → IsPlace live addresses size o → IsPlace m.live (length m.bytes) size o
+placed-in bytes live count accesses addresses size o m is as_many placed =
     subst (λ (n : Memory). IsPlace n.live (length n.bytes) size o) is (subst (λ (n : ℕ). IsPlace live n size o) as_many placed)
 
-pub placed-of : (bytes : List Byte) (live : List Live) (count addresses size : ℕ) (o : Option ℕ) (m : Memory) → record { bytes = bytes; live = live; made = count } ≡ m → addresses ≡ length bytes → IsPlace m.live (length m.bytes) size o → IsPlace live addresses size o
-placed-of bytes live count addresses size o m is as_many placed =
+pub placed-of : (bytes : List Byte) (live : List Live) (count accesses addresses size : ℕ) (o : Option ℕ) (m : Memory) → record { bytes = bytes; live = live; made = count; accesses = accesses } ≡ m → addresses ≡ length bytes → IsPlace m.live (length m.bytes) size o → IsPlace live addresses size o
+placed-of bytes live count accesses addresses size o m is as_many placed =
     subst (λ (n : ℕ). IsPlace live n size o) (sym as_many) (subst (λ (n : Memory). IsPlace n.live (length n.bytes) size o) (sym is) placed)
 
 pub IsPlaceIn-from_place : (m : Memory) (size : ℕ) (o : Option ℕ) → length m.live < most_live → IsPlace m.live (length m.bytes) size o → IsPlaceIn m size o

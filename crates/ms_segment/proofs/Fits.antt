@@ -15,7 +15,7 @@ use Rattle.std.proofs.lemmas.Bool.{leb-true}
 use Rattle.ms_live.specs.declared.gaps.Live.{Live}
 use Rattle.ms_live.specs.Place.{without}
 use Rattle.ms_tagged.specs.Bytes.{Byte}
-use Rattle.ms_segment.specs.Memory.{IsFit, IsSound, Memory, live_of, with_bytes}
+use Rattle.ms_segment.specs.Memory.{IsFit, IsSound, Memory, live_of, once_more, with_bytes}
 use Rattle.ms_segment.specs.Parts.{entered}
 use Rattle.ms_segment.proofs.Finds.{find-filter_gone, find-filter_kept, find-push_other}
 
@@ -43,7 +43,7 @@ find-without ended id live s found =
     ]
 
 -- after the end of a segment
-pub IsFit-ended : (m : Memory) (ended : ℕ) (h : Handle) → IsFit m h → IsFit (record { bytes = m.bytes; live = without ended m.live; made = m.made }) h
+pub IsFit-ended : (m : Memory) (ended : ℕ) (h : Handle) → IsFit m h → IsFit (record { bytes = m.bytes; live = without ended m.live; made = m.made; accesses = m.accesses }) h
 IsFit-ended m ended handles.Null fit = tt
 IsFit-ended m ended handles.Broken fit = tt
 IsFit-ended m ended (handles.Good id at len offset) fit =
@@ -54,6 +54,12 @@ pub IsFit-written : (m : Memory) (address : ℕ) (new : List Byte) (h : Handle) 
 IsFit-written m address new handles.Null fit = tt
 IsFit-written m address new handles.Broken fit = tt
 IsFit-written m address new (handles.Good id at len offset) fit = fit
+
+-- after an access
+pub IsFit-once_more : (m : Memory) (h : Handle) → IsFit m h → IsFit (once_more m) h
+IsFit-once_more m handles.Null fit = tt
+IsFit-once_more m handles.Broken fit = tt
+IsFit-once_more m (handles.Good id at len offset) fit = fit
 
 -- the handle of a new segment
 fit_new : (m : Memory) (base size : ℕ) (kind : Kind) → size < 4294967296 → IsSound m → IsFit (entered m base size kind) (handles.Good (m.made + 1) 0 size (pos 0))

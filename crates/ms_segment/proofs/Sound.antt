@@ -13,10 +13,10 @@ use Rattle.ms_live.specs.Place.{IsOutside, IsPlace, without}
 use Rattle.ms_tagged.specs.Bytes.{Byte, Data, Piece, data_of, overwritten, pieces}
 use Rattle.ms_tagged.proofs.Ranges.{length-overwritten}
 use Rattle.ms_event.specs.Monitor.{most_live}
-use Rattle.ms_segment.specs.Memory.{AreApart, IsFit, IsSound, IsWithin, Memory, with_bytes}
+use Rattle.ms_segment.specs.Memory.{AreApart, IsFit, IsSound, IsWithin, Memory, once_more, with_bytes}
 use Rattle.ms_segment.specs.Parts.{entered}
 use Rattle.ms_segment.proofs.Finds.{Contains-overwritten, length-filter_le}
-use Rattle.ms_segment.proofs.Fits.{IsFit-ended, IsFit-entered, IsFit-written}
+use Rattle.ms_segment.proofs.Fits.{IsFit-ended, IsFit-entered, IsFit-once_more, IsFit-written}
 
 -- ---- pieces among bytes
 
@@ -67,9 +67,22 @@ pub IsSound-pieces : (m : Memory) (address : ℕ) (v : Handle) → IsSound m →
 IsSound-pieces m address v s fit within =
     sound_write m address (pieces v) s within (λ h i has. subst (IsFit m) (sym (piece_of v h i has)) fit)
 
+-- ---- after an access
+
+pub IsSound-once_more : (m : Memory) → IsSound m → IsSound (once_more m)
+IsSound-once_more m s = record {
+  capacity = s.capacity;
+  few = s.few;
+  within = s.within;
+  apart = s.apart;
+  ids = s.ids;
+  rising = s.rising;
+  kept = λ h i has. IsFit-once_more m h (s.kept h i has);
+}
+
 -- ---- after the end of a segment
 
-pub IsSound-ended : (m : Memory) (id : ℕ) → IsSound m → IsSound (record { bytes = m.bytes; live = without id m.live; made = m.made })
+pub IsSound-ended : (m : Memory) (id : ℕ) → IsSound m → IsSound (record { bytes = m.bytes; live = without id m.live; made = m.made; accesses = m.accesses })
 IsSound-ended m id s = record {
   capacity = s.capacity;
   few = omega (arith, s.few, length-filter_le (λ (t : Live). not (t.id == id)) m.live);
@@ -113,7 +126,7 @@ IsSound-entered m base size kind s few placed =
     }
 
 -- new memory
-pub IsSound-new : (capacity : ℕ) → capacity < 4294967296 → IsSound (record { bytes = replicate capacity (Data 0); live = []; made = 0 })
+pub IsSound-new : (capacity : ℕ) → capacity < 4294967296 → IsSound (record { bytes = replicate capacity (Data 0); live = []; made = 0; accesses = 0 })
 IsSound-new capacity below =
     let count : length (replicate capacity (Data 0)) ≡ capacity = length-replicate capacity (Data 0) in
     record {

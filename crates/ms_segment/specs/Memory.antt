@@ -1,5 +1,5 @@
 -- The segment memory, on plain lists.
-use Rattle.std.specs.Prelude.{◌≡◌, ◌==◌, ℕ, ◌+◌, ◌%◌, ◌<◌, ◌≤◌, Bool, true, false, ◌&&◌, List, [], ◌∷◌, ◌++◌, length, replicate, All, AllPairs, Contains, find, Option, Some, None, Result, Ok, Err, if◌then◌else◌, nat_le, ℤ, pos, negsuc, ⊤}
+use Rattle.std.specs.Prelude.{◌≡◌, ◌==◌, ℕ, ◌+◌, ◌%◌, ◌<◌, ◌≤◌, Bool, true, false, ◌&&◌, List, [], ◌∷◌, ◌++◌, length, replicate, All, AllPairs, Contains, find, min, Option, Some, None, Result, Ok, Err, if◌then◌else◌, nat_le, ℤ, pos, negsuc, ⊤}
 use Rattle.std.specs.Ordering.{int_eq}
 use Rattle.ms_event.specs.declared.event.Event.{Event}
 use Rattle.ms_event.specs.declared.event.Event.TheVariants as events
@@ -15,11 +15,13 @@ use Rattle.ms_tagged.specs.Bytes.{Byte, Data, IsHandleAt, Piece, number_at, over
 use Rattle.ms_segment.specs.declared.trap.SegTrap.{SegTrap}
 use Rattle.ms_segment.specs.declared.trap.SegTrap.TheVariants as traps
 
--- the bytes, as many as the capacity; the live segments, by their identities; and how many identities were made
+-- the bytes, as many as the capacity; the live segments, by their identities; how many identities were made; and how
+-- often bytes were read or written through handles
 pub record Memory : Type 0 where
   pub bytes : List Byte
   pub live : List Live
   pub made : ℕ
+  pub accesses : ℕ
 
 abbrev pub live_of : Memory → ℕ → Option Live
 live_of m id = find (λ s. s.id == id) m.live
@@ -60,6 +62,7 @@ pub data Makes (m : Memory) (size : ℕ) (kind : Kind) : Handle → Event → Me
         bytes = overwritten base (replicate size (Data 0)) m.bytes;
         live = m.live ++ record { id = m.made + 1; base = base; size = size; kind = kind } ∷ [];
         made = m.made + 1;
+        accesses = m.accesses;
       })
   full : length m.live ≡ most_live → Makes m size kind handles.Null (events.Refused size) m
   no_room : IsPlace m.live (length m.bytes) size None → Makes m size kind handles.Null (events.Refused size) m
@@ -89,6 +92,14 @@ freed m handles.Broken kind = Err traps.Invalid
 freed m (handles.Good id base size offset) kind = ends_if (live_of m id) base size offset kind
 
 -- ---- accesses
+
+-- a count that rises, which stands still at the last value of a u64
+abbrev pub risen : ℕ → ℕ
+risen n = min (n + 1) 18446744073709551615
+
+-- one more access is counted, and nothing else changes
+abbrev pub once_more : Memory → Memory
+once_more m = record { bytes = m.bytes; live = m.live; made = m.made; accesses = risen m.accesses }
 
 -- where an access goes: its address, and its shade
 pub record Access : Type 0 where
@@ -138,9 +149,14 @@ loaded_at m width (Err e) = Err e
 abbrev pub loaded : Memory → Handle → ℕ → Result (ℕ × Event) SegTrap
 loaded m h width = loaded_at m width (access m h width)
 
--- these bytes are written, and nothing else changes
+-- what a load leaves: a trap is no access
+abbrev pub after_load : {A : Type 0} → Memory → Result A SegTrap → Memory
+after_load m (Ok x) = once_more m
+after_load m (Err e) = m
+
+-- these bytes are written by one access, and nothing else changes
 abbrev pub with_bytes : Memory → ℕ → List Byte → Memory
-with_bytes m address new = record { bytes = overwritten address new m.bytes; live = m.live; made = m.made }
+with_bytes m address new = record { bytes = overwritten address new m.bytes; live = m.live; made = m.made; accesses = risen m.accesses }
 
 -- what a store gives and leaves
 pub data Stores (m : Memory) (new : List Byte) (width : ℕ) : Result Access SegTrap → Result Event SegTrap → Memory → Type 0 where
@@ -154,5 +170,5 @@ pub data LoadsHandle (m : Memory) : Result Access SegTrap → Result (Handle × 
 
 -- what freeing gives and leaves
 pub data Frees (m : Memory) : Result ℕ SegTrap → Result Event SegTrap → Memory → Type 0 where
-  ended : {id : ℕ} → Frees m (Ok id) (Ok (events.Free id)) (record { bytes = m.bytes; live = without id m.live; made = m.made })
+  ended : {id : ℕ} → Frees m (Ok id) (Ok (events.Free id)) (record { bytes = m.bytes; live = without id m.live; made = m.made; accesses = m.accesses })
   stopped : {e : SegTrap} → Frees m (Err e) (Err e) m

@@ -22,8 +22,9 @@ entered m base size kind = record {
   bytes = overwritten base (replicate size (Data 0)) m.bytes;
   live = m.live ++ record { id = m.made + 1; base = base; size = size; kind = kind } ∷ [];
   made = m.made + 1;
+  accesses = m.accesses;
 }
 
 -- the memory with one segment less
 abbrev pub with_ended : Memory → ℕ → Memory
-with_ended m id = record { bytes = m.bytes; live = without id m.live; made = m.made }
+with_ended m id = record { bytes = m.bytes; live = without id m.live; made = m.made; accesses = m.accesses }

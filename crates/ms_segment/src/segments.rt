@@ -4,7 +4,7 @@ ghost use Rattle.std.specs.Prelude.{◌≡◌, ◌+◌, ◌<◌, ◌≤◌, ◌^
 ghost use Rattle.ms_handle.specs.declared.handle.Handle.{Handle};
 ghost use Rattle.ms_live.specs.Place.{IsPlace};
 ghost use Rattle.ms_tagged.specs.Bytes.{Data, IsWidth, data_of, pieces, range, shown_at};
-ghost use Rattle.ms_segment.specs.Memory.{Frees, IsFit, IsSound, LoadsHandle, Makes, Stores, access, freed, handle_access, loaded};
+ghost use Rattle.ms_segment.specs.Memory.{Frees, IsFit, IsSound, LoadsHandle, Makes, Stores, access, after_load, freed, handle_access, loaded, risen};
 ghost use Rattle.ms_segment.specs.Calls as call;
 ghost use Rattle.ms_segment.specs.Calls.{DoesChange};
 ghost use Rattle.ms_segment.specs.Parts.{IsPlaceIn, access_of, entered};
@@ -24,14 +24,16 @@ const WIDTH: u32 = 16;
 /// The segment memory, over how live segments and tagged bytes are kept. No call but `new` takes memory, and a trap
 /// changes nothing.
 ///
-/// Contracts see its bytes, its live segments and how many identities were made. What always holds of these is
-/// `IsSound`: live segments lie within the capacity at multiples of 16, share no address and have identities that rise
-/// from 1 to the number made, and the handles that are kept fit.
+/// Contracts see its bytes, its live segments, how many identities were made, and how often bytes were read or written
+/// through handles: a read leaves no other mark. What always holds of these is `IsSound`: live segments lie within the
+/// capacity at multiples of 16, share no address and have identities that rise from 1 to the number made, and the handles
+/// that are kept fit.
 #[derive(Drop)]
 pub struct Segments<G: Gaps, T: Tagged> {
     gaps: G,
     tagged: T,
     made: u64,
+    accesses: u64,
 }
 
 impl<G: Gaps, T: Tagged> Model for Segments<G, T> {
@@ -40,21 +42,22 @@ impl<G: Gaps, T: Tagged> Model for Segments<G, T> {
 
     ghost Value = { Memory };
 
-    ghost view = { λ s. record { bytes = T.bytes s.tagged; live = G.live s.gaps; made = s.made } };
+    ghost view = { λ s. record { bytes = T.bytes s.tagged; live = G.live s.gaps; made = s.made; accesses = s.accesses } };
 
-    ghost invariant = { λ s. (G.addresses s.gaps ≡ length (T.bytes s.tagged)) × IsSound (record { bytes = T.bytes s.tagged; live = G.live s.gaps; made = s.made }) };
+    ghost invariant = { λ s. (G.addresses s.gaps ≡ length (T.bytes s.tagged)) × IsSound (record { bytes = T.bytes s.tagged; live = G.live s.gaps; made = s.made; accesses = s.accesses }) };
 }
 
 impl<G: Gaps, T: Tagged> Segments<G, T> {
     /// So many bytes 0, and no segment.
     pub fn new(alloc: Global, capacity: u32) -> Result<Self, AllocError>
-        ensures empty { IfOk result (λ m. m ≡ record { bytes = replicate capacity (Data 0); live = []; made = 0 }) }
+        ensures empty { IfOk result (λ m. m ≡ record { bytes = replicate capacity (Data 0); live = []; made = 0; accesses = 0 }) }
         ensures sound { IfOk result IsSound }
     {
         Ok(Segments {
             gaps: G::new(alloc, capacity)?,
             tagged: T::new(alloc, capacity)?,
             made: 0,
+            accesses: 0,
         })
     }
 
@@ -87,21 +90,27 @@ impl<G: Gaps, T: Tagged> Segments<G, T> {
         Ok(Event::Free { id })
     }
 
-    /// Reads the number of `width` bytes at the handle, the lowest byte first.
-    pub fn load(&self, h: Handle, width: u32) -> Result<(u64, Event), SegTrap>
-        requires fits { IsFit self.now h }
+    /// Reads the number of `width` bytes at the handle, the lowest byte first, and counts the access.
+    pub fn load(&mut self, h: Handle, width: u32) -> Result<(u64, Event), SegTrap>
+        requires fits { IsFit self.old h }
         requires width { IsWidth width }
-        ensures loaded { result ≡ loaded self.now h width }
+        ensures loaded { result ≡ loaded self.old h width }
         ensures fits { IfOk result (λ x. x.0 < 256 ^ width) }
+        ensures counted { self.new ≡ after_load self.old result }
+        ensures sound { IsSound self.new }
+        ensures others { (h : Handle) → IsFit self.old h → IsFit self.new h }
     {
         let access = self.locate(h, width)?;
         match self.tagged.get(access.address, width) {
-            Some(number) => Ok((number, access.read(width))),
+            Some(number) => {
+                self.accesses = one_more(self.accesses);
+                Ok((number, access.read(width)))
+            }
             None => Err(SegTrap::Provenance),
         }
     }
 
-    /// Writes the lowest `width` bytes of the value at the handle, as data.
+    /// Writes the lowest `width` bytes of the value at the handle, as data, and counts the access.
     pub fn store(&mut self, h: Handle, width: u32, value: u64) -> Result<Event, SegTrap>
         requires fits { IsFit self.old h }
         requires width { IsWidth width }
@@ -112,21 +121,26 @@ impl<G: Gaps, T: Tagged> Segments<G, T> {
     {
         let access = self.locate(h, width)?;
         self.tagged.put(access.address, width, value);
+        self.accesses = one_more(self.accesses);
         Ok(access.write(width))
     }
 
-    /// Reads the handle whose pieces stand at the handle.
-    pub fn load_handle(&self, h: Handle) -> Result<(Handle, Event), SegTrap>
-        requires { IsFit self.now h }
-        ensures loaded { LoadsHandle self.now (handle_access self.now h) result }
-        ensures call { result ≡ call.load_handle self.now h }
-        ensures fits { IfOk result (λ x. IsFit self.now x.0) }
+    /// Reads the handle whose pieces stand at the handle, and counts the access.
+    pub fn load_handle(&mut self, h: Handle) -> Result<(Handle, Event), SegTrap>
+        requires { IsFit self.old h }
+        ensures loaded { LoadsHandle self.old (handle_access self.old h) result }
+        ensures call { result ≡ call.load_handle self.old h }
+        ensures fits { IfOk result (λ x. IsFit self.old x.0) }
+        ensures counted { self.new ≡ after_load self.old result }
+        ensures sound { IsSound self.new }
+        ensures others { (h : Handle) → IsFit self.old h → IsFit self.new h }
     {
         let access = self.locate_handle(h)?;
+        self.accesses = one_more(self.accesses);
         Ok((self.tagged.get_handle(access.address), access.read(WIDTH)))
     }
 
-    /// Writes the pieces of a handle at the handle.
+    /// Writes the pieces of a handle at the handle, and counts the access.
     pub fn store_handle(&mut self, h: Handle, v: Handle) -> Result<Event, SegTrap>
         requires place { IsFit self.old h }
         requires value { IsFit self.old v }
@@ -137,6 +151,7 @@ impl<G: Gaps, T: Tagged> Segments<G, T> {
     {
         let access = self.locate_handle(h)?;
         self.tagged.put_handle(access.address, v);
+        self.accesses = one_more(self.accesses);
         Ok(access.write(WIDTH))
     }
 
@@ -261,4 +276,11 @@ impl<G: Gaps, T: Tagged> Segments<G, T> {
             Err(SegTrap::Misaligned)
         }
     }
+}
+
+/// A count after one more. At its last value it stays.
+fn one_more(count: u64) -> u64
+    ensures { result ≡ risen count }
+{
+    count.saturating_add(1)
 }

@@ -91,9 +91,6 @@ entries_on ks most left rest within less =
     let e : (most - left) + (left - rest) ≡ most - rest = omega (arith, within, less) in
     drop_twice (most - left) (left - rest) ks ∙ ap (λ n. drop n ks) e
 
-chain_of : (s : Store) (tasks : List Thread) (xs ys : List Thread) → xs ≡ ys → begun_with s xs tasks ≡ begun_with s ys tasks
-chain_of s tasks xs ys same = ap (λ (l : List Thread). begun_with s l tasks) same
-
 -- It has ended, and the next one comes.
 pub chain_ends : (l l' l'' h h' h'' : Told) (old log new : Log) (all : Input → Run) (ks : List ℕ) (most left rest : ℕ) (s s' : Store) (t t' : Thread) (ahead0 more more' tasks : List Thread) → left ≤ most → rest ≤ left → ahead0 ≡ t ∷ more → t'.work ≡ [] → more ≡ more'
     → ComesTo l l' h h' old log all (run_entries (drop (most - left) ks) (begun_with s ahead0 tasks))

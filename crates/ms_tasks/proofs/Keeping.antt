@@ -6,7 +6,7 @@ use Rattle.std.proofs.lemmas.Option.{get_or_from_slice_get, slice_get_within}
 use Rattle.ms_event.specs.declared.event.Event.{Event}
 use Rattle.ms_task.specs.Thread.{Item, Thread}
 use Rattle.ms_machine.specs.Store.{Store}
-use Rattle.ms_machine.specs.Crews.{Crew, Deeds, End, Input, OutOfBudget, Results, Run, Start, Stuck, Task, Trap, Whose, ahead, begun, behind, both, by_work, deed, ends, events_of, is_over, moved, passed, results, run_entries, run_of, task_turn, turn, with_start, with_task}
+use Rattle.ms_machine.specs.Crews.{Crew, Deeds, End, Input, OutOfBudget, Results, Run, Start, Stuck, Task, Trap, Whose, ahead, behind, both, by_work, deed, ends, events_of, is_over, moved, passed, results, run_entries, task_turn, turn, with_start, with_task}
 use Rattle.ms_machine.specs.Moves as moves
 use Rattle.ms_machine.specs.Moves.{Goes, Move, move_of, rest_of}
 use Rattle.ms_machine.specs.Running.{with_event}
@@ -103,6 +103,3 @@ module _ (S : List Event → Store → Type 0) (P : List Event → Store → Thr
     entries_keep (k ∷ ks) es c input kept =
         cond_has (RunKeeps es) (is_over c.chain c.tasks) _ _ (ends_keep es (Results (results c.tasks)) c input (λ e. absurd cc) kept)
         (turn_keeps es k c input (run_entries ks) kept (λ es' c' input'. entries_keep ks es' c' input') c.chain refl)
-
-    pub run_keeps : (ks : List ℕ) (es : List Event) (c : Crew) (input : Input) → S es c.store → All (P es c.store) c.chain → All (P es c.store) c.tasks → RunKeeps es (run_of ks c input)
-    run_keeps ks es c input store chain tasks = entries_keep ks es (begun c) input (store, ahead_all (P es c.store) c.chain chain, tasks, ahead_going c.chain)

@@ -8,6 +8,7 @@ pub mod Turns
 pub mod Rowing
 pub mod Chaining
 pub mod Listing
+pub mod Counting
 pub mod Safe
 pub mod Outs
 pub mod Telling

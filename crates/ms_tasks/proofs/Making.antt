@@ -1,8 +1,7 @@
 -- A new crew: its start functions and tasks are well typed, their handles fit, and it is safe.
-use Rattle.std.proofs.Common.{◌≡◌, ◌<◌, ◌+◌, ◌&&◌, ℕ, suc, Bool, true, false, cond, List, [], ◌∷◌, ◌++◌, drop, get_or, length, map, slice_get, Option, Some, None, Result, Ok, Err, find, option_and_then, refl, sym, ap, subst, ◌∙◌, append-nil, append_assoc, arith}
+use Rattle.std.proofs.Common.{◌≡◌, ◌+◌, ◌&&◌, ℕ, suc, Bool, true, false, cond, List, [], ◌∷◌, ◌++◌, drop, map, slice_get, Option, Some, None, Result, Ok, Err, find, option_and_then, refl, sym, ap, subst, ◌∙◌, append-nil, append_assoc, arith}
 use Rattle.std.specs.Str.{bytes_eq}
 use Rattle.std.specs.List.{All}
-use Rattle.std.proofs.lemmas.Option.{get_or_from_slice_get, slice_get-get_or, slice_get_within}
 use Rattle.std.proofs.lemmas.List.Elements.{All-cons, All-head, All-nil, All-tail, All-weaker}
 use Rattle.ms_event.specs.declared.event.Event.{Event}
 use Rattle.ms_module.specs.declared.module.Export.{Export}
@@ -15,7 +14,7 @@ use Rattle.ms_task.specs.declared.task.Task.{Task as CodeTask}
 use Rattle.ms_task.specs.declared.func.FuncInst.{FuncInst}
 use Rattle.ms_machine.specs.Crews.{ahead}
 use Rattle.ms_machine.specs.Holding.{StoreFits, ThreadFits}
-use Rattle.ms_machine.specs.Linked.{StartTyped, StartsTyped, start_chain, start_of, with_start}
+use Rattle.ms_machine.specs.Linked.{StartTyped, StartsTyped, start_chain, with_start}
 use Rattle.ms_machine.specs.Running.{func_thread}
 use Rattle.ms_machine.specs.Running as running
 use Rattle.ms_machine.specs.Safety.{Sound}
@@ -28,7 +27,6 @@ use Rattle.ms_machine.proofs.TypedSteps.{starts_well}
 use Rattle.ms_tasks.proofs.Chaining.{drop_at}
 use Rattle.ms_tasks.proofs.Keeping.{ahead_all}
 use Rattle.ms_tasks.specs.Ready.{IsReady, threads_of}
-use Rattle.ms_tasks.specs.Making.{IsStartOf}
 use Rattle.ms_tasks.specs.Tasks.{and_thread, crew_of, exported_func, exported_task, is_task_result, is_task_type, of_task_type, takes_nothing, task_address, task_of_instance, thread_at, threads_from}
 
 -- ---- a function that may be started: it is there, without parameters
@@ -133,29 +131,9 @@ crew_sound s tasks ts starts is es sound =
 
 -- ---- as the code makes them, one after the other
 
--- an instance without a start function
-pub chain_skips : (s : Store) (all rest : List Thread) (instances : List Instance) (k : ℕ) (i : Instance) → slice_get instances k ≡ Some i → start_of i ≡ None → rest ++ map (func_thread s) (start_chain (drop k instances)) ≡ all → rest ++ map (func_thread s) (start_chain (drop (k + 1) instances)) ≡ all
-chain_skips s all rest instances k i found none is =
-    let e : suc k ≡ k + 1 = omega arith in
-    let step : start_chain (drop k instances) ≡ start_chain (drop (k + 1) instances) = ap start_chain (drop_at instances k i found) ∙ (ap (λ o. with_start o (start_chain (drop (suc k) instances))) none ∙ ap (λ n. start_chain (drop n instances)) e) in
-    ap (λ (xs : List ℕ). rest ++ map (func_thread s) xs) (sym step) ∙ is
-
--- or with one
-pub chain_grows : (s : Store) (all rest : List Thread) (instances : List Instance) (k a : ℕ) (i : Instance) (t : Thread) → slice_get instances k ≡ Some i → start_of i ≡ Some a → t ≡ func_thread s a → rest ++ map (func_thread s) (start_chain (drop k instances)) ≡ all → (rest ++ t ∷ []) ++ map (func_thread s) (start_chain (drop (k + 1) instances)) ≡ all
-chain_grows s all rest instances k a i t found some thread is =
-    let e : suc k ≡ k + 1 = omega arith in
-    let later = map (func_thread s) (start_chain (drop (suc k) instances)) in
-    let step : start_chain (drop k instances) ≡ a ∷ start_chain (drop (suc k) instances) = ap start_chain (drop_at instances k i found) ∙ ap (λ o. with_start o (start_chain (drop (suc k) instances))) some in
-    ap (λ n. (rest ++ t ∷ []) ++ map (func_thread s) (start_chain (drop n instances))) (sym e)
-    ∙ (append_assoc rest (t ∷ []) later ∙ (ap (λ (u : Thread). rest ++ u ∷ later) thread ∙ (ap (λ (xs : List ℕ). rest ++ map (func_thread s) xs) (sym step) ∙ is)))
-
 abbrev pub joined : List Thread → Result (List Thread) ℕ → Result (List Thread) ℕ
 joined ts (Ok us) = Ok (ts ++ us)
 joined ts (Err n) = Err n
-
-pub tasks_begin : (r : Result (List Thread) ℕ) → joined [] r ≡ r
-tasks_begin (Ok ts) = refl
-tasks_begin (Err n) = refl
 
 pub tasks_grow : (s : Store) (all : Result (List Thread) ℕ) (rest : List Thread) (tasks : List (ℕ × List ℕ)) (k : ℕ) (item : ℕ × List ℕ) (a : ℕ) (t : Thread) → slice_get tasks k ≡ Some item → task_address s item.0 item.1 ≡ Some a → t ≡ func_thread s a → joined rest (threads_from s (drop k tasks) k) ≡ all → joined (rest ++ t ∷ []) (threads_from s (drop (k + 1) tasks) (k + 1)) ≡ all
 tasks_grow s all rest tasks k item a t found at thread is =
@@ -168,35 +146,6 @@ tasks_grow s all rest tasks k item a t found at thread is =
     by (Ok us) = ap Ok (append_assoc rest (t ∷ []) us ∙ ap (λ (u : Thread). rest ++ u ∷ us) thread)
     by (Err n) = refl
 
--- ---- the start function of an instance
-
-pub start_bound : (funcs : List FuncInst) (i : Instance) (o : Option ℕ) (x : ℕ) → o ≡ Some x → StartTyped funcs i o → x < length i.funcs
-start_bound funcs i o x is typed = by (subst (StartTyped funcs i) is typed) where
-  by : StartTyped funcs i (Some x) → x < length i.funcs
-  by (a, f, at, found, alone, none) = slice_get_within i.funcs x a at
-
-pub start_there : (s : Store) (i : Instance) (o : Option ℕ) (x d : ℕ) → o ≡ Some x → StartTyped s.funcs i o → CanStart s (get_or i.funcs x d)
-start_there s i o x d is typed = by (subst (StartTyped s.funcs i) is typed) where
-  by : StartTyped s.funcs i (Some x) → CanStart s (get_or i.funcs x d)
-  by (a, f, at, found, alone, none) = subst (CanStart s) (sym (get_or_from_slice_get i.funcs x a d at)) (f, found, alone)
-
-pub start_is : (s : Store) (i : Instance) (x d : ℕ) → i.start ≡ Some x → x < length i.funcs → start_of i ≡ Some (get_or i.funcs x d)
-start_is s i x d is within = ap (option_and_then (slice_get i.funcs)) is ∙ slice_get-get_or i.funcs x d within
-
 -- a task is started
 pub begun_thread : (s : Store) (task : CodeTask) (address : ℕ) → CanStart s address → ((g : FuncInst) → slice_get s.funcs address ≡ Some g → thread_of s.funcs task ≡ exited (started s.funcs address g)) → thread_of s.funcs task ≡ func_thread s address
 begun_thread s task address (g, found, alone) starts = starts g found ∙ sym (thread_is s address g found)
-
--- ---- the code's loops
-
-pub starts_skip : (s : Store) (all : List Thread) (rest : List Thread) (instances : List Instance) (k : ℕ) (i : Instance) (task : Option CodeTask) → slice_get instances k ≡ Some i → task ≡ None → IsStartOf s (start_of i) task → rest ++ map (func_thread s) (start_chain (drop k instances)) ≡ all → rest ++ map (func_thread s) (start_chain (drop (k + 1) instances)) ≡ all
-starts_skip s all rest instances k i task found none is before = by (start_of i) refl (subst (IsStartOf s (start_of i)) none is) where
-  by : (o : Option ℕ) → start_of i ≡ o → IsStartOf s o None → rest ++ map (func_thread s) (start_chain (drop (k + 1) instances)) ≡ all
-  by None e is = chain_skips s all rest instances k i found e before
-  by (Some a) e is = absurd is
-
-pub starts_grow : (s : Store) (all : List Thread) (rest : List Thread) (instances : List Instance) (k : ℕ) (i : Instance) (task : Option CodeTask) (t : CodeTask) → slice_get instances k ≡ Some i → task ≡ Some t → IsStartOf s (start_of i) task → rest ++ map (func_thread s) (start_chain (drop k instances)) ≡ all → (rest ++ thread_of s.funcs t ∷ []) ++ map (func_thread s) (start_chain (drop (k + 1) instances)) ≡ all
-starts_grow s all rest instances k i task t found some is before = by (start_of i) refl (subst (IsStartOf s (start_of i)) some is) where
-  by : (o : Option ℕ) → start_of i ≡ o → IsStartOf s o (Some t) → (rest ++ thread_of s.funcs t ∷ []) ++ map (func_thread s) (start_chain (drop (k + 1) instances)) ≡ all
-  by None e is = absurd is
-  by (Some a) e is = chain_grows s all rest instances k a i (thread_of s.funcs t) found e is before

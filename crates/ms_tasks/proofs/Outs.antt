@@ -96,13 +96,3 @@ only_tasks s chain ts ready = record {
   chain_fits = All-nil (ThreadFits s);
   tasks_fit = ready.tasks_fit;
 }
-
-pub only_chain : (s : Store) (chain ts : List Thread) → IsReady (record { store = s; chain = chain; tasks = ts }) → IsReady (record { store = s; chain = chain; tasks = [] })
-only_chain s chain ts ready = record {
-  store = ready.store;
-  chain = ready.chain;
-  tasks = All-nil (TaskTyped (outline_of s));
-  store_fits = ready.store_fits;
-  chain_fits = ready.chain_fits;
-  tasks_fit = All-nil (ThreadFits s);
-}

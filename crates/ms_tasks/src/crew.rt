@@ -3,6 +3,7 @@
 ghost use Rattle.std.specs.Prelude.{◌≡◌, ◌≢◌, ◌+◌, ◌<◌, ◌≤◌, ◌^◌, true, List, [], Some, IfOk, MatchResult, length, slice_get};
 ghost use Rattle.ms_event.specs.declared.event.Event.{Event};
 ghost use Rattle.ms_event.specs.Monitor.{Accepts};
+ghost use Rattle.ms_machine.specs.Accesses.{counted_all};
 ghost use Rattle.ms_machine.specs.Crews.{Input, Stuck, events_of, run_of};
 ghost use Rattle.ms_machine.specs.Holding.{StoreFits};
 ghost use Rattle.ms_machine.specs.Linked.{StartsTyped};
@@ -117,6 +118,8 @@ impl<G: Gaps, T: Tagged> Crew<G, T> {
         ensures never_stuck { (given : Input) → (run_of (entries_of schedule.now (length self.old.tasks) budget) self.old given).end ≢ Stuck }
         // The events of the run are a trace that the colour monitor accepts.
         ensures accepted { Sound [] self.old.store (threads_of self.old) → (given : Input) → Accepts (length self.old.store.segments.bytes) (events_of (run_of (entries_of schedule.now (length self.old.tasks) budget) self.old given).deeds) }
+        // The segment memory that the run leaves has counted the accesses that its events are.
+        ensures accesses { (given : Input) → (run_of (entries_of schedule.now (length self.old.tasks) budget) self.old given).crew.store.segments.accesses ≡ counted_all (events_of (run_of (entries_of schedule.now (length self.old.tasks) budget) self.old given).deeds) self.old.store.segments.accesses }
         // Those that are kept are one, whatever the answer, behind those that were kept before.
         ensures kept { log.old.told.keep ≡ true → Sound log.old.told.events self.old.store (threads_of self.old) → Accepts (length self.old.store.segments.bytes) log.new.told.events }
         ensures sound { IsOver result → log.old.told.keep ≡ true → Sound log.old.told.events self.old.store (threads_of self.old) → Sound log.new.told.events self.new.store (threads_of self.new) }

@@ -1,4 +1,5 @@
 use Rattle.std.proofs.Common.{None}
+use Rattle.ms_machine.proofs.Counting.{does_step_counts}
 use Rattle.ms_machine.proofs.Moving.{does_step_fits, does_step_typed, move_unstuck}
 use Rattle.ms_machine.proofs.SafeMoves.{does_step_sound}
 use Rattle.ms_task.specs.View.{thread_of}
@@ -28,3 +29,9 @@ returns-clause-sound g c = λ well events threads sound.
 
 pub returns-clause-never_stuck : goal.returns-clause-never_stuck
 returns-clause-never_stuck g c = λ got. move_unstuck c.args.store.now (thread_of c.args.store.now.funcs c.args.task.now) got c.requires.store c.requires.task c.requires.going
+
+pub returns-clause-accesses : goal.returns-clause-accesses
+returns-clause-accesses g c = λ well.
+    let s = c.args.store.now in
+    let s' = c.advance.new.store in
+    does_step_counts s s' (thread_of s.funcs c.args.task.now) (thread_of s'.funcs c.advance.new.task) c.advance.result (g.I.Source.left c.args.input.now) (g.I.Source.left c.advance.new.input) (g.O.Sink.held c.args.out.now) (g.O.Sink.held c.advance.new.out) c.advance.ensures.step well

@@ -176,7 +176,7 @@ returns-in-ReadFault-clause-run g c = λ whose next entries row.
     let left = g.I.Source.left in
     let held = g.O.Sink.held in
     let e = c.in-ReadFault.ensures.step in
-    stops_before whose next entries c.args.most s0 t0 log0.told l.left s t l.log.told (left c.args.input.now) (left l.input) (left c.step.new.input) (held c.args.out.now) (held l.out) (held c.step.new.out) c.loop-left-test.true v.left v.going (v.runs whose next entries row) log0 l.log refl refl (none_taken (left l.input) (left c.step.new.input) e.1) e.2
+    stops_before whose next entries c.args.most s0 t0 log0.told l.left s t l.log.told (left c.args.input.now) (left l.input) (left c.step.new.input) (held c.args.out.now) (held l.out) (held c.step.new.out) c.loop-left-test.true v.left v.going (v.runs whose next entries row) log0 l.log refl refl (none_taken (left l.input) (left c.step.new.input) e.2) e.3
 
 pub returns-in-WriteFault-clause-run : goal.returns-in-WriteFault-clause-run
 returns-in-WriteFault-clause-run g c = λ whose next entries row.
@@ -190,7 +190,7 @@ returns-in-WriteFault-clause-run g c = λ whose next entries row.
     let left = g.I.Source.left in
     let held = g.O.Sink.held in
     let e = c.in-WriteFault.ensures.step in
-    stops_in whose next entries c.args.most s0 t0 log0.told l.left s t l.log.told (left c.args.input.now) (left l.input) (left c.step.new.input) (held c.args.out.now) (held l.out) (held c.step.new.out) c.loop-left-test.true v.left v.going (v.runs whose next entries row) log0 l.log e.0 refl refl e.1 e.2 e.3
+    stops_in whose next entries c.args.most s0 t0 log0.told l.left s t l.log.told (left c.args.input.now) (left l.input) (left c.step.new.input) (held c.args.out.now) (held l.out) (held c.step.new.out) c.loop-left-test.true v.left v.going (v.runs whose next entries row) log0 l.log e.0 refl refl e.1 e.3 e.4
 
 pub returns-in-Memory-clause-run : goal.returns-in-Memory-clause-run
 returns-in-Memory-clause-run g c = λ whose next entries row.
@@ -204,7 +204,7 @@ returns-in-Memory-clause-run g c = λ whose next entries row.
     let left = g.I.Source.left in
     let held = g.O.Sink.held in
     let e = c.in-Memory.ensures.step in
-    stops_before whose next entries c.args.most s0 t0 log0.told l.left s t l.log.told (left c.args.input.now) (left l.input) (left c.step.new.input) (held c.args.out.now) (held l.out) (held c.step.new.out) c.loop-left-test.true v.left v.going (v.runs whose next entries row) log0 l.log refl refl e.0 e.1
+    stops_before whose next entries c.args.most s0 t0 log0.told l.left s t l.log.told (left c.args.input.now) (left l.input) (left c.step.new.input) (held c.args.out.now) (held l.out) (held c.step.new.out) c.loop-left-test.true v.left v.going (v.runs whose next entries row) log0 l.log refl refl e.1 e.2
 
 pub returns-clause-run : goal.returns-clause-run
 returns-clause-run g c = λ whose next entries row.

@@ -19,22 +19,22 @@ leave-requires g c =
 
 pub invariant_of-self : goal.invariant_of-self
 invariant_of-self g c =
-    let after = after-ended (g.T.Tagged.bytes c.self.inside.tagged) (g.G.Gaps.live c.self.inside.gaps) (g.G.Gaps.live c.leave.new.self) c.self.inside.made c.in_ok-id.id c.args.self.now c.self.view_is c.leave.ensures.live in
+    let after = after-ended (g.T.Tagged.bytes c.self.inside.tagged) (g.G.Gaps.live c.self.inside.gaps) (g.G.Gaps.live c.leave.new.self) c.self.inside.made c.self.inside.accesses c.in_ok-id.id c.args.self.now c.self.view_is c.leave.ensures.live in
     let sound : IsSound c.args.self.now = subst IsSound c.self.view_is c.self.invariant.1 in
     (c.leave.ensures.addresses ∙ c.self.invariant.0, subst IsSound (sym after) (IsSound-ended c.args.self.now c.in_ok-id.id sound))
 
 pub returns-clause-freed : goal.returns-clause-freed
 returns-clause-freed g c =
-    let after = after-ended (g.T.Tagged.bytes c.self.inside.tagged) (g.G.Gaps.live c.self.inside.gaps) (g.G.Gaps.live c.leave.new.self) c.self.inside.made c.in_ok-id.id c.args.self.now c.self.view_is c.leave.ensures.live in
+    let after = after-ended (g.T.Tagged.bytes c.self.inside.tagged) (g.G.Gaps.live c.self.inside.gaps) (g.G.Gaps.live c.leave.new.self) c.self.inside.made c.self.inside.accesses c.in_ok-id.id c.args.self.now c.self.view_is c.leave.ensures.live in
     Frees-ended c.args.self.now _ (freed c.args.self.now c.args.h c.args.kind) c.in_ok-id.id (sym c.in_ok-id.ensures) after
 
 pub returns-clause-sound : goal.returns-clause-sound
 returns-clause-sound g c =
-    let after = after-ended (g.T.Tagged.bytes c.self.inside.tagged) (g.G.Gaps.live c.self.inside.gaps) (g.G.Gaps.live c.leave.new.self) c.self.inside.made c.in_ok-id.id c.args.self.now c.self.view_is c.leave.ensures.live in
+    let after = after-ended (g.T.Tagged.bytes c.self.inside.tagged) (g.G.Gaps.live c.self.inside.gaps) (g.G.Gaps.live c.leave.new.self) c.self.inside.made c.self.inside.accesses c.in_ok-id.id c.args.self.now c.self.view_is c.leave.ensures.live in
     let sound : IsSound c.args.self.now = subst IsSound c.self.view_is c.self.invariant.1 in
     subst IsSound (sym after) (IsSound-ended c.args.self.now c.in_ok-id.id sound)
 
 pub returns-clause-others : goal.returns-clause-others
 returns-clause-others g c =
-    let after = after-ended (g.T.Tagged.bytes c.self.inside.tagged) (g.G.Gaps.live c.self.inside.gaps) (g.G.Gaps.live c.leave.new.self) c.self.inside.made c.in_ok-id.id c.args.self.now c.self.view_is c.leave.ensures.live in
+    let after = after-ended (g.T.Tagged.bytes c.self.inside.tagged) (g.G.Gaps.live c.self.inside.gaps) (g.G.Gaps.live c.leave.new.self) c.self.inside.made c.self.inside.accesses c.in_ok-id.id c.args.self.now c.self.view_is c.leave.ensures.live in
     λ h fit. subst (λ (m : Memory). IsFit m h) (sym after) (IsFit-ended c.args.self.now c.in_ok-id.id h fit)

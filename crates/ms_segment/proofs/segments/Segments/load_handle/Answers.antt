@@ -1,9 +1,11 @@
-use Rattle.std.proofs.Common.{Ok, length, arith, ap, subst}
+use Rattle.std.proofs.Common.{Ok, length, arith, ap, sym, subst}
 use Rattle.std.proofs.lemmas.Result.{err_from_is_err_and}
 use Rattle.ms_tagged.specs.Bytes.{IsHandleAt, range}
-use Rattle.ms_segment.specs.Memory.{IsSound, Memory, handle_access}
+use Rattle.ms_segment.specs.Memory.{IsFit, IsSound, Memory, handle_access}
 use Rattle.ms_segment.specs.Parts.{access_of}
-use Rattle.ms_segment.proofs.Calls.{IsFit-read, LoadsHandle-read, LoadsHandle-stopped}
+use Rattle.ms_segment.proofs.Calls.{IsFit-read, LoadsHandle-read, LoadsHandle-stopped, after-read}
+use Rattle.ms_segment.proofs.Fits.{IsFit-once_more}
+use Rattle.ms_segment.proofs.Sound.{IsSound-once_more}
 use Rattle.ms_segment.proofs.Functions.{loads_alone}
 use Rattle.ms_segment.proofs.Reach.{handle_access-within}
 use Rattle.ms_segment.proofs.segments.Segments.load_handle.Goals as goal
@@ -34,3 +36,24 @@ returns-clause-call g c =
     let sound : IsSound c.args.self.now = subst IsSound c.self.view_is c.self.invariant.1 in
     let at : IsHandleAt (range c.in_ok-access.access.address 16 c.args.self.now.bytes) c.get_handle.result = subst (λ (m : Memory). IsHandleAt (range c.in_ok-access.access.address 16 m.bytes) c.get_handle.result) c.self.view_is c.get_handle.ensures in
     loads_alone c.args.self.now c.args.h (Ok (c.get_handle.result, c.read.result)) sound c.requires (LoadsHandle-read c.args.self.now (handle_access c.args.self.now c.args.h) (access_of c.in_ok-access.access) c.get_handle.result c.read.result c.in_ok-access.ensures at c.read.ensures)
+
+pub invariant_of-self : goal.invariant_of-self
+invariant_of-self g c =
+    let after = after-read (g.T.Tagged.bytes c.self.inside.tagged) (g.G.Gaps.live c.self.inside.gaps) c.self.inside.made c.self.inside.accesses c.one_more-self-inside.result c.args.self.now c.self.view_is c.one_more-self-inside.ensures in
+    let sound : IsSound c.args.self.now = subst IsSound c.self.view_is c.self.invariant.1 in
+    (c.self.invariant.0, subst IsSound (sym after) (IsSound-once_more c.args.self.now sound))
+
+pub returns-clause-counted : goal.returns-clause-counted
+returns-clause-counted g c =
+    after-read (g.T.Tagged.bytes c.self.inside.tagged) (g.G.Gaps.live c.self.inside.gaps) c.self.inside.made c.self.inside.accesses c.one_more-self-inside.result c.args.self.now c.self.view_is c.one_more-self-inside.ensures
+
+pub returns-clause-sound : goal.returns-clause-sound
+returns-clause-sound g c =
+    let after = after-read (g.T.Tagged.bytes c.self.inside.tagged) (g.G.Gaps.live c.self.inside.gaps) c.self.inside.made c.self.inside.accesses c.one_more-self-inside.result c.args.self.now c.self.view_is c.one_more-self-inside.ensures in
+    let sound : IsSound c.args.self.now = subst IsSound c.self.view_is c.self.invariant.1 in
+    subst IsSound (sym after) (IsSound-once_more c.args.self.now sound)
+
+pub returns-clause-others : goal.returns-clause-others
+returns-clause-others g c =
+    let after = after-read (g.T.Tagged.bytes c.self.inside.tagged) (g.G.Gaps.live c.self.inside.gaps) c.self.inside.made c.self.inside.accesses c.one_more-self-inside.result c.args.self.now c.self.view_is c.one_more-self-inside.ensures in
+    λ h fit. subst (λ (m : Memory). IsFit m h) (sym after) (IsFit-once_more c.args.self.now h fit)

@@ -25,7 +25,7 @@ returns-in_err-access-clause-stored g c =
 pub invariant_of-self : goal.invariant_of-self
 invariant_of-self g c =
     let bytes = g.T.Tagged.bytes c.self.inside.tagged in
-    let after = after-written (g.T.Tagged.bytes c.self.inside.tagged) (g.T.Tagged.bytes c.put.new.self) (g.G.Gaps.live c.self.inside.gaps) c.self.inside.made c.in_ok-access.access.address (data_of c.args.width c.args.value) c.args.self.now c.self.view_is c.put.ensures in
+    let after = after-written (g.T.Tagged.bytes c.self.inside.tagged) (g.T.Tagged.bytes c.put.new.self) (g.G.Gaps.live c.self.inside.gaps) c.self.inside.made c.self.inside.accesses c.one_more-self-inside.result c.in_ok-access.access.address (data_of c.args.width c.args.value) c.args.self.now c.self.view_is c.put.ensures c.one_more-self-inside.ensures in
     let sound : IsSound c.args.self.now = subst IsSound c.self.view_is c.self.invariant.1 in
     let within : c.in_ok-access.access.address + length (data_of c.args.width c.args.value) ≤ length c.args.self.now.bytes = omega (arith, length-data_of c.args.width c.args.value, access-within c.args.self.now c.args.h c.args.width (access_of c.in_ok-access.access) sound c.requires.fits c.in_ok-access.ensures) in
     let within_parts : c.in_ok-access.access.address + length (data_of c.args.width c.args.value) ≤ length bytes = omega (arith, within, ap (λ (m : Memory). length m.bytes) c.self.view_is) in
@@ -34,17 +34,17 @@ invariant_of-self g c =
 
 pub returns-clause-stored : goal.returns-clause-stored
 returns-clause-stored g c =
-    let after = after-written (g.T.Tagged.bytes c.self.inside.tagged) (g.T.Tagged.bytes c.put.new.self) (g.G.Gaps.live c.self.inside.gaps) c.self.inside.made c.in_ok-access.access.address (data_of c.args.width c.args.value) c.args.self.now c.self.view_is c.put.ensures in
+    let after = after-written (g.T.Tagged.bytes c.self.inside.tagged) (g.T.Tagged.bytes c.put.new.self) (g.G.Gaps.live c.self.inside.gaps) c.self.inside.made c.self.inside.accesses c.one_more-self-inside.result c.in_ok-access.access.address (data_of c.args.width c.args.value) c.args.self.now c.self.view_is c.put.ensures c.one_more-self-inside.ensures in
     Stores-stored c.args.self.now _ (data_of c.args.width c.args.value) c.args.width (access c.args.self.now c.args.h c.args.width) (access_of c.in_ok-access.access) c.write.result c.in_ok-access.ensures c.write.ensures after
 
 pub returns-clause-sound : goal.returns-clause-sound
 returns-clause-sound g c =
-    let after = after-written (g.T.Tagged.bytes c.self.inside.tagged) (g.T.Tagged.bytes c.put.new.self) (g.G.Gaps.live c.self.inside.gaps) c.self.inside.made c.in_ok-access.access.address (data_of c.args.width c.args.value) c.args.self.now c.self.view_is c.put.ensures in
+    let after = after-written (g.T.Tagged.bytes c.self.inside.tagged) (g.T.Tagged.bytes c.put.new.self) (g.G.Gaps.live c.self.inside.gaps) c.self.inside.made c.self.inside.accesses c.one_more-self-inside.result c.in_ok-access.access.address (data_of c.args.width c.args.value) c.args.self.now c.self.view_is c.put.ensures c.one_more-self-inside.ensures in
     let sound : IsSound c.args.self.now = subst IsSound c.self.view_is c.self.invariant.1 in
     let within : c.in_ok-access.access.address + length (data_of c.args.width c.args.value) ≤ length c.args.self.now.bytes = omega (arith, length-data_of c.args.width c.args.value, access-within c.args.self.now c.args.h c.args.width (access_of c.in_ok-access.access) sound c.requires.fits c.in_ok-access.ensures) in
     subst IsSound (sym after) (IsSound-data c.args.self.now c.in_ok-access.access.address c.args.width c.args.value sound within)
 
 pub returns-clause-others : goal.returns-clause-others
 returns-clause-others g c =
-    let after = after-written (g.T.Tagged.bytes c.self.inside.tagged) (g.T.Tagged.bytes c.put.new.self) (g.G.Gaps.live c.self.inside.gaps) c.self.inside.made c.in_ok-access.access.address (data_of c.args.width c.args.value) c.args.self.now c.self.view_is c.put.ensures in
+    let after = after-written (g.T.Tagged.bytes c.self.inside.tagged) (g.T.Tagged.bytes c.put.new.self) (g.G.Gaps.live c.self.inside.gaps) c.self.inside.made c.self.inside.accesses c.one_more-self-inside.result c.in_ok-access.access.address (data_of c.args.width c.args.value) c.args.self.now c.self.view_is c.put.ensures c.one_more-self-inside.ensures in
     λ h fit. subst (λ (m : Memory). IsFit m h) (sym after) (IsFit-written c.args.self.now c.in_ok-access.access.address (data_of c.args.width c.args.value) h fit)

@@ -24,7 +24,7 @@ returns-in_err-access-clause-stored g c =
 pub invariant_of-self : goal.invariant_of-self
 invariant_of-self g c =
     let bytes = g.T.Tagged.bytes c.self.inside.tagged in
-    let after = after-written (g.T.Tagged.bytes c.self.inside.tagged) (g.T.Tagged.bytes c.put_handle.new.self) (g.G.Gaps.live c.self.inside.gaps) c.self.inside.made c.in_ok-access.access.address (pieces c.args.v) c.args.self.now c.self.view_is c.put_handle.ensures in
+    let after = after-written (g.T.Tagged.bytes c.self.inside.tagged) (g.T.Tagged.bytes c.put_handle.new.self) (g.G.Gaps.live c.self.inside.gaps) c.self.inside.made c.self.inside.accesses c.one_more-self-inside.result c.in_ok-access.access.address (pieces c.args.v) c.args.self.now c.self.view_is c.put_handle.ensures c.one_more-self-inside.ensures in
     let sound : IsSound c.args.self.now = subst IsSound c.self.view_is c.self.invariant.1 in
     let within : c.in_ok-access.access.address + length (pieces c.args.v) ≤ length c.args.self.now.bytes = omega (arith, (handle_access-within c.args.self.now c.args.h (access_of c.in_ok-access.access) sound c.requires.place c.in_ok-access.ensures).0) in
     let within_parts : c.in_ok-access.access.address + length (pieces c.args.v) ≤ length bytes = omega (arith, within, ap (λ (m : Memory). length m.bytes) c.self.view_is) in
@@ -33,17 +33,17 @@ invariant_of-self g c =
 
 pub returns-clause-stored : goal.returns-clause-stored
 returns-clause-stored g c =
-    let after = after-written (g.T.Tagged.bytes c.self.inside.tagged) (g.T.Tagged.bytes c.put_handle.new.self) (g.G.Gaps.live c.self.inside.gaps) c.self.inside.made c.in_ok-access.access.address (pieces c.args.v) c.args.self.now c.self.view_is c.put_handle.ensures in
+    let after = after-written (g.T.Tagged.bytes c.self.inside.tagged) (g.T.Tagged.bytes c.put_handle.new.self) (g.G.Gaps.live c.self.inside.gaps) c.self.inside.made c.self.inside.accesses c.one_more-self-inside.result c.in_ok-access.access.address (pieces c.args.v) c.args.self.now c.self.view_is c.put_handle.ensures c.one_more-self-inside.ensures in
     Stores-stored c.args.self.now _ (pieces c.args.v) 16 (handle_access c.args.self.now c.args.h) (access_of c.in_ok-access.access) c.write.result c.in_ok-access.ensures c.write.ensures after
 
 pub returns-clause-sound : goal.returns-clause-sound
 returns-clause-sound g c =
-    let after = after-written (g.T.Tagged.bytes c.self.inside.tagged) (g.T.Tagged.bytes c.put_handle.new.self) (g.G.Gaps.live c.self.inside.gaps) c.self.inside.made c.in_ok-access.access.address (pieces c.args.v) c.args.self.now c.self.view_is c.put_handle.ensures in
+    let after = after-written (g.T.Tagged.bytes c.self.inside.tagged) (g.T.Tagged.bytes c.put_handle.new.self) (g.G.Gaps.live c.self.inside.gaps) c.self.inside.made c.self.inside.accesses c.one_more-self-inside.result c.in_ok-access.access.address (pieces c.args.v) c.args.self.now c.self.view_is c.put_handle.ensures c.one_more-self-inside.ensures in
     let sound : IsSound c.args.self.now = subst IsSound c.self.view_is c.self.invariant.1 in
     let within : c.in_ok-access.access.address + length (pieces c.args.v) ≤ length c.args.self.now.bytes = omega (arith, (handle_access-within c.args.self.now c.args.h (access_of c.in_ok-access.access) sound c.requires.place c.in_ok-access.ensures).0) in
     subst IsSound (sym after) (IsSound-pieces c.args.self.now c.in_ok-access.access.address c.args.v sound c.requires.value within)
 
 pub returns-clause-others : goal.returns-clause-others
 returns-clause-others g c =
-    let after = after-written (g.T.Tagged.bytes c.self.inside.tagged) (g.T.Tagged.bytes c.put_handle.new.self) (g.G.Gaps.live c.self.inside.gaps) c.self.inside.made c.in_ok-access.access.address (pieces c.args.v) c.args.self.now c.self.view_is c.put_handle.ensures in
+    let after = after-written (g.T.Tagged.bytes c.self.inside.tagged) (g.T.Tagged.bytes c.put_handle.new.self) (g.G.Gaps.live c.self.inside.gaps) c.self.inside.made c.self.inside.accesses c.one_more-self-inside.result c.in_ok-access.access.address (pieces c.args.v) c.args.self.now c.self.view_is c.put_handle.ensures c.one_more-self-inside.ensures in
     λ h fit. subst (λ (m : Memory). IsFit m h) (sym after) (IsFit-written c.args.self.now c.in_ok-access.access.address (pieces c.args.v) h fit)

@@ -9,6 +9,7 @@ use Rattle.ms_tasks.specs.Rows.{all_in}
 use Rattle.ms_tasks.specs.Runs.{CountsInput, CountsOut, DoesRun, IsOver}
 use Rattle.ms_tasks.specs.Schedules.{entries_of}
 use Rattle.ms_tasks.specs.declared.ran.Ran.{Ran}
+use Rattle.ms_tasks.proofs.Counting.{run_counts}
 use Rattle.ms_tasks.proofs.Safe.{run_accepted, run_ready}
 use Rattle.ms_tasks.proofs.Telling.{counts_input, counts_out, kept_accepted, kept_sound, run_answers, well_over}
 use Rattle.ms_tasks.proofs.crew.Crew.run.Goals as goal
@@ -54,6 +55,7 @@ returns g c =
       within = λ over. e.within (well_over r.result (subst IsOver c.ran_of.ensures over));
       never_stuck = λ given. (run_ready ks now given c.requires.ready).1;
       accepted = λ sound given. run_accepted ks now given c.requires.ready sound;
+      accesses = λ given. run_counts ks now given;
       kept = λ keep sound. kept_accepted c.ran_of.result left left' held held' old new ks now seen does.0 does.1 c.requires.ready keep sound;
       sound = λ over keep sound. kept_sound c.ran_of.result left left' held held' old new ks now seen does.0 does.1 over c.requires.ready keep sound;
     }
