@@ -1,7 +1,7 @@
 -- A run keeps the number of tasks.
-use Rattle.std.proofs.Common.{◌≡◌, ◌∙◌, ℕ, List, [], ◌∷◌, length, slice_get, slice_set, Option, Some, None, refl}
+use Rattle.std.proofs.Common.{◌≡◌, ◌∙◌, ℕ, List, [], ◌∷◌, length, slice_get, Option, Some, None, refl}
 use Rattle.std.proofs.lemmas.List.{length-set}
-use Rattle.ms_task.specs.Thread.{Item, Thread}
+use Rattle.ms_task.specs.Thread.{Thread}
 use Rattle.ms_machine.specs.Store.{Store}
 use Rattle.ms_machine.specs.Crews.{Crew, Input, OutOfBudget, Results, Run, Start, Task, Whose, begun, behind, ends, is_over, moved, passed, results, run_entries, run_of, task_turn, turn, with_start, with_task}
 use Rattle.ms_machine.specs.Moves as moves

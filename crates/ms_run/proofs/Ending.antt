@@ -1,22 +1,29 @@
 -- What was put of the end of a run, by what the run of the crew answered.
-use Rattle.std.proofs.Common.{◌≡◌, ◌∙◌, ◌+◌, ℕ, suc, inl, inr, List, [], ◌++◌, append-nil, append_assoc, drop, length, slice_get, Option, Some, refl, sym, ap, subst, arith}
+use Rattle.std.proofs.Common.{◌≡◌, ◌∙◌, ◌+◌, ℕ, suc, inl, inr, List, [], ◌++◌, append-nil, append_assoc, drop, length, slice_get, Option, Some, None, option_map, refl, sym, ap, subst, arith}
+use Rattle.std.specs.Prelude.{is_some}
+use Rattle.ms_event.specs.declared.event.Event.{Event}
+use Rattle.ms_monitor.specs.Traces.{trace_text}
 use Rattle.ms_linear.specs.declared.value.Value.{Value}
 use Rattle.ms_task.specs.Thread.{Thread}
 use Rattle.ms_tasks.proofs.Chaining.{drop_at}
 use Rattle.ms_host.specs.declared.trap.TrapKind.{TrapKind}
-use Rattle.ms_machine.specs.Crews.{Crew, End, Input, OutOfBudget as BudgetEnd, Results, Run, Trap, begun, bytes_of, results, run_of}
-use Rattle.ms_machine.specs.Running.{IsLeft, MayGive, TellsAlike}
-use Rattle.ms_tasks.specs.Logs.{Log}
+use Rattle.ms_machine.specs.Crews.{Crew, End, Input, OutOfBudget as BudgetEnd, Results, Run, Trap, begun, bytes_of, events_of, results, run_of}
+use Rattle.ms_machine.specs.Running.{IsLeft}
+use Rattle.ms_tasks.specs.Logs.{Log, Told, all_seen}
+use Rattle.ms_tasks.proofs.Deeds.{events_kept}
 use Rattle.ms_tasks.specs.Outside.{HasBegun, HasRun}
 use Rattle.ms_tasks.specs.Runs.{CountsInput, CountsOut, DoesRun}
 use Rattle.ms_tasks.specs.declared.ran.Ran.TheVariants as answers
-use Rattle.ms_run.specs.Executions.{EndsAs}
-use Rattle.ms_run.specs.Flows.{Cuts, Flowed, RunsPart, RunsWhole, TellsEnd, end_cut, end_told, end_untold, input_failed, out_failed}
+use Rattle.ms_run.specs.Answers.{File}
+use Rattle.ms_run.specs.Executions.{EndsAs, TellsOf}
+use Rattle.ms_run.specs.Flows.{Flowed, RunsPart, RunsWhole, TellsEnd, end_cut, end_told, end_untold, input_failed, out_failed}
 use Rattle.ms_run.specs.Lines.{budget_line, input_fault_line, result_line, result_lines, trap_line}
-use Rattle.ms_run.specs.Observed.{Flow, Report}
-use Rattle.ms_run.specs.Reporting.{IsKept, Reports}
+use Rattle.ms_run.specs.Observed.{Flow, Report, Shelved}
+use Rattle.ms_run.specs.Reporting.{Delivers, IsKept, KeepsFiles, Reports, failed, put, starved}
+use Rattle.ms_run.specs.Telling.{dumped, traced}
 use Rattle.ms_run.specs.declared.status.Status.{Status}
 use Rattle.ms_run.specs.declared.status.Status.TheVariants.{Done, OutOfBudget, OutOfMemory, ReadFault, Trapped, WriteFault}
+use Rattle.ms_run.specs.declared.telling.Telling.{Telling}
 use Rattle.ms_run.proofs.Counting.{run_counts}
 
 -- ---- the status of what was put
@@ -26,6 +33,11 @@ module _ (P : Status → Type 0) (status : Status) (line : List ℕ) (r : Report
   of_reports a b c (inl h) = subst P (sym h.0) a
   of_reports a b c (inr (inl h)) = subst P (sym h.0) b
   of_reports a b c (inr (inr h)) = subst P (sym h.0) c
+
+pub of_delivers : (P : Status → Type 0) (status : Status) (line : List ℕ) (file : Option File) (s : Shelved) (r : Report) (result : Status) → P status → P WriteFault → P OutOfMemory → Delivers status line file s r result → P result
+of_delivers P status line file s r result a b c (put written reports) = of_reports P status line r result a b c reports
+of_delivers P status line file s r result a b c (failed part kept) = b
+of_delivers P status line file s r result a b c (starved files kept) = c
 
 -- ---- the input and the output
 
@@ -41,39 +53,73 @@ pub whole_part : (f : Flow) (given : Input) (run : Run) → IsLeft run.input giv
 whole_part f given run left h =
     record { alike = h.alike; may = h.may; now = run.input; rest = h.rest; taken = left; to_take = ([], refl); front = bytes_of run.deeds; is_front = ([], sym (append-nil (bytes_of run.deeds))); out = h.out }
 
+-- ---- the events that were kept, for a trace that is asked for
+
+abbrev file_of : (name : List ℕ) → List Event → Option File
+file_of name events = Some (record { name = name; bytes = trace_text events })
+
+traced_same : (o : Option (List ℕ)) (told : Told) (es : List Event) → told.keep ≡ is_some o → told.events ≡ []
+    → option_map {U = File} (λ name. record { name = name; bytes = trace_text (all_seen es told).events }) o ≡ option_map {U = File} (λ name. record { name = name; bytes = trace_text es }) o
+traced_same None told es keeps none = refl
+traced_same (Some name) told es keeps none = ap (file_of name) (events_kept es told keeps ∙ ap (λ (x : List Event). x ++ es) none)
+
+-- there is no file where none is asked for
+pub untraced : (telling : Telling) (events : List Event) → telling.trace ≡ None → traced telling events ≡ None
+untraced telling events none = ap (λ (o : Option (List ℕ)). option_map {U = File} (λ name. record { name = name; bytes = trace_text events }) o) none
+
+-- it has the name that is asked for
+same_file : (x y : File) → ◌≡◌ {A = Option File} (Some x) (Some y) → x ≡ y
+same_file x y e = cc
+
+pub traced_name : (telling : Telling) (events : List Event) (file : File) → traced telling events ≡ Some file → telling.trace ≡ Some file.name
+traced_name telling events file e = by telling.trace refl e where
+  by : (o : Option (List ℕ)) → telling.trace ≡ o → option_map {U = File} (λ name. record { name = name; bytes = trace_text events }) o ≡ Some file → telling.trace ≡ Some file.name
+  by None is e = absurd cc
+  by (Some name) is e = is ∙ ap (λ (x : File). Some x.name) (same_file (record { name = name; bytes = trace_text events }) file e)
+
 -- ---- the answers of the run of a crew
 
-module _ (run_over : Input → Run) (c : Crew) (r : Report) (f : Flow) (old new : Log) (result : Status) where
-  ended : (given : Input) (end : End) (status : Status) (line : List ℕ) → (run_over given).end ≡ end → EndsAs end status line → f.takes_new ≡ f.takes_old → f.puts_new ≡ f.puts_old → HasRun f.left_old f.left_new f.held_old f.held_new old new given (run_over given) → Reports status line r result → TellsEnd run_over r f result
-  ended given end status line is ends takes puts has reports =
-      end_told given status line (subst (λ (e : End). EndsAs e status line) (sym is) ends) (whole_of f old new given (run_over given) takes puts has) reports
+module _ (telling : Telling) (run_over : Input → Run) (c : Crew) (s : Shelved) (r : Report) (f : Flow) (old new : Log) (result : Status) where
+  abbrev Told_of : Status → List ℕ → Type 0
+  Told_of status lines = Delivers status (lines ++ dumped telling c.store.segments) (traced telling new.told.events) s r result
 
-  pub results_told : CountsInput answers.Results f.takes_old f.takes_new → CountsOut answers.Results f.puts_old f.puts_new → (given : Input) × DoesRun answers.Results c f.left_old f.left_new f.held_old f.held_new old new given (run_over given)
-      → Reports Done (result_lines (results c.tasks)) r result → TellsEnd run_over r f result
-  results_told takes puts (given, does) reports = ended given (Results (results c.tasks)) Done (result_lines (results c.tasks)) does.0 (refl, refl) takes puts does.2 reports
+  module _ (keeps : old.told.keep ≡ is_some telling.trace) (none : old.told.events ≡ []) where
+    ended : (given : Input) (end : End) (status : Status) (lines : List ℕ) → (run_over given).end ≡ end → EndsAs end status lines → (run_over given).crew ≡ begun c → f.takes_new ≡ f.takes_old → f.puts_new ≡ f.puts_old
+        → HasRun f.left_old f.left_new f.held_old f.held_new old new given (run_over given) → Told_of status lines → TellsEnd telling run_over s r f result
+    ended given end status lines is ends crew takes puts has delivers =
+        let run = run_over given in
+        let events : traced telling new.told.events ≡ traced telling (events_of run.deeds) =
+        ap (λ (x : Log). traced telling x.told.events) has.log ∙ traced_same telling.trace old.told (events_of run.deeds) keeps none in
+        let tells : TellsOf telling run status (lines ++ dumped telling c.store.segments) (traced telling new.told.events) =
+        (lines, subst (λ (e : End). EndsAs e status lines) (sym is) ends, ap (λ (x : Crew). lines ++ dumped telling x.store.segments) (sym crew), events) in
+        end_told given status (lines ++ dumped telling c.store.segments) (traced telling new.told.events) tells (whole_of f old new given run takes puts has) delivers
 
-  pub trap_told : (kind : TrapKind) → CountsInput (answers.Trap kind) f.takes_old f.takes_new → CountsOut (answers.Trap kind) f.puts_old f.puts_new → (given : Input) × DoesRun (answers.Trap kind) c f.left_old f.left_new f.held_old f.held_new old new given (run_over given)
-      → Reports Trapped (trap_line kind) r result → TellsEnd run_over r f result
-  trap_told kind takes puts (given, does) reports = ended given (Trap does.0 kind) Trapped (trap_line kind) does.1 (refl, refl) takes puts does.3 reports
+    pub results_told : CountsInput answers.Results f.takes_old f.takes_new → CountsOut answers.Results f.puts_old f.puts_new → (given : Input) × DoesRun answers.Results c f.left_old f.left_new f.held_old f.held_new old new given (run_over given)
+        → Told_of Done (result_lines (results c.tasks)) → TellsEnd telling run_over s r f result
+    results_told takes puts (given, does) delivers = ended given (Results (results c.tasks)) Done (result_lines (results c.tasks)) does.0 (refl, refl) does.1 takes puts does.2 delivers
 
-  pub budget_told : CountsInput answers.Budget f.takes_old f.takes_new → CountsOut answers.Budget f.puts_old f.puts_new → (given : Input) × DoesRun answers.Budget c f.left_old f.left_new f.held_old f.held_new old new given (run_over given)
-      → Reports OutOfBudget budget_line r result → TellsEnd run_over r f result
-  budget_told takes puts (given, does) reports = ended given BudgetEnd OutOfBudget budget_line does.0 (refl, refl) takes puts does.2 reports
+    pub trap_told : (kind : TrapKind) → CountsInput (answers.Trap kind) f.takes_old f.takes_new → CountsOut (answers.Trap kind) f.puts_old f.puts_new → (given : Input) × DoesRun (answers.Trap kind) c f.left_old f.left_new f.held_old f.held_new old new given (run_over given)
+        → Told_of Trapped (trap_line kind) → TellsEnd telling run_over s r f result
+    trap_told kind takes puts (given, does) delivers = ended given (Trap does.0 kind) Trapped (trap_line kind) does.1 (refl, refl) does.2 takes puts does.3 delivers
+
+    pub budget_told : CountsInput answers.Budget f.takes_old f.takes_new → CountsOut answers.Budget f.puts_old f.puts_new → (given : Input) × DoesRun answers.Budget c f.left_old f.left_new f.held_old f.held_new old new given (run_over given)
+        → Told_of OutOfBudget budget_line → TellsEnd telling run_over s r f result
+    budget_told takes puts (given, does) delivers = ended given BudgetEnd OutOfBudget budget_line does.0 (refl, refl) does.1 takes puts does.2 delivers
 
   pub read_fault_told : CountsInput answers.ReadFault f.takes_old f.takes_new → CountsOut answers.ReadFault f.puts_old f.puts_new → (given : Input) × DoesRun answers.ReadFault c f.left_old f.left_new f.held_old f.held_new old new given (run_over given)
-      → Reports ReadFault input_fault_line r result → TellsEnd run_over r f result
-  read_fault_told takes puts (given, does) reports =
+      → KeepsFiles s → Reports ReadFault input_fault_line r result → TellsEnd telling run_over s r f result
+  read_fault_told takes puts (given, does) files reports =
       let part = part_of f old new given (run_over given) does in
-      end_cut given part (of_reports (Flowed given f (run_over given)) ReadFault input_fault_line r result (puts, part) part part reports) (input_failed takes.rose reports)
+      end_cut given part (of_reports (Flowed given f (run_over given)) ReadFault input_fault_line r result (puts, part) part part reports) files (input_failed takes.rose reports)
 
   pub write_fault_told : CountsInput answers.WriteFault f.takes_old f.takes_new → CountsOut answers.WriteFault f.puts_old f.puts_new → (given : Input) × DoesRun answers.WriteFault c f.left_old f.left_new f.held_old f.held_new old new given (run_over given)
-      → IsKept r → TellsEnd run_over r f WriteFault
-  write_fault_told takes puts (given, does) kept =
+      → KeepsFiles s → IsKept r → TellsEnd telling run_over s r f WriteFault
+  write_fault_told takes puts (given, does) files kept =
       let part = part_of f old new given (run_over given) does in
-      end_cut given part part (out_failed puts.rose kept)
+      end_cut given part part files (out_failed puts.rose kept)
 
-  pub memory_told : (given : Input) × DoesRun answers.Memory c f.left_old f.left_new f.held_old f.held_new old new given (run_over given) → IsKept r → TellsEnd run_over r f OutOfMemory
-  memory_told (given, does) kept = end_untold given (part_of f old new given (run_over given) does) kept
+  pub memory_told : (given : Input) × DoesRun answers.Memory c f.left_old f.left_new f.held_old f.held_new old new given (run_over given) → KeepsFiles s → IsKept r → TellsEnd telling run_over s r f OutOfMemory
+  memory_told (given, does) files kept = end_untold given (part_of f old new given (run_over given) does) files kept
 
 -- ---- the lines of the tasks
 

@@ -1,14 +1,11 @@
 -- What was found of files is found, too, where more is known or more has happened: the tables go along.
-use Rattle.std.proofs.Common.{◌≡◌, ◌∙◌, ℕ, suc, List, [], ◌∷◌, ◌++◌, ◌+◌, refl, sym, ap, subst, append_assoc, arith}
-use Rattle.std.specs.Prelude.{Option, Some, None, length, ◌≤◌, ◌<◌}
-use Rattle.ms_outside.specs.Faults.{Rose}
-use Rattle.ms_outside.specs.Files.{Files}
-use Rattle.ms_outside.specs.Shelf.{SameCounts, Told}
+use Rattle.std.proofs.Common.{ℕ, suc, List, [], ◌∷◌, ◌++◌, ◌+◌, subst, arith}
+use Rattle.std.specs.Prelude.{Option, length}
 use Rattle.ms_module.specs.declared.module.Module.{Module}
 use Rattle.ms_machine.specs.Crews.{Input, Run}
 use Rattle.ms_job.specs.declared.job.Job.{Job}
 use Rattle.ms_run.specs.Answers.{Command, Contents, Fault, File, Found, HasBytes, HasModule, OnFile, Unfound, Unloaded, Checks, checked, unchecked, invalid, no_file, on_file, overlong, unfound, unread, unreadable}
-use Rattle.ms_run.specs.Jobs.{AllLoaded, FirstUnloaded, HasEntries, HasNumbers, RunOfFile, RunOfJob, RunsFile, RunsJob, Unnumbered, Unscheduled, executed, here, in_turns, job as of_job, later, listed, no_job, no_job_file, no_more, no_number, one_more, unlisted, unloaded, unscheduled}
+use Rattle.ms_run.specs.Jobs.{AllLoaded, FirstUnloaded, HasEntries, HasNumbers, RunOfJob, RunsJob, Unnumbered, Unscheduled, executed, here, in_turns, later, listed, no_more, no_number, one_more, unlisted, unloaded, unscheduled}
 use Rattle.ms_run.specs.Jobs as jobs
 use Rattle.ms_run.specs.Observed.{Shelved}
 use Rattle.ms_run.specs.Reporting.{Holds, IsFound}
@@ -63,15 +60,10 @@ module _ (Has Has' : List ℕ → Found → Type 0) (more : (name : List ℕ) (f
   pub unscheduled_more : (job : Job) (status : Status) (line : List ℕ) → Unscheduled Has job status line → Unscheduled Has' job status line
   unscheduled_more job status line (unlisted name e h) = unlisted name e (unnumbered_more name status line h)
 
-  pub runs_job_more : (naming : Naming) (given : Input) (job : Job) (status : Status) (line : List ℕ) → RunsJob Has naming given job status line → RunsJob Has' naming given job status line
-  runs_job_more naming given job status line (unloaded h) = unloaded (first_more naming 0 job.modules status line h)
-  runs_job_more naming given job status line (unscheduled ms all h) = unscheduled ms (all_more job.modules ms all) (unscheduled_more job status line h)
-  runs_job_more naming given job status line (executed ms entries all h answers) = executed ms entries (all_more job.modules ms all) (entries_more job entries h) answers
-
-  pub runs_file_more : (given : Input) (name : List ℕ) (status : Status) (line : List ℕ) → RunsFile Has given name status line → RunsFile Has' given name status line
-  runs_file_more given name status line (no_job_file h) = no_job_file (unfound_more name status line h)
-  runs_file_more given name status line (no_job bytes fault h not) = no_job bytes fault (bytes_more name bytes h) not
-  runs_file_more given name status line (of_job bytes j h is runs) = of_job bytes j (bytes_more name bytes h) is (runs_job_more _ given j status line runs)
+  pub runs_job_more : (naming : Naming) (given : Input) (job : Job) (ran : Option Run) (status : Status) (line : List ℕ) (file : Option File) → RunsJob Has naming given job ran status line file → RunsJob Has' naming given job ran status line file
+  runs_job_more naming given job ran status line file (unloaded h) = unloaded (first_more naming 0 job.modules status line h)
+  runs_job_more naming given job ran status line file (unscheduled ms all h) = unscheduled ms (all_more job.modules ms all) (unscheduled_more job status line h)
+  runs_job_more naming given job ran status line file (executed ms entries all h answers) = executed ms entries (all_more job.modules ms all) (entries_more job entries h) answers
 
   pub run_of_job_more : (given : Input) (job : Job) (run : Run) → RunOfJob Has given job run → RunOfJob Has' given job run
   run_of_job_more given job run h =

@@ -1,17 +1,16 @@
 -- What was gathered for a job: its modules, and its schedule.
-use Rattle.std.proofs.Common.{◌≡◌, ◌∙◌, ℕ, ◌+◌, inr, List, [], ◌∷◌, ◌++◌, drop, length, append-nil, append_assoc, slice_get, refl, sym, ap, subst, suc, Option, Some, None, Result, Ok, Err, arith}
+use Rattle.std.proofs.Common.{◌≡◌, ◌∙◌, ℕ, ◌+◌, inr, List, [], ◌∷◌, ◌++◌, drop, length, append-nil, append_assoc, slice_get, refl, sym, ap, subst, suc, Option, Some, Err, arith}
 use Rattle.ms_job.specs.Schedules.{schedule_in}
 use Rattle.ms_job.specs.declared.fault.SchedFault.TheVariants.{At}
-use Rattle.ms_job.specs.declared.job.Job.{Job}
 use Rattle.ms_module.specs.declared.module.Module.{Module}
 use Rattle.ms_outside.specs.Files.{Files}
 use Rattle.ms_outside.specs.Shelf.{SameCounts}
 use Rattle.ms_tasks.proofs.Chaining.{drop_at}
-use Rattle.ms_run.specs.Answers.{Found, HasBytes, HasModule, Unloaded}
+use Rattle.ms_run.specs.Answers.{HasBytes, HasModule, Unloaded}
 use Rattle.ms_run.specs.Jobs.{AllLoaded, FirstUnloaded, Unnumbered, here, no_more, no_number, what_of}
 use Rattle.ms_run.specs.Lines.{schedule_line}
 use Rattle.ms_run.specs.Observed.{Report, Shelved}
-use Rattle.ms_run.specs.Reporting.{Holds, IsFound, IsKept, IsUntouched, KeepsFiles, Reports, Tells, told, untold}
+use Rattle.ms_run.specs.Reporting.{Holds, IsFound, IsUntouched, KeepsFiles, Reports, Tells, told, untold}
 use Rattle.ms_run.specs.declared.gathering.Naming.{Naming}
 use Rattle.ms_run.specs.declared.status.Status.{Status}
 use Rattle.ms_run.specs.declared.status.Status.TheVariants.{OutOfMemory, Refused}

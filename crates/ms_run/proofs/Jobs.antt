@@ -1,6 +1,6 @@
 -- What `exec` and `run` did, put together from its parts: reading the files of a job, and running it.
-use Rattle.std.proofs.Common.{◌≡◌, ◌∙◌, ◌≤◌, ◌≢◌, ℕ, suc, inl, inr, List, ◌∷◌, length, map, refl, sym, ap, subst, arith}
-use Rattle.std.specs.Prelude.{Option, Some, None, Result, Ok, Err, IfOk}
+use Rattle.std.proofs.Common.{◌≡◌, ◌∙◌, ◌≤◌, ◌≢◌, ℕ, suc, inr, List, ◌∷◌, length, map, refl, sym, ap, subst, arith}
+use Rattle.std.specs.Prelude.{Option, Some, None, Result, Ok, Err}
 use Rattle.ms_job.specs.Bounds.{IsBounded}
 use Rattle.ms_job.specs.Jobs.{job_in}
 use Rattle.ms_job.specs.Reading.{ReadsJob}
@@ -12,7 +12,7 @@ use Rattle.ms_outside.specs.Files.{Files}
 use Rattle.ms_outside.specs.Shelf.{SameCounts}
 use Rattle.ms_rules.specs.Modules.{AreDistinct}
 use Rattle.ms_task.specs.Thread.{Thread}
-use Rattle.ms_machine.specs.Crews.{End, Input, OutOfBudget as BudgetEnd, Results, Run, Stuck, Trap, begun, run_of}
+use Rattle.ms_machine.specs.Crews.{End, Input, OutOfBudget as BudgetEnd, Results, Run, Stuck, Trap, begun}
 use Rattle.ms_machine.specs.Externs.{Fault}
 use Rattle.ms_machine.specs.Linked.{linked}
 use Rattle.ms_machine.specs.Running.{IsLeft, MayGive}
@@ -22,21 +22,22 @@ use Rattle.ms_tasks.specs.Schedules.{entries_of}
 use Rattle.ms_tasks.specs.Tasks.{crew_of, threads_from}
 use Rattle.ms_tasks.specs.declared.schedule.Schedule.{Schedule}
 use Rattle.ms_tasks.proofs.Leaving.{run_leaves}
-use Rattle.ms_run.specs.Answers.{Found, Unfound, Unloaded, HasBytes, invalid, overlong, unfound, unread, unreadable}
-use Rattle.ms_run.specs.Executions.{AnswersAs, EndsAs, Execution, NoTask, Ran, Unlinked, execution, if_linked, in_store, with_threads}
-use Rattle.ms_run.specs.Flows.{Flowed, Flows, IsQuiet, IsUnrun, RunsPart, RunsWhole, TellsEnd, TellsExecution, TellsRun, end_cut, end_told, end_untold, nothing_told, quiet, ran, refused, run_told, tells, cut}
+use Rattle.ms_run.specs.Answers.{File, Found, Unfound, Unloaded, HasBytes, invalid, overlong, unfound, unread, unreadable}
+use Rattle.ms_run.specs.Executions.{AnswersAs, EndsAs, Execution, Ran, execution, if_linked, with_threads}
+use Rattle.ms_run.specs.Flows.{DidRun, Flowed, Flows, IsQuiet, IsUnrun, RunsWhole, TellsExecution, cut, delivered, end_cut, end_told, end_untold, nothing_told, quiet, ran, refused, run_told, starved_run}
 use Rattle.ms_run.specs.Jobs.{AllLoaded, FirstUnloaded, HasEntries, RunOfFile, RunOfJob, RunsFile, RunsJob, Unnumbered, Unscheduled, exec_job, executed, here, job as of_job, later, no_job, no_job_file, no_more, no_number, one_more, unlisted, unloaded, unscheduled}
 use Rattle.ms_run.specs.Jobs as jobs
 use Rattle.ms_run.specs.Lines.{job_line}
 use Rattle.ms_run.specs.Observed.{Flow, Report, Shelved}
-use Rattle.ms_run.specs.Reporting.{Holds, IsFound, IsKept, IsUntouched, KeepsFiles, Reports, ReportsJobFault, Tells, told, untold}
+use Rattle.ms_run.specs.Reporting.{Holds, IsFound, IsKept, IsUntouched, KeepsFiles, Reports, ReportsJobFault, Tells, put, told, untold}
+use Rattle.ms_run.specs.Telling.{telling_of}
 use Rattle.ms_run.specs.declared.gathering.Naming.{Naming}
 use Rattle.ms_run.specs.declared.gathering.Naming.TheVariants.{Numbered}
 use Rattle.ms_run.specs.declared.status.Status.{Status}
-use Rattle.ms_run.specs.declared.status.Status.TheVariants.{Done, OutOfBudget, OutOfMemory, ReadFault, Refused, TooLong, Trapped, WriteFault}
-use Rattle.ms_run.proofs.Ending.{of_reports, whole_part}
+use Rattle.ms_run.specs.declared.status.Status.TheVariants.{OutOfMemory, Refused}
+use Rattle.ms_run.proofs.Ending.{of_delivers, of_reports, whole_part}
 use Rattle.ms_run.proofs.Finding.{all_more, entries_more, held_found, runs_job_more, unscheduled_more}
-use Rattle.ms_run.proofs.Later.{first, first_report, found_later, over_report, report_of, run_later, second, second_report, tells_later, untouched_later, whole, whole_report}
+use Rattle.ms_run.proofs.Later.{execution_later, first, first_report, found_later, report_of, run_later, second, second_report, tells_later, untouched_later, whole, whole_report}
 
 -- ---- a run takes from the front of what the input gives
 
@@ -57,7 +58,7 @@ execution_leaves modules tasks entries capacity given run e = linked_leave tasks
 
 -- ---- answers of no run
 
-unfound_unrun : (Has : List ℕ → Found → Type 0) (name : List ℕ) (status : Status) (line : List ℕ) → Unfound Has name status line → IsUnrun status
+pub unfound_unrun : (Has : List ℕ → Found → Type 0) (name : List ℕ) (status : Status) (line : List ℕ) → Unfound Has name status line → IsUnrun status
 unfound_unrun Has name status line (unreadable h) = tt
 unfound_unrun Has name status line (overlong bytes h long) = tt
 
@@ -66,7 +67,7 @@ unloaded_unrun Has what name status line (unfound h) = unfound_unrun Has name st
 unloaded_unrun Has what name status line (unread bytes h not) = tt
 unloaded_unrun Has what name status line (invalid bytes m part h spelled wrong) = tt
 
-first_unrun : (Has : List ℕ → Found → Type 0) (naming : Naming) (number : ℕ) (files : List (List ℕ × List ℕ)) (status : Status) (line : List ℕ) → FirstUnloaded Has naming number files status line → IsUnrun status
+pub first_unrun : (Has : List ℕ → Found → Type 0) (naming : Naming) (number : ℕ) (files : List (List ℕ × List ℕ)) (status : Status) (line : List ℕ) → FirstUnloaded Has naming number files status line → IsUnrun status
 first_unrun Has naming number files status line (here n name file fs h) = unloaded_unrun Has _ file status line h
 first_unrun Has naming number files status line (later n name file m fs h rest) = first_unrun Has naming (suc n) fs status line rest
 
@@ -74,31 +75,31 @@ unnumbered_unrun : (Has : List ℕ → Found → Type 0) (name : List ℕ) (stat
 unnumbered_unrun Has name status line (jobs.no_file h) = unfound_unrun Has name status line h
 unnumbered_unrun Has name status line (no_number bytes at h not) = tt
 
-unscheduled_unrun : (Has : List ℕ → Found → Type 0) (job : Job) (status : Status) (line : List ℕ) → Unscheduled Has job status line → IsUnrun status
+pub unscheduled_unrun : (Has : List ℕ → Found → Type 0) (job : Job) (status : Status) (line : List ℕ) → Unscheduled Has job status line → IsUnrun status
 unscheduled_unrun Has job status line (unlisted name e h) = unnumbered_unrun Has name status line h
 
 -- ---- what was done
 
 -- over an input of which something is known
-abbrev pub Answered : (Gives : Input → Status → List ℕ → Type 0) → (IsRun : Input → Run → Type 0) → Shelved → Report → Flow → Status → Type 0
-Answered Gives IsRun s r f result = (given : Input) × MayGive f.left_old given × TellsRun (Gives given) s r f result × Flows given (IsRun given) f result
+abbrev pub Answered : (Gives : Input → Option Run → Status → List ℕ → Option File → Type 0) → (IsRun : Input → Run → Type 0) → Shelved → Report → Flow → Status → Type 0
+Answered Gives IsRun s r f result = (given : Input) × MayGive f.left_old given × DidRun (Gives given) given s r f result × Flows given (IsRun given) f result
 
-module _ (Gives : Input → Status → List ℕ → Type 0) (IsRun : Input → Run → Type 0) (s : Shelved) (r : Report) (f : Flow) where
+module _ (Gives : Input → Option Run → Status → List ℕ → Option File → Type 0) (IsRun : Input → Run → Type 0) (s : Shelved) (r : Report) (f : Flow) where
   -- nothing was run
-  unrun_answered : (G : Status → List ℕ → Type 0) → ((given : Input) (status : Status) (line : List ℕ) → G status line → Gives given status line) → ((status : Status) (line : List ℕ) → G status line → IsUnrun status) → IsQuiet f → (result : Status) → Tells G s r result
+  unrun_answered : (G : Status → List ℕ → Type 0) → ((given : Input) (status : Status) (line : List ℕ) → G status line → Gives given None status line None) → ((status : Status) (line : List ℕ) → G status line → IsUnrun status) → IsQuiet f → (result : Status) → Tells G s r result
       → Answered Gives IsRun s r f result
   unrun_answered G more unrun still result (told status line gives counts files reports) =
       let input = some_input f.left_old in
-      (input.0, input.1, tells (told status line (more input.0 status line gives) counts files reports), quiet (of_reports IsUnrun status line r result (unrun status line gives) tt tt reports) still)
+      (input.0, input.1, delivered None status line None (more input.0 status line gives) counts still (put files reports), quiet (of_reports IsUnrun status line r result (unrun status line gives) tt tt reports) still)
   unrun_answered G more unrun still result (untold counts files kept) =
       let input = some_input f.left_old in
-      (input.0, input.1, tells (untold counts files kept), quiet tt still)
+      (input.0, input.1, starved_run counts files kept, quiet tt still)
 
   -- memory ran out before anything was done
   starved_answered : SameCounts s.reads_old s.reads_new → KeepsFiles s → IsKept r → IsQuiet f → Answered Gives IsRun s r f OutOfMemory
   starved_answered counts files kept still =
       let input = some_input f.left_old in
-      (input.0, input.1, tells (untold counts files kept), quiet tt still)
+      (input.0, input.1, starved_run counts files kept, quiet tt still)
 
 -- ---- a job
 
@@ -110,7 +111,7 @@ module _ (given : Input) (f : Flow) (run : Run) where
   ends_flowed Stuck status line h done = absurd h
 
 module _ (naming : Naming) (job : Job) (s : Shelved) (r : Report) (f : Flow) where
-  abbrev Gives : Input → Status → List ℕ → Type 0
+  abbrev Gives : Input → Option Run → Status → List ℕ → Option File → Type 0
   Gives given = RunsJob (IsFound s) naming given job
 
   abbrev IsRun : Input → Run → Type 0
@@ -129,37 +130,37 @@ module _ (naming : Naming) (job : Job) (s : Shelved) (r : Report) (f : Flow) whe
     unscheduled_answered still result h =
         unrun_answered Gives IsRun s r f (Unscheduled (IsFound s) job) (λ given status line u. unscheduled modules (all_more (Holds s.old) (IsFound s) (held_found s) job.modules modules all) u) (unscheduled_unrun (IsFound s) job) still result h
 
-    module _ (entries : List ℕ) (scheduled : HasEntries (Holds s.old) job entries) (counts : SameCounts s.reads_old s.reads_new) (files : KeepsFiles s) where
+    module _ (entries : List ℕ) (scheduled : HasEntries (Holds s.old) job entries) (counts : SameCounts s.reads_old s.reads_new) where
       abbrev run_over : Input → Execution
       run_over = execution modules job.tasks entries job.memory
 
-      gives : (given : Input) (status : Status) (line : List ℕ) → AnswersAs (run_over given) status line → Gives given status line
-      gives given status line answers =
+      gives : (given : Input) (ran : Option Run) (status : Status) (report : List ℕ) (file : Option File) → AnswersAs (telling_of job) (run_over given) ran status report file → Gives given ran status report file
+      gives given which status report file answers =
           executed modules entries (all_more (Holds s.old) (IsFound s) (held_found s) job.modules modules all) (entries_more (Holds s.old) (IsFound s) (held_found s) job entries scheduled) answers
 
       is_run : (given : Input) (run : Run) → run_over given ≡ Ran run → IsRun given run
       is_run given run e = record { modules = modules; entries = entries; loaded = all; scheduled = scheduled; ran = e }
 
-      executed_answered : (result : Status) → TellsExecution run_over r f result → Answered Gives IsRun s r f result
-      executed_answered result (refused e line is answers still reports) =
+      executed_answered : (result : Status) → TellsExecution (telling_of job) run_over s r f result → Answered Gives IsRun s r f result
+      executed_answered result (refused e line is answers still files reports) =
           let input = some_input f.left_old in
-          let gave = gives input.0 Refused line (subst (λ (x : Execution). AnswersAs x Refused line) (sym (is input.0)) answers) in
-          (input.0, input.1, tells (told Refused line gave (inr counts) files reports), quiet (of_reports IsUnrun Refused line r result tt tt tt reports) still)
-      executed_answered result (run_told runs is (end_told given status line ends done reports)) =
+          let gave = gives input.0 None Refused line None (subst (λ (x : Execution). AnswersAs (telling_of job) x None Refused line None) (sym (is input.0)) answers) in
+          (input.0, input.1, delivered None Refused line None gave (inr counts) still (put files reports), quiet (of_reports IsUnrun Refused line r result tt tt tt reports) still)
+      executed_answered result (run_told runs is (end_told given status report file tells done delivers)) =
           let run = runs given in
           let part = whole_part f given run (execution_leaves modules job.tasks entries job.memory given run (is given)) done in
-          let gave = gives given status line (subst (λ (x : Execution). AnswersAs x status line) (sym (is given)) ends) in
-          let flowed = of_reports (Flowed given f run) status line r result (ends_flowed given f run run.end status line ends done) part part reports in
-          (given, done.may, tells (told status line gave (inr counts) files reports), ran run (is_run given run (is given)) flowed)
-      executed_answered result (run_told runs is (end_cut given part flowed cuts)) =
+          let gave = gives given (Some run) status report file (subst (λ (x : Execution). AnswersAs (telling_of job) x (Some run) status report file) (sym (is given)) (refl, tells)) in
+          let flowed = of_delivers (Flowed given f run) status report file s r result (ends_flowed given f run run.end status tells.0 tells.1 done) part part delivers in
+          (given, done.may, delivered (Some run) status report file gave (inr counts) done delivers, ran run (is_run given run (is given)) flowed)
+      executed_answered result (run_told runs is (end_cut given part flowed files cuts)) =
           (given, part.may, cut counts files cuts, ran (runs given) (is_run given (runs given) (is given)) flowed)
-      executed_answered result (run_told runs is (end_untold given part kept)) =
-          (given, part.may, tells (untold counts files kept), ran (runs given) (is_run given (runs given) (is given)) part)
-      executed_answered result (nothing_told still kept) = starved_answered Gives IsRun s r f counts files kept still
+      executed_answered result (run_told runs is (end_untold given part files kept)) =
+          (given, part.may, starved_run counts files kept, ran (runs given) (is_run given (runs given) (is given)) part)
+      executed_answered result (nothing_told still files kept) = starved_answered Gives IsRun s r f counts files kept still
 
 -- ---- after the job's own file was read
 
-flows_more : (given : Input) (IsRun IsRun' : Run → Type 0) → ((run : Run) → IsRun run → IsRun' run) → (f : Flow) (result : Status) → Flows given IsRun f result → Flows given IsRun' f result
+pub flows_more : (given : Input) (IsRun IsRun' : Run → Type 0) → ((run : Run) → IsRun run → IsRun' run) → (f : Flow) (result : Status) → Flows given IsRun f result → Flows given IsRun' f result
 flows_more given IsRun IsRun' more f result (quiet unrun still) = quiet unrun still
 flows_more given IsRun IsRun' more f result (ran run is flowed) = ran run (more run is) flowed
 
@@ -192,7 +193,7 @@ module _ (old mid new : Option Files) (reads_old reads_mid reads_new : List ℕ 
         may,
         run_later old mid new reads_old reads_mid reads_new writes_old writes_mid writes_new held held_mid held_new puts puts_mid puts_new
             (RunsJob (IsFound after_that) Numbered given j) (RunsFile (IsFound all_in_all) given name)
-            (λ status line h. of_job bytes j has is (runs_job_more (IsFound after_that) (IsFound all_in_all) found Numbered given j status line h)) before f result tell,
+            (λ ran status report file h. of_job bytes j has is (runs_job_more (IsFound after_that) (IsFound all_in_all) found Numbered given j ran status report file h)) before given f result tell,
         flows_more given (RunOfJob (Holds mid) given j) (RunOfFile (Holds old) given name)
             (λ run h. record { bytes = bytes; job = j; found = has; is_job = is; runs = subst (λ (x : Option Files). RunOfJob (Holds x) given j run) before.files.0 h }) f result flows,
       )
@@ -208,19 +209,26 @@ module _ (old mid new : Option Files) (reads_old reads_mid reads_new : List ℕ 
         (Unscheduled (IsFound after_that) job) (Unscheduled (IsFound all_in_all) job) (unscheduled_more (IsFound after_that) (IsFound all_in_all) found job) before result tell)
 
     -- and the tasks are run behind that
-    pub tasks_answered : (schedule : Schedule) (tasks : List (ℕ × List ℕ)) → tasks ≡ job.tasks → HasEntries (Holds mid) job (entries_of schedule (length job.tasks) job.budget) → IsUntouched after_that report_after
-        → (held_last : Option (List ℕ)) (puts_last : ℕ) (result : Status) → TellsExecution (execution modules tasks (entries_of schedule (length tasks) job.budget) job.memory) (report_of held_new held_last puts_new puts_last) f result
-        → Answered (λ given. RunsJob (IsFound all_in_all) naming given job) (λ given. RunOfJob (Holds old) given job) all_in_all (report_of held held_last puts puts_last) f result
-    tasks_answered schedule tasks same scheduled after held_last puts_last result tell =
-        let both = untouched_later old mid new reads_old reads_mid reads_new writes_old writes_mid writes_new held held_mid held_new puts puts_mid puts_new before after in
-        let entries = entries_of schedule (length job.tasks) job.budget in
-        let here = subst (λ (ts : List (ℕ × List ℕ)). TellsExecution (execution modules ts (entries_of schedule (length ts) job.budget) job.memory) (report_of held_new held_last puts_new puts_last) f result) same tell in
-        executed_answered naming job all_in_all (report_of held held_last puts puts_last) f modules all entries (subst (λ (x : Option Files). HasEntries (Holds x) job entries) before.files.0 scheduled) both.counts both.files result
-        (over_report (λ (r : Report). TellsExecution (execution modules job.tasks entries job.memory) r f result) held held_new held_last puts puts_new puts_last both.report here)
+    module _ (last : Option Files) (reads_last : List ℕ → ℕ) (writes_last : ℕ) (held_last : Option (List ℕ)) (puts_last : ℕ) where
+      abbrev to_last : Shelved
+      to_last = whole old new last reads_old reads_new reads_last writes_old writes_new writes_last held held_new held_last puts puts_new puts_last
+
+      abbrev from_new : Shelved
+      from_new = second old new last reads_old reads_new reads_last writes_old writes_new writes_last held held_new held_last puts puts_new puts_last
+
+      pub tasks_answered : (schedule : Schedule) (tasks : List (ℕ × List ℕ)) → tasks ≡ job.tasks → HasEntries (Holds mid) job (entries_of schedule (length job.tasks) job.budget) → IsUntouched after_that report_after
+          → (result : Status) → SameCounts reads_new reads_last → TellsExecution (telling_of job) (execution modules tasks (entries_of schedule (length tasks) job.budget) job.memory) from_new (report_of held_new held_last puts_new puts_last) f result
+          → Answered (λ given. RunsJob (IsFound to_last) naming given job) (λ given. RunOfJob (Holds old) given job) to_last (report_of held held_last puts puts_last) f result
+      tasks_answered schedule tasks same scheduled after result counts tell =
+          let both = untouched_later old mid new reads_old reads_mid reads_new writes_old writes_mid writes_new held held_mid held_new puts puts_mid puts_new before after in
+          let entries = entries_of schedule (length job.tasks) job.budget in
+          let here = subst (λ (ts : List (ℕ × List ℕ)). TellsExecution (telling_of job) (execution modules ts (entries_of schedule (length ts) job.budget) job.memory) from_new (report_of held_new held_last puts_new puts_last) f result) same tell in
+          executed_answered naming job to_last (report_of held held_last puts puts_last) f modules all entries (subst (λ (x : Option Files). HasEntries (Holds x) job entries) before.files.0 scheduled) (λ n. counts n ∙ both.counts n) result
+          (execution_later old new last reads_old reads_new reads_last writes_old writes_new writes_last held held_new held_last puts puts_new puts_last (telling_of job) both f (execution modules job.tasks entries job.memory) result here)
 
 -- the file of the job wasn't read, or is none
 module _ (name : List ℕ) (s : Shelved) (r : Report) (f : Flow) where
-  abbrev GivesFile : Input → Status → List ℕ → Type 0
+  abbrev GivesFile : Input → Option Run → Status → List ℕ → Option File → Type 0
   GivesFile given = RunsFile (IsFound s) given name
 
   abbrev IsFileRun : Input → Run → Type 0
@@ -233,7 +241,7 @@ module _ (name : List ℕ) (s : Shelved) (r : Report) (f : Flow) where
       → Answered GivesFile IsFileRun s r f result
   no_job_answered bytes fault has is counts files still result reports =
       let input = some_input f.left_old in
-      (input.0, input.1, tells (told Refused (job_line fault) (no_job bytes fault has is) (inr counts) files reports), quiet (of_reports IsUnrun Refused (job_line fault) r result tt tt tt reports) still)
+      (input.0, input.1, delivered None Refused (job_line fault) None (no_job bytes fault has is) (inr counts) still (put files reports), quiet (of_reports IsUnrun Refused (job_line fault) r result tt tt tt reports) still)
 
   pub fault_answered : (bytes : List ℕ) (fault : JobFault) → HasBytes (Holds s.old) name bytes → ReadsJob (job_in bytes) (Err fault) → SameCounts s.reads_old s.reads_new → KeepsFiles s → IsQuiet f → (result : Status) → ReportsJobFault fault r result
       → Answered GivesFile IsFileRun s r f result

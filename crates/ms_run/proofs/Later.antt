@@ -1,15 +1,18 @@
 -- What was done after something else that left the shelf's files and the report as they were.
-use Rattle.std.proofs.Common.{◌≡◌, ◌∙◌, ℕ, ◌⊎◌, inl, inr, List, refl, sym, subst}
+use Rattle.std.proofs.Common.{◌≡◌, ◌∙◌, ℕ, inl, inr, List, subst}
 use Rattle.std.specs.Prelude.{Option, Some, None}
 use Rattle.ms_outside.specs.Faults.{Rose}
 use Rattle.ms_outside.specs.Files.{Files}
 use Rattle.ms_outside.specs.Shelf.{SameCounts, Told}
 use Rattle.ms_run.specs.Answers.{Command, Contents, Fault, File, Found}
-use Rattle.ms_run.specs.Flows.{Cuts, TellsRun, cut, input_failed, out_failed, tells}
+use Rattle.ms_machine.specs.Crews.{Input, Run}
+use Rattle.ms_run.specs.Executions.{Execution}
+use Rattle.ms_run.specs.Flows.{Cuts, DidRun, TellsEnd, TellsExecution, cut, delivered, end_cut, end_told, end_untold, nothing_told, refused, run_told, starved_run}
 use Rattle.ms_run.specs.Observed.{Flow, Report, Shelved}
 use Rattle.ms_run.specs.Reporting.{CountsReads, Delivers, Did, IsFound, IsKept, IsUntouched, KeepsFiles, Makes, Reports, Tells, answered, failed, made, made_none, put, ran_out, starved, told, untold}
 use Rattle.ms_run.specs.declared.status.Status.{Status}
-use Rattle.ms_run.specs.declared.status.Status.TheVariants.{ReadFault}
+use Rattle.ms_run.specs.declared.status.Status.TheVariants.{Refused}
+use Rattle.ms_run.specs.declared.telling.Telling.{Telling}
 
 -- ---- the report
 
@@ -86,10 +89,6 @@ module _ (old mid new : Option Files) (reads_old reads_mid reads_new : List ℕ 
   pub cuts_later : Before → (f : Flow) (result : Status) → Cuts second_report f result → Cuts whole_report f result
   cuts_later before f result h = over_report (λ (r : Report). Cuts r f result) held held_mid held_new puts puts_mid puts_new before.report h
 
-  pub run_later : (Gives Gives' : Status → List ℕ → Type 0) → ((status : Status) (line : List ℕ) → Gives status line → Gives' status line) → Before → (f : Flow) (result : Status) → TellsRun Gives second second_report f result → TellsRun Gives' whole whole_report f result
-  run_later Gives Gives' more before f result (tells h) = tells (tells_later Gives Gives' more before result h)
-  run_later Gives Gives' more before f result (cut counts files h) = cut (λ n. counts n ∙ before.counts n) (files_later before files) (cuts_later before f result h)
-
   -- ---- what was made of bytes, where a file may be written
 
   delivers_later : Before → (status : Status) (line : List ℕ) (file : Option File) (result : Status) → Delivers status line file second second_report result → Delivers status line file whole whole_report result
@@ -105,6 +104,24 @@ module _ (old mid new : Option Files) (reads_old reads_mid reads_new : List ℕ 
       of_counts status line None result (failed f kept) = absurd f
       of_counts status line (Some file) result (failed f kept) = failed f kept
       of_counts status line file result (starved files kept) = starved files kept
+
+  pub run_later : (Gives Gives' : Option Run → Status → List ℕ → Option File → Type 0) → ((ran : Option Run) (status : Status) (report : List ℕ) (file : Option File) → Gives ran status report file → Gives' ran status report file)
+      → Before → (given : Input) (f : Flow) (result : Status) → DidRun Gives given second second_report f result → DidRun Gives' given whole whole_report f result
+  run_later Gives Gives' more before given f result (delivered ran status report file gives counts flows delivers) =
+      delivered ran status report file (more ran status report file gives) (counts_later before status counts) flows (delivers_later before status report file result delivers)
+  run_later Gives Gives' more before given f result (cut counts files h) = cut (λ n. counts n ∙ before.counts n) (files_later before files) (cuts_later before f result h)
+  run_later Gives Gives' more before given f result (starved_run counts files kept) = starved_run (λ n. counts n ∙ before.counts n) (files_later before files) (kept_later before kept)
+
+  module _ (telling : Telling) (before : Before) (f : Flow) where
+    end_later : (run_over : Input → Run) (result : Status) → TellsEnd telling run_over second second_report f result → TellsEnd telling run_over whole whole_report f result
+    end_later run_over result (end_told given status report file tells done delivers) = end_told given status report file tells done (delivers_later before status report file result delivers)
+    end_later run_over result (end_cut given part flowed files cuts) = end_cut given part flowed (files_later before files) (cuts_later before f result cuts)
+    end_later run_over result (end_untold given part files kept) = end_untold given part (files_later before files) (kept_later before kept)
+
+    pub execution_later : (executed : Input → Execution) (result : Status) → TellsExecution telling executed second second_report f result → TellsExecution telling executed whole whole_report f result
+    execution_later executed result (refused e line is answers still files reports) = refused e line is answers still (files_later before files) (reports_later before Refused line result reports)
+    execution_later executed result (run_told runs is tell) = run_told runs is (end_later runs result tell)
+    execution_later executed result (nothing_told still files kept) = nothing_told still (files_later before files) (kept_later before kept)
 
   -- the table of what is made is one of answers
   pub makes_later : (Gives : Status → List ℕ → Option File → Type 0) (Does : Command) (bytes : List ℕ) → ((status : Status) (line : List ℕ) (file : Option File) → Does bytes status line file → Gives status line file) → Before → SameCounts reads_mid reads_new

@@ -10,3 +10,4 @@ pub mod Executed
 pub mod Gathered
 pub mod Jobs
 pub mod Safe
+pub mod Dumping

@@ -1,6 +1,6 @@
 -- The tables of answers give one answer at most, and none of usage, of a fault of writing, or of want of memory.
 use Rattle.std.proofs.Common.{◌≡◌, ◌∙◌, ◌<◌, ℕ, suc, ◌⊎◌, inl, inr, List, [], ◌∷◌, length, refl, sym, ap, subst, arith}
-use Rattle.std.specs.Prelude.{Option, Some, Result, Ok, Err, All, slice_get, take}
+use Rattle.std.specs.Prelude.{◌++◌, Option, Some, None, Result, Ok, Err, All, slice_get, take}
 use Rattle.std.proofs.lemmas.List.Elements.{All-get_or}
 use Rattle.std.proofs.lemmas.Bool.{cases_lt}
 use Rattle.std.proofs.lemmas.Option.{slice_get_cases}
@@ -15,8 +15,13 @@ use Rattle.ms_job.specs.Jobs.{job_in}
 use Rattle.ms_job.specs.Schedules.{schedule_in}
 use Rattle.ms_job.specs.declared.fault.SchedFault.TheVariants.{At}
 use Rattle.ms_job.specs.declared.job.Job.{Job}
-use Rattle.ms_machine.specs.Crews.{End, Input, OutOfBudget, Results, Stuck, Trap}
+use Rattle.ms_event.specs.declared.event.Event.{Event}
+use Rattle.ms_event.specs.Monitor.{Accepts}
+use Rattle.ms_machine.specs.Crews.{End, Input, OutOfBudget, Results, Run, Stuck, Trap}
 use Rattle.ms_module.specs.declared.module.Module.{Module}
+use Rattle.ms_monitor.proofs.Judged.{accepted_or_rejected, one_rejected}
+use Rattle.ms_monitor.proofs.Told.{one_trace, one_untold, trace_or_none}
+use Rattle.ms_monitor.specs.Traces.{IsTrace, RejectsAt}
 use Rattle.ms_outside.specs.Files.{Files}
 use Rattle.ms_outside.specs.Shelf.{Told}
 use Rattle.ms_rules.specs.Context.{context_of}
@@ -24,18 +29,20 @@ use Rattle.ms_rules.specs.Modules.{FuncTyped, IsFirstUntyped, WellTyped}
 use Rattle.ms_valid.specs.Refusals.{IsWrong}
 use Rattle.ms_valid.specs.declared.refusal.Part.{Part}
 use Rattle.ms_valid.specs.declared.refusal.Part.TheVariants as parts
-use Rattle.ms_run.specs.Answers.{Assembles, Checks, Command, Contents, Disassembles, Fault, File, Found, HasBytes, HasModule, OnFile, Unfound, Unloaded, assembled, checked, disassembled, invalid, large, no_file, on_file, overlong, unchecked, unfound, unread, unread_binary, unread_text, unreadable}
-use Rattle.ms_run.specs.Executions.{AnswersAs, EndsAs, Execution, NoTask, Ran, Unlinked, execution}
+use Rattle.ms_run.specs.Answers.{Assembles, Checks, Command, Contents, Disassembles, Fault, File, Found, HasBytes, HasModule, Judges, OnFile, Unfound, Unloaded, Verdict, accepted, assembled, checked, disassembled, invalid, judged, large, no_event, no_file, on_file, overlong, rejected, unchecked, unfound, unjudged, unread, unread_binary, unread_text, unreadable}
+use Rattle.ms_run.specs.Executions.{AnswersAs, EndsAs, Execution, NoTask, Ran, TellsOf, Unlinked, execution}
 use Rattle.ms_run.specs.Jobs.{AllLoaded, FirstUnloaded, HasEntries, HasNumbers, RunsFile, RunsJob, Unnumbered, Unscheduled, executed, here, in_turns, later, listed, no_job, no_job_file, no_more, no_number, one_more, unlisted, unloaded, unscheduled, what_of}
 use Rattle.ms_run.specs.Jobs as jobs
-use Rattle.ms_run.specs.Lines.{fault_words, job_line, part_words, refused_line, schedule_line, text_fault_words, written_line}
+use Rattle.ms_run.specs.Lines.{accepted_line, fault_words, job_line, part_words, refused_line, rejected_line, schedule_line, text_fault_words, trace_line, written_line}
 use Rattle.ms_run.specs.Loading.{Binary, Form, Spells, Text, Unread, binary, form_of, text}
 use Rattle.ms_run.specs.Observed.{Shelved}
 use Rattle.ms_run.specs.Reporting.{Holds, IsFound}
+use Rattle.ms_run.specs.Telling.{dumped, telling_of}
 use Rattle.ms_run.specs.declared.gathering.Naming.{Naming}
 use Rattle.ms_run.specs.declared.gathering.Naming.TheVariants.{Numbered}
 use Rattle.ms_run.specs.declared.status.Status.{Status}
 use Rattle.ms_run.specs.declared.status.Status.TheVariants as statuses
+use Rattle.ms_run.specs.declared.telling.Telling.{Telling}
 
 -- ---- bytes that spell no module
 
@@ -107,6 +114,21 @@ pub record Same (s : Status) (t : List ℕ) (f : Option File) (s' : Status) (t' 
 abbrev pub DoesOne : (Status → List ℕ → Option File → Type 0) → Type 0
 DoesOne Does = (s : Status) (t : List ℕ) (f : Option File) (s' : Status) (t' : List ℕ) (f' : Option File) → Does s t f → Does s' t' f' → Same s t f s' t' f'
 
+-- an answer that may tell of a run, and the same one
+pub record SameRun (p : Option Run) (s : Status) (t : List ℕ) (f : Option File) (p' : Option Run) (s' : Status) (t' : List ℕ) (f' : Option File) : Type 0 where
+  pub ran : p ≡ p'
+  pub status : s ≡ s'
+  pub line : t ≡ t'
+  pub file : f ≡ f'
+
+-- a table gives one such answer at most
+abbrev pub RunsOne : (Option Run → Status → List ℕ → Option File → Type 0) → Type 0
+RunsOne Gives = (p : Option Run) (s : Status) (t : List ℕ) (f : Option File) (p' : Option Run) (s' : Status) (t' : List ℕ) (f' : Option File) → Gives p s t f → Gives p' s' t' f' → SameRun p s t f p' s' t' f'
+
+-- one that tells of none
+unrun_once : {s : Status} {t : List ℕ} {s' : Status} {t' : List ℕ} → (s ≡ s') × (t ≡ t') → SameRun None s t None None s' t' None
+unrun_once same = record { ran = refl; status = same.0; line = same.1; file = refl }
+
 -- ---- what is made of a module
 
 same_written : (out : List ℕ) (bytes_of : Module → List ℕ) (m n : Module) → m ≡ n
@@ -138,10 +160,34 @@ ends_once (Trap whose trap) s t s' t' h k = (h.0 ∙ sym k.0, h.1 ∙ sym k.1)
 ends_once OutOfBudget s t s' t' h k = (h.0 ∙ sym k.0, h.1 ∙ sym k.1)
 ends_once Stuck s t s' t' h k = absurd h
 
-pub execution_once : (e : Execution) → GivesOne (AnswersAs e)
-execution_once (Unlinked fault) s t s' t' h k = (h.0 ∙ sym k.0, h.1 ∙ sym k.1)
-execution_once (NoTask number) s t s' t' h k = (h.0 ∙ sym k.0, h.1 ∙ sym k.1)
-execution_once (Ran run) s t s' t' h k = ends_once run.end s t s' t' h k
+tells_once : (telling : Telling) (run : Run) (s : Status) (t : List ℕ) (f : Option File) (s' : Status) (t' : List ℕ) (f' : Option File) → TellsOf telling run s t f → TellsOf telling run s' t' f' → Same s t f s' t' f'
+tells_once telling run s t f s' t' f' h k =
+    let same = ends_once run.end s h.0 s' k.0 h.1 k.1 in
+    record { status = same.0; line = h.2 ∙ (ap (λ (x : List ℕ). x ++ dumped telling run.crew.store.segments) same.1 ∙ sym k.2); file = h.3 ∙ sym k.3 }
+
+pub execution_once : (telling : Telling) (e : Execution) → RunsOne (AnswersAs telling e)
+execution_once telling (Unlinked fault) p s t f p' s' t' f' h k = record { ran = h.0 ∙ sym k.0; status = h.1 ∙ sym k.1; line = h.2 ∙ sym k.2; file = h.3 ∙ sym k.3 }
+execution_once telling (NoTask number) p s t f p' s' t' f' h k = record { ran = h.0 ∙ sym k.0; status = h.1 ∙ sym k.1; line = h.2 ∙ sym k.2; file = h.3 ∙ sym k.3 }
+execution_once telling (Ran run) p s t f p' s' t' f' h k =
+    let same = tells_once telling run s t f s' t' f' h.1 k.1 in
+    record { ran = h.0 ∙ sym k.0; status = same.status; line = same.line; file = same.file }
+
+-- ---- the verdict on a trace
+
+module _ (capacity : ℕ) (bytes : List ℕ) where
+  of_trace : (P : List Event → Type 0) (es fs : List Event) → IsTrace bytes es → IsTrace bytes fs → P es → P fs
+  of_trace P es fs h k p = subst P (one_trace bytes es fs h k) p
+
+  verdict_once : GivesOne (Verdict capacity bytes)
+  verdict_once s t s' t' (no_event m h) (no_event n k) = (refl, ap trace_line (one_untold bytes m n h k))
+  verdict_once s t s' t' (no_event m h) (rejected es n k bad) = absurd (trace_or_none bytes es m k h)
+  verdict_once s t s' t' (no_event m h) (accepted es k good) = absurd (trace_or_none bytes es m k h)
+  verdict_once s t s' t' (rejected es n h bad) (no_event m k) = absurd (trace_or_none bytes es m h k)
+  verdict_once s t s' t' (rejected es m h bad) (rejected fs n k bad') = (refl, ap rejected_line (one_rejected capacity fs m n (of_trace (λ x. RejectsAt capacity x m) es fs h k bad) bad'))
+  verdict_once s t s' t' (rejected es m h bad) (accepted fs k good) = absurd (accepted_or_rejected capacity fs m good (of_trace (λ x. RejectsAt capacity x m) es fs h k bad))
+  verdict_once s t s' t' (accepted es h good) (no_event m k) = absurd (trace_or_none bytes es m h k)
+  verdict_once s t s' t' (accepted es h good) (rejected fs n k bad) = absurd (accepted_or_rejected capacity fs n (of_trace (λ x. Accepts capacity x) es fs h k good) bad)
+  verdict_once s t s' t' (accepted es h good) (accepted fs k good') = (refl, ap (λ (x : List Event). accepted_line (length x)) (one_trace bytes es fs h k))
 
 -- ---- numbers, of bytes
 
@@ -279,37 +325,46 @@ module _ (Has : List ℕ → Found → Type 0) (one_found : (name : List ℕ) (a
 
   -- ---- jobs
 
-  pub runs_job_once : (naming : Naming) (given : Input) (job : Job) → GivesOne (RunsJob Has naming given job)
-  runs_job_once naming given job s t s' t' (unloaded h) (unloaded k) = first_once naming 0 job.modules s t s' t' h k
-  runs_job_once naming given job s t s' t' (unloaded h) (unscheduled ms all k) = absurd (never_all naming 0 job.modules ms s t all h)
-  runs_job_once naming given job s t s' t' (unloaded h) (executed ms entries all k answers) = absurd (never_all naming 0 job.modules ms s t all h)
-  runs_job_once naming given job s t s' t' (unscheduled ms all h) (unloaded k) = absurd (never_all naming 0 job.modules ms s' t' all k)
-  runs_job_once naming given job s t s' t' (unscheduled ms all h) (unscheduled ns all' k) = unscheduled_once job s t s' t' h k
-  runs_job_once naming given job s t s' t' (unscheduled ms all h) (executed ns entries all' k answers) = absurd (never_scheduled job entries s t k h)
-  runs_job_once naming given job s t s' t' (executed ms entries all h answers) (unloaded k) = absurd (never_all naming 0 job.modules ms s' t' all k)
-  runs_job_once naming given job s t s' t' (executed ms entries all h answers) (unscheduled ns all' k) = absurd (never_scheduled job entries s' t' h k)
-  runs_job_once naming given job s t s' t' (executed ms entries all h answers) (executed ns entries' all' k answers') =
+  pub runs_job_once : (naming : Naming) (given : Input) (job : Job) → RunsOne (RunsJob Has naming given job)
+  runs_job_once naming given job p s t f p' s' t' f' (unloaded h) (unloaded k) = unrun_once (first_once naming 0 job.modules s t s' t' h k)
+  runs_job_once naming given job p s t f p' s' t' f' (unloaded h) (unscheduled ms all k) = absurd (never_all naming 0 job.modules ms s t all h)
+  runs_job_once naming given job p s t f p' s' t' f' (unloaded h) (executed ms entries all k answers) = absurd (never_all naming 0 job.modules ms s t all h)
+  runs_job_once naming given job p s t f p' s' t' f' (unscheduled ms all h) (unloaded k) = absurd (never_all naming 0 job.modules ms s' t' all k)
+  runs_job_once naming given job p s t f p' s' t' f' (unscheduled ms all h) (unscheduled ns all' k) = unrun_once (unscheduled_once job s t s' t' h k)
+  runs_job_once naming given job p s t f p' s' t' f' (unscheduled ms all h) (executed ns entries all' k answers) = absurd (never_scheduled job entries s t k h)
+  runs_job_once naming given job p s t f p' s' t' f' (executed ms entries all h answers) (unloaded k) = absurd (never_all naming 0 job.modules ms s' t' all k)
+  runs_job_once naming given job p s t f p' s' t' f' (executed ms entries all h answers) (unscheduled ns all' k) = absurd (never_scheduled job entries s' t' h k)
+  runs_job_once naming given job p s t f p' s' t' f' (executed ms entries all h answers) (executed ns entries' all' k answers') =
       let same_entries = entries_once job entries entries' h k in
       let same_modules = all_once job.modules ms ns all all' in
-      execution_once (execution ns job.tasks entries' job.memory given) s t s' t'
-      (subst (λ (x : List (List ℕ × Module)). AnswersAs (execution x job.tasks entries' job.memory given) s t) same_modules
-      (subst (λ x. AnswersAs (execution ms job.tasks x job.memory given) s t) same_entries answers)) answers'
+      execution_once (telling_of job) (execution ns job.tasks entries' job.memory given) p s t f p' s' t' f'
+      (subst (λ (x : List (List ℕ × Module)). AnswersAs (telling_of job) (execution x job.tasks entries' job.memory given) p s t f) same_modules
+      (subst (λ x. AnswersAs (telling_of job) (execution ms job.tasks x job.memory given) p s t f) same_entries answers)) answers'
 
-  pub runs_file_once : (given : Input) (name : List ℕ) → GivesOne (RunsFile Has given name)
-  runs_file_once given name s t s' t' (no_job_file h) (no_job_file k) = unfound_once name s t s' t' h k
-  runs_file_once given name s t s' t' (no_job_file h) (no_job bytes fault k not) = absurd (never_unfound name bytes s t k h)
-  runs_file_once given name s t s' t' (no_job_file h) (jobs.job bytes j k is runs) = absurd (never_unfound name bytes s t k h)
-  runs_file_once given name s t s' t' (no_job bytes fault h not) (no_job_file k) = absurd (never_unfound name bytes s' t' h k)
-  runs_file_once given name s t s' t' (no_job bytes a h not) (no_job other b k not') =
-      (refl, ap job_line (same_err a b (sym (of_bytes (λ x. job_in x ≡ Err a) name bytes other h k not) ∙ not')))
-  runs_file_once given name s t s' t' (no_job bytes fault h not) (jobs.job other j k is runs) =
+  pub runs_file_once : (given : Input) (name : List ℕ) → RunsOne (RunsFile Has given name)
+  runs_file_once given name p s t f p' s' t' f' (no_job_file h) (no_job_file k) = unrun_once (unfound_once name s t s' t' h k)
+  runs_file_once given name p s t f p' s' t' f' (no_job_file h) (no_job bytes fault k not) = absurd (never_unfound name bytes s t k h)
+  runs_file_once given name p s t f p' s' t' f' (no_job_file h) (jobs.job bytes j k is runs) = absurd (never_unfound name bytes s t k h)
+  runs_file_once given name p s t f p' s' t' f' (no_job bytes fault h not) (no_job_file k) = absurd (never_unfound name bytes s' t' h k)
+  runs_file_once given name p s t f p' s' t' f' (no_job bytes a h not) (no_job other b k not') =
+      unrun_once (refl, ap job_line (same_err a b (sym (of_bytes (λ x. job_in x ≡ Err a) name bytes other h k not) ∙ not')))
+  runs_file_once given name p s t f p' s' t' f' (no_job bytes fault h not) (jobs.job other j k is runs) =
       absurd (never_ok j fault (sym is ∙ of_bytes (λ x. job_in x ≡ Err fault) name bytes other h k not))
-  runs_file_once given name s t s' t' (jobs.job bytes j h is runs) (no_job_file k) = absurd (never_unfound name bytes s' t' h k)
-  runs_file_once given name s t s' t' (jobs.job bytes j h is runs) (no_job other fault k not) =
+  runs_file_once given name p s t f p' s' t' f' (jobs.job bytes j h is runs) (no_job_file k) = absurd (never_unfound name bytes s' t' h k)
+  runs_file_once given name p s t f p' s' t' f' (jobs.job bytes j h is runs) (no_job other fault k not) =
       absurd (never_ok j fault (sym (of_bytes (λ x. job_in x ≡ Ok j) name bytes other h k is) ∙ not))
-  runs_file_once given name s t s' t' (jobs.job bytes j h is runs) (jobs.job other i k is' runs') =
+  runs_file_once given name p s t f p' s' t' f' (jobs.job bytes j h is runs) (jobs.job other i k is' runs') =
       let same : j ≡ i = same_ok j i (sym (of_bytes (λ x. job_in x ≡ Ok j) name bytes other h k is) ∙ is') in
-      runs_job_once Numbered given i s t s' t' (subst (λ (x : Job). RunsJob Has Numbered given x s t) same runs) runs'
+      runs_job_once Numbered given i p s t f p' s' t' f' (subst (λ (x : Job). RunsJob Has Numbered given x p s t f) same runs) runs'
+
+  -- ---- traces
+
+  pub judges_once : (name : List ℕ) (capacity : ℕ) → GivesOne (Judges Has name capacity)
+  judges_once name capacity s t s' t' (unjudged h) (unjudged k) = unfound_once name s t s' t' h k
+  judges_once name capacity s t s' t' (unjudged h) (judged bytes k verdict) = absurd (never_unfound name bytes s t k h)
+  judges_once name capacity s t s' t' (judged bytes h verdict) (unjudged k) = absurd (never_unfound name bytes s' t' h k)
+  judges_once name capacity s t s' t' (judged bytes h verdict) (judged other k verdict') =
+      verdict_once capacity other s t s' t' (of_bytes (λ x. Verdict capacity x s t) name bytes other h k verdict) verdict'
 
 -- ---- files that are known
 
@@ -360,7 +415,7 @@ module _ (Has Has' : List ℕ → Found → Type 0) (known : (name bytes : List 
       ]
   file_known name Does s t f (on_file bytes h does) = inr (on_file bytes (bytes_known name bytes h) does)
 
-  all_known : (files : List (List ℕ × List ℕ)) (ms : List (List ℕ × Module)) → AllLoaded Has files ms → AllLoaded Has' files ms
+  pub all_known : (files : List (List ℕ × List ℕ)) (ms : List (List ℕ × Module)) → AllLoaded Has files ms → AllLoaded Has' files ms
   all_known files ms no_more = no_more
   all_known files ms (one_more name file m {files = fs} {modules = more} h all) = one_more name file m (module_known file m h) (all_known fs more all)
 
@@ -379,7 +434,7 @@ module _ (Has Has' : List ℕ → Found → Type 0) (known : (name bytes : List 
   numbers_known : (name numbers : List ℕ) → HasNumbers Has name numbers → HasNumbers Has' name numbers
   numbers_known name numbers h = record { bytes = h.bytes; found = bytes_known name h.bytes h.found; read = h.read }
 
-  entries_known : (job : Job) (entries : List ℕ) → HasEntries Has job entries → HasEntries Has' job entries
+  pub entries_known : (job : Job) (entries : List ℕ) → HasEntries Has job entries → HasEntries Has' job entries
   entries_known job entries (in_turns e) = in_turns e
   entries_known job entries (listed name numbers e h) = listed name numbers e (numbers_known name numbers h)
 
@@ -398,32 +453,40 @@ module _ (Has Has' : List ℕ → Found → Type 0) (known : (name bytes : List 
         | inr k ↦ inr (unlisted name e k)
       ]
 
-  pub runs_job_known : (naming : Naming) (given : Input) (job : Job) (s : Status) (t : List ℕ) → RunsJob Has naming given job s t → (s ≡ statuses.ReadFault) ⊎ RunsJob Has' naming given job s t
-  runs_job_known naming given job s t (unloaded h) =
+  pub runs_job_known : (naming : Naming) (given : Input) (job : Job) (p : Option Run) (s : Status) (t : List ℕ) (f : Option File) → RunsJob Has naming given job p s t f → (s ≡ statuses.ReadFault) ⊎ RunsJob Has' naming given job p s t f
+  runs_job_known naming given job p s t f (unloaded h) =
       elim (first_known naming 0 job.modules s t h) [
         | inl e ↦ inl e
         | inr k ↦ inr (unloaded k)
       ]
-  runs_job_known naming given job s t (unscheduled ms all h) =
+  runs_job_known naming given job p s t f (unscheduled ms all h) =
       elim (unscheduled_known job s t h) [
         | inl e ↦ inl e
         | inr k ↦ inr (unscheduled ms (all_known job.modules ms all) k)
       ]
-  runs_job_known naming given job s t (executed ms entries all h answers) =
+  runs_job_known naming given job p s t f (executed ms entries all h answers) =
       inr (executed ms entries (all_known job.modules ms all) (entries_known job entries h) answers)
 
-  pub runs_file_known : (given : Input) (name : List ℕ) (s : Status) (t : List ℕ) → RunsFile Has given name s t → (s ≡ statuses.ReadFault) ⊎ RunsFile Has' given name s t
-  runs_file_known given name s t (no_job_file h) =
+  pub runs_file_known : (given : Input) (name : List ℕ) (p : Option Run) (s : Status) (t : List ℕ) (f : Option File) → RunsFile Has given name p s t f → (s ≡ statuses.ReadFault) ⊎ RunsFile Has' given name p s t f
+  runs_file_known given name p s t f (no_job_file h) =
       elim (unfound_known name s t h) [
         | inl e ↦ inl e
         | inr k ↦ inr (no_job_file k)
       ]
-  runs_file_known given name s t (no_job bytes fault h not) = inr (no_job bytes fault (bytes_known name bytes h) not)
-  runs_file_known given name s t (jobs.job bytes j h is runs) =
-      elim (runs_job_known Numbered given j s t runs) [
+  runs_file_known given name p s t f (no_job bytes fault h not) = inr (no_job bytes fault (bytes_known name bytes h) not)
+  runs_file_known given name p s t f (jobs.job bytes j h is runs) =
+      elim (runs_job_known Numbered given j p s t f runs) [
         | inl e ↦ inl e
         | inr k ↦ inr (jobs.job bytes j (bytes_known name bytes h) is k)
       ]
+
+  pub judges_known : (name : List ℕ) (capacity : ℕ) (s : Status) (t : List ℕ) → Judges Has name capacity s t → (s ≡ statuses.ReadFault) ⊎ Judges Has' name capacity s t
+  judges_known name capacity s t (unjudged h) =
+      elim (unfound_known name s t h) [
+        | inl e ↦ inl e
+        | inr k ↦ inr (unjudged k)
+      ]
+  judges_known name capacity s t (judged bytes h verdict) = inr (judged bytes (bytes_known name bytes h) verdict)
 
 -- ---- no command answers by usage, by a fault of writing, or by want of memory
 
@@ -442,10 +505,15 @@ ends_ordinary (Trap whose trap) s t h = ordinary_as s statuses.Trapped h.0 tt
 ends_ordinary OutOfBudget s t h = ordinary_as s statuses.OutOfBudget h.0 tt
 ends_ordinary Stuck s t h = absurd h
 
-execution_ordinary : (e : Execution) (s : Status) (t : List ℕ) → AnswersAs e s t → IsOrdinary s
-execution_ordinary (Unlinked fault) s t h = ordinary_as s statuses.Refused h.0 tt
-execution_ordinary (NoTask number) s t h = ordinary_as s statuses.Refused h.0 tt
-execution_ordinary (Ran run) s t h = ends_ordinary run.end s t h
+execution_ordinary : (telling : Telling) (e : Execution) (p : Option Run) (s : Status) (t : List ℕ) (f : Option File) → AnswersAs telling e p s t f → IsOrdinary s
+execution_ordinary telling (Unlinked fault) p s t f h = ordinary_as s statuses.Refused h.1 tt
+execution_ordinary telling (NoTask number) p s t f h = ordinary_as s statuses.Refused h.1 tt
+execution_ordinary telling (Ran run) p s t f h = ends_ordinary run.end s h.1.0 h.1.1
+
+verdict_ordinary : (capacity : ℕ) (bytes : List ℕ) (s : Status) (t : List ℕ) → Verdict capacity bytes s t → IsOrdinary s
+verdict_ordinary capacity bytes s t (no_event n h) = tt
+verdict_ordinary capacity bytes s t (rejected es n h bad) = tt
+verdict_ordinary capacity bytes s t (accepted es h good) = tt
 
 pub assembles_ordinary : (out bytes : List ℕ) (s : Status) (t : List ℕ) (f : Option File) → Assembles out bytes s t f → IsOrdinary s
 assembles_ordinary out bytes s t f (unread_text h) = tt
@@ -486,12 +554,16 @@ module _ (Has : List ℕ → Found → Type 0) where
   unscheduled_ordinary : (job : Job) (s : Status) (t : List ℕ) → Unscheduled Has job s t → IsOrdinary s
   unscheduled_ordinary job s t (unlisted name e h) = unnumbered_ordinary name s t h
 
-  pub runs_job_ordinary : (naming : Naming) (given : Input) (job : Job) (s : Status) (t : List ℕ) → RunsJob Has naming given job s t → IsOrdinary s
-  runs_job_ordinary naming given job s t (unloaded h) = first_ordinary naming 0 job.modules s t h
-  runs_job_ordinary naming given job s t (unscheduled ms all h) = unscheduled_ordinary job s t h
-  runs_job_ordinary naming given job s t (executed ms entries all h answers) = execution_ordinary (execution ms job.tasks entries job.memory given) s t answers
+  pub judges_ordinary : (name : List ℕ) (capacity : ℕ) (s : Status) (t : List ℕ) → Judges Has name capacity s t → IsOrdinary s
+  judges_ordinary name capacity s t (unjudged h) = unfound_ordinary name s t h
+  judges_ordinary name capacity s t (judged bytes h verdict) = verdict_ordinary capacity bytes s t verdict
 
-  pub runs_file_ordinary : (given : Input) (name : List ℕ) (s : Status) (t : List ℕ) → RunsFile Has given name s t → IsOrdinary s
-  runs_file_ordinary given name s t (no_job_file h) = unfound_ordinary name s t h
-  runs_file_ordinary given name s t (no_job bytes fault h not) = tt
-  runs_file_ordinary given name s t (jobs.job bytes j h is runs) = runs_job_ordinary Numbered given j s t runs
+  pub runs_job_ordinary : (naming : Naming) (given : Input) (job : Job) (p : Option Run) (s : Status) (t : List ℕ) (f : Option File) → RunsJob Has naming given job p s t f → IsOrdinary s
+  runs_job_ordinary naming given job p s t f (unloaded h) = first_ordinary naming 0 job.modules s t h
+  runs_job_ordinary naming given job p s t f (unscheduled ms all h) = unscheduled_ordinary job s t h
+  runs_job_ordinary naming given job p s t f (executed ms entries all h answers) = execution_ordinary (telling_of job) (execution ms job.tasks entries job.memory given) p s t f answers
+
+  pub runs_file_ordinary : (given : Input) (name : List ℕ) (p : Option Run) (s : Status) (t : List ℕ) (f : Option File) → RunsFile Has given name p s t f → IsOrdinary s
+  runs_file_ordinary given name p s t f (no_job_file h) = unfound_ordinary name s t h
+  runs_file_ordinary given name p s t f (no_job bytes fault h not) = tt
+  runs_file_ordinary given name p s t f (jobs.job bytes j h is runs) = runs_job_ordinary Numbered given j p s t f runs

@@ -1,12 +1,16 @@
--- The events of an execution of well-typed modules are a trace that the colour monitor accepts, and its run is never stuck.
-use Rattle.std.proofs.Common.{◌≡◌, ◌≢◌, ◌<◌, ◌^◌, ℕ, List, [], All, length, Result, Ok, Err, refl, subst, arith}
+-- The events of an execution of well-typed modules are a trace that the colour monitor accepts; and so are those of the run of which
+-- an answer tells.
+use Rattle.std.proofs.Common.{◌≡◌, ◌<◌, ◌≤◌, ◌^◌, ℕ, List, [], inl, inr, length, Option, Result, Ok, Err, refl, sym, subst, arith}
+use Rattle.std.specs.List.{All}
+use Rattle.std.proofs.lemmas.List.Elements.{All-cons, All-nil}
 use Rattle.std.proofs.lemmas.List.{length-replicate}
 use Rattle.ms_event.specs.Monitor.{Accepts}
 use Rattle.ms_module.specs.declared.module.Module.{Module}
 use Rattle.ms_rules.specs.Modules.{WellTyped}
 use Rattle.ms_tagged.specs.Bytes.{Byte, Data}
 use Rattle.ms_task.specs.Thread.{Thread}
-use Rattle.ms_machine.specs.Crews.{Input, Run, Stuck, events_of, run_of}
+use Rattle.ms_machine.specs.Crews.{Input, Run, events_of, run_of}
+use Rattle.ms_machine.specs.Running.{MayGive}
 use Rattle.ms_machine.specs.Externs.{Fault}
 use Rattle.ms_machine.specs.Linked.{linked}
 use Rattle.ms_machine.specs.Store.{Store}
@@ -15,8 +19,24 @@ use Rattle.ms_link.proofs.Stores.{linked_made, linked_typed}
 use Rattle.ms_tasks.specs.Ready.{IsReady}
 use Rattle.ms_tasks.specs.Tasks.{crew_of, threads_from}
 use Rattle.ms_tasks.proofs.Making.{crew_ready, crew_sound}
-use Rattle.ms_tasks.proofs.Safe.{run_accepted, run_ready}
-use Rattle.ms_run.specs.Executions.{Ran, execution, if_linked, with_threads}
+use Rattle.ms_tasks.proofs.Safe.{run_accepted}
+use Rattle.ms_job.specs.Jobs.{job_in}
+use Rattle.ms_job.specs.declared.job.Job.{Job}
+use Rattle.ms_job.proofs.Bounded.{job_is_bounded}
+use Rattle.ms_run.specs.Answers.{File, Found, HasBytes}
+use Rattle.ms_run.specs.Executions.{AnswersAs, Execution, NoTask, Ran, Unlinked, execution, if_linked, with_threads}
+use Rattle.ms_run.specs.Flows.{DidRun, FlowsAs, IsUnrun, cut, delivered, input_failed, out_failed, starved_run}
+use Rattle.ms_run.specs.Jobs.{AllLoaded, HasEntries, RunOfJob, RunsFile, RunsJob, executed, job as of_file, no_job, no_job_file, no_more, one_more, unloaded, unscheduled}
+use Rattle.ms_run.specs.Observed.{Flow, Report, Shelved}
+use Rattle.ms_run.specs.Reporting.{Grows, HasWritten, Holds, IsFound, failed, put, starved}
+use Rattle.ms_run.specs.SafeRuns.{IsEnd, RanSafely}
+use Rattle.ms_run.specs.Telling.{telling_of}
+use Rattle.ms_run.specs.declared.gathering.Naming.{Naming}
+use Rattle.ms_run.specs.declared.gathering.Naming.TheVariants.{Numbered}
+use Rattle.ms_run.specs.declared.status.Status.{Status}
+use Rattle.ms_run.specs.declared.status.Status.TheVariants as statuses
+use Rattle.ms_run.proofs.Jobs.{first_unrun, unfound_unrun, unscheduled_unrun}
+use Rattle.ms_run.proofs.Once.{all_known, entries_known}
 
 module _ (modules : List (List ℕ × Module)) (tasks : List (ℕ × List ℕ)) (entries : List ℕ) (capacity : ℕ) (given : Input) where
   -- the modules are linked to a store, in which all tasks have functions
@@ -57,7 +77,101 @@ module _ (modules : List (List ℕ × Module)) (tasks : List (ℕ × List ℕ)) 
         (subst (λ n. Accepts n (events_of (run_of entries (crew_of x.store x.threads) given).deeds)) (linked_length x.store x.linked_is)
         (run_accepted entries (crew_of x.store x.threads) given (is_ready run x) sound))
 
-    pub execution_is_never_stuck : (run : Run) → execution modules tasks entries capacity given ≡ Ran run → run.end ≢ Stuck
-    execution_is_never_stuck run e =
-        let x = was_executed run e in
-        subst (λ (r : Run). r.end ≢ Stuck) x.run_is (run_ready entries (crew_of x.store x.threads) given (is_ready run x)).1
+-- ---- the runs of jobs
+
+loaded_typed : (Has : List ℕ → Found → Type 0) (files : List (List ℕ × List ℕ)) (modules : List (List ℕ × Module)) → AllLoaded Has files modules → All (λ (m : List ℕ × Module). WellTyped m.1) modules
+loaded_typed Has files modules no_more = All-nil (λ (m : List ℕ × Module). WellTyped m.1)
+loaded_typed Has files modules (one_more name file m {files = fs} {modules = ms} h all) = All-cons (λ (m : List ℕ × Module). WellTyped m.1) (name, m) ms h.typed (loaded_typed Has fs ms all)
+
+pub run_is_accepted : (Has : List ℕ → Found → Type 0) (given : Input) (job : Job) (run : Run) → job.memory ≤ 16777216 → RunOfJob Has given job run → Accepts job.memory (events_of run.deeds)
+run_is_accepted Has given job run small h =
+    execution_is_accepted h.modules job.tasks h.entries job.memory given (omega arith) (loaded_typed Has job.modules h.modules h.loaded) run h.ran
+
+-- ---- an answer that tells of a run
+
+never_end : (status : Status) → IsUnrun status → IsEnd status → ⊥
+never_end statuses.Done unrun end = unrun
+never_end statuses.Trapped unrun end = unrun
+never_end statuses.OutOfBudget unrun end = unrun
+never_end statuses.Usage unrun end = end
+never_end statuses.Refused unrun end = end
+never_end statuses.ReadFault unrun end = end
+never_end statuses.WriteFault unrun end = end
+never_end statuses.OutOfMemory unrun end = end
+never_end statuses.TooLong unrun end = end
+
+no_end : (status other : Status) → status ≡ other → ¬ IsEnd other → IsEnd status → ⊥
+no_end status other e not end = not (subst IsEnd e end)
+
+module _ (s : Shelved) (r : Report) (f : Flow) (naming : Naming) (given : Input) (may : MayGive f.left_old given) (job : Job) (small : job.memory ≤ 16777216) where
+  module _ (ran : Option Run) (status : Status) (lines : List ℕ) (file : Option File) (flows : FlowsAs given f ran) (grown : Grows r lines) (written : HasWritten s file) (end : IsEnd status) where
+    executed_safely : (modules : List (List ℕ × Module)) (entries : List ℕ) → AllLoaded (IsFound s) job.modules modules → HasEntries (IsFound s) job entries
+        → (e : Execution) → execution modules job.tasks entries job.memory given ≡ e → AnswersAs (telling_of job) e ran status lines file → RanSafely s r f job status
+    executed_safely modules entries all scheduled (Unlinked fault) is h = absurd (no_end status statuses.Refused h.1 (λ x. x) end)
+    executed_safely modules entries all scheduled (NoTask number) is h = absurd (no_end status statuses.Refused h.1 (λ x. x) end)
+    executed_safely modules entries all scheduled (Ran run) is h =
+        let of_job : RunOfJob (Holds s.old) given job run = record {
+          modules = modules;
+          entries = entries;
+          loaded = all_known (IsFound s) (Holds s.old) (λ name bytes x. x) job.modules modules all;
+          scheduled = entries_known (IsFound s) (Holds s.old) (λ name bytes x. x) job entries scheduled;
+          ran = is;
+        } in
+        record {
+          given = given;
+          run = run;
+          may = may;
+          of_job = of_job;
+          lines = lines;
+          file = file;
+          tells = h.1;
+          grown = grown;
+          written = written;
+          flowed = subst (FlowsAs given f) h.0 flows;
+          accepted = run_is_accepted (Holds s.old) given job run small of_job;
+        }
+
+  answer_safely : (ran : Option Run) (status : Status) (lines : List ℕ) (file : Option File) → FlowsAs given f ran → Grows r lines → HasWritten s file → IsEnd status → RunsJob (IsFound s) naming given job ran status lines file → RanSafely s r f job status
+  answer_safely ran status lines file flows grown written end (unloaded h) = absurd (never_end status (first_unrun (IsFound s) naming 0 job.modules status lines h) end)
+  answer_safely ran status lines file flows grown written end (unscheduled modules all h) = absurd (never_end status (unscheduled_unrun (IsFound s) job status lines h) end)
+  answer_safely ran status lines file flows grown written end (executed modules entries all scheduled h) =
+      executed_safely ran status lines file flows grown written end modules entries all scheduled (execution modules job.tasks entries job.memory given) refl h
+
+-- the answer was delivered whole
+abbrev pub IsDelivered : (Option Run → Status → List ℕ → Option File → Type 0) → (given : Input) → Shelved → Report → Flow → Status → Type 0
+IsDelivered Gives given s r f result = (ran : Option Run) × (lines : List ℕ) × (file : Option File) × Gives ran result lines file × FlowsAs given f ran × Grows r lines × HasWritten s file
+
+pub delivered_whole : (Gives : Option Run → Status → List ℕ → Option File → Type 0) (given : Input) (s : Shelved) (r : Report) (f : Flow) (result : Status) → IsEnd result → DidRun Gives given s r f result → IsDelivered Gives given s r f result
+delivered_whole Gives given s r f result end (delivered ran status lines file gives counts flows (put written (inl h))) =
+    (ran, lines, file, subst (λ (x : Status). Gives ran x lines file) (sym h.0) gives, flows, h.1, written)
+delivered_whole Gives given s r f result end (delivered ran status lines file gives counts flows (put written (inr (inl h)))) = absurd (no_end result statuses.WriteFault h.0 (λ x. x) end)
+delivered_whole Gives given s r f result end (delivered ran status lines file gives counts flows (put written (inr (inr h)))) = absurd (no_end result statuses.OutOfMemory h.0 (λ x. x) end)
+delivered_whole Gives given s r f result end (delivered ran status lines file gives counts flows (failed part kept)) = absurd end
+delivered_whole Gives given s r f result end (delivered ran status lines file gives counts flows (starved files kept)) = absurd end
+delivered_whole Gives given s r f result end (cut counts files (input_failed rose (inl h))) = absurd (no_end result statuses.ReadFault h.0 (λ x. x) end)
+delivered_whole Gives given s r f result end (cut counts files (input_failed rose (inr (inl h)))) = absurd (no_end result statuses.WriteFault h.0 (λ x. x) end)
+delivered_whole Gives given s r f result end (cut counts files (input_failed rose (inr (inr h)))) = absurd (no_end result statuses.OutOfMemory h.0 (λ x. x) end)
+delivered_whole Gives given s r f result end (cut counts files (out_failed rose kept)) = absurd end
+delivered_whole Gives given s r f result end (starved_run counts files kept) = absurd end
+
+module _ (s : Shelved) (r : Report) (f : Flow) (given : Input) (may : MayGive f.left_old given) where
+  pub job_safely : (naming : Naming) (job : Job) → job.memory ≤ 16777216 → (result : Status) → IsEnd result → DidRun (RunsJob (IsFound s) naming given job) given s r f result → RanSafely s r f job result
+  job_safely naming job small result end did =
+      let whole = delivered_whole (RunsJob (IsFound s) naming given job) given s r f result end did in
+      answer_safely s r f naming given may job small whole.0 result whole.1 whole.2 whole.4 whole.5 whole.6 end whole.3
+
+  -- the job of a file
+  abbrev pub FileSafely : List ℕ → Status → Type 0
+  FileSafely name result = (job : Job) × ((bytes : List ℕ) × HasBytes (Holds s.old) name bytes × (job_in bytes ≡ Ok job)) × RanSafely s r f job result
+
+  file_by : (name : List ℕ) (ran : Option Run) (result : Status) (lines : List ℕ) (file : Option File) → FlowsAs given f ran → Grows r lines → HasWritten s file → IsEnd result → RunsFile (IsFound s) given name ran result lines file → FileSafely name result
+  file_by name ran result lines file flows grown written end (no_job_file h) = absurd (never_end result (unfound_unrun (IsFound s) name result lines h) end)
+  file_by name ran result lines file flows grown written end (no_job bytes fault h is) = absurd end
+  file_by name ran result lines file flows grown written end (of_file bytes job h is runs) =
+      let bounds = job_is_bounded bytes job is in
+      (job, (bytes, h, is), answer_safely s r f Numbered given may job bounds.memory ran result lines file flows grown written end runs)
+
+  pub file_safely : (name : List ℕ) (result : Status) → IsEnd result → DidRun (RunsFile (IsFound s) given name) given s r f result → FileSafely name result
+  file_safely name result end did =
+      let whole = delivered_whole (RunsFile (IsFound s) given name) given s r f result end did in
+      file_by name whole.0 result whole.1 whole.2 whole.4 whole.5 whole.6 end whole.3

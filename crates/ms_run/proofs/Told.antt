@@ -1,6 +1,5 @@
 -- Why a file has no module, and that it was put.
-use Rattle.std.proofs.Common.{◌≡◌, ◌≢◌, ℕ, inr, List, [], refl, sym, subst}
-use Rattle.std.specs.Prelude.{None}
+use Rattle.std.proofs.Common.{◌≡◌, ◌≢◌, ℕ, inr, List, refl, sym, subst}
 use Rattle.ms_bin_grammar.specs.declared.fault.ReadFault.{ReadFault}
 use Rattle.ms_bin_grammar.specs.Module.{Stops as BinaryStops}
 use Rattle.ms_text_grammar.specs.declared.fault.TextFault.{TextFault}
@@ -11,11 +10,11 @@ use Rattle.ms_outside.specs.Shelf.{SameCounts}
 use Rattle.ms_rules.specs.Modules.{WellTyped}
 use Rattle.ms_valid.specs.declared.refusal.Refusal.{Refusal}
 use Rattle.ms_valid.specs.declared.refusal.Refusal.TheVariants as refusals
-use Rattle.ms_run.specs.Answers.{Found, HasBytes, Unloaded, invalid, unread}
+use Rattle.ms_run.specs.Answers.{Found, HasBytes, Judges, Unloaded, invalid, judged, unread}
 use Rattle.ms_run.specs.Lines.{fault_words, refused_line, text_fault_words}
 use Rattle.ms_run.specs.Loading.{Binary, Form, IsInvalid, IsRead, Refuses, Spells, Text, Unread, binary, form_of, load_words, text}
 use Rattle.ms_run.specs.Observed.{Report, Shelved}
-use Rattle.ms_run.specs.Reporting.{KeepsFiles, Reports, ReportsFault, Tells, told, untold}
+use Rattle.ms_run.specs.Reporting.{KeepsFiles, Reports, ReportsFault, ReportsVerdict, Tells, no_verdict, told, untold, verdict_put}
 use Rattle.ms_run.specs.declared.loading.LoadFault.{LoadFault}
 use Rattle.ms_run.specs.declared.loading.LoadFault.TheVariants as faults
 use Rattle.ms_run.specs.declared.status.Status.{Status}
@@ -83,3 +82,10 @@ refused_only Binary bytes (faults.Invalid refusal) h m spelled well = absurd (ne
 refused_only Text bytes (faults.Invalid refusal) h m spelled well = absurd (never_invalid Text bytes refusal h m spelled well)
 refused_only Binary bytes faults.Memory h m spelled well = refl
 refused_only Text bytes faults.Memory h m spelled well = refl
+
+-- ---- the verdict on a trace, and that it was put, after the file was read
+
+pub verdict_told : (Has : List ℕ → Found → Type 0) (name bytes : List ℕ) → HasBytes Has name bytes → (capacity : ℕ) (s : Shelved) (r : Report) → SameCounts s.reads_old s.reads_new → KeepsFiles s → (result : Status) → ReportsVerdict capacity bytes r result
+    → Tells (Judges Has name capacity) s r result
+verdict_told Has name bytes has capacity s r counts files result (verdict_put status line verdict reports) = told status line (judged bytes has verdict) (inr counts) files reports
+verdict_told Has name bytes has capacity s r counts files result (no_verdict kept) = untold counts files kept

@@ -1,6 +1,9 @@
 -- What the commands on one file answer: the tables of their answers, each with its cause.
-use Rattle.std.specs.Prelude.{◌≡◌, ◌<◌, ◌≤◌, ℕ, List, [], length, Option, Some, None}
+use Rattle.std.specs.Prelude.{◌<◌, ◌≤◌, ℕ, List, [], length, Option, Some, None}
+use Rattle.ms_event.specs.declared.event.Event.{Event}
+use Rattle.ms_event.specs.Monitor.{Accepts}
 use Rattle.ms_module.specs.declared.module.Module.{Module}
+use Rattle.ms_monitor.specs.Traces.{IsNoTrace, IsTrace, RejectsAt}
 use Rattle.ms_bin_grammar.specs.Bounds.{usual}
 use Rattle.ms_bin_grammar.specs.Module.{SpellsWithin}
 use Rattle.ms_bin_write.specs.Written.{IsLarge, written}
@@ -9,10 +12,10 @@ use Rattle.ms_text_write.specs.Shown.{shown}
 use Rattle.ms_rules.specs.Modules.{WellTyped}
 use Rattle.ms_valid.specs.declared.refusal.Part.{Part}
 use Rattle.ms_valid.specs.Refusals.{IsWrong}
-use Rattle.ms_run.specs.Lines.{large_line, part_words, read_fault_line, refused_line, too_long_line, valid_line, written_line}
+use Rattle.ms_run.specs.Lines.{accepted_line, large_line, part_words, read_fault_line, refused_line, rejected_line, too_long_line, trace_line, valid_line, written_line}
 use Rattle.ms_run.specs.Loading.{Binary, Spells, Text, Unread, form_of}
 use Rattle.ms_run.specs.declared.status.Status.{Status}
-use Rattle.ms_run.specs.declared.status.Status.TheVariants.{Done, ReadFault, Refused, TooLong}
+use Rattle.ms_run.specs.declared.status.Status.TheVariants.{Done, ReadFault, Refused, TooLong, Trapped}
 
 -- ---- files, by what was found of each
 
@@ -59,6 +62,21 @@ pub data Unloaded (Has : List ℕ → Found → Type 0) (what name : List ℕ) :
 pub data Checks (Has : List ℕ → Found → Type 0) (name : List ℕ) : Status → List ℕ → Type 0 where
   unchecked : {status : Status} {line : List ℕ} → Unloaded Has [] name status line → Checks Has name status line
   checked : (m : Module) → HasModule Has name m → Checks Has name Done valid_line
+
+-- ---- traces
+
+-- the text of a trace, by the colour monitor over so many addresses
+pub data Verdict (capacity : ℕ) (text : List ℕ) : Status → List ℕ → Type 0 where
+  -- a line tells no event: the first one
+  no_event : (n : ℕ) → IsNoTrace text n → Verdict capacity text Refused (trace_line n)
+  -- an event may not come next: the first one
+  rejected : (events : List Event) (n : ℕ) → IsTrace text events → RejectsAt capacity events n → Verdict capacity text Trapped (rejected_line n)
+  accepted : (events : List Event) → IsTrace text events → Accepts capacity events → Verdict capacity text Done (accepted_line (length events))
+
+-- `judge`
+pub data Judges (Has : List ℕ → Found → Type 0) (name : List ℕ) (capacity : ℕ) : Status → List ℕ → Type 0 where
+  unjudged : {status : Status} {line : List ℕ} → Unfound Has name status line → Judges Has name capacity status line
+  judged : (bytes : List ℕ) {status : Status} {line : List ℕ} → HasBytes Has name bytes → Verdict capacity bytes status line → Judges Has name capacity status line
 
 -- ---- commands that write a module in the other form, whether it is well typed or not
 

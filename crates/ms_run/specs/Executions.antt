@@ -1,15 +1,18 @@
 -- What becomes of well-typed modules and their tasks: they are linked, and the tasks are run; and the answer of it.
-use Rattle.std.specs.Prelude.{◌≡◌, ℕ, List, Result, Ok, Err}
+use Rattle.std.specs.Prelude.{◌≡◌, ℕ, List, ◌++◌, Option, Some, None, Result, Ok, Err}
 use Rattle.ms_module.specs.declared.module.Module.{Module}
 use Rattle.ms_task.specs.Thread.{Thread}
-use Rattle.ms_machine.specs.Crews.{End, Input, OutOfBudget as BudgetEnd, Results, Run, Stuck, Trap, run_of}
+use Rattle.ms_machine.specs.Crews.{End, Input, OutOfBudget as BudgetEnd, Results, Run, Stuck, Trap, events_of, run_of}
 use Rattle.ms_machine.specs.Externs.{Fault}
 use Rattle.ms_machine.specs.Linked.{linked}
 use Rattle.ms_machine.specs.Store.{Store}
 use Rattle.ms_tasks.specs.Tasks.{crew_of, threads_from}
+use Rattle.ms_run.specs.Answers.{File}
 use Rattle.ms_run.specs.Lines.{budget_line, link_line, result_lines, task_line, trap_line}
+use Rattle.ms_run.specs.Telling.{dumped, traced}
 use Rattle.ms_run.specs.declared.status.Status.{Status}
 use Rattle.ms_run.specs.declared.status.Status.TheVariants.{Done, OutOfBudget, Refused, Trapped}
+use Rattle.ms_run.specs.declared.telling.Telling.{Telling}
 
 pub data Execution : Type 0 where
   -- an item of a module is the first that isn't linked
@@ -43,7 +46,14 @@ EndsAs (Trap whose kind) status report = (status ≡ Trapped) × (report ≡ tra
 EndsAs BudgetEnd status report = (status ≡ OutOfBudget) × (report ≡ budget_line)
 EndsAs Stuck status report = ⊥
 
-abbrev pub AnswersAs : Execution → Status → List ℕ → Type 0
-AnswersAs (Unlinked fault) status report = (status ≡ Refused) × (report ≡ link_line fault)
-AnswersAs (NoTask number) status report = (status ≡ Refused) × (report ≡ task_line number)
-AnswersAs (Ran run) status report = EndsAs run.end status report
+-- The status, the report and the file of a run: the report has the lines of its end and then those of the segments that are
+-- live after it, if these are asked for; the file, if one is, has its events.
+abbrev pub TellsOf : Telling → Run → Status → List ℕ → Option File → Type 0
+TellsOf telling run status report file =
+    (lines : List ℕ) × EndsAs run.end status lines × (report ≡ lines ++ dumped telling run.crew.store.segments) × (file ≡ traced telling (events_of run.deeds))
+
+-- The answer to an execution, and the run of which it tells.
+abbrev pub AnswersAs : Telling → Execution → Option Run → Status → List ℕ → Option File → Type 0
+AnswersAs telling (Unlinked fault) ran status report file = (ran ≡ None) × (status ≡ Refused) × (report ≡ link_line fault) × (file ≡ None)
+AnswersAs telling (NoTask number) ran status report file = (ran ≡ None) × (status ≡ Refused) × (report ≡ task_line number) × (file ≡ None)
+AnswersAs telling (Ran run) ran status report file = (ran ≡ Some run) × TellsOf telling run status report file

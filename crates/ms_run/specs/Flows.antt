@@ -1,18 +1,20 @@
 -- What `exec` and `run` did to the input and the output of the program that they ran, and what they answered where one of them
 -- failed.
-use Rattle.std.specs.Prelude.{◌≡◌, ℕ, List, Option}
+use Rattle.std.specs.Prelude.{◌≡◌, ℕ, List, Option, Some, None}
 use Rattle.ms_machine.specs.Crews.{Input, Run, bytes_of}
 use Rattle.ms_machine.specs.Running.{IsLeft, MayGive, TellsAlike}
 use Rattle.ms_outside.specs.Faults.{Rose}
 use Rattle.ms_outside.specs.Shelf.{SameCounts}
 use Rattle.ms_outside.specs.Sink.{IsFront, Puts}
 use Rattle.ms_outside.specs.declared.sink.Put.TheVariants as putting
-use Rattle.ms_run.specs.Executions.{AnswersAs, EndsAs, Execution, Ran}
+use Rattle.ms_run.specs.Answers.{File}
+use Rattle.ms_run.specs.Executions.{AnswersAs, Execution, Ran, TellsOf}
 use Rattle.ms_run.specs.Lines.{input_fault_line}
 use Rattle.ms_run.specs.Observed.{Flow, Report, Shelved}
-use Rattle.ms_run.specs.Reporting.{IsKept, KeepsFiles, Reports, Tells}
+use Rattle.ms_run.specs.Reporting.{CountsReads, Delivers, IsKept, KeepsFiles, Reports}
 use Rattle.ms_run.specs.declared.status.Status.{Status}
 use Rattle.ms_run.specs.declared.status.Status.TheVariants.{Done, OutOfBudget, OutOfMemory, ReadFault, Refused, TooLong, Trapped, Usage, WriteFault}
+use Rattle.ms_run.specs.declared.telling.Telling.{Telling}
 
 -- ---- the input and the output
 
@@ -60,6 +62,11 @@ Flowed given f run Usage = ⊥
 Flowed given f run Refused = ⊥
 Flowed given f run TooLong = ⊥
 
+-- An answer that tells of a run leaves them as the whole run does, and any other one as they were.
+abbrev pub FlowsAs : (given : Input) → Flow → Option Run → Type 0
+FlowsAs given f None = IsQuiet f
+FlowsAs given f (Some run) = RunsWhole given f run
+
 -- Nothing was taken and put, or by one of these runs.
 pub data Flows (given : Input) (IsRun : Run → Type 0) (f : Flow) : Status → Type 0 where
   quiet : {result : Status} → IsUnrun result → IsQuiet f → Flows given IsRun f result
@@ -72,21 +79,25 @@ pub data Cuts (r : Report) (f : Flow) : Status → Type 0 where
   input_failed : {result : Status} → Rose f.takes_old f.takes_new → Reports ReadFault input_fault_line r result → Cuts r f result
   out_failed : Rose f.puts_old f.puts_new → IsKept r → Cuts r f WriteFault
 
--- What a command did that runs a program and writes no file: it put one of these answers, or the run was cut short.
-pub data TellsRun (Gives : Status → List ℕ → Type 0) (s : Shelved) (r : Report) (f : Flow) : Status → Type 0 where
-  tells : {result : Status} → Tells Gives s r result → TellsRun Gives s r f result
-  cut : {result : Status} → SameCounts s.reads_old s.reads_new → KeepsFiles s → Cuts r f result → TellsRun Gives s r f result
+-- What a command did that runs a program: it delivered one of these answers; or the run was cut short; or memory ran out before
+-- there was an answer.
+pub data DidRun (Gives : Option Run → Status → List ℕ → Option File → Type 0) (given : Input) (s : Shelved) (r : Report) (f : Flow) : Status → Type 0 where
+  delivered : {result : Status} (ran : Option Run) (status : Status) (report : List ℕ) (file : Option File)
+      → Gives ran status report file → CountsReads s status → FlowsAs given f ran → Delivers status report file s r result
+      → DidRun Gives given s r f result
+  cut : {result : Status} → SameCounts s.reads_old s.reads_new → KeepsFiles s → Cuts r f result → DidRun Gives given s r f result
+  starved_run : SameCounts s.reads_old s.reads_new → KeepsFiles s → IsKept r → DidRun Gives given s r f OutOfMemory
 
 -- ---- the same in parts
 
--- What was put of the end of a run over what the input gave, which may be cut short.
-pub data TellsEnd (run_over : Input → Run) (r : Report) (f : Flow) : Status → Type 0 where
-  end_told : {result : Status} (given : Input) (status : Status) (line : List ℕ) → EndsAs (run_over given).end status line → RunsWhole given f (run_over given) → Reports status line r result → TellsEnd run_over r f result
-  end_cut : {result : Status} (given : Input) → RunsPart given f (run_over given) → Flowed given f (run_over given) result → Cuts r f result → TellsEnd run_over r f result
-  end_untold : (given : Input) → RunsPart given f (run_over given) → IsKept r → TellsEnd run_over r f OutOfMemory
+-- What was told of a run over what the input gave, which may be cut short.
+pub data TellsEnd (telling : Telling) (run_over : Input → Run) (s : Shelved) (r : Report) (f : Flow) : Status → Type 0 where
+  end_told : {result : Status} (given : Input) (status : Status) (report : List ℕ) (file : Option File) → TellsOf telling (run_over given) status report file → RunsWhole given f (run_over given) → Delivers status report file s r result → TellsEnd telling run_over s r f result
+  end_cut : {result : Status} (given : Input) → RunsPart given f (run_over given) → Flowed given f (run_over given) result → KeepsFiles s → Cuts r f result → TellsEnd telling run_over s r f result
+  end_untold : (given : Input) → RunsPart given f (run_over given) → KeepsFiles s → IsKept r → TellsEnd telling run_over s r f OutOfMemory
 
--- What was put of an execution: that nothing was run, whatever the input gives; or of the end of its run.
-pub data TellsExecution (executed : Input → Execution) (r : Report) (f : Flow) : Status → Type 0 where
-  refused : {result : Status} (e : Execution) (line : List ℕ) → ((given : Input) → executed given ≡ e) → AnswersAs e Refused line → IsQuiet f → Reports Refused line r result → TellsExecution executed r f result
-  run_told : {result : Status} (run_over : Input → Run) → ((given : Input) → executed given ≡ Ran (run_over given)) → TellsEnd run_over r f result → TellsExecution executed r f result
-  nothing_told : IsQuiet f → IsKept r → TellsExecution executed r f OutOfMemory
+-- What was told of an execution: that nothing was run, whatever the input gives; or of its run.
+pub data TellsExecution (telling : Telling) (executed : Input → Execution) (s : Shelved) (r : Report) (f : Flow) : Status → Type 0 where
+  refused : {result : Status} (e : Execution) (line : List ℕ) → ((given : Input) → executed given ≡ e) → AnswersAs telling e None Refused line None → IsQuiet f → KeepsFiles s → Reports Refused line r result → TellsExecution telling executed s r f result
+  run_told : {result : Status} (run_over : Input → Run) → ((given : Input) → executed given ≡ Ran (run_over given)) → TellsEnd telling run_over s r f result → TellsExecution telling executed s r f result
+  nothing_told : IsQuiet f → KeepsFiles s → IsKept r → TellsExecution telling executed s r f OutOfMemory

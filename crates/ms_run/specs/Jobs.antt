@@ -7,9 +7,10 @@ use Rattle.ms_job.specs.declared.fault.SchedFault.TheVariants.{At}
 use Rattle.ms_job.specs.declared.job.Job.{Job}
 use Rattle.ms_module.specs.declared.module.Module.{Module}
 use Rattle.ms_machine.specs.Crews.{Input, Run, turns_from}
-use Rattle.ms_run.specs.Answers.{Found, HasBytes, HasModule, Unfound, Unloaded}
+use Rattle.ms_run.specs.Answers.{File, Found, HasBytes, HasModule, Unfound, Unloaded}
 use Rattle.ms_run.specs.Executions.{AnswersAs, Ran, execution}
 use Rattle.ms_run.specs.Lines.{job_line, module_word, schedule_line}
+use Rattle.ms_run.specs.Telling.{telling_of}
 use Rattle.ms_run.specs.declared.gathering.Naming.{Naming}
 use Rattle.ms_run.specs.declared.gathering.Naming.TheVariants.{Numbered, Only}
 use Rattle.ms_run.specs.declared.status.Status.{Status}
@@ -54,19 +55,19 @@ pub data HasEntries (Has : List ℕ → Found → Type 0) (job : Job) : List ℕ
 pub data Unscheduled (Has : List ℕ → Found → Type 0) (job : Job) : Status → List ℕ → Type 0 where
   unlisted : (name : List ℕ) {status : Status} {line : List ℕ} → job.schedule ≡ Some name → Unnumbered Has name status line → Unscheduled Has job status line
 
--- ---- the answers
+-- ---- the answers: the run of which they tell, if there was one, the status, the report, and the file that is written, if one is
 
-pub data RunsJob (Has : List ℕ → Found → Type 0) (naming : Naming) (given : Input) (job : Job) : Status → List ℕ → Type 0 where
-  unloaded : {status : Status} {line : List ℕ} → FirstUnloaded Has naming 0 job.modules status line → RunsJob Has naming given job status line
-  unscheduled : (modules : List (List ℕ × Module)) {status : Status} {line : List ℕ} → AllLoaded Has job.modules modules → Unscheduled Has job status line → RunsJob Has naming given job status line
-  executed : (modules : List (List ℕ × Module)) (entries : List ℕ) {status : Status} {line : List ℕ} → AllLoaded Has job.modules modules → HasEntries Has job entries
-      → AnswersAs (execution modules job.tasks entries job.memory given) status line → RunsJob Has naming given job status line
+pub data RunsJob (Has : List ℕ → Found → Type 0) (naming : Naming) (given : Input) (job : Job) : Option Run → Status → List ℕ → Option File → Type 0 where
+  unloaded : {status : Status} {line : List ℕ} → FirstUnloaded Has naming 0 job.modules status line → RunsJob Has naming given job None status line None
+  unscheduled : (modules : List (List ℕ × Module)) {status : Status} {line : List ℕ} → AllLoaded Has job.modules modules → Unscheduled Has job status line → RunsJob Has naming given job None status line None
+  executed : (modules : List (List ℕ × Module)) (entries : List ℕ) {ran : Option Run} {status : Status} {report : List ℕ} {file : Option File} → AllLoaded Has job.modules modules → HasEntries Has job entries
+      → AnswersAs (telling_of job) (execution modules job.tasks entries job.memory given) ran status report file → RunsJob Has naming given job ran status report file
 
 -- `run`: of the file of a job
-pub data RunsFile (Has : List ℕ → Found → Type 0) (given : Input) (name : List ℕ) : Status → List ℕ → Type 0 where
-  no_job_file : {status : Status} {line : List ℕ} → Unfound Has name status line → RunsFile Has given name status line
-  no_job : (bytes : List ℕ) (fault : JobFault) → HasBytes Has name bytes → job_in bytes ≡ Err fault → RunsFile Has given name Refused (job_line fault)
-  job : (bytes : List ℕ) (job : Job) {status : Status} {line : List ℕ} → HasBytes Has name bytes → job_in bytes ≡ Ok job → RunsJob Has Numbered given job status line → RunsFile Has given name status line
+pub data RunsFile (Has : List ℕ → Found → Type 0) (given : Input) (name : List ℕ) : Option Run → Status → List ℕ → Option File → Type 0 where
+  no_job_file : {status : Status} {line : List ℕ} → Unfound Has name status line → RunsFile Has given name None status line None
+  no_job : (bytes : List ℕ) (fault : JobFault) → HasBytes Has name bytes → job_in bytes ≡ Err fault → RunsFile Has given name None Refused (job_line fault) None
+  job : (bytes : List ℕ) (job : Job) {ran : Option Run} {status : Status} {report : List ℕ} {file : Option File} → HasBytes Has name bytes → job_in bytes ≡ Ok job → RunsJob Has Numbered given job ran status report file → RunsFile Has given name ran status report file
 
 -- `exec`: the job of one module, whose task is its export `main`, within so many steps, with a segment memory of so many bytes;
 -- a task that is alone has all entries, however long its turns are

@@ -1,5 +1,6 @@
 pub mod Observed
 pub mod Statuses
+pub mod Telling
 pub mod Lines
 pub mod Loading
 pub mod Executions
@@ -7,3 +8,4 @@ pub mod Answers
 pub mod Jobs
 pub mod Reporting
 pub mod Flows
+pub mod SafeRuns

@@ -119,6 +119,20 @@ link_line fault = line (codes "refused link " ++ decimal fault.«module» ++ cod
 abbrev pub task_line : (number : ℕ) → List ℕ
 task_line number = line (codes "refused task " ++ decimal number)
 
+-- ---- traces
+
+-- the line of this number is the first that tells no event
+abbrev pub trace_line : (number : ℕ) → List ℕ
+trace_line number = line (codes "refused trace line " ++ decimal number)
+
+-- the event of this number is the first that isn't accepted
+abbrev pub rejected_line : (number : ℕ) → List ℕ
+rejected_line number = line (codes "rejected " ++ decimal number)
+
+-- so many events are
+abbrev pub accepted_line : (count : ℕ) → List ℕ
+accepted_line count = line (codes "accepted " ++ decimal count)
+
 -- ---- the ends of runs
 
 abbrev pub trap_line : TrapKind → List ℕ

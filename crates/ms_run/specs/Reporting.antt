@@ -5,7 +5,7 @@ use Rattle.ms_outside.specs.Files.{Files}
 use Rattle.ms_outside.specs.Shelf.{SameCounts, Told, Writes}
 use Rattle.ms_outside.specs.Sink.{IsFront}
 use Rattle.ms_outside.specs.declared.sink.Put.TheVariants as puts
-use Rattle.ms_run.specs.Answers.{Command, Contents, Fault, File, Found}
+use Rattle.ms_run.specs.Answers.{Command, Contents, Fault, File, Found, Verdict}
 use Rattle.ms_job.specs.declared.fault.JobFault.{JobFault}
 use Rattle.ms_job.specs.declared.fault.JobFault.TheVariants as job_faults
 use Rattle.ms_run.specs.Lines.{job_line, refused_line}
@@ -113,3 +113,8 @@ ReportsFault what fault r result = Reports Refused (refused_line what (load_word
 abbrev pub ReportsJobFault : JobFault → Report → Status → Type 0
 ReportsJobFault job_faults.Memory r result = IsStarved r result
 ReportsJobFault fault r result = Reports Refused (job_line fault) r result
+
+-- the verdict on a trace was put; where memory ran out, nothing
+pub data ReportsVerdict (capacity : ℕ) (text : List ℕ) (r : Report) : Status → Type 0 where
+  verdict_put : {result : Status} (status : Status) (line : List ℕ) → Verdict capacity text status line → Reports status line r result → ReportsVerdict capacity text r result
+  no_verdict : IsKept r → ReportsVerdict capacity text r OutOfMemory

@@ -11,10 +11,10 @@ ghost use Rattle.ms_run.specs.Observed.{reported, shelved};
 use crate::fetch::fetch;
 use crate::lines::written_line;
 use crate::loading::{read_binary, read_text};
-use crate::report::{answer, answer_fault};
+use crate::report::{answer, answer_fault, write_and_answer};
 use crate::status::Status;
 use ms_bin_write::BinFault;
-use ms_outside::{Put, Shelf, Sink, Source};
+use ms_outside::{Shelf, Sink, Source};
 use std::alloc::Global;
 
 /// Writes a file, and reports how many bytes it has.
@@ -35,11 +35,15 @@ fn deliver<F: Shelf, R: Sink>(
     let Ok(line) = written_line(alloc, bytes.len()) else {
         return Status::OutOfMemory;
     };
-    match shelf.write(alloc, name, bytes) {
-        Put::Done => answer(report, Status::Done, line.as_bytes()),
-        Put::Failed => Status::WriteFault,
-        Put::Memory => Status::OutOfMemory,
-    }
+    write_and_answer(
+        alloc,
+        name,
+        bytes,
+        Status::Done,
+        line.as_bytes(),
+        shelf,
+        report,
+    )
 }
 
 fn asm_bytes<F: Shelf, R: Sink>(

@@ -1,6 +1,6 @@
 //! Linking modules and running tasks, and the answer of how that ended.
 
-ghost use Rattle.std.specs.Prelude.{◌≡◌, ℕ, ◌+◌, ◌<◌, ◌≤◌, ◌^◌, IfOk, length, map, string_bytes};
+ghost use Rattle.std.specs.Prelude.{◌≡◌, ℕ, ◌+◌, ◌<◌, ◌≤◌, ◌^◌, ◌++◌, List, IfOk, length, map, string_bytes};
 ghost use Rattle.ms_machine.specs.Crews.{results, run_of};
 ghost use Rattle.ms_machine.specs.Holding.{StoreFits};
 ghost use Rattle.ms_machine.specs.Linked.{StartsTyped};
@@ -9,18 +9,26 @@ ghost use Rattle.ms_rules.specs.Modules.{AreDistinct};
 ghost use Rattle.ms_run.specs.Executions.{execution, in_store};
 ghost use Rattle.ms_run.specs.Flows.{TellsEnd, TellsExecution};
 ghost use Rattle.ms_run.specs.Lines.{result_lines};
-ghost use Rattle.ms_run.specs.Observed.{flowed, reported};
+ghost use Rattle.ms_run.specs.Observed.{flowed, reported, shelved};
+ghost use Rattle.ms_run.specs.Reporting.{Delivers};
+ghost use Rattle.ms_run.specs.Telling.{dumped, traced};
+ghost use Rattle.ms_outside.specs.Shelf.{SameCounts};
 ghost use Rattle.ms_tasks.specs.Ready.{IsReady};
 ghost use Rattle.ms_tasks.specs.Schedules.{HasTurns, entries_of};
 
-use crate::lines::{link_line, result_line, task_line, trap_line};
-use crate::report::{answer, answer_line};
+use crate::dump::dump_all;
+use crate::lines::{budget_line, link_line, result_line, task_line, trap_line};
+use crate::report::{answer, answer_line, write_and_answer};
 use crate::status::Status;
+use crate::telling::Telling;
+use ms_event::Event;
 use ms_link::{LinkFault, link};
 use ms_live::Gaps;
 use ms_machine::Store;
 use ms_module::Name;
-use ms_outside::{Sink, Source};
+use ms_monitor::print_trace;
+use ms_outside::{Shelf, Sink, Source};
+use ms_segment::Segments;
 use ms_tagged::Tagged;
 use ms_tasks::{Crew, Log, Ran, Refusal, Schedule};
 use ms_valid::Valid;
@@ -43,14 +51,73 @@ fn result_lines<G: Gaps, T: Tagged>(
     Ok(lines)
 }
 
-/// Runs the start functions and so many tasks of a crew, and puts how that ended.
+/// The report of a run: the lines of its end, and behind them those of the live segments, if they are asked for.
+fn report_of<G: Gaps, T: Tagged>(
+    alloc: Global,
+    telling: &Telling,
+    lines: Result<String, AllocError>,
+    segments: &Segments<G, T>,
+) -> Result<Vec<u8>, AllocError>
+    ensures { (text : List ℕ) → IfOk lines (λ t. string_bytes t ≡ text) → IfOk result (λ t. t.items ≡ text ++ dumped telling.now segments.now) }
+{
+    let mut text = lines?.into_bytes();
+    if !telling.dump {
+        return Ok(text);
+    }
+    dump_all(alloc, segments, &mut text)?;
+    Ok(text)
+}
+
+/// Tells of a run that came to an end: its events are written to the file of the trace, if there is one, and then its report
+/// is put. There is memory for both before anything is written.
 #[allow(clippy::too_many_arguments)]
-fn run_crew<G: Gaps, T: Tagged, I: Source, O: Sink, R: Sink>(
+fn tell_run<G: Gaps, T: Tagged, F: Shelf, R: Sink>(
+    alloc: Global,
+    telling: &Telling,
+    status: Status,
+    lines: Result<String, AllocError>,
+    store: &Store<G, T>,
+    events: &[Event],
+    shelf: &mut F,
+    report: &mut R,
+) -> Status
+    ensures told { (text : List ℕ) → IfOk lines (λ t. string_bytes t ≡ text) → Delivers status (text ++ dumped telling.now store.now.segments)
+        (traced telling.now events.now)
+        (shelved F.files F.read_faults F.write_faults shelf.old shelf.new)
+        (reported R.held R.faults report.old report.new)
+        result }
+    ensures reads { SameCounts (F.read_faults shelf.old) (F.read_faults shelf.new) }
+{
+    let Ok(text) = report_of(alloc, telling, lines, store.segments()) else {
+        return Status::OutOfMemory;
+    };
+    let Some(name) = &telling.trace else {
+        return answer(report, status, text.as_slice());
+    };
+    let Ok(trace) = print_trace(alloc, events) else {
+        return Status::OutOfMemory;
+    };
+    write_and_answer(
+        alloc,
+        name.as_str(),
+        trace.as_slice(),
+        status,
+        text.as_slice(),
+        shelf,
+        report,
+    )
+}
+
+/// Runs the start functions and so many tasks of a crew, and tells how that ended.
+#[allow(clippy::too_many_arguments)]
+fn run_crew<G: Gaps, T: Tagged, F: Shelf, I: Source, O: Sink, R: Sink>(
     alloc: Global,
     crew: &mut Crew<G, T>,
     tasks: u32,
     schedule: &Schedule,
     budget: u64,
+    telling: &Telling,
+    shelf: &mut F,
     input: &mut I,
     out: &mut O,
     report: &mut R,
@@ -59,30 +126,70 @@ fn run_crew<G: Gaps, T: Tagged, I: Source, O: Sink, R: Sink>(
     requires tasks { (tasks ≡ length crew.old.tasks) × (0 < tasks) }
     requires turns { HasTurns schedule.now }
     requires few { crew.old.store.segments.made + budget < 2 ^ 63 }
-    ensures { TellsEnd (run_of (entries_of schedule.now (length crew.old.tasks) budget) crew.old)
+    ensures told { TellsEnd telling.now (run_of (entries_of schedule.now (length crew.old.tasks) budget) crew.old)
+        (shelved F.files F.read_faults F.write_faults shelf.old shelf.new)
         (reported R.held R.faults report.old report.new)
         (flowed I.left I.faults O.held O.faults input.old input.new out.old out.new)
         result }
+    ensures reads { SameCounts (F.read_faults shelf.old) (F.read_faults shelf.new) }
 {
-    let mut log = Log::new(alloc, false);
+    let mut log = Log::new(alloc, telling.trace.is_some());
     match crew.run(schedule, budget, input, out, &mut log) {
-        Ran::Results => answer_line(report, Status::Done, result_lines(alloc, crew, tasks)),
-        Ran::Trap(kind) => answer_line(report, Status::Trapped, trap_line(alloc, kind)),
-        Ran::Budget => answer(report, Status::OutOfBudget, b"out of budget\n"),
+        Ran::Results => {
+            let lines = result_lines(alloc, crew, tasks);
+            tell_run(
+                alloc,
+                telling,
+                Status::Done,
+                lines,
+                crew.store(),
+                log.events(),
+                shelf,
+                report,
+            )
+        }
+        Ran::Trap(kind) => {
+            let lines = trap_line(alloc, kind);
+            tell_run(
+                alloc,
+                telling,
+                Status::Trapped,
+                lines,
+                crew.store(),
+                log.events(),
+                shelf,
+                report,
+            )
+        }
+        Ran::Budget => {
+            let lines = budget_line(alloc);
+            tell_run(
+                alloc,
+                telling,
+                Status::OutOfBudget,
+                lines,
+                crew.store(),
+                log.events(),
+                shelf,
+                report,
+            )
+        }
         Ran::ReadFault => answer(report, Status::ReadFault, b"read fault\n"),
         Ran::WriteFault => Status::WriteFault,
         Ran::Memory => Status::OutOfMemory,
     }
 }
 
-/// Runs the tasks of a store, and puts how that ended, or which task has no function.
+/// Runs the tasks of a store, and tells how that ended, or which task has no function.
 #[allow(clippy::too_many_arguments)]
-fn run_store<G: Gaps, T: Tagged, I: Source, O: Sink, R: Sink>(
+fn run_store<G: Gaps, T: Tagged, F: Shelf, I: Source, O: Sink, R: Sink>(
     alloc: Global,
     store: Store<G, T>,
     tasks: Vec<(u32, Name)>,
     schedule: &Schedule,
     budget: u64,
+    telling: &Telling,
+    shelf: &mut F,
     input: &mut I,
     out: &mut O,
     report: &mut R,
@@ -93,15 +200,17 @@ fn run_store<G: Gaps, T: Tagged, I: Source, O: Sink, R: Sink>(
     requires tasks { (0 < length tasks.items) × (length tasks.items < 2 ^ 32) }
     requires turns { HasTurns schedule.now }
     requires few { store.segments.made + budget < 2 ^ 63 }
-    ensures { TellsExecution (in_store tasks.items (entries_of schedule.now (length tasks.items) budget) store)
+    ensures told { TellsExecution telling.now (in_store tasks.items (entries_of schedule.now (length tasks.items) budget) store)
+        (shelved F.files F.read_faults F.write_faults shelf.old shelf.new)
         (reported R.held R.faults report.old report.new)
         (flowed I.left I.faults O.held O.faults input.old input.new out.old out.new)
         result }
+    ensures reads { SameCounts (F.read_faults shelf.old) (F.read_faults shelf.new) }
 {
     let count = tasks.as_slice().len() as u32;
     match Crew::new(alloc, store, tasks) {
         Ok(mut crew) => run_crew(
-            alloc, &mut crew, count, schedule, budget, input, out, report,
+            alloc, &mut crew, count, schedule, budget, telling, shelf, input, out, report,
         ),
         Err(Refusal::Task(number)) => {
             answer_line(report, Status::Refused, task_line(alloc, number))
@@ -110,16 +219,18 @@ fn run_store<G: Gaps, T: Tagged, I: Source, O: Sink, R: Sink>(
     }
 }
 
-/// Links modules, each with its name, runs their tasks with a segment memory of so many bytes, and puts how that ended, or what
+/// Links modules, each with its name, runs their tasks with a segment memory of so many bytes, and tells how that ended, or what
 /// isn't linked, or which task has no function.
 #[allow(clippy::too_many_arguments)]
-pub fn execute<G: Gaps, T: Tagged, I: Source, O: Sink, R: Sink>(
+pub fn execute<G: Gaps, T: Tagged, F: Shelf, I: Source, O: Sink, R: Sink>(
     alloc: Global,
     modules: Vec<(Name, Valid)>,
     tasks: Vec<(u32, Name)>,
     schedule: &Schedule,
     budget: u64,
     memory: u32,
+    telling: &Telling,
+    shelf: &mut F,
     input: &mut I,
     out: &mut O,
     report: &mut R,
@@ -128,13 +239,17 @@ pub fn execute<G: Gaps, T: Tagged, I: Source, O: Sink, R: Sink>(
     requires tasks { (0 < length tasks.items) × (length tasks.items < 2 ^ 32) }
     requires turns { HasTurns schedule.now }
     requires few { budget < 2 ^ 63 }
-    ensures { TellsExecution (execution modules.items tasks.items (entries_of schedule.now (length tasks.items) budget) memory)
+    ensures told { TellsExecution telling.now (execution modules.items tasks.items (entries_of schedule.now (length tasks.items) budget) memory)
+        (shelved F.files F.read_faults F.write_faults shelf.old shelf.new)
         (reported R.held R.faults report.old report.new)
         (flowed I.left I.faults O.held O.faults input.old input.new out.old out.new)
         result }
+    ensures reads { SameCounts (F.read_faults shelf.old) (F.read_faults shelf.new) }
 {
     match link::<G, T>(alloc, modules, memory) {
-        Ok(store) => run_store(alloc, store, tasks, schedule, budget, input, out, report),
+        Ok(store) => run_store(
+            alloc, store, tasks, schedule, budget, telling, shelf, input, out, report,
+        ),
         Err(LinkFault::Refused { module, item, why }) => {
             answer_line(report, Status::Refused, link_line(alloc, module, item, why))
         }

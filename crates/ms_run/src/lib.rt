@@ -1,24 +1,28 @@
-//! The commands of the program: `exec`, `run`, `check`, `asm` and `dis`, each a call over a shelf, an input and two sinks.
+//! The commands of the program: `exec`, `run`, `check`, `asm`, `dis` and `judge`, each a call over a shelf, an input and two sinks.
 //!
 //! It stands on the readers and writers of both forms of modules, on validation (`ms_valid`), linking (`ms_link`), runs of tasks
-//! (`ms_tasks`), texts of jobs (`ms_job`) and the objects outside (`ms_outside`). Read `specs/Answers.antt` and `specs/Jobs.antt`
-//! first, the tables of answers, each with its cause; `specs/Executions.antt` has the run behind them, and
+//! (`ms_tasks`), texts of jobs (`ms_job`), the judge of traces (`ms_monitor`) and the objects outside (`ms_outside`). Read
+//! `specs/Answers.antt` and `specs/Jobs.antt` first, the tables of answers, each with its cause; `specs/Executions.antt` has the run behind them, and
 //! `specs/Reporting.antt` and `specs/Flows.antt` say what the objects outside have to do with an answer.
 #![tactic(auto)]
 
 mod check;
 mod convert;
+mod dump;
 mod execution;
 mod fetch;
 mod gathering;
+mod judging;
 mod lines;
 mod loading;
 mod report;
 mod running;
 mod status;
+mod telling;
 
 pub use check::check_file;
 pub use convert::{asm_file, dis_file};
+pub use judging::judge;
 pub use loading::{LoadFault, load_module};
 pub use report::answer;
 pub use running::{exec, run};

@@ -3,7 +3,7 @@
 ghost use Rattle.std.specs.Prelude.{◌≡◌, ◌++◌, IfOk, codes, string_bytes};
 ghost use Rattle.std.specs.Fmt.{decimal};
 ghost use Rattle.ms_num.specs.Integers.{signed};
-ghost use Rattle.ms_run.specs.Lines.{counted_word, fault_words, job_line, lexing_words, line, link_line, part_words, refused_line, result_line, schedule_line, task_line, text_counted_word, text_fault_words, trap_line, why_word, written_line};
+ghost use Rattle.ms_run.specs.Lines.{accepted_line, budget_line, counted_word, fault_words, job_line, lexing_words, line, link_line, part_words, refused_line, rejected_line, result_line, schedule_line, task_line, text_counted_word, text_fault_words, trace_line, trap_line, why_word, written_line};
 ghost use Rattle.ms_run.specs.Loading.{load_words, refusal_words};
 
 use crate::loading::LoadFault;
@@ -185,12 +185,40 @@ pub fn written_line(alloc: Global, size: usize) -> Result<String, AllocError>
     format!(in alloc; "written {size}\n")
 }
 
+/// The first line of a trace that is no event.
+pub fn trace_line(alloc: Global, number: usize) -> Result<String, AllocError>
+    ensures { IfOk result (λ t. string_bytes t ≡ trace_line number) }
+{
+    format!(in alloc; "refused trace line {number}\n")
+}
+
+/// The first event of a trace that isn't accepted.
+pub fn rejected_line(alloc: Global, number: usize) -> Result<String, AllocError>
+    ensures { IfOk result (λ t. string_bytes t ≡ rejected_line number) }
+{
+    format!(in alloc; "rejected {number}\n")
+}
+
+/// That a trace of so many events is accepted.
+pub fn accepted_line(alloc: Global, count: usize) -> Result<String, AllocError>
+    ensures { IfOk result (λ t. string_bytes t ≡ accepted_line count) }
+{
+    format!(in alloc; "accepted {count}\n")
+}
+
 /// Why a program was stopped.
 pub fn trap_line(alloc: Global, kind: TrapKind) -> Result<String, AllocError>
     ensures { IfOk result (λ t. string_bytes t ≡ trap_line kind) }
 {
     let word = kind.word();
     format!(in alloc; "trap {word}\n")
+}
+
+/// That the budget of a run is used up.
+pub fn budget_line(alloc: Global) -> Result<String, AllocError>
+    ensures { IfOk result (λ t. string_bytes t ≡ budget_line) }
+{
+    format!(in alloc; "out of budget\n")
 }
 
 /// What a task gives, read as signed.

@@ -1,14 +1,15 @@
 //! Putting an answer into the report.
 
-ghost use Rattle.std.specs.Prelude.{◌≡◌, ℕ, List, IfOk, string_bytes};
-ghost use Rattle.ms_run.specs.Reporting.{Reports, ReportsFault, ReportsJobFault};
-ghost use Rattle.ms_run.specs.Observed.{reported};
+ghost use Rattle.std.specs.Prelude.{◌≡◌, ℕ, List, IfOk, Some, string_bytes};
+ghost use Rattle.ms_outside.specs.Shelf.{SameCounts};
+ghost use Rattle.ms_run.specs.Reporting.{Delivers, Reports, ReportsFault, ReportsJobFault};
+ghost use Rattle.ms_run.specs.Observed.{reported, shelved};
 
 use crate::lines::{job_line, load_line};
 use crate::loading::LoadFault;
 use crate::status::Status;
 use ms_job::JobFault;
-use ms_outside::{Put, Sink};
+use ms_outside::{Put, Shelf, Sink};
 use std::alloc::{AllocError, Global};
 
 /// Puts the text, and gives the status, or that of a fault.
@@ -37,6 +38,30 @@ pub fn answer_line<R: Sink>(
     match line {
         Ok(text) => answer(report, status, text.as_bytes()),
         Err(_) => Status::OutOfMemory,
+    }
+}
+
+/// Writes a file, puts the text, and gives the status, or that of a fault. Where the file isn't written whole nothing is put.
+pub fn write_and_answer<F: Shelf, R: Sink>(
+    alloc: Global,
+    name: &str,
+    bytes: &[u8],
+    status: Status,
+    text: &[u8],
+    shelf: &mut F,
+    report: &mut R,
+) -> Status
+    ensures delivered { Delivers status text.now
+        (Some (record { name = name.now; bytes = bytes.now }))
+        (shelved F.files F.read_faults F.write_faults shelf.old shelf.new)
+        (reported R.held R.faults report.old report.new)
+        result }
+    ensures reads { SameCounts (F.read_faults shelf.old) (F.read_faults shelf.new) }
+{
+    match shelf.write(alloc, name, bytes) {
+        Put::Done => answer(report, status, text),
+        Put::Failed => Status::WriteFault,
+        Put::Memory => Status::OutOfMemory,
     }
 }
 

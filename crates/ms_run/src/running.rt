@@ -4,7 +4,7 @@ ghost use Rattle.std.specs.Prelude.{◌≡◌, ◌≤◌, ◌<◌, ◌^◌, IfOk
 ghost use Rattle.ms_job.specs.Bounds.{IsBounded};
 ghost use Rattle.ms_machine.specs.Crews.{Input};
 ghost use Rattle.ms_machine.specs.Running.{MayGive};
-ghost use Rattle.ms_run.specs.Flows.{Flows, TellsRun};
+ghost use Rattle.ms_run.specs.Flows.{DidRun, Flows};
 ghost use Rattle.ms_run.specs.Jobs.{RunOfFile, RunOfJob, RunsFile, RunsJob, exec_job};
 ghost use Rattle.ms_run.specs.Observed.{flowed, reported, shelved};
 ghost use Rattle.ms_run.specs.Reporting.{Holds, IsFound};
@@ -15,6 +15,7 @@ use crate::fetch::fetch;
 use crate::gathering::{Naming, load_all, schedule_of};
 use crate::report::answer_job_fault;
 use crate::status::Status;
+use crate::telling::Telling;
 use ms_job::{Job, parse};
 use ms_live::{Gaps, TreeGaps};
 use ms_module::Name;
@@ -38,8 +39,8 @@ fn run_job<G: Gaps, T: Tagged, F: Shelf, I: Source, O: Sink, R: Sink>(
     report: &mut R,
 ) -> Status
     requires bounds { IsBounded job }
-    ensures { (given : Input) × MayGive (I.left input.old) given × TellsRun
-        (RunsJob (IsFound (shelved F.files F.read_faults F.write_faults shelf.old shelf.new)) naming given job)
+    ensures { (given : Input) × MayGive (I.left input.old) given × DidRun
+        (RunsJob (IsFound (shelved F.files F.read_faults F.write_faults shelf.old shelf.new)) naming given job) given
         (shelved F.files F.read_faults F.write_faults shelf.old shelf.new)
         (reported R.held R.faults report.old report.new)
         (flowed I.left I.faults O.held O.faults input.old input.new out.old out.new)
@@ -57,8 +58,13 @@ fn run_job<G: Gaps, T: Tagged, F: Shelf, I: Source, O: Sink, R: Sink>(
         Err(status) => return status,
     };
     let tasks = job.tasks.into_vec();
-    execute::<G, T, I, O, R>(
-        alloc, modules, tasks, &schedule, job.budget, job.memory, input, out, report,
+    let telling = Telling {
+        trace: job.trace,
+        dump: job.dump,
+    };
+    execute::<G, T, F, I, O, R>(
+        alloc, modules, tasks, &schedule, job.budget, job.memory, &telling, shelf, input, out,
+        report,
     )
 }
 
@@ -101,8 +107,8 @@ pub fn exec<F: Shelf, I: Source, O: Sink, R: Sink>(
 ) -> Status
     requires budget { budget ≤ 1000000000000 }
     requires memory { memory ≤ 16777216 }
-    ensures { (given : Input) × MayGive (I.left input.old) given × TellsRun
-        (RunsJob (IsFound (shelved F.files F.read_faults F.write_faults shelf.old shelf.new)) Only given (exec_job file.now budget memory))
+    ensures { (given : Input) × MayGive (I.left input.old) given × DidRun
+        (RunsJob (IsFound (shelved F.files F.read_faults F.write_faults shelf.old shelf.new)) Only given (exec_job file.now budget memory)) given
         (shelved F.files F.read_faults F.write_faults shelf.old shelf.new)
         (reported R.held R.faults report.old report.new)
         (flowed I.left I.faults O.held O.faults input.old input.new out.old out.new)
@@ -138,8 +144,8 @@ pub fn run<F: Shelf, I: Source, O: Sink, R: Sink>(
     out: &mut O,
     report: &mut R,
 ) -> Status
-    ensures { (given : Input) × MayGive (I.left input.old) given × TellsRun
-        (RunsFile (IsFound (shelved F.files F.read_faults F.write_faults shelf.old shelf.new)) given file.now)
+    ensures { (given : Input) × MayGive (I.left input.old) given × DidRun
+        (RunsFile (IsFound (shelved F.files F.read_faults F.write_faults shelf.old shelf.new)) given file.now) given
         (shelved F.files F.read_faults F.write_faults shelf.old shelf.new)
         (reported R.held R.faults report.old report.new)
         (flowed I.left I.faults O.held O.faults input.old input.new out.old out.new)

@@ -1,5 +1,5 @@
 -- What the program did in one piece, as its clauses say it.
-use Rattle.std.proofs.Common.{◌≡◌, ◌∙◌, ◌<◌, ℕ, ◌⊎◌, inl, inr, List, false, refl, sym, ap, subst, arith, cond}
+use Rattle.std.proofs.Common.{◌≡◌, ◌∙◌, ◌<◌, ◌≤◌, ℕ, ◌⊎◌, inl, inr, List, false, refl, sym, ap, subst, arith, cond}
 use Rattle.std.specs.Prelude.{MatchOption, Option, Some, None, IsSomeAnd}
 use Rattle.std.specs.declared.cmp.Ordering.{Ordering}
 use Rattle.std.specs.declared.cmp.Ordering.TheVariants.{Less, Equal, Greater}
@@ -9,71 +9,92 @@ use Rattle.std.specs.Ordering.{eq_by_cmp, is_eq}
 use Rattle.ms_outside.specs.Files.{Files, name_cmp}
 use Rattle.ms_outside.specs.Shelf.{SameCounts, Writes}
 use Rattle.ms_outside.specs.declared.sink.Put.TheVariants as putting
-use Rattle.ms_words.specs.Asked.{Asked, Asm, Check, Dis, Exec, Run, asked_of, is_taken}
+use Rattle.ms_job.proofs.Bounded.{job_is_bounded}
+use Rattle.ms_job.specs.declared.job.Job.{Job}
+use Rattle.ms_words.specs.Asked.{Asked, Asm, Check, Dis, Exec, Judge, Run, asked_of, is_taken}
 use Rattle.ms_words.specs.Commands.{usage_lines}
-use Rattle.ms_machine.specs.Crews.{Input, Run as MachineRun}
+use Rattle.ms_machine.specs.Crews.{Input, Run as MachineRun, events_of}
 use Rattle.ms_machine.specs.Running.{MayGive}
-use Rattle.ms_run.specs.Answers.{Assembles, Checks, Disassembles, File, Found, OnFile}
+use Rattle.ms_run.specs.Answers.{Assembles, Checks, Disassembles, File, Found, Judges, OnFile}
 use Rattle.ms_run.specs.Answers as table
-use Rattle.ms_run.specs.Flows.{Flowed, Flows, IsQuiet, TellsRun, cut, input_failed, out_failed, quiet, ran, tells}
+use Rattle.ms_run.specs.Executions.{AnswersAs, Execution, NoTask, Ran, Unlinked, execution}
+use Rattle.ms_run.specs.Flows.{DidRun, Flowed, Flows, FlowsAs, IsQuiet, cut, delivered, input_failed, out_failed, quiet, ran, starved_run}
 use Rattle.ms_run.specs.Jobs.{RunOfFile, RunOfJob, RunsFile, RunsJob, exec_job}
+use Rattle.ms_run.specs.Jobs as jobs
 use Rattle.ms_run.specs.Lines.{input_fault_line}
 use Rattle.ms_run.specs.Observed.{Flow, Report, Shelved}
 use Rattle.ms_run.specs.Reporting.{CountsReads, Delivers, Did, Grows, HasFailed, HasWritten, Holds, IsFound, IsKept, KeepsFiles, Reports, Tells, answered, failed, put, ran_out, starved, told, untold}
-use Rattle.ms_run.specs.declared.gathering.Naming.TheVariants.{Only}
+use Rattle.ms_run.specs.SafeRuns.{IsEnd, RanSafely}
+use Rattle.ms_run.specs.Telling.{telling_of}
+use Rattle.ms_run.specs.declared.gathering.Naming.{Naming}
+use Rattle.ms_run.specs.declared.gathering.Naming.TheVariants.{Numbered, Only}
 use Rattle.ms_run.specs.declared.status.Status.{Status}
 use Rattle.ms_run.specs.declared.status.Status.TheVariants as statuses
-use Rattle.ms_run.proofs.Once.{DoesOne, IsOrdinary, Same, assembles_once, assembles_ordinary, checks_known, checks_once, checks_ordinary, disassembles_once, disassembles_ordinary, file_known, file_once, file_ordinary, found_held, holds_one, runs_file_known, runs_file_once, runs_file_ordinary, runs_job_known, runs_job_once, runs_job_ordinary}
+use Rattle.ms_run.specs.declared.telling.Telling.{Telling}
+use Rattle.ms_run.proofs.Ending.{traced_name}
+use Rattle.ms_run.proofs.Jobs.{flows_more}
+use Rattle.ms_run.proofs.Safe.{file_safely, job_safely, run_is_accepted}
+use Rattle.ms_run.proofs.Once.{IsOrdinary, RunsOne, Same, SameRun, assembles_once, assembles_ordinary, checks_known, checks_once, checks_ordinary, disassembles_once, disassembles_ordinary, file_known, file_once, file_ordinary, found_held, holds_one, judges_known, judges_once, judges_ordinary, runs_file_known, runs_file_once, runs_file_ordinary, runs_job_known, runs_job_once, runs_job_ordinary}
 use Rattle.ms_tool.specs.Responding.{Responds, gave, nothing, stopped}
-use Rattle.ms_tool.specs.Top.{AsksRun, FlowsFor, Gives, GivesFor, IsAnswer, IsCutOff, IsFaulty, IsOutFault, IsPutFault, IsStarved, IsTarget, IsUnwritten, Stays}
+use Rattle.ms_tool.specs.Top.{AsksJob, AsksRun, FlowsFor, Gives, GivesFor, IsAnswer, IsCutOff, IsFaulty, IsOutFault, IsPutFault, IsStarved, IsTarget, IsUnwritten, Stays}
 
 -- ---- the table, by what the words ask for
 
 module _ (Has : List ℕ → Found → Type 0) (given : Input) where
-  abbrev GivesTo : Option Asked → Status → List ℕ → Option File → Type 0
-  GivesTo o status line file = MatchOption o ((status ≡ statuses.Usage) × (line ≡ usage_lines) × (file ≡ None)) (λ a. GivesFor Has given a status line file)
+  abbrev GivesTo : Option Asked → Option MachineRun → Status → List ℕ → Option File → Type 0
+  GivesTo o which status line file = MatchOption o ((status ≡ statuses.Usage) × (line ≡ usage_lines) × (which ≡ None) × (file ≡ None)) (λ a. GivesFor Has given a which status line file)
 
   module _ (one_found : (name : List ℕ) (a b : Found) → Has name a → Has name b → a ≡ b) where
-    without_file : (s : Status) (t : List ℕ) (f : Option File) (s' : Status) (t' : List ℕ) (f' : Option File) → (s ≡ s') × (t ≡ t') → f ≡ None → f' ≡ None → Same s t f s' t' f'
-    without_file s t f s' t' f' same none none' = record { status = same.0; line = same.1; file = none ∙ sym none' }
+    without_file : (p : Option MachineRun) (s : Status) (t : List ℕ) (f : Option File) (p' : Option MachineRun) (s' : Status) (t' : List ℕ) (f' : Option File) → (s ≡ s') × (t ≡ t') → p ≡ None → p' ≡ None → f ≡ None → f' ≡ None → SameRun p s t f p' s' t' f'
+    without_file p s t f p' s' t' f' same unrun unrun' none none' = record { ran = unrun ∙ sym unrun'; status = same.0; line = same.1; file = none ∙ sym none' }
+
+    without_run : (p : Option MachineRun) (s : Status) (t : List ℕ) (f : Option File) (p' : Option MachineRun) (s' : Status) (t' : List ℕ) (f' : Option File) → Same s t f s' t' f' → p ≡ None → p' ≡ None → SameRun p s t f p' s' t' f'
+    without_run p s t f p' s' t' f' same unrun unrun' = record { ran = unrun ∙ sym unrun'; status = same.status; line = same.line; file = same.file }
 
     -- it gives one answer at most
-    once : (o : Option Asked) → DoesOne (GivesTo o)
-    once None s t f s' t' f' h k = record { status = h.0 ∙ sym k.0; line = h.1 ∙ sym k.1; file = h.2 ∙ sym k.2 }
-    once (Some (Exec name budget memory)) s t f s' t' f' h k = without_file s t f s' t' f' (runs_job_once Has one_found Only given (exec_job name budget memory) s t s' t' h.0 k.0) h.1 k.1
-    once (Some (Run name)) s t f s' t' f' h k = without_file s t f s' t' f' (runs_file_once Has one_found given name s t s' t' h.0 k.0) h.1 k.1
-    once (Some (Check name)) s t f s' t' f' h k = without_file s t f s' t' f' (checks_once Has one_found name s t s' t' h.0 k.0) h.1 k.1
-    once (Some (Asm name out)) s t f s' t' f' h k = file_once Has one_found name (Assembles out) (assembles_once out) s t f s' t' f' h k
-    once (Some (Dis name out)) s t f s' t' f' h k = file_once Has one_found name (Disassembles out) (disassembles_once out) s t f s' t' f' h k
+    once : (o : Option Asked) → RunsOne (GivesTo o)
+    once None p s t f p' s' t' f' h k = record { ran = h.2 ∙ sym k.2; status = h.0 ∙ sym k.0; line = h.1 ∙ sym k.1; file = h.3 ∙ sym k.3 }
+    once (Some (Exec name budget memory)) p s t f p' s' t' f' h k = runs_job_once Has one_found Only given (exec_job name budget memory) p s t f p' s' t' f' h k
+    once (Some (Run name)) p s t f p' s' t' f' h k = runs_file_once Has one_found given name p s t f p' s' t' f' h k
+    once (Some (Check name)) p s t f p' s' t' f' h k = without_file p s t f p' s' t' f' (checks_once Has one_found name s t s' t' h.0 k.0) h.1 k.1 h.2 k.2
+    once (Some (Asm name out)) p s t f p' s' t' f' h k = without_run p s t f p' s' t' f' (file_once Has one_found name (Assembles out) (assembles_once out) s t f s' t' f' h.0 k.0) h.1 k.1
+    once (Some (Dis name out)) p s t f p' s' t' f' h k = without_run p s t f p' s' t' f' (file_once Has one_found name (Disassembles out) (disassembles_once out) s t f s' t' f' h.0 k.0) h.1 k.1
+    once (Some (Judge name memory)) p s t f p' s' t' f' h k = without_file p s t f p' s' t' f' (judges_once Has one_found name memory s t s' t' h.0 k.0) h.1 k.1 h.2 k.2
 
-  ordinary : (a : Asked) (status : Status) (line : List ℕ) (file : Option File) → GivesFor Has given a status line file → IsOrdinary status
-  ordinary (Exec name budget memory) status line file h = runs_job_ordinary Has Only given (exec_job name budget memory) status line h.0
-  ordinary (Run name) status line file h = runs_file_ordinary Has given name status line h.0
-  ordinary (Check name) status line file h = checks_ordinary Has name status line h.0
-  ordinary (Asm name out) status line file h = file_ordinary Has name (Assembles out) (assembles_ordinary out) status line file h
-  ordinary (Dis name out) status line file h = file_ordinary Has name (Disassembles out) (disassembles_ordinary out) status line file h
+  ordinary : (a : Asked) (which : Option MachineRun) (status : Status) (line : List ℕ) (file : Option File) → GivesFor Has given a which status line file → IsOrdinary status
+  ordinary (Exec name budget memory) which status line file h = runs_job_ordinary Has Only given (exec_job name budget memory) which status line file h
+  ordinary (Run name) which status line file h = runs_file_ordinary Has given name which status line file h
+  ordinary (Check name) which status line file h = checks_ordinary Has name status line h.0
+  ordinary (Asm name out) which status line file h = file_ordinary Has name (Assembles out) (assembles_ordinary out) status line file h.0
+  ordinary (Dis name out) which status line file h = file_ordinary Has name (Disassembles out) (disassembles_ordinary out) status line file h.0
+  ordinary (Judge name memory) which status line file h = judges_ordinary Has name memory status line h.0
 
 -- what it gives for what was found it gives for known files, or a read fault
 given_known : (Has Has' : List ℕ → Found → Type 0) (given : Input) → ((name bytes : List ℕ) → Has name (table.Contents bytes) → Has' name (table.Contents bytes))
-    → (o : Option Asked) (status : Status) (line : List ℕ) (file : Option File) → GivesTo Has given o status line file → (status ≡ statuses.ReadFault) ⊎ GivesTo Has' given o status line file
-given_known Has Has' given known None status line file h = inr h
-given_known Has Has' given known (Some (Exec name budget memory)) status line file h =
-    elim (runs_job_known Has Has' known Only given (exec_job name budget memory) status line h.0) [
-      | inl e ↦ inl e
-      | inr k ↦ inr (k, h.1)
-    ]
-given_known Has Has' given known (Some (Run name)) status line file h =
-    elim (runs_file_known Has Has' known given name status line h.0) [
-      | inl e ↦ inl e
-      | inr k ↦ inr (k, h.1)
-    ]
-given_known Has Has' given known (Some (Check name)) status line file h =
+    → (o : Option Asked) (which : Option MachineRun) (status : Status) (line : List ℕ) (file : Option File) → GivesTo Has given o which status line file → (status ≡ statuses.ReadFault) ⊎ GivesTo Has' given o which status line file
+given_known Has Has' given known None which status line file h = inr h
+given_known Has Has' given known (Some (Exec name budget memory)) which status line file h = runs_job_known Has Has' known Only given (exec_job name budget memory) which status line file h
+given_known Has Has' given known (Some (Run name)) which status line file h = runs_file_known Has Has' known given name which status line file h
+given_known Has Has' given known (Some (Check name)) which status line file h =
     elim (checks_known Has Has' known name status line h.0) [
       | inl e ↦ inl e
+      | inr k ↦ inr (k, h.1, h.2)
+    ]
+given_known Has Has' given known (Some (Asm name out)) which status line file h =
+    elim (file_known Has Has' known name (Assembles out) status line file h.0) [
+      | inl e ↦ inl e
       | inr k ↦ inr (k, h.1)
     ]
-given_known Has Has' given known (Some (Asm name out)) status line file h = file_known Has Has' known name (Assembles out) status line file h
-given_known Has Has' given known (Some (Dis name out)) status line file h = file_known Has Has' known name (Disassembles out) status line file h
+given_known Has Has' given known (Some (Dis name out)) which status line file h =
+    elim (file_known Has Has' known name (Disassembles out) status line file h.0) [
+      | inl e ↦ inl e
+      | inr k ↦ inr (k, h.1)
+    ]
+given_known Has Has' given known (Some (Judge name memory)) which status line file h =
+    elim (judges_known Has Has' known name memory status line h.0) [
+      | inl e ↦ inl e
+      | inr k ↦ inr (k, h.1, h.2)
+    ]
 
 -- ---- the words
 
@@ -81,31 +102,32 @@ asked_none : (words : List (List ℕ)) → is_taken words ≡ false → asked_of
 asked_none words h = rw h refl
 
 module _ (words : List (List ℕ)) (given : Input) (s : Shelved) (r : Report) (f : Flow) where
-  usage_gave : (result : Status) → is_taken words ≡ false → SameCounts s.reads_old s.reads_new → KeepsFiles s → Reports statuses.Usage usage_lines r result → Responds words given s r f result
-  usage_gave result h same kept reports =
-      gave statuses.Usage usage_lines None (rw (asked_none words h) (refl, refl, refl)) (inr same) (put kept reports) (λ _. h) (λ _. refl)
+  usage_gave : (result : Status) → is_taken words ≡ false → SameCounts s.reads_old s.reads_new → KeepsFiles s → Reports statuses.Usage usage_lines r result → IsQuiet f → Responds words given s r f result
+  usage_gave result h same kept reports still =
+      gave None statuses.Usage usage_lines None (rw (asked_none words h) (refl, refl, refl, refl)) (inr same) still (put kept reports) (λ _. h) (λ _. refl)
 
   module _ (a : Asked) (e : asked_of words ≡ Some a) where
-    one_gave : (result status : Status) (line : List ℕ) (file : Option File) → GivesFor (IsFound s) given a status line file → CountsReads s status → Delivers status line file s r result → Responds words given s r f result
-    one_gave result status line file gives counts delivers =
-        gave status line file (rw e gives) counts delivers
-        (λ u. absurd (subst IsOrdinary u (ordinary (IsFound s) given a status line file gives))) (λ h. absurd (let both = sym (asked_none words h) ∙ e in cc))
+    one_gave : (result : Status) (which : Option MachineRun) (status : Status) (line : List ℕ) (file : Option File) → GivesFor (IsFound s) given a which status line file → CountsReads s status → FlowsAs given f which → Delivers status line file s r result → Responds words given s r f result
+    one_gave result which status line file gives counts flows delivers =
+        gave which status line file (rw e gives) counts flows delivers
+        (λ u. absurd (subst IsOrdinary u (ordinary (IsFound s) given a which status line file gives))) (λ h. absurd (let both = sym (asked_none words h) ∙ e in cc))
 
-    did_gave : (Does : Status → List ℕ → Option File → Type 0) → ((status : Status) (line : List ℕ) (file : Option File) → Does status line file → GivesFor (IsFound s) given a status line file)
-        → (result : Status) → Did Does s r result → Responds words given s r f result
-    did_gave Does gives result (answered status line file does counts delivers) = one_gave result status line file (gives status line file does) counts delivers
-    did_gave Does gives result (ran_out same files kept) = nothing same files kept
+    did_gave : (Does : Status → List ℕ → Option File → Type 0) → ((status : Status) (line : List ℕ) (file : Option File) → Does status line file → GivesFor (IsFound s) given a None status line file)
+        → IsQuiet f → (result : Status) → Did Does s r result → Responds words given s r f result
+    did_gave Does gives still result (answered status line file does counts delivers) = one_gave result None status line file (gives status line file does) counts still delivers
+    did_gave Does gives still result (ran_out same files kept) = nothing same files kept
 
-    tells_gave : (Does : Status → List ℕ → Type 0) → ((status : Status) (line : List ℕ) → Does status line → GivesFor (IsFound s) given a status line None)
-        → (result : Status) → Tells Does s r result → Responds words given s r f result
-    tells_gave Does gives result (told status line does counts files reports) = one_gave result status line None (gives status line does) counts (put files reports)
-    tells_gave Does gives result (untold same files kept) = nothing same files kept
+    tells_gave : (Does : Status → List ℕ → Type 0) → ((status : Status) (line : List ℕ) → Does status line → GivesFor (IsFound s) given a None status line None)
+        → IsQuiet f → (result : Status) → Tells Does s r result → Responds words given s r f result
+    tells_gave Does gives still result (told status line does counts files reports) = one_gave result None status line None (gives status line does) counts still (put files reports)
+    tells_gave Does gives still result (untold same files kept) = nothing same files kept
 
     -- a run, which may be cut short
-    run_gave : (Does : Status → List ℕ → Type 0) → ((status : Status) (line : List ℕ) → Does status line → GivesFor (IsFound s) given a status line None)
-        → AsksRun (Some a) → (result : Status) → TellsRun Does s r f result → Responds words given s r f result
-    run_gave Does gives asks result (tells h) = tells_gave Does gives result h
+    run_gave : (Does : Option MachineRun → Status → List ℕ → Option File → Type 0) → ((which : Option MachineRun) (status : Status) (line : List ℕ) (file : Option File) → Does which status line file → GivesFor (IsFound s) given a which status line file)
+        → AsksRun (Some a) → (result : Status) → DidRun Does given s r f result → Responds words given s r f result
+    run_gave Does gives asks result (delivered which status line file does counts flows delivers) = one_gave result which status line file (gives which status line file does) counts flows delivers
     run_gave Does gives asks result (cut same files c) = stopped (rw e asks) same files c
+    run_gave Does gives asks result (starved_run same files kept) = nothing same files kept
 
 -- ---- what is given
 
@@ -125,9 +147,9 @@ of_ordinary statuses.WriteFault h = absurd h
 of_ordinary statuses.OutOfMemory h = absurd h
 of_ordinary statuses.TooLong h = tt
 
-unfaulty : (Has : List ℕ → Found → Type 0) (given : Input) (o : Option Asked) (status : Status) (line : List ℕ) (file : Option File) → GivesTo Has given o status line file → IsUnfaulty status
-unfaulty Has given None status line file h = subst IsUnfaulty (sym h.0) tt
-unfaulty Has given (Some a) status line file h = of_ordinary status (ordinary Has given a status line file h)
+unfaulty : (Has : List ℕ → Found → Type 0) (given : Input) (o : Option Asked) (which : Option MachineRun) (status : Status) (line : List ℕ) (file : Option File) → GivesTo Has given o which status line file → IsUnfaulty status
+unfaulty Has given None which status line file h = subst IsUnfaulty (sym h.0) tt
+unfaulty Has given (Some a) which status line file h = of_ordinary status (ordinary Has given a which status line file h)
 
 -- what a written file is to the words
 some_file : (x y : File) → ◌≡◌ {A = Option File} (Some x) (Some y) → x ≡ y
@@ -151,13 +173,30 @@ module _ (Has : List ℕ → Found → Type 0) where
   file_target name out Does status line file f targets e (table.no_file h) = absurd cc
   file_target name out Does status line file f targets e (table.on_file bytes h does) = targets bytes status line f e does
 
-  target_given : (given : Input) (o : Option Asked) (status : Status) (line : List ℕ) (file : File) (f : Option File) → f ≡ Some file → GivesTo Has given o status line f → IsTarget o file.name
-  target_given given None status line file f e h = absurd (never_none f file h.2 e)
-  target_given given (Some (Exec name budget memory)) status line file f e h = absurd (never_none f file h.1 e)
-  target_given given (Some (Run name)) status line file f e h = absurd (never_none f file h.1 e)
-  target_given given (Some (Check name)) status line file f e h = absurd (never_none f file h.1 e)
-  target_given given (Some (Asm name out)) status line file f e h = file_target name out (Assembles out) status line file f (λ b s t g. assembled_target name out b s t file g) e h
-  target_given given (Some (Dis name out)) status line file f e h = file_target name out (Disassembles out) status line file f (λ b s t g. disassembled_target name out b s t file g) e h
+  execution_target : (telling : Telling) (x : Execution) (which : Option MachineRun) (status : Status) (line : List ℕ) (file : File) (f : Option File) → f ≡ Some file → AnswersAs telling x which status line f → telling.trace ≡ Some file.name
+  execution_target telling (Unlinked fault) which status line file f e h = absurd (never_none f file h.3 e)
+  execution_target telling (NoTask number) which status line file f e h = absurd (never_none f file h.3 e)
+  execution_target telling (Ran run) which status line file f e h = traced_name telling (events_of run.deeds) file (sym h.1.3 ∙ e)
+
+  job_target : (naming : Naming) (given : Input) (job : Job) (which : Option MachineRun) (status : Status) (line : List ℕ) (file : File) (f : Option File) → f ≡ Some file → RunsJob Has naming given job which status line f → job.trace ≡ Some file.name
+  job_target naming given job which status line file f e (jobs.unloaded h) = absurd cc
+  job_target naming given job which status line file f e (jobs.unscheduled ms all h) = absurd cc
+  job_target naming given job which status line file f e (jobs.executed ms entries all h answers) = execution_target (telling_of job) (execution ms job.tasks entries job.memory given) which status line file f e answers
+
+  module _ (Holds_it : List ℕ → Found → Type 0) (known : (name bytes : List ℕ) → Has name (table.Contents bytes) → Holds_it name (table.Contents bytes)) where
+    run_target : (given : Input) (name : List ℕ) (which : Option MachineRun) (status : Status) (line : List ℕ) (file : File) (f : Option File) → f ≡ Some file → RunsFile Has given name which status line f → IsTarget Holds_it (Some (Run name)) file.name
+    run_target given name which status line file f e (jobs.no_job_file h) = absurd cc
+    run_target given name which status line file f e (jobs.no_job bytes fault h not) = absurd cc
+    run_target given name which status line file f e (jobs.job bytes job h is runs) = (job, (bytes, (known name bytes h.0, h.1), is), job_target Numbered given job which status line file f e runs)
+
+    target_given : (given : Input) (o : Option Asked) (which : Option MachineRun) (status : Status) (line : List ℕ) (file : File) (f : Option File) → f ≡ Some file → GivesTo Has given o which status line f → IsTarget Holds_it o file.name
+    target_given given None which status line file f e h = absurd (never_none f file h.3 e)
+    target_given given (Some (Exec name budget memory)) which status line file f e h = absurd (let trace = job_target Only given (exec_job name budget memory) which status line file f e h in cc)
+    target_given given (Some (Run name)) which status line file f e h = run_target given name which status line file f e h
+    target_given given (Some (Check name)) which status line file f e h = absurd (never_none f file h.2 e)
+    target_given given (Some (Asm name out)) which status line file f e h = file_target name out (Assembles out) status line file f (λ b s t g. assembled_target name out b s t file g) e h.0
+    target_given given (Some (Dis name out)) which status line file f e h = file_target name out (Disassembles out) status line file f (λ b s t g. disassembled_target name out b s t file g) e h.0
+    target_given given (Some (Judge name memory)) which status line file f e h = absurd (never_none f file h.2 e)
 
 -- ---- names of files
 
@@ -180,12 +219,12 @@ less_than_itself a b e h = omega arith
 
 module _ (words : List (List ℕ)) (given : Input) (s : Shelved) (r : Report) (f : Flow) where
   pub answer_clause : (result : Status) → MayGive f.left_old given → Responds words given s r f result → FlowsFor s (asked_of words) given f result → IsPutFault result ⊎ IsAnswer s words r f result
-  answer_clause result may (gave status line file gives counts (put written (inl h)) u v) flows =
-      inr (subst (λ (x : Status). IsAnswer s words r f x) (sym h.0) (given, line, file, may, inl gives, h.1, written, subst (FlowsFor s (asked_of words) given f) h.0 flows))
-  answer_clause result may (gave status line file gives counts (put written (inr (inl h))) u v) flows = inl (inl h.0)
-  answer_clause result may (gave status line file gives counts (put written (inr (inr h))) u v) flows = inl (inr h.0)
-  answer_clause result may (gave status line file gives counts (failed part kept) u v) flows = inl (inl refl)
-  answer_clause result may (gave status line file gives counts (starved files kept) u v) flows = inl (inr refl)
+  answer_clause result may (gave which status line file gives counts flow (put written (inl h)) u v) flows =
+      inr (subst (λ (x : Status). IsAnswer s words r f x) (sym h.0) (given, line, file, may, inl (which, gives, flow), h.1, written, subst (FlowsFor s (asked_of words) given f) h.0 flows))
+  answer_clause result may (gave which status line file gives counts flow (put written (inr (inl h))) u v) flows = inl (inl h.0)
+  answer_clause result may (gave which status line file gives counts flow (put written (inr (inr h))) u v) flows = inl (inr h.0)
+  answer_clause result may (gave which status line file gives counts flow (failed part kept) u v) flows = inl (inl refl)
+  answer_clause result may (gave which status line file gives counts flow (starved files kept) u v) flows = inl (inr refl)
   answer_clause result may (stopped asks same files (input_failed rose (inl h))) flows = inr (given, input_fault_line, None, may, inr (asks, h.0, refl, refl, rose), h.1, files, flows)
   answer_clause result may (stopped asks same files (input_failed rose (inr (inl h)))) flows = inl (inl h.0)
   answer_clause result may (stopped asks same files (input_failed rose (inr (inr h)))) flows = inl (inr h.0)
@@ -193,11 +232,11 @@ module _ (words : List (List ℕ)) (given : Input) (s : Shelved) (r : Report) (f
   answer_clause result may (nothing same files kept) flows = inl (inr refl)
 
   pub usage_clause : (result : Status) → Responds words given s r f result → result ≡ statuses.Usage → is_taken words ≡ false
-  usage_clause result (gave status line file gives counts (put written (inl h)) u v) e = u (sym h.0 ∙ e)
-  usage_clause result (gave status line file gives counts (put written (inr (inl h))) u v) e = absurd (let both = sym h.0 ∙ e in cc)
-  usage_clause result (gave status line file gives counts (put written (inr (inr h))) u v) e = absurd (let both = sym h.0 ∙ e in cc)
-  usage_clause result (gave status line file gives counts (failed part kept) u v) e = absurd cc
-  usage_clause result (gave status line file gives counts (starved files kept) u v) e = absurd cc
+  usage_clause result (gave which status line file gives counts flow (put written (inl h)) u v) e = u (sym h.0 ∙ e)
+  usage_clause result (gave which status line file gives counts flow (put written (inr (inl h))) u v) e = absurd (let both = sym h.0 ∙ e in cc)
+  usage_clause result (gave which status line file gives counts flow (put written (inr (inr h))) u v) e = absurd (let both = sym h.0 ∙ e in cc)
+  usage_clause result (gave which status line file gives counts flow (failed part kept) u v) e = absurd cc
+  usage_clause result (gave which status line file gives counts flow (starved files kept) u v) e = absurd cc
   usage_clause result (stopped asks same files (input_failed rose (inl h))) e = absurd (let both = sym h.0 ∙ e in cc)
   usage_clause result (stopped asks same files (input_failed rose (inr (inl h)))) e = absurd (let both = sym h.0 ∙ e in cc)
   usage_clause result (stopped asks same files (input_failed rose (inr (inr h)))) e = absurd (let both = sym h.0 ∙ e in cc)
@@ -205,22 +244,22 @@ module _ (words : List (List ℕ)) (given : Input) (s : Shelved) (r : Report) (f
   usage_clause result (nothing same files kept) e = absurd cc
 
   pub refused_clause : (result : Status) → Responds words given s r f result → is_taken words ≡ false → (result ≡ statuses.Usage) ⊎ IsPutFault result
-  refused_clause result (gave status line file gives counts (put written (inl h)) u v) e = inl (h.0 ∙ v e)
-  refused_clause result (gave status line file gives counts (put written (inr (inl h))) u v) e = inr (inl h.0)
-  refused_clause result (gave status line file gives counts (put written (inr (inr h))) u v) e = inr (inr h.0)
-  refused_clause result (gave status line file gives counts (failed part kept) u v) e = inr (inl refl)
-  refused_clause result (gave status line file gives counts (starved files kept) u v) e = inr (inr refl)
+  refused_clause result (gave which status line file gives counts flow (put written (inl h)) u v) e = inl (h.0 ∙ v e)
+  refused_clause result (gave which status line file gives counts flow (put written (inr (inl h))) u v) e = inr (inl h.0)
+  refused_clause result (gave which status line file gives counts flow (put written (inr (inr h))) u v) e = inr (inr h.0)
+  refused_clause result (gave which status line file gives counts flow (failed part kept) u v) e = inr (inl refl)
+  refused_clause result (gave which status line file gives counts flow (starved files kept) u v) e = inr (inr refl)
   refused_clause result (stopped asks same files c) e = absurd (subst AsksRun (asked_none words e) asks)
   refused_clause result (nothing same files kept) e = inr (inr refl)
 
   pub write_fault_clause : (result : Status) → MayGive f.left_old given → Responds words given s r f result → result ≡ statuses.WriteFault → IsCutOff s words r f ⊎ (IsUnwritten s words r f ⊎ IsOutFault s words r f)
-  write_fault_clause result may (gave status line file gives counts (put written (inl h)) u v) e =
-      absurd (subst IsUnfaulty (sym h.0 ∙ e) (unfaulty (IsFound s) given (asked_of words) status line file gives))
-  write_fault_clause result may (gave status line file gives counts (put written (inr (inl h))) u v) e =
-      inl (given, status, line, file, h.1, may, inl gives, h.2, h.3, written, h.4.rose)
-  write_fault_clause result may (gave status line file gives counts (put written (inr (inr h))) u v) e = absurd (let both = sym h.0 ∙ e in cc)
-  write_fault_clause result may (gave status line file gives counts (failed part kept) u v) e = inr (inl (given, status, line, file, may, gives, part, kept.0))
-  write_fault_clause result may (gave status line file gives counts (starved files kept) u v) e = absurd cc
+  write_fault_clause result may (gave which status line file gives counts flow (put written (inl h)) u v) e =
+      absurd (subst IsUnfaulty (sym h.0 ∙ e) (unfaulty (IsFound s) given (asked_of words) which status line file gives))
+  write_fault_clause result may (gave which status line file gives counts flow (put written (inr (inl h))) u v) e =
+      inl (given, status, line, file, h.1, may, inl (which, gives, flow), h.2, h.3, written, h.4.rose)
+  write_fault_clause result may (gave which status line file gives counts flow (put written (inr (inr h))) u v) e = absurd (let both = sym h.0 ∙ e in cc)
+  write_fault_clause result may (gave which status line file gives counts flow (failed part kept) u v) e = inr (inl (given, status, line, file, may, inl (which, gives, flow), part, kept.0))
+  write_fault_clause result may (gave which status line file gives counts flow (starved files kept) u v) e = absurd cc
   write_fault_clause result may (stopped asks same files (input_failed rose (inl h))) e = absurd (let both = sym h.0 ∙ e in cc)
   write_fault_clause result may (stopped asks same files (input_failed rose (inr (inl h)))) e =
       inl (given, statuses.ReadFault, input_fault_line, None, h.1, may, inr (asks, refl, refl, refl, rose), h.2, h.3, files, h.4.rose)
@@ -229,12 +268,12 @@ module _ (words : List (List ℕ)) (given : Input) (s : Shelved) (r : Report) (f
   write_fault_clause result may (nothing same files kept) e = absurd cc
 
   pub memory_clause : (result : Status) → MayGive f.left_old given → Responds words given s r f result → result ≡ statuses.OutOfMemory → IsStarved s words r f
-  memory_clause result may (gave status line file gives counts (put written (inl h)) u v) e =
-      absurd (subst IsUnfaulty (sym h.0 ∙ e) (unfaulty (IsFound s) given (asked_of words) status line file gives))
-  memory_clause result may (gave status line file gives counts (put written (inr (inl h))) u v) e = absurd (let both = sym h.0 ∙ e in cc)
-  memory_clause result may (gave status line file gives counts (put written (inr (inr h))) u v) e = (h.1.0, inr (given, status, line, file, may, gives, written))
-  memory_clause result may (gave status line file gives counts (failed part kept) u v) e = absurd cc
-  memory_clause result may (gave status line file gives counts (starved files kept) u v) e = (kept.0, inl files)
+  memory_clause result may (gave which status line file gives counts flow (put written (inl h)) u v) e =
+      absurd (subst IsUnfaulty (sym h.0 ∙ e) (unfaulty (IsFound s) given (asked_of words) which status line file gives))
+  memory_clause result may (gave which status line file gives counts flow (put written (inr (inl h))) u v) e = absurd (let both = sym h.0 ∙ e in cc)
+  memory_clause result may (gave which status line file gives counts flow (put written (inr (inr h))) u v) e = (h.1.0, inr (given, status, line, file, may, inl (which, gives, flow), written))
+  memory_clause result may (gave which status line file gives counts flow (failed part kept) u v) e = absurd cc
+  memory_clause result may (gave which status line file gives counts flow (starved files kept) u v) e = (kept.0, inl files)
   memory_clause result may (stopped asks same files (input_failed rose (inl h))) e = absurd (let both = sym h.0 ∙ e in cc)
   memory_clause result may (stopped asks same files (input_failed rose (inr (inl h)))) e = absurd (let both = sym h.0 ∙ e in cc)
   memory_clause result may (stopped asks same files (input_failed rose (inr (inr h)))) e = (h.1.0, inl files)
@@ -252,26 +291,26 @@ module _ (words : List (List ℕ)) (given : Input) (s : Shelved) (r : Report) (f
 
   -- ---- what the table gives for known files
 
-  module _ (known : Files) (status' : Status) (line' : List ℕ) (file' : Option File) where
+  module _ (known : Files) (ran' : Option MachineRun) (status' : Status) (line' : List ℕ) (file' : Option File) where
     abbrev Completes : Status → Type 0
     Completes result = ((result ≡ status') × Grows r line' × HasWritten s file') ⊎ IsFaulty result
 
-    as_given : (result status : Status) (line : List ℕ) (file : Option File) → Same status line file status' line' file' → Delivers status line file s r result → Completes result
-    as_given result status line file same (put written (inl h)) = inl (h.0 ∙ same.status, subst (Grows r) same.line h.1, subst (HasWritten s) same.file written)
-    as_given result status line file same (put written (inr (inl h))) = inr (inr (inl h.0))
-    as_given result status line file same (put written (inr (inr h))) = inr (inr (inr h.0))
-    as_given result status line file same (failed part kept) = inr (inr (inl refl))
-    as_given result status line file same (starved files kept) = inr (inr (inr refl))
+    as_given : (result : Status) (which : Option MachineRun) (status : Status) (line : List ℕ) (file : Option File) → SameRun which status line file ran' status' line' file' → Delivers status line file s r result → Completes result
+    as_given result which status line file same (put written (inl h)) = inl (h.0 ∙ same.status, subst (Grows r) same.line h.1, subst (HasWritten s) same.file written)
+    as_given result which status line file same (put written (inr (inl h))) = inr (inr (inl h.0))
+    as_given result which status line file same (put written (inr (inr h))) = inr (inr (inr h.0))
+    as_given result which status line file same (failed part kept) = inr (inr (inl refl))
+    as_given result which status line file same (starved files kept) = inr (inr (inr refl))
 
-    of_known : (result status : Status) (line : List ℕ) (file : Option File) → Delivers status line file s r result → Gives words (Holds (Some known)) given status' line' file'
-        → (status ≡ statuses.ReadFault) ⊎ GivesTo (Holds (Some known)) given (asked_of words) status line file → Completes result
-    of_known result status line file delivers gives' (inl e) = inr (as_fault result status line file e delivers)
-    of_known result status line file delivers gives' (inr gives) =
-        as_given result status line file (once (Holds (Some known)) given (holds_one known) (asked_of words) status line file status' line' file' gives gives') delivers
+    of_known : (result : Status) (which : Option MachineRun) (status : Status) (line : List ℕ) (file : Option File) → Delivers status line file s r result → Gives words (Holds (Some known)) given ran' status' line' file'
+        → (status ≡ statuses.ReadFault) ⊎ GivesTo (Holds (Some known)) given (asked_of words) which status line file → Completes result
+    of_known result which status line file delivers gives' (inl e) = inr (as_fault result status line file e delivers)
+    of_known result which status line file delivers gives' (inr gives) =
+        as_given result which status line file (once (Holds (Some known)) given (holds_one known) (asked_of words) which status line file ran' status' line' file' gives gives') delivers
 
-    pub complete_clause : (result : Status) → Responds words given s r f result → s.old ≡ Some known → Gives words (Holds (Some known)) given status' line' file' → Completes result
-    complete_clause result (gave status line file gives counts delivers u v) e gives' =
-        of_known result status line file delivers gives' (given_known (IsFound s) (Holds (Some known)) given (found_held s known e) (asked_of words) status line file gives)
+    pub complete_clause : (result : Status) → Responds words given s r f result → s.old ≡ Some known → Gives words (Holds (Some known)) given ran' status' line' file' → Completes result
+    complete_clause result (gave which status line file gives counts flow delivers u v) e gives' =
+        of_known result which status line file delivers gives' (given_known (IsFound s) (Holds (Some known)) given (found_held s known e) (asked_of words) which status line file gives)
     complete_clause result (stopped asks same files (input_failed rose (inl h))) e gives' = inr (inl h.0)
     complete_clause result (stopped asks same files (input_failed rose (inr (inl h)))) e gives' = inr (inr (inl h.0))
     complete_clause result (stopped asks same files (input_failed rose (inr (inr h)))) e gives' = inr (inr (inr h.0))
@@ -281,8 +320,8 @@ module _ (words : List (List ℕ)) (given : Input) (s : Shelved) (r : Report) (f
   -- ---- counted faults
 
   pub reads_clause : (result : Status) → Responds words given s r f result → (name : List ℕ) → s.reads_old name < s.reads_new name → IsFaulty result
-  reads_clause result (gave status line file gives (inl e) delivers u v) name lt = as_fault result status line file e delivers
-  reads_clause result (gave status line file gives (inr same) delivers u v) name lt = absurd (less_than_itself (s.reads_old name) (s.reads_new name) (same name) lt)
+  reads_clause result (gave which status line file gives (inl e) flow delivers u v) name lt = as_fault result status line file e delivers
+  reads_clause result (gave which status line file gives (inr same) flow delivers u v) name lt = absurd (less_than_itself (s.reads_old name) (s.reads_new name) (same name) lt)
   reads_clause result (stopped asks same files c) name lt = absurd (less_than_itself (s.reads_old name) (s.reads_new name) (same name) lt)
   reads_clause result (nothing same files kept) name lt = inr (inr refl)
 
@@ -296,7 +335,7 @@ module _ (words : List (List ℕ)) (given : Input) (s : Shelved) (r : Report) (f
   writes_of result status line file (starved files kept) lt = inr refl
 
   pub writes_clause : (result : Status) → Responds words given s r f result → s.writes_old < s.writes_new → IsPutFault result
-  writes_clause result (gave status line file gives counts delivers u v) lt = writes_of result status line file delivers lt
+  writes_clause result (gave which status line file gives counts flow delivers u v) lt = writes_of result status line file delivers lt
   writes_clause result (stopped asks same files c) lt = absurd (less_than_itself s.writes_old s.writes_new files.1 lt)
   writes_clause result (nothing same files kept) lt = inr refl
 
@@ -308,7 +347,7 @@ module _ (words : List (List ℕ)) (given : Input) (s : Shelved) (r : Report) (f
   puts_of result status line file (starved files kept) lt = inr refl
 
   pub puts_clause : (result : Status) → Responds words given s r f result → r.puts_old < r.puts_new → IsPutFault result
-  puts_clause result (gave status line file gives counts delivers u v) lt = puts_of result status line file delivers lt
+  puts_clause result (gave which status line file gives counts flow delivers u v) lt = puts_of result status line file delivers lt
   puts_clause result (stopped asks same files (input_failed rose (inl h))) lt = absurd (less_than_itself r.puts_old r.puts_new h.2 lt)
   puts_clause result (stopped asks same files (input_failed rose (inr (inl h)))) lt = inl h.0
   puts_clause result (stopped asks same files (input_failed rose (inr (inr h)))) lt = inr h.0
@@ -343,17 +382,17 @@ module _ (words : List (List ℕ)) (given : Input) (s : Shelved) (r : Report) (f
   has_failed_stays name None not h = absurd h
   has_failed_stays name (Some f) not h = cut_stays name f.name f.bytes s.old s.new (not f refl) h.0
 
-  not_target : (o : Option Asked) (name : List ℕ) (f : File) → ¬ IsTarget o name → IsTarget o f.name → ¬ (name ≡ f.name)
-  not_target o name f not is e = not (subst (IsTarget o) (sym e) is)
+  not_target : (o : Option Asked) (name : List ℕ) (f : File) → ¬ IsTarget (Holds s.old) o name → IsTarget (Holds s.old) o f.name → ¬ (name ≡ f.name)
+  not_target o name f not is e = not (subst (IsTarget (Holds s.old) o) (sym e) is)
 
   delivered_stays : (name : List ℕ) (status result : Status) (line : List ℕ) (file : Option File) → ((f : File) → file ≡ Some f → ¬ (name ≡ f.name)) → Delivers status line file s r result → Stays s name
   delivered_stays name status result line file not (put written h) = has_written_stays name file not written
   delivered_stays name status result line file not (failed f kept) = has_failed_stays name file not f
   delivered_stays name status result line file not (starved files kept) = kept_stays name s.old s.new files.0
 
-  pub files_clause : (result : Status) → Responds words given s r f result → (name : List ℕ) → ¬ IsTarget (asked_of words) name → Stays s name
-  files_clause result (gave status line file gives counts delivers u v) name not =
-      delivered_stays name status result line file (λ f e. not_target (asked_of words) name f not (target_given (IsFound s) given (asked_of words) status line f file e gives)) delivers
+  pub files_clause : (result : Status) → Responds words given s r f result → (name : List ℕ) → ¬ IsTarget (Holds s.old) (asked_of words) name → Stays s name
+  files_clause result (gave which status line file gives counts flow delivers u v) name not =
+      delivered_stays name status result line file (λ f e. not_target (asked_of words) name f not (target_given (IsFound s) (Holds s.old) (λ n b x. x) given (asked_of words) which status line f file e gives)) delivers
   files_clause result (stopped asks same files c) name not = kept_stays name s.old s.new files.0
   files_clause result (nothing same files kept) name not = kept_stays name s.old s.new files.0
 
@@ -371,6 +410,7 @@ module _ (s : Shelved) (given : Input) (f : Flow) where
   quiet_for (Some (Check file)) still = still
   quiet_for (Some (Asm file out)) still = still
   quiet_for (Some (Dis file out)) still = still
+  quiet_for (Some (Judge file memory)) still = still
 
   takes_still : (result : Status) → IsQuiet f → f.takes_old < f.takes_new → IsFaulty result
   takes_still result still lt = absurd (less_than_itself f.takes_old f.takes_new still.1 lt)
@@ -396,6 +436,7 @@ module _ (s : Shelved) (given : Input) (f : Flow) where
   takes_clause (Some (Check file)) result still lt = takes_still result still lt
   takes_clause (Some (Asm file out)) result still lt = takes_still result still lt
   takes_clause (Some (Dis file out)) result still lt = takes_still result still lt
+  takes_clause (Some (Judge file memory)) result still lt = takes_still result still lt
 
   outs_still : (result : Status) → IsQuiet f → f.puts_old < f.puts_new → IsPutFault result
   outs_still result still lt = absurd (less_than_itself f.puts_old f.puts_new still.3 lt)
@@ -421,6 +462,7 @@ module _ (s : Shelved) (given : Input) (f : Flow) where
   outs_clause (Some (Check file)) result still lt = outs_still result still lt
   outs_clause (Some (Asm file out)) result still lt = outs_still result still lt
   outs_clause (Some (Dis file out)) result still lt = outs_still result still lt
+  outs_clause (Some (Judge file memory)) result still lt = outs_still result still lt
 
 module _ (words : List (List ℕ)) (given : Input) (s : Shelved) (r : Report) (f : Flow) where
   pub takes_both : (result : Status) → Responds words given s r f result → FlowsFor s (asked_of words) given f result → f.takes_old < f.takes_new → IsFaulty result
@@ -432,42 +474,57 @@ module _ (words : List (List ℕ)) (given : Input) (s : Shelved) (r : Report) (f
 -- ---- what was answered, and what became of the input and the output
 
 module _ (words : List (List ℕ)) (s : Shelved) (r : Report) (f : Flow) where
+  -- a run that has come to an end was safe
+  abbrev Safely : Option Asked → Status → Type 0
+  Safely o result = AsksRun o → IsEnd result → (job : Job) × AsksJob (Holds s.old) o job × RanSafely s r f job result
+
   abbrev Responded : Status → Type 0
-  Responded result = (given : Input) × MayGive f.left_old given × Responds words given s r f result × FlowsFor s (asked_of words) given f result
+  Responded result = (given : Input) × MayGive f.left_old given × Responds words given s r f result × FlowsFor s (asked_of words) given f result × Safely (asked_of words) result
 
   module _ (given : Input) (may : MayGive f.left_old given) where
-    responded_as : (a : Asked) (result : Status) → asked_of words ≡ Some a → Responds words given s r f result → FlowsFor s (Some a) given f result → Responded result
-    responded_as a result e responds flows = (given, may, responds, flows_as s given f words (Some a) result e flows)
+    responded_as : (a : Asked) (result : Status) → asked_of words ≡ Some a → Responds words given s r f result → FlowsFor s (Some a) given f result → Safely (Some a) result → Responded result
+    responded_as a result e responds flows safely =
+        (given, may, responds, flows_as s given f words (Some a) result e flows, subst (λ (o : Option Asked). Safely o result) (sym e) safely)
 
-    pub exec_responded : (file : List ℕ) (budget memory : ℕ) (result : Status) → asked_of words ≡ Some (Exec file budget memory) → TellsRun (RunsJob (IsFound s) Only given (exec_job file budget memory)) s r f result
+    pub exec_responded : (file : List ℕ) (budget memory : ℕ) (result : Status) → memory ≤ 16777216 → asked_of words ≡ Some (Exec file budget memory) → DidRun (RunsJob (IsFound s) Only given (exec_job file budget memory)) given s r f result
         → Flows given (RunOfJob (Holds s.old) given (exec_job file budget memory)) f result → Responded result
-    exec_responded file budget memory result e done flows =
+    exec_responded file budget memory result small e done flows =
         let a = Exec file budget memory in
-        responded_as a result e (run_gave words given s r f a e (RunsJob (IsFound s) Only given (exec_job file budget memory)) (λ status line gives. (gives, refl)) tt result done) flows
+        let job = exec_job file budget memory in
+        responded_as a result e (run_gave words given s r f a e (RunsJob (IsFound s) Only given job) (λ which status line target gives. gives) tt result done)
+        (flows_more given (RunOfJob (Holds s.old) given job) _ (λ run h. (h, run_is_accepted (Holds s.old) given job run small h)) f result flows)
+        (λ asks end. (job, refl, job_safely s r f given may Only job small result end done))
 
-    pub run_responded : (job : List ℕ) (result : Status) → asked_of words ≡ Some (Run job) → TellsRun (RunsFile (IsFound s) given job) s r f result → Flows given (RunOfFile (Holds s.old) given job) f result → Responded result
-    run_responded job result e done flows =
-        let a = Run job in
-        responded_as a result e (run_gave words given s r f a e (RunsFile (IsFound s) given job) (λ status line gives. (gives, refl)) tt result done) flows
+    pub run_responded : (name : List ℕ) (result : Status) → asked_of words ≡ Some (Run name) → DidRun (RunsFile (IsFound s) given name) given s r f result → Flows given (RunOfFile (Holds s.old) given name) f result → Responded result
+    run_responded name result e done flows =
+        let a = Run name in
+        responded_as a result e (run_gave words given s r f a e (RunsFile (IsFound s) given name) (λ which status line target gives. gives) tt result done)
+        (flows_more given (RunOfFile (Holds s.old) given name) _ (λ run h. (h, run_is_accepted (Holds s.old) given h.job run (job_is_bounded h.bytes h.job h.is_job).memory h.runs)) f result flows)
+        (λ asks end. file_safely s r f given may name result end done)
 
     pub check_responded : (file : List ℕ) (result : Status) → asked_of words ≡ Some (Check file) → Tells (Checks (IsFound s) file) s r result → IsQuiet f → Responded result
     check_responded file result e done still =
         let a = Check file in
-        responded_as a result e (tells_gave words given s r f a e (Checks (IsFound s) file) (λ status line gives. (gives, refl)) result done) still
+        responded_as a result e (tells_gave words given s r f a e (Checks (IsFound s) file) (λ status line gives. (gives, refl, refl)) still result done) still (λ asks end. absurd asks)
 
     pub asm_responded : (file out : List ℕ) (result : Status) → asked_of words ≡ Some (Asm file out) → Did (OnFile (IsFound s) file (Assembles out)) s r result → IsQuiet f → Responded result
     asm_responded file out result e did still =
         let a = Asm file out in
-        responded_as a result e (did_gave words given s r f a e (OnFile (IsFound s) file (Assembles out)) (λ status line target gives. gives) result did) still
+        responded_as a result e (did_gave words given s r f a e (OnFile (IsFound s) file (Assembles out)) (λ status line target gives. (gives, refl)) still result did) still (λ asks end. absurd asks)
 
     pub dis_responded : (file out : List ℕ) (result : Status) → asked_of words ≡ Some (Dis file out) → Did (OnFile (IsFound s) file (Disassembles out)) s r result → IsQuiet f → Responded result
     dis_responded file out result e did still =
         let a = Dis file out in
-        responded_as a result e (did_gave words given s r f a e (OnFile (IsFound s) file (Disassembles out)) (λ status line target gives. gives) result did) still
+        responded_as a result e (did_gave words given s r f a e (OnFile (IsFound s) file (Disassembles out)) (λ status line target gives. (gives, refl)) still result did) still (λ asks end. absurd asks)
+
+    pub judge_responded : (file : List ℕ) (memory : ℕ) (result : Status) → asked_of words ≡ Some (Judge file memory) → Tells (Judges (IsFound s) file memory) s r result → IsQuiet f → Responded result
+    judge_responded file memory result e done still =
+        let a = Judge file memory in
+        responded_as a result e (tells_gave words given s r f a e (Judges (IsFound s) file memory) (λ status line gives. (gives, refl, refl)) still result done) still (λ asks end. absurd asks)
 
     pub usage_responded : (result : Status) → is_taken words ≡ false → SameCounts s.reads_old s.reads_new → KeepsFiles s → Reports statuses.Usage usage_lines r result → IsQuiet f → Responded result
     usage_responded result refused same kept reports still =
-        (given, may, usage_gave words given s r f result refused same kept reports, flows_as s given f words None result (asked_none words refused) still)
+        (given, may, usage_gave words given s r f result refused same kept reports still, flows_as s given f words None result (asked_none words refused) still, λ asks. absurd (subst AsksRun (asked_none words refused) asks))
 
     pub nothing_responded : SameCounts s.reads_old s.reads_new → KeepsFiles s → IsKept r → IsQuiet f → Responded statuses.OutOfMemory
-    nothing_responded same files kept still = (given, may, nothing same files kept, quiet_for s given f (asked_of words) still)
+    nothing_responded same files kept still = (given, may, nothing same files kept, quiet_for s given f (asked_of words) still, λ asks end. absurd end)

@@ -1,29 +1,27 @@
 //! The program, over the objects outside.
 
-ghost use Rattle.std.specs.Prelude.{◌≡◌, ◌≢◌, ◌<◌, ◌^◌, ◌⊎◌, ℕ, All, List, Option, Some, false, map};
-ghost use Rattle.ms_event.specs.Monitor.{Accepts};
-ghost use Rattle.ms_machine.specs.Crews.{Input, Run, Stuck, events_of};
+ghost use Rattle.std.specs.Prelude.{◌≡◌, ◌<◌, ◌⊎◌, ℕ, List, Option, Some, false, map};
+ghost use Rattle.ms_job.specs.declared.job.Job.{Job};
+ghost use Rattle.ms_machine.specs.Crews.{Input, Run};
 ghost use Rattle.ms_machine.specs.Running.{MayGive};
-ghost use Rattle.ms_module.specs.declared.module.Module.{Module};
 ghost use Rattle.ms_outside.specs.Files.{Files};
-ghost use Rattle.ms_rules.specs.Modules.{WellTyped};
 ghost use Rattle.ms_run.specs.Answers.{File};
-ghost use Rattle.ms_run.specs.Executions.{Ran, execution};
+ghost use Rattle.ms_run.specs.SafeRuns.{IsEnd, RanSafely};
 ghost use Rattle.ms_run.specs.Reporting.{Grows, HasWritten, Holds};
 ghost use Rattle.ms_run.specs.declared.status.Status.{Status};
 ghost use Rattle.ms_words.specs.Asked.{asked_of, is_taken};
 ghost use Rattle.ms_tool.specs.Responding.{Responds};
-ghost use Rattle.ms_tool.specs.Top.{FlowsFor, Gives, IsAnswer, IsCutOff, IsFaulty, IsOutFault, IsPutFault, IsStarved, IsTarget, IsUnwritten, Stays};
+ghost use Rattle.ms_tool.specs.Top.{AsksJob, AsksRun, FlowsFor, Gives, IsAnswer, IsCutOff, IsFaulty, IsOutFault, IsPutFault, IsStarved, IsTarget, IsUnwritten, Stays};
 ghost use Rattle.ms_run.specs.Observed.{flowed, reported, shelved};
 
 use ms_outside::{Shelf, Sink, Source};
-use ms_run::{Status, answer, asm_file, check_file, dis_file, exec, run};
+use ms_run::{Status, answer, asm_file, check_file, dis_file, exec, judge, run};
 use ms_words::{Request, WordsFault, parse_words, usage};
 use std::alloc::Global;
 
 /// Does what the words of the command line ask for, of which the first is the program's name: `exec` reads a file from
 /// the shelf, validates the module that it spells and runs it; `run` does so with the modules and the tasks that a job names;
-/// `check` validates a module; `asm` and `dis` write it in the other form.
+/// `check` validates a module; `asm` and `dis` write it in the other form; `judge` judges the trace of a run.
 ///
 /// The line of what came of it goes to the report. `input` and `out` are those of the module that is run.
 pub fn tool<F: Shelf, I: Source, O: Sink, R: Sink>(
@@ -76,23 +74,22 @@ pub fn tool<F: Shelf, I: Source, O: Sink, R: Sink>(
 
     // What the table gives for known files, whatever the input may give, is the answer, unless a fault is met or memory
     // runs out. An input that tells its bytes gives these.
-    ensures complete { (known : Files) (status : Status) (line : List ℕ) (file : Option File)
+    ensures complete { (known : Files) (ran : Input → Option Run) (status : Status) (line : List ℕ) (file : Option File)
         → F.files shelf.old ≡ Some known
-        → ((given : Input) → MayGive (I.left input.old) given → Gives (map (λ w. w.now) words.now) (Holds (Some known)) given status line file)
+        → ((given : Input) → MayGive (I.left input.old) given → Gives (map (λ w. w.now) words.now) (Holds (Some known)) given (ran given) status line file)
         → ((result ≡ status) × Grows (reported R.held R.faults report.old report.new) line
         × HasWritten (shelved F.files F.read_faults F.write_faults shelf.old shelf.new) file) ⊎ IsFaulty result }
 
-    // The allocations, slices, reads, writes and frees of a run are a trace that the colour monitor accepts: for all modules
-    // that are well typed and link, whatever they share, all tasks, every schedule, as the list of its entries, which is cut at
-    // the budget, and whatever the input gives; `run` is the one of which the answer tells.
-    ensures safe { (modules : List (List ℕ × Module)) (tasks : List (ℕ × List ℕ)) (entries : List ℕ) (capacity : ℕ) (given : Input) (run : Run)
-        → capacity < 2 ^ 32 → All (λ (m : List ℕ × Module). WellTyped m.1) modules
-        → execution modules tasks entries capacity given ≡ Ran run → Accepts capacity (events_of run.deeds) }
-
-    // And such a run has an end that the table answers: no task of it is ever stuck.
-    ensures never_stuck { (modules : List (List ℕ × Module)) (tasks : List (ℕ × List ℕ)) (entries : List ℕ) (capacity : ℕ) (given : Input) (run : Run)
-        → capacity < 2 ^ 32 → All (λ (m : List ℕ × Module). WellTyped m.1) modules
-        → execution modules tasks entries capacity given ≡ Ran run → run.end ≢ Stuck }
+    // Where the words ask for a run and it has come to an end, this is a run of all modules that link, by the job's tasks, schedule
+    // and budget: the status, the report, the file of the trace, the input and the output are its own; and its allocations, slices,
+    // reads, writes and frees are a trace that the colour monitor accepts.
+    ensures safe { AsksRun (asked_of (map (λ w. w.now) words.now)) → IsEnd result → (job : Job)
+        × AsksJob (Holds (F.files shelf.old)) (asked_of (map (λ w. w.now) words.now)) job
+        × RanSafely
+        (shelved F.files F.read_faults F.write_faults shelf.old shelf.new)
+        (reported R.held R.faults report.old report.new)
+        (flowed I.left I.faults O.held O.faults input.old input.new out.old out.new)
+        job result }
 
     // A fault that was counted is never passed over.
     ensures reads { (name : List ℕ) → F.read_faults shelf.old name < F.read_faults shelf.new name → IsFaulty result }
@@ -101,8 +98,8 @@ pub fn tool<F: Shelf, I: Source, O: Sink, R: Sink>(
     ensures takes { I.faults input.old < I.faults input.new → IsFaulty result }
     ensures outs { O.faults out.old < O.faults out.new → IsPutFault result }
 
-    // All files but the one that the words name to be written stay.
-    ensures files { (name : List ℕ) → ¬ IsTarget (asked_of (map (λ w. w.now) words.now)) name
+    // All files stay but the one that the words name to be written, or the job for its trace.
+    ensures files { (name : List ℕ) → ¬ IsTarget (Holds (F.files shelf.old)) (asked_of (map (λ w. w.now) words.now)) name
         → Stays (shelved F.files F.read_faults F.write_faults shelf.old shelf.new) name }
 
     // The input and the output are as before, but for a run: after its end the output has grown by exactly its bytes, and
@@ -136,7 +133,14 @@ fn respond<F: Shelf, I: Source, O: Sink, R: Sink>(
         (shelved F.files F.read_faults F.write_faults shelf.old shelf.new)
         (asked_of (map (λ w. w.now) words.now)) given
         (flowed I.left I.faults O.held O.faults input.old input.new out.old out.new)
-        result }
+        result
+        × (AsksRun (asked_of (map (λ w. w.now) words.now)) → IsEnd result → (job : Job)
+        × AsksJob (Holds (F.files shelf.old)) (asked_of (map (λ w. w.now) words.now)) job
+        × RanSafely
+        (shelved F.files F.read_faults F.write_faults shelf.old shelf.new)
+        (reported R.held R.faults report.old report.new)
+        (flowed I.left I.faults O.held O.faults input.old input.new out.old out.new)
+        job result) }
 {
     match parse_words(alloc, words) {
         Ok(
@@ -153,6 +157,9 @@ fn respond<F: Shelf, I: Source, O: Sink, R: Sink>(
         }
         Ok(Request::Dis { file, out: target }) => {
             dis_file(alloc, file, target, shelf, input, out, report)
+        }
+        Ok(Request::Judge { file, memory }) => {
+            judge(alloc, file, memory, shelf, input, out, report)
         }
         Err(WordsFault::Refused) => answer(report, Status::Usage, usage().as_bytes()),
         Err(WordsFault::Memory) => Status::OutOfMemory,

@@ -27,13 +27,18 @@ const PUTS: &str = "(import \"env\" \"putchar\" (func $p (param i32) (result i32
 
 const TAKES: &str = "(import \"env\" \"getchar\" (func (result i32))) (export \"main\" (func 0))";
 
-/// A module whose start function keeps a handle, which takes three steps, and whose exports read through it and end it.
+/// One that looks in front of a slice, inside its segment.
+const SLICE: &str =
+    "(func (export \"main\") (result i32) i32.const 8 segment.new heap i32.const 4 i32.const 4
+   handle.slice i64.const -1 handle.add 4 i32.segload)";
+
+/// One whose start function keeps a handle, which takes three steps, and whose exports read through it and end it.
 const HANDLE: &str =
     "(global $g (mut handle) handle.null) (func $i i32.const 4 segment.new heap global.set $g) (start $i)
    (func (export \"r\") (result i32) global.get $g i32.segload) (func (export \"f\") global.get $g segment.free heap)";
 
 /// Jobs and schedules. The jobs name the module `a.wat`, but for one, of which no file is there.
-const JOBS: [(&str, &str); 11] = [
+const JOBS: [(&str, &str); 13] = [
     ("empty", ""),
     ("task", "task m f"),
     ("missing", "module m none.wasm\ntask m f\n"),
@@ -50,6 +55,8 @@ const JOBS: [(&str, &str); 11] = [
         "module m a.wat\ntask m r\ntask m f\nschedule 0110\n",
     ),
     ("short", "module m a.wat\ntask m r\ntask m f\nschedule 0\n"),
+    ("traced", "module m a.wat\ntask m main\ntrace o\n"),
+    ("dumped", "module m a.wat\ntask m main\ndump\n"),
     ("0011", "0 0 0 0 0 1 1"),
     ("1100", "0 0 0 1 1 0 0"),
     ("0110", "0 0 0 0 1 1 0"),
@@ -61,6 +68,7 @@ usage: mswasm run JOB
 usage: mswasm check FILE
 usage: mswasm asm FILE OUT
 usage: mswasm dis FILE OUT
+usage: mswasm judge FILE [--memory N]
 ";
 
 /// No output, and the first byte of the input is still there.
@@ -151,7 +159,79 @@ struct Row {
     next: u8,
 }
 
-const ROWS: [Row; 34] = [
+const ROWS: [Row; 43] = [
+    Row {
+        words: "judge a.wat",
+        text: "alloc 1 0 4\nalloc 2 0 4\n",
+        status: Status::Trapped,
+        report: "rejected 2\n",
+        output: "",
+        next: b'i',
+    },
+    Row {
+        words: "judge a.wat",
+        text: "alloc 1 0 4\nfree 1\nalloc 2 0 4\n",
+        status: Status::Done,
+        report: "accepted 3\n",
+        output: "",
+        next: b'i',
+    },
+    Row {
+        words: "judge a.wat",
+        text: "",
+        status: Status::Done,
+        report: "accepted 0\n",
+        output: "",
+        next: b'i',
+    },
+    Row {
+        words: "judge a.wat",
+        text: "alloc 1 0 8\nslice 1 0 8 4 8\nread 1 4 8 0 4\n",
+        status: Status::Trapped,
+        report: "rejected 3\n",
+        output: "",
+        next: b'i',
+    },
+    Row {
+        words: "judge a.wat",
+        text: "refused 16\n",
+        status: Status::Trapped,
+        report: "rejected 1\n",
+        output: "",
+        next: b'i',
+    },
+    Row {
+        words: "judge a.wat",
+        text: "alloc 1 0\n",
+        status: Status::Refused,
+        report: "refused trace line 1\n",
+        output: "",
+        next: b'i',
+    },
+    Row {
+        words: "judge a.wat",
+        text: "alloc 1 8 4\n",
+        status: Status::Trapped,
+        report: "rejected 1\n",
+        output: "",
+        next: b'i',
+    },
+    Row {
+        words: "judge a.wat --memory 8",
+        text: "",
+        status: Status::Usage,
+        report: USAGE,
+        output: "",
+        next: b'i',
+    },
+    Row {
+        words: "run dumped",
+        text: "(func (export \"main\") (local $h handle) i32.const 20 segment.new heap local.tee $h local.get $h handle.store)",
+        status: Status::Done,
+        report: "done\ndump 1 0 20 heap --------------------------------00000000\n",
+        output: "",
+        next: b'i',
+    },
     Row {
         words: "exec a.wat",
         text: SEVEN,
@@ -197,11 +277,9 @@ const ROWS: [Row; 34] = [
         output: "",
         next: b'i',
     },
-    // In front of a slice, inside its segment.
     Row {
         words: "exec a.wat",
-        text: "(func (export \"main\") (result i32) i32.const 8 segment.new heap i32.const 4 i32.const 4
-               handle.slice i64.const -1 handle.add 4 i32.segload)",
+        text: SLICE,
         status: Status::Trapped,
         report: "trap bounds\n",
         output: "",
@@ -484,6 +562,20 @@ fn both_forms_are_written(rt: HostRuntime) -> Result<(), Fail> {
     Ok(())
 }
 
+#[test]
+fn a_trace_is_written(rt: HostRuntime) -> Result<(), Fail> {
+    let world = world(rt.alloc(), "a.wat", SLICE.as_bytes())?;
+    expect(
+        &rt,
+        "mswasm run traced",
+        world,
+        Status::Trapped,
+        "trap bounds\n",
+        QUIET,
+        Some(b"alloc 1 0 8\nslice 1 0 8 4 8\n"),
+    )
+}
+
 /// Lets the read, the write, the put of the report, the take and the put of the output of these numbers fail, where they aren't 0.
 fn let_fail(world: &mut Outside, calls: [u64; 5]) -> Result<(), Fail> {
     let [read, write, put, take, give] = calls;
@@ -513,7 +605,7 @@ struct Faulty {
     written: bool,
 }
 
-const FAULTY: [Faulty; 10] = [
+const FAULTY: [Faulty; 11] = [
     Faulty {
         row: Row {
             words: "asm a.wat o",
@@ -620,6 +712,18 @@ const FAULTY: [Faulty; 10] = [
             next: b'i',
         },
         calls: [0, 0, 1, 0, 0],
+        written: false,
+    },
+    Faulty {
+        row: Row {
+            words: "run traced",
+            text: SLICE,
+            status: Status::WriteFault,
+            report: "",
+            output: "",
+            next: b'i',
+        },
+        calls: [0, 1, 0, 0, 0],
         written: false,
     },
     Faulty {

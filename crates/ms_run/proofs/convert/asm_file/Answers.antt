@@ -1,4 +1,3 @@
-use Rattle.std.specs.Prelude.{None}
 use Rattle.ms_run.specs.Answers.{Assembles, OnFile, Unfound, no_file, on_file}
 use Rattle.ms_run.specs.Observed.{shelved}
 use Rattle.ms_run.specs.Reporting.{Holds, IsFound}

@@ -9,20 +9,20 @@ use Rattle.ms_run.specs.Lines.{link_line}
 use Rattle.ms_run.proofs.Executed.{linked_told, unlinked_told}
 use Rattle.ms_run.proofs.execution.execute.Goals as goal
 
-pub returns-in-Ok : goal.returns-in-Ok
-returns-in-Ok g c =
+pub returns-in-Ok-clause-told : goal.returns-in-Ok-clause-told
+returns-in-Ok-clause-told g c =
     let tasks = c.args.tasks.items in
-    linked_told _ _ tasks (entries_of c.args.schedule.now (length tasks) c.args.budget) c.args.modules.items c.args.memory c.in-Ok.store c.in-Ok.ensures.link c.run_store.result c.run_store.ensures
+    linked_told c.args.telling.now _ _ _ tasks (entries_of c.args.schedule.now (length tasks) c.args.budget) c.args.modules.items c.args.memory c.in-Ok.store c.in-Ok.ensures.link c.run_store.result c.run_store.ensures.told
 
-pub returns-in-Err-Refused : goal.returns-in-Err-Refused
-returns-in-Err-Refused g c =
+pub returns-in-Err-Refused-clause-told : goal.returns-in-Err-Refused-clause-told
+returns-in-Err-Refused-clause-told g c =
     let it = c.in-Err-Refused in
     let tasks = c.args.tasks.items in
     let modules = c.args.modules.items in
     let fault : Fault = record { «module» = it.module; item = it.item; why = it.why } in
     let unlinked = subst (λ (e : LinkFault). DoesLink modules c.args.memory (Err e)) it.field-0-is it.ensures.link in
-    unlinked_told _ _ tasks (entries_of c.args.schedule.now (length tasks) c.args.budget) modules c.args.memory fault unlinked (refl, refl, refl, refl)
-    c.answer_line.result (c.answer_line.ensures (link_line fault) c.link_line.ensures)
+    unlinked_told c.args.telling.now _ _ _ tasks (entries_of c.args.schedule.now (length tasks) c.args.budget) modules c.args.memory fault unlinked (refl, refl, refl, refl)
+    c.answer_line.result (refl, refl) (c.answer_line.ensures (link_line fault) c.link_line.ensures)
 
-pub returns : goal.returns
-returns g c = nothing_told (refl, refl, refl, refl) (refl, refl)
+pub returns-clause-told : goal.returns-clause-told
+returns-clause-told g c = nothing_told (refl, refl, refl, refl) (refl, refl) (refl, refl)

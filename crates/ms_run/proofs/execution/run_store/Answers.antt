@@ -13,15 +13,15 @@ run_crew-requires-clause-tasks g c =
     let count = ap length c.as_slice.ensures.value in
     (count ∙ sym (crew_length c.args.store tasks c.in-Ok.crew c.in-Ok.ensures.new), subst (λ (n : ℕ). 0 < n) (sym count) c.requires.tasks.0)
 
-pub returns-in-Ok : goal.returns-in-Ok
-returns-in-Ok g c = crew_told _ _ c.args.tasks.items c.args.schedule.now c.args.budget c.args.store c.in-Ok.crew c.in-Ok.ensures.new c.run_crew.result c.run_crew.ensures
+pub returns-in-Ok-clause-told : goal.returns-in-Ok-clause-told
+returns-in-Ok-clause-told g c = crew_told c.args.telling.now _ _ _ c.args.tasks.items c.args.schedule.now c.args.budget c.args.store c.in-Ok.crew c.in-Ok.ensures.new c.run_crew.result c.run_crew.ensures.told
 
-pub returns-in-Err-Task : goal.returns-in-Err-Task
-returns-in-Err-Task g c =
+pub returns-in-Err-Task-clause-told : goal.returns-in-Err-Task-clause-told
+returns-in-Err-Task-clause-told g c =
     let number = c.in-Err-Task.number in
     let refuses = subst (Refuses c.args.store c.args.tasks.items) c.in-Err-Task.field-0-is c.in-Err-Task.ensures.new in
-    no_task_told _ _ c.args.tasks.items (entries_of c.args.schedule.now (length c.args.tasks.items) c.args.budget) c.args.store number refuses (refl, refl, refl, refl)
-    c.answer_line.result (c.answer_line.ensures (task_line number) c.task_line.ensures)
+    no_task_told c.args.telling.now _ _ _ c.args.tasks.items (entries_of c.args.schedule.now (length c.args.tasks.items) c.args.budget) c.args.store number refuses (refl, refl, refl, refl)
+    c.answer_line.result (refl, refl) (c.answer_line.ensures (task_line number) c.task_line.ensures)
 
-pub returns-in-Err-Memory : goal.returns-in-Err-Memory
-returns-in-Err-Memory g c = nothing_told (refl, refl, refl, refl) (refl, refl)
+pub returns-in-Err-Memory-clause-told : goal.returns-in-Err-Memory-clause-told
+returns-in-Err-Memory-clause-told g c = nothing_told (refl, refl, refl, refl) (refl, refl) (refl, refl)

@@ -25,4 +25,4 @@ returns g c =
     let modules = c.in-Ok.modules.items in
     let all = subst (λ (fs : List (List ℕ × List ℕ)). AllLoaded (Holds (g.F.Shelf.files c.args.shelf.now)) fs modules) c.as_slice.ensures c.in-Ok.ensures.modules in
     let e = c.in-Ok-schedule_of.ensures in
-    tasks_answered _ _ _ _ _ _ _ _ _ _ _ _ _ _ _ c.args.naming c.args.job _ modules all c.in-Ok.ensures.untouched c.in-Ok-schedule_of.schedule c.into_vec-tasks.result.items c.into_vec-tasks.ensures e.entries e.untouched _ _ c.execute.result c.execute.ensures
+    tasks_answered _ _ _ _ _ _ _ _ _ _ _ _ _ _ _ c.args.naming c.args.job _ modules all c.in-Ok.ensures.untouched _ _ _ _ _ c.in-Ok-schedule_of.schedule c.into_vec-tasks.result.items c.into_vec-tasks.ensures e.entries e.untouched c.execute.result c.execute.ensures.reads c.execute.ensures.told

@@ -1,10 +1,10 @@
 use Rattle.std.proofs.Common.{◌∙◌, ap, refl, subst}
 use Rattle.std.specs.Prelude.{Err, Some, map}
 use Rattle.ms_machine.proofs.Outsides.{some_input}
-use Rattle.ms_words.specs.Asked.{Answers, view}
+use Rattle.ms_words.specs.Asked.{Answers, IsInRange, view}
 use Rattle.ms_words.specs.declared.request.Request.{Request}
 use Rattle.ms_words.specs.declared.request.WordsFault.{WordsFault}
-use Rattle.ms_tool.proofs.Complete.{asm_responded, check_responded, dis_responded, exec_responded, nothing_responded, run_responded, usage_responded}
+use Rattle.ms_tool.proofs.Complete.{asm_responded, check_responded, dis_responded, exec_responded, judge_responded, nothing_responded, run_responded, usage_responded}
 use Rattle.ms_tool.proofs.tool.respond.Goals as goal
 
 pub returns-in-Ok-Exec : goal.returns-in-Ok-Exec
@@ -12,8 +12,9 @@ returns-in-Ok-Exec g c =
     let it = c.in-Ok-Exec in
     let words = map (λ w. w.now) c.args.words.now in
     let asked = it.ensures.answers ∙ ap (λ (r : Request). Some (view r)) it.field-0-is in
+    let range = subst IsInRange it.field-0-is it.ensures.ranges in
     let e = c.exec.ensures in
-    exec_responded words _ _ _ e.0 e.1 it.file.now it.budget it.memory c.exec.result asked e.2 e.3
+    exec_responded words _ _ _ e.0 e.1 it.file.now it.budget it.memory c.exec.result range.1.1 asked e.2 e.3
 
 pub returns-in-Ok-Run : goal.returns-in-Ok-Run
 returns-in-Ok-Run g c =
@@ -49,6 +50,15 @@ returns-in-Ok-Dis g c =
     let input = some_input (g.I.Source.left c.args.input.now) in
     let e = c.dis_file.ensures in
     dis_responded words _ _ _ input.0 input.1 it.file.now it.target.now c.dis_file.result asked e.did (e.input.0, e.input.1, e.out.0, e.out.1)
+
+pub returns-in-Ok-Judge : goal.returns-in-Ok-Judge
+returns-in-Ok-Judge g c =
+    let it = c.in-Ok-Judge in
+    let words = map (λ w. w.now) c.args.words.now in
+    let asked = it.ensures.answers ∙ ap (λ (r : Request). Some (view r)) it.field-0-is in
+    let input = some_input (g.I.Source.left c.args.input.now) in
+    let e = c.judge.ensures in
+    judge_responded words _ _ _ input.0 input.1 it.file.now it.memory c.judge.result asked e.told (e.input.0, e.input.1, e.out.0, e.out.1)
 
 pub returns-in-Err-Refused : goal.returns-in-Err-Refused
 returns-in-Err-Refused g c =

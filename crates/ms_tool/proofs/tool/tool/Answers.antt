@@ -1,4 +1,3 @@
-use Rattle.ms_run.proofs.Safe.{execution_is_accepted, execution_is_never_stuck}
 use Rattle.ms_tool.proofs.Complete.{answer_clause, complete_clause, files_clause, memory_clause, outs_both, puts_clause, reads_clause, refused_clause, takes_both, usage_clause, write_fault_clause, writes_clause}
 use Rattle.ms_tool.proofs.tool.tool.Goals as goal
 
@@ -18,13 +17,10 @@ pub returns-clause-memory : goal.returns-clause-memory
 returns-clause-memory g c = let e = c.respond.ensures in memory_clause _ e.0 _ _ _ c.respond.result e.1 e.2
 
 pub returns-clause-complete : goal.returns-clause-complete
-returns-clause-complete g c = λ known status line file is gives. let e = c.respond.ensures in complete_clause _ e.0 _ _ _ known status line file c.respond.result e.2 is (gives e.0 e.1)
+returns-clause-complete g c = λ known ran status line file is gives. let e = c.respond.ensures in complete_clause _ e.0 _ _ _ known (ran e.0) status line file c.respond.result e.2 is (gives e.0 e.1)
 
 pub returns-clause-safe : goal.returns-clause-safe
-returns-clause-safe g c = λ modules tasks entries capacity given run small typed runs. execution_is_accepted modules tasks entries capacity given small typed run runs
-
-pub returns-clause-never_stuck : goal.returns-clause-never_stuck
-returns-clause-never_stuck g c = λ modules tasks entries capacity given run small typed runs. execution_is_never_stuck modules tasks entries capacity given small typed run runs
+returns-clause-safe g c = c.respond.ensures.4
 
 pub returns-clause-reads : goal.returns-clause-reads
 returns-clause-reads g c = λ name lt. let e = c.respond.ensures in reads_clause _ e.0 _ _ _ c.respond.result e.2 name lt

@@ -1,0 +1,39 @@
+-- The run of which an answer tells that came to an end: what was run, what was told of it, and that it was safe.
+use Rattle.std.specs.Prelude.{ℕ, List, Option}
+use Rattle.ms_event.specs.Monitor.{Accepts}
+use Rattle.ms_job.specs.declared.job.Job.{Job}
+use Rattle.ms_machine.specs.Crews.{Input, Run, events_of}
+use Rattle.ms_machine.specs.Running.{MayGive}
+use Rattle.ms_run.specs.Answers.{File}
+use Rattle.ms_run.specs.Executions.{TellsOf}
+use Rattle.ms_run.specs.Flows.{RunsWhole}
+use Rattle.ms_run.specs.Jobs.{RunOfJob}
+use Rattle.ms_run.specs.Observed.{Flow, Report, Shelved}
+use Rattle.ms_run.specs.Reporting.{Grows, HasWritten, Holds}
+use Rattle.ms_run.specs.Telling.{telling_of}
+use Rattle.ms_run.specs.declared.status.Status.{Status}
+use Rattle.ms_run.specs.declared.status.Status.TheVariants.{Done, OutOfBudget, Trapped}
+
+-- the statuses of such answers
+abbrev pub IsEnd : Status → Type 0
+IsEnd Done = Unit {0}
+IsEnd Trapped = Unit {0}
+IsEnd OutOfBudget = Unit {0}
+IsEnd _ = ⊥
+
+pub record RanSafely (s : Shelved) (r : Report) (f : Flow) (job : Job) (status : Status) : Type 0 where
+  -- the run of the job's modules and tasks by its schedule, over what the input gave
+  pub given : Input
+  pub run : Run
+  pub may : MayGive f.left_old given
+  pub of_job : RunOfJob (Holds s.old) given job run
+  -- the status, the report and the file of the trace are those of its end, its last store and its events
+  pub lines : List ℕ
+  pub file : Option File
+  pub tells : TellsOf (telling_of job) run status lines file
+  pub grown : Grows r lines
+  pub written : HasWritten s file
+  -- the input has lost exactly what it takes, and the output has got exactly what it puts
+  pub flowed : RunsWhole given f run
+  -- its allocations, slices, reads, writes and frees are a trace that the colour monitor accepts
+  pub accepted : Accepts job.memory (events_of run.deeds)

@@ -1,0 +1,53 @@
+-- What is told of the segment memory beside the end of a run: its events, in a file, and the live segments, a line each.
+use Rattle.std.specs.Prelude.{ℕ, List, [], ◌∷◌, ◌++◌, codes, flat_map, if◌then◌else◌, Option, Some, None, option_map}
+use Rattle.std.specs.Fmt.{decimal}
+use Rattle.hex.specs.Hex.{encode_lower}
+use Rattle.ms_event.specs.declared.event.Event.{Event}
+use Rattle.ms_handle.specs.declared.handle.Kind.{Kind}
+use Rattle.ms_handle.specs.declared.handle.Kind.TheVariants.{Frame, Heap}
+use Rattle.ms_job.specs.declared.job.Job.{Job}
+use Rattle.ms_live.specs.declared.gaps.Live.{Live}
+use Rattle.ms_monitor.specs.Traces.{trace_text}
+use Rattle.ms_segment.specs.Memory.{Memory}
+use Rattle.ms_tagged.specs.Bytes.{Byte, range, shown_at}
+use Rattle.ms_run.specs.Answers.{File}
+use Rattle.ms_run.specs.Lines.{line}
+use Rattle.ms_run.specs.declared.telling.Telling.{Telling}
+
+-- what a job asks for
+abbrev pub telling_of : Job → Telling
+telling_of job = record { trace = job.trace; dump = job.dump }
+
+-- ---- the events
+
+-- the file of the trace, if one is asked for
+abbrev pub traced : Telling → List Event → Option File
+traced t events = option_map (λ name. record { name = name; bytes = trace_text events }) t.trace
+
+-- ---- the live segments
+
+abbrev pub kind_word : Kind → List ℕ
+kind_word Heap = codes "heap"
+kind_word Frame = codes "frame"
+
+-- two digits for a data byte; a piece of a handle has none
+abbrev pub shown_word : Option ℕ → List ℕ
+shown_word (Some byte) = encode_lower (byte ∷ [])
+shown_word None = codes "--"
+
+abbrev pub byte_word : Byte → List ℕ
+byte_word byte = shown_word (shown_at (byte ∷ []))
+
+-- those of a segment, behind a space; one without bytes has no word
+abbrev pub bytes_word : List Byte → List ℕ
+bytes_word [] = []
+bytes_word (byte ∷ bytes) = codes " " ++ flat_map byte_word (byte ∷ bytes)
+
+-- a segment: its identity, address, size, kind and bytes
+abbrev pub dump_line : Memory → Live → List ℕ
+dump_line m s = line (codes "dump " ++ decimal s.id ++ codes " " ++ decimal s.base ++ codes " " ++ decimal s.size ++ codes " " ++ kind_word s.kind
+    ++ bytes_word (range s.base s.size m.bytes))
+
+-- all of them, in the order of their identities, if they are asked for
+abbrev pub dumped : Telling → Memory → List ℕ
+dumped t m = if t.dump then flat_map (dump_line m) m.live else []
