@@ -1,10 +1,4 @@
 pub mod Computed
-pub mod Sequences
-pub mod Counts
-pub mod Sizes
 pub mod Items
 pub mod Values
-pub mod Scopes
-pub mod Functions
-pub mod Small
 pub mod Alone

@@ -1,34 +1,24 @@
 -- Initializers (C11, 6.7.9), flattened to assignments of leaves. What isn't given stays zero.
-use Rattle.std.specs.Prelude.{ℕ, ◌+◌, ◌&&◌, nat_le, nat_lt, Bool, true, false, List, [], ◌∷◌, ◌++◌, length, slice_get, Option, Some, None, if◌then◌else◌}
-use Rattle.c_types.specs.declared.integers.IntType.TheVariants.{Char, LongLong}
+use Rattle.std.specs.Prelude.{ℕ, ◌+◌, nat_lt, Bool, true, false, List, [], ◌∷◌, ◌++◌, slice_get, Option, Some, if◌then◌else◌}
 use Rattle.c_types.specs.Layout.{members_of}
 use Rattle.c_types.specs.Types.{Ty, integer, struct, pointer, array, scalar_of}
-use Rattle.c_tree.specs.declared.operators.UnaryOp.{UnaryOp}
-use Rattle.c_tree.specs.declared.operators.UnaryOp.TheVariants as unaries
 use Rattle.c_tree.specs.Tree as tree
 use Rattle.c_tree.specs.Tree.{Expr, Initialiser, Initialisers}
 use Rattle.c_typed.specs.Tree as to
 use Rattle.c_typed.specs.Tree.{Place, Stmt}
+use Rattle.c_typed.specs.Parts.{element_place}
 use Rattle.c_check_types.specs.State.{Rule, ◌>>=◌, ◌>>◌, pure, none, given, only_if, state, and_then}
-use Rattle.c_check_types.specs.TypeEquality.{same_integer, same_type}
-use Rattle.c_check_types.specs.Types.{Derived, whole, lengthless, array_of, constant, size_of}
-use Rattle.c_check_exprs.specs.Forms as form
-use Rattle.c_check_exprs.specs.Forms.{Form, place, value, designator, text, zero, assigned_to, operand, place_of}
+use Rattle.c_check_types.specs.TypeEquality.{same_type}
+use Rattle.c_check_types.specs.Types.{constant, size_of}
 use Rattle.c_check_types.specs.Constants.{value_at}
-use Rattle.c_check_exprs.specs.Expressions.{typing}
+use Rattle.c_forms.specs.Forms as form
+use Rattle.c_forms.specs.Forms.{Form, place, designator, text, zero, assigned_to}
+use Rattle.c_declare.specs.Initials.{bare, is_address, is_reference, fills}
+use Rattle.c_check_exprs.specs.Expressions.{a_place, as_assigned, typing}
 
 -- ---- what a leaf is given
 
--- at file scope, an expression without its parentheses
-abbrev pub bare : Expr → Expr
-bare (tree.paren e) = bare e
-bare e = e
-
 -- the form of a constant address: `&name`, the name of an array or a function, a string, NULL or 0 (6.6, paragraph 9)
-abbrev pub is_name : Expr → Bool
-is_name (tree.name n) = true
-is_name _ = false
-
 abbrev pub is_array : Ty → Bool
 is_array (array t n) = true
 is_array _ = false
@@ -40,22 +30,6 @@ names_address (text bytes) = true
 names_address (zero t) = true
 names_address form.null = true
 names_address _ = false
-
--- whether an expression may be an address that is known before `main`: an `&` and a name, a name, a string or a constant
-abbrev pub takes_address : UnaryOp → Bool
-takes_address unaries.AddressOf = true
-takes_address _ = false
-
-abbrev pub is_address : Expr → Bool
-is_address (tree.unary op e) = takes_address op && is_name (bare e)
-is_address (tree.name n) = true
-is_address (tree.string s) = true
-is_address (tree.integer n t) = true
-is_address _ = false
-
-abbrev pub is_reference : Expr → Bool
-is_reference (tree.unary op e) = takes_address op
-is_reference _ = false
 
 abbrev pub is_known : Expr → Form → Bool
 is_known e x = if is_reference e then true else names_address x
@@ -76,36 +50,10 @@ static_value (integer t) e = do
 static_value (pointer t) e = pointer_constant t (bare e)
 static_value _ e = none
 
--- a value in a function
-abbrev pub value_in_function : Ty → Expr → Rule to.Expr
-value_in_function t e = do
-  x ← typing e
-  assigned_to t x
-
+-- at file scope, or in a function
 abbrev pub leaf : (static : Bool) → Ty → Expr → Rule to.Expr
 leaf true t e = static_value t e
-leaf false t e = value_in_function t e
-
--- ---- places in arrays and structs
-
-abbrev pub element_place : Place → Ty → (count index : ℕ) → Place
-element_place p t n i = to.deref (to.move t false (to.decay t n p) (to.number LongLong i))
-
-abbrev pub is_char : Ty → Bool
-is_char (integer t) = same_integer t Char
-is_char _ = false
-
-abbrev pub string_of : Expr → Option (List ℕ)
-string_of (tree.string bytes) = Some bytes
-string_of _ = None
-
-abbrev pub at_most : ℕ → Option (List ℕ) → Option (List ℕ)
-at_most n None = None
-at_most n (Some bytes) = if nat_le (length bytes) n then Some bytes else None
-
--- a char array takes a string of at most its length without the final zero (6.7.9, paragraph 14)
-abbrev pub fills : Ty → ℕ → Expr → Option (List ℕ)
-fills t n e = if is_char t then at_most n (string_of e) else None
+leaf false t e = as_assigned t (typing e)
 
 -- a value of a place, behind what is done so far
 abbrev pub string_value : Place → Ty → ℕ → Expr → List Stmt → Option (List Stmt)
@@ -168,34 +116,9 @@ from_place m p (q, t) done = do
 
 abbrev pub copied_from : ℕ → Place → Expr → List Stmt → Rule (List Stmt)
 copied_from m p e done = do
-  x ← typing e
-  q ← place_of x
+  q ← a_place (typing e)
   from_place m p q done
 
 abbrev pub initialised : (v : Initialiser) → (static : Bool) → Place → Ty → List Stmt → Rule (List Stmt)
 initialised (tree.single e) false p (struct m) done = copied_from m p e done
 initialised v static p t done = inside v static p t done
-
--- ---- a length that is missing (6.7.9, paragraph 22)
-
-abbrev pub count : Initialisers → ℕ
-count tree.no_initialisers = 0
-count (tree.initialiser_and v vs) = count vs + 1
-
-abbrev pub with_zero : Option (List ℕ) → Option ℕ
-with_zero None = None
-with_zero (Some bytes) = Some (length bytes + 1)
-
-abbrev pub given_length : Ty → Option Initialiser → Option ℕ
-given_length t None = None
-given_length t (Some (tree.braces vs comma)) = Some (count vs)
-given_length t (Some (tree.single e)) = if is_char t then with_zero (string_of e) else None
-
--- the type of a variable: it has a size
-abbrev pub variable_type : Derived → Option Initialiser → Rule Ty
-variable_type (whole t) v = do
-  size_of t
-  pure t
-variable_type (lengthless t) v = do
-  n ← given (given_length t v)
-  array_of t n

@@ -13,13 +13,14 @@ use Rattle.c_tree.specs.Statements.{Statement, Items}
 use Rattle.c_tree.specs.Tree.{Expr, Declarator, Initialiser}
 use Rattle.c_typed.specs.declared.ops.Variable.TheVariants as variables
 use Rattle.c_typed.specs.Tree as to
-use Rattle.c_typed.specs.Tree.{Stmt, Stmts}
+use Rattle.c_typed.specs.Tree.{Stmt}
 use Rattle.c_check_types.specs.State.{Rule, ◌>>=◌, ◌>>◌, pure, given, only_if}
 use Rattle.c_check_types.specs.Scopes.{opened, closed, enters_local, declares_function}
 use Rattle.c_check_types.specs.Types.{Derived, whole, lengthless, specified, declared}
-use Rattle.c_check_exprs.specs.Forms.{condition_of, assigned_to, thrown_away}
-use Rattle.c_check_exprs.specs.Expressions.{typing}
-use Rattle.c_check.specs.Initialisers.{initialised, variable_type}
+use Rattle.c_typed.specs.Parts.{sequence}
+use Rattle.c_declare.specs.Initials.{variable_type}
+use Rattle.c_check_exprs.specs.Expressions.{a_condition, as_assigned, performed, typing}
+use Rattle.c_check.specs.Initialisers.{initialised}
 
 -- what is declared, and what is done there
 pub record Declaring : Type 0 where
@@ -31,10 +32,6 @@ nothing_done = record { slots = []; done = [] }
 
 abbrev pub and_done : Declaring → Stmt → Declaring
 and_done d s = record { slots = d.slots; done = d.done ++ s ∷ [] }
-
-abbrev pub sequence : List Stmt → Stmts
-sequence [] = to.done
-sequence (s ∷ ss) = to.seq s (sequence ss)
 
 abbrev pub scope_of : Declaring → Stmt
 scope_of d = to.scope d.slots (sequence d.done)
@@ -90,31 +87,21 @@ declaration_of s xs so_far = do
 
 -- ---- clauses of statements
 
-abbrev pub condition : Expr → Rule to.Expr
-condition e = do
-  x ← typing e
-  condition_of x
-
-abbrev pub performed : Expr → Rule to.Expr
-performed e = do
-  x ← typing e
-  thrown_away x
-
 -- a missing test holds (6.8.5.3)
 abbrev pub test_of : Option Expr → Rule to.Expr
 test_of None = pure (to.number Int 1)
-test_of (Some e) = condition e
+test_of (Some e) = a_condition (typing e)
 
 abbrev pub step_of : Option Expr → Rule (Option to.Expr)
 step_of None = pure None
 step_of (Some e) = do
-  v ← performed e
+  v ← performed (typing e)
   pure (Some v)
 
 abbrev pub first_of : ForFirstNode → Declaring → Rule Declaring
 first_of firsts.Nothing so_far = pure so_far
 first_of (firsts.Expr e) so_far = do
-  v ← performed e
+  v ← performed (typing e)
   pure (and_done so_far (to.perform v))
 first_of (firsts.Declaration s xs) so_far = declaration_of s xs so_far
 
@@ -125,8 +112,7 @@ in_front_of_loop _ d s = scope_of (and_done d s)
 -- results are converted as if by assignment (6.8.6.4)
 abbrev pub returned : Ty → Expr → Rule Stmt
 returned result e = do
-  x ← typing e
-  v ← assigned_to result x
+  v ← as_assigned result (typing e)
   pure (to.return v)
 
 abbrev pub is_void : Ty → Bool
@@ -163,20 +149,20 @@ abbrev mutual
     closed
     pure (scope_of d)
   statement (tree.plain e) r l = do
-    v ← performed e
+    v ← performed (typing e)
     pure (to.perform v)
   statement tree.empty r l = pure to.nothing
   statement (tree.if_then c a) r l = do
-    test ← condition c
+    test ← a_condition (typing c)
     s ← statement a r l
     pure (to.if_else test s to.nothing)
   statement (tree.if_else c a b) r l = do
-    test ← condition c
+    test ← a_condition (typing c)
     s ← statement a r l
     t ← statement b r l
     pure (to.if_else test s t)
   statement (tree.while_loop c a) r l = do
-    test ← condition c
+    test ← a_condition (typing c)
     s ← statement a r true
     pure (to.loop test None s)
   -- a `for` is a block of its own

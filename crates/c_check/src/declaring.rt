@@ -8,13 +8,11 @@ ghost use Rattle.c_check_types.specs.Views.{Answers, Gives, derived_of, name_of,
 ghost use Rattle.c_check.specs.Statements as words;
 ghost use Rattle.c_check.specs.Views.{declaring_of};
 
-use crate::build::{add, scope};
-use crate::initialiser::{initialised, variable_type};
-use crate::path::Path;
-use crate::scope::{declares_function, enters_local};
+use crate::initialiser::initialised;
 use c_check_types::{Checker, Derived, Stop};
+use c_declare::{declares_function, enters_local, variable_type};
 use c_tree::{Init, Initialiser, Inits, SpecifierNode};
-use c_typed::{Stmt, Variable};
+use c_typed::{Path, Stmt, Variable, add, scope};
 use c_types::CType;
 use std::alloc::{AllocError, Global};
 

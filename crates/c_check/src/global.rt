@@ -8,12 +8,11 @@ ghost use Rattle.c_check_types.specs.Views.{Answers, derived_of, state_of};
 ghost use Rattle.c_check.specs.Declarations as words;
 
 use crate::declaring::is_missing;
-use crate::initialiser::{initialised, variable_type};
-use crate::path::Path;
-use crate::scope::{declares_function, enters_global};
+use crate::initialiser::initialised;
 use c_check_types::{Checker, Derived, Stop};
+use c_declare::{declares_function, enters_global, variable_type};
 use c_tree::{Init, Initialiser};
-use c_typed::{Made, Stmt, Variable};
+use c_typed::{Made, Path, Stmt, Variable};
 use c_types::CType;
 
 /// Keeps the values that a variable begins with.

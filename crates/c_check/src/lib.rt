@@ -5,16 +5,12 @@
 //! `specs/Units.antt` first, then `specs/Statements.antt`; `proofs/Computed.antt` has units whose typing is computed.
 #![tactic(auto)]
 
-mod build;
 mod declaring;
 mod definition;
 mod fault;
 mod global;
 mod initialiser;
-mod path;
-mod scope;
 mod statement;
-mod structs;
 mod unit;
 
 pub use fault::CCheck;

@@ -2,40 +2,23 @@
 
 ghost use Rattle.std.specs.Prelude.{◌≡◌, true, IfOk};
 ghost use Rattle.c_types.specs.Types.{type_of};
-ghost use Rattle.c_typed.specs.Views.{stmt_of};
+ghost use Rattle.c_typed.specs.Views.{boxed_step, stmt_of};
 ghost use Rattle.c_tree.specs.Statements as tree;
 ghost use Rattle.c_check_types.specs.Views.{Answers, state_of};
-ghost use Rattle.c_check_exprs.specs.FormViews.{boxed_expr};
+ghost use Rattle.c_forms.specs.FormViews.{boxed_expr};
 ghost use Rattle.c_check.specs.Statements as words;
-ghost use Rattle.c_check.specs.Views.{boxed_step, boxed_stmt, declaring_of, item_rule};
+ghost use Rattle.c_check.specs.Views.{boxed_stmt, declaring_of, item_rule};
 
-use crate::build::{if_else, loop_of, perform, return_value, while_loop};
 use crate::declaring::{Declaring, and_done, declaration_of, nothing_done, scope_of};
-use crate::scope::{closed, opened};
-use c_check_exprs::{assigned_to, condition_of, thrown_away, typing};
+use c_check_exprs::{performed, typed_as, typed_condition};
 use c_check_types::{Checker, Stop};
+use c_declare::{closed, opened};
 use c_tree::{
     Block, Expr as Written, ForFirst, ForFirstNode, Item, Jump, Statement, StatementNode,
 };
-use c_typed::{Expr, Stmt, boxed};
+use c_typed::{Expr, Stmt, boxed, if_else, loop_of, perform, return_value, while_loop};
 use c_types::{CType, IntType};
 use std::alloc::{AllocError, Global};
-
-/// An expression that is a condition.
-fn condition<'a>(checker: &mut Checker<'a>, e: &'a Written) -> Result<Box<Expr>, Stop>
-    ensures { Answers boxed_expr (words.condition e.now) (state_of checker.old) (state_of checker.new) result }
-{
-    let x = typing(checker, e)?;
-    condition_of(checker, x)
-}
-
-/// An expression whose value is thrown away.
-fn performed<'a>(checker: &mut Checker<'a>, e: &'a Written) -> Result<Box<Expr>, Stop>
-    ensures { Answers boxed_expr (words.performed e.now) (state_of checker.old) (state_of checker.new) result }
-{
-    let x = typing(checker, e)?;
-    thrown_away(checker, x)
-}
 
 /// The test of a `for`; a missing one holds (C11, 6.8.5.3).
 fn test_of<'a>(checker: &mut Checker<'a>, e: &'a Option<Written>) -> Result<Box<Expr>, Stop>
@@ -43,7 +26,7 @@ fn test_of<'a>(checker: &mut Checker<'a>, e: &'a Option<Written>) -> Result<Box<
 {
     match e {
         None => Ok(boxed(checker.alloc, Expr::Number(IntType::Int, 1))?),
-        Some(e) => condition(checker, e),
+        Some(e) => typed_condition(checker, e),
     }
 }
 
@@ -109,8 +92,7 @@ fn scope_with(alloc: Global, d: Declaring, s: Box<Stmt>) -> Result<Box<Stmt>, Al
 fn returned<'a>(checker: &mut Checker<'a>, t: &CType, e: &'a Written) -> Result<Box<Stmt>, Stop>
     ensures { Answers boxed_stmt (words.returned (type_of t.now) e.now) (state_of checker.old) (state_of checker.new) result }
 {
-    let x = typing(checker, e)?;
-    let v = assigned_to(checker, t, x)?;
+    let v = typed_as(checker, e, t)?;
     Ok(return_value(checker.alloc, v)?)
 }
 
@@ -176,19 +158,19 @@ fn statement<'a>(
         }
         StatementNode::Empty => Ok(boxed(checker.alloc, Stmt::Nothing)?),
         StatementNode::IfThen(c, a) => {
-            let test = condition(checker, c)?;
+            let test = typed_condition(checker, c)?;
             let s = statement(checker, a, result_type, in_loop)?;
             let nothing = boxed(checker.alloc, Stmt::Nothing)?;
             Ok(if_else(checker.alloc, test, s, nothing)?)
         }
         StatementNode::IfElse(c, a, b) => {
-            let test = condition(checker, c)?;
+            let test = typed_condition(checker, c)?;
             let s = statement(checker, a, result_type, in_loop)?;
             let t = statement(checker, b, result_type, in_loop)?;
             Ok(if_else(checker.alloc, test, s, t)?)
         }
         StatementNode::While(c, a) => {
-            let test = condition(checker, c)?;
+            let test = typed_condition(checker, c)?;
             let s = statement(checker, a, result_type, true)?;
             Ok(while_loop(checker.alloc, test, s)?)
         }

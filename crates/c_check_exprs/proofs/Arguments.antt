@@ -1,5 +1,5 @@
 -- The arguments that are left, when one of them has been read.
-use Rattle.std.proofs.Common.{◌≡◌, ◌∙◌, ℕ, zero, suc, ◌+◌, ◌<◌, arith, List, [], ◌∷◌, ◌++◌, length, get_or, drop, Some, None, Result, Ok, Err, sym, refl, ap}
+use Rattle.std.proofs.Common.{◌≡◌, ◌∙◌, ℕ, zero, suc, ◌+◌, ◌<◌, arith, List, [], ◌∷◌, ◌++◌, length, get_or, drop, Some, None, sym, refl, ap}
 use Rattle.std.proofs.Math.Seq.{drop-cons}
 use Rattle.c_types.specs.Types.{type_of}
 use Rattle.c_types.specs.Views.{types_in}
@@ -8,11 +8,8 @@ use Rattle.c_tree.specs.Tree.{Expr}
 use Rattle.c_tree.specs.Views.{exprs_of, exprs_nodes, expr_nodes}
 use Rattle.c_typed.specs.Tree as to
 use Rattle.c_check_types.specs.State.{State, Rule, followed}
-use Rattle.c_check_types.specs.declared.fault.Stop.{Stop}
-use Rattle.c_check_types.specs.declared.fault.Stop.TheVariants as stops
 use Rattle.c_check_types.specs.TypeEquality.{tys_of}
-use Rattle.c_check_types.specs.Views.{Answers}
-use Rattle.c_check_exprs.specs.Expressions.{argument, arguments, sole, typing}
+use Rattle.c_check_exprs.specs.Expressions.{arguments, as_assigned, sole, typing}
 
 -- what goes on behind an argument
 abbrev pub going_on : List Expr → List CType → List to.Expr → to.Expr → Rule (List to.Expr)
@@ -20,19 +17,19 @@ going_on es ts vs v = arguments (exprs_of es) (tys_of (types_in ts)) (vs ++ v �
 
 pub front : (es : List Expr) (ts : List CType) (i : ℕ) (e : Expr) (t : CType) → i < length es → i < length ts → e ≡ get_or es i e → t ≡ get_or ts i t → (vs : List to.Expr) (s : State)
     → arguments (exprs_of (drop i es)) (tys_of (types_in (drop i ts))) vs s
-    ≡ followed (argument (type_of t) (typing e) s) (going_on (drop (suc i) es) (drop (suc i) ts) vs)
+    ≡ followed (as_assigned (type_of t) (typing e) s) (going_on (drop (suc i) es) (drop (suc i) ts) vs)
 front es ts i e t l m p q vs s =
     ap (λ (l : List Expr). arguments (exprs_of l) (tys_of (types_in (drop i ts))) vs s) (drop-cons es i e l)
     ∙ ap (λ (l : List CType). arguments (exprs_of (get_or es i e ∷ drop (suc i) es)) (tys_of (types_in l)) vs s) (drop-cons ts i t m)
-    ∙ ap (λ (x : Expr). followed (argument (type_of (get_or ts i t)) (typing x) s) (going_on (drop (suc i) es) (drop (suc i) ts) vs)) (sym p)
-    ∙ ap (λ (u : CType). followed (argument (type_of u) (typing e) s) (going_on (drop (suc i) es) (drop (suc i) ts) vs)) (sym q)
+    ∙ ap (λ (x : Expr). followed (as_assigned (type_of (get_or ts i t)) (typing x) s) (going_on (drop (suc i) es) (drop (suc i) ts) vs)) (sym p)
+    ∙ ap (λ (u : CType). followed (as_assigned (type_of u) (typing e) s) (going_on (drop (suc i) es) (drop (suc i) ts) vs)) (sym q)
 
 pub differ : (es : List Expr) (ts : List CType) → (length es ≡ length ts → ⊥) → (vs : List to.Expr) (s : State) → arguments (exprs_of es) (tys_of (types_in ts)) vs s ≡ None
 differ [] [] d vs s = absurd (d refl)
 differ [] (t ∷ ts) d vs s = refl
 differ (e ∷ es) [] d vs s = refl
 differ (e ∷ es) (t ∷ ts) d vs s =
-    elim (argument (type_of t) (typing e) s) as (λ o. followed o (going_on es ts vs) ≡ None) [ None ↦ refl | Some x ↦ differ es ts (λ p. d (ap suc p)) (vs ++ x.0 ∷ []) x.1 ]
+    elim (as_assigned (type_of t) (typing e) s) as (λ o. followed o (going_on es ts vs) ≡ None) [ None ↦ refl | Some x ↦ differ es ts (λ p. d (ap suc p)) (vs ++ x.0 ∷ []) x.1 ]
 
 pub sole_is : (es : List Expr) (e : Expr) → length es ≡ 1 → e ≡ get_or es 0 e → (s : State) → sole (exprs_of es) s ≡ typing e s
 sole_is [] e l p s = absurd (omega arith)
@@ -49,9 +46,3 @@ pub one_falls : (es : List Expr) (i : ℕ) (e : Expr) → i < length es → e �
 one_falls [] i e lt p = absurd (omega arith)
 one_falls (x ∷ es) zero e lt p = let same : expr_nodes e ≡ expr_nodes x = ap (λ y. expr_nodes y) p in omega arith
 one_falls (x ∷ es) (suc i) e lt p = let more = one_falls es i e (omega arith) p in omega arith
-
--- what an answer says of a rule, it says of one that is the same there
-pub answered : {A B : Type 0} (view : B → A) (f g : Rule A) (old new : State) (r : Result B Stop) → f old ≡ g old → Answers view g old new r → Answers view f old new r
-answered view f g old new (Ok x) e h = e ∙ h
-answered view f g old new (Err stops.NoTyping) e h = e ∙ h
-answered view f g old new (Err stops.Memory) e h = tt

@@ -11,7 +11,7 @@ use Rattle.c_typed.specs.Tree as to
 use Rattle.c_typed.specs.Views as views
 use Rattle.c_typed.specs.Views.{expr_of}
 use Rattle.c_check_exprs.specs.Expressions.{exprs_of, no_arguments}
-use Rattle.c_check_exprs.specs.FormViews.{exprs_in}
+use Rattle.c_check_exprs.specs.Views.{exprs_in}
 
 row_is : (n : _) (row : Row_of-Expr n) → views.exprs_of row ≡ exprs_of (exprs_in (items-the_row-Expr n row))
 row_is n end_of-Expr = refl

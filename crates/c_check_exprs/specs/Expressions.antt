@@ -18,8 +18,6 @@ use Rattle.c_tree.specs.Tree as tree
 use Rattle.c_tree.specs.Tree.{Expr, Exprs}
 use Rattle.c_typed.specs.declared.ops.BinaryOp.{BinaryOp}
 use Rattle.c_typed.specs.declared.ops.BinaryOp.TheVariants as ops
-use Rattle.c_typed.specs.declared.ops.RelOp.{RelOp}
-use Rattle.c_typed.specs.declared.ops.RelOp.TheVariants as relations
 use Rattle.c_typed.specs.declared.ops.UnaryOp.{UnaryOp}
 use Rattle.c_typed.specs.declared.ops.UnaryOp.TheVariants as signs
 use Rattle.c_typed.specs.declared.ops.Variable.TheVariants as variables
@@ -37,8 +35,9 @@ use Rattle.c_check_types.specs.TypeEquality.{same_type}
 use Rattle.c_check_types.specs.Operators.{operator_of}
 use Rattle.c_check_types.specs.Constants.{constant_type, constant_bits, character_bits}
 use Rattle.c_check_types.specs.Types.{size_of, type_name}
-use Rattle.c_check_exprs.specs.Forms as form
-use Rattle.c_check_exprs.specs.Forms.{Form, place, value, designator, text, zero, allocation, operand, value_of, integer_of, pointer_of, place_of, at_type, condition_of, null_of, assigned_to, thrown_away}
+use Rattle.c_forms.specs.Forms as form
+use Rattle.c_forms.specs.Operations.{promoted_value, arithmetic, shift, sum, minus, order, equality, choice}
+use Rattle.c_forms.specs.Forms.{Form, place, value, designator, text, zero, allocation, operand, value_of, integer_of, pointer_of, place_of, at_type, condition_of, assigned_to, thrown_away}
 
 -- ---- names (6.5.1)
 
@@ -78,168 +77,84 @@ name_form name None = do
   e ← named_entity name
   entity_form e
 
--- ---- operators on integers
+-- ---- an expression that is used, by its rule
 
-abbrev pub promoted_value : to.Expr × IntType → to.Expr
-promoted_value (e, t) = at_type t (promoted t) e
+abbrev pub an_operand : Rule Form → Rule Form
+an_operand rule = do
+  x ← rule
+  operand x
 
--- both operands at one type
-abbrev pub at_one_type : BinaryOp → IntType → to.Expr × IntType → to.Expr × IntType → Form
-at_one_type op c (a, t) (b, u) =
-    value (to.binary op c (at_type t c a) (at_type u c b)) (integer c)
+abbrev pub a_value : Rule Form → Rule (to.Expr × Ty)
+a_value rule = do
+  x ← rule
+  value_of x
 
--- at their common type (6.3.1.8)
-abbrev pub arithmetic : BinaryOp → to.Expr × IntType → to.Expr × IntType → Form
-arithmetic op x y = at_one_type op (common x.1 y.1) x y
+abbrev pub an_integer : Rule Form → Rule (to.Expr × IntType)
+an_integer rule = do
+  x ← rule
+  integer_of x
 
--- at the promoted type of the left one (6.5.7)
-abbrev pub shift : BinaryOp → to.Expr × IntType → to.Expr × IntType → Form
-shift op x y = at_one_type op (promoted x.1) x y
+abbrev pub a_pointer : Rule Form → Rule (to.Expr × Ty)
+a_pointer rule = do
+  x ← rule
+  pointer_of x
 
-abbrev pub compared : RelOp → to.Expr × IntType → to.Expr × IntType → Form
-compared op (a, t) (b, u) =
-    let c = common t u in value (to.compare op c (at_type t c a) (at_type u c b)) (integer Int)
+abbrev pub a_place : Rule Form → Rule (Place × Ty)
+a_place rule = do
+  x ← rule
+  place_of x
 
--- ---- operators on pointers (6.5.6, 6.5.8, 6.5.9)
+abbrev pub a_condition : Rule Form → Rule to.Expr
+a_condition rule = do
+  x ← rule
+  condition_of x
 
--- on, or back, by an integer; what the pointer leads to has a size
-abbrev pub moved : (back : Bool) → to.Expr × Ty → to.Expr × IntType → Rule Form
-moved back (p, t) (i, u) = do
-  size_of t
-  pure (value (to.move t back p (at_type u LongLong i)) (pointer t))
+-- as if it were assigned to a type: an argument of a parameter of this type, a result, an initializer
+abbrev pub as_assigned : Ty → Rule Form → Rule to.Expr
+as_assigned t rule = do
+  x ← rule
+  assigned_to t x
 
-abbrev pub moved_by : to.Expr × IntType → to.Expr × Ty → Rule Form
-moved_by (i, u) (p, t) = do
-  size_of t
-  pure (value (to.move_by t (at_type u LongLong i) p) (pointer t))
+abbrev pub performed : Rule Form → Rule to.Expr
+performed rule = do
+  x ← rule
+  thrown_away x
 
-abbrev pub difference : to.Expr × Ty → to.Expr × Ty → Rule Form
-difference (p, t) (q, u) = do
-  only_if (same_type t u)
-  size_of t
-  pure (value (to.difference t p q) (integer LongLong))
+-- ---- operators between two operands, the left one first
 
-abbrev pub is_equal : RelOp → Bool
-is_equal relations.Equal = true
-is_equal _ = false
-
--- pointers to functions have equality alone
-abbrev pub equal_pointers : RelOp → (to_function : Bool) → to.Expr → to.Expr → Form
-equal_pointers op true p q = value (to.same_function (is_equal op) p q) (integer Int)
-equal_pointers op false p q = value (to.compare_pointers op p q) (integer Int)
-
-abbrev pub ordered_pointers : RelOp → (to_function : Bool) → to.Expr → to.Expr → Rule Form
-ordered_pointers op true p q = none
-ordered_pointers op false p q = pure (value (to.compare_pointers op p q) (integer Int))
-
--- ---- operators on two operands
-
-abbrev pub sum : to.Expr × Ty → to.Expr × Ty → Rule Form
-sum (a, integer t) (b, integer u) = pure (arithmetic ops.Add (a, t) (b, u))
-sum (a, pointer t) (b, integer u) = moved false (a, t) (b, u)
-sum (a, integer t) (b, pointer u) = moved_by (a, t) (b, u)
-sum _ _ = none
-
-abbrev pub minus : to.Expr × Ty → to.Expr × Ty → Rule Form
-minus (a, integer t) (b, integer u) = pure (arithmetic ops.Sub (a, t) (b, u))
-minus (a, pointer t) (b, integer u) = moved true (a, t) (b, u)
-minus (a, pointer t) (b, pointer u) = difference (a, t) (b, u)
-minus _ _ = none
-
-abbrev pub order : RelOp → to.Expr × Ty → to.Expr × Ty → Rule Form
-order op (a, integer t) (b, integer u) = pure (compared op (a, t) (b, u))
-order op (a, pointer t) (b, pointer u) = do
-  only_if (same_type t u)
-  ordered_pointers op (is_function t) a b
-order op _ _ = none
-
--- a null constant takes the type of the pointer beside it
-abbrev pub equality : RelOp → Form → Form → Rule Form
-equality op (value a (integer t)) (value b (integer u)) = pure (compared op (a, t) (b, u))
-equality op (value a (integer t)) (zero u) = pure (compared op (a, t) (to.number u 0, u))
-equality op (zero t) (value b (integer u)) = pure (compared op (to.number t 0, t) (b, u))
-equality op (zero t) (zero u) = pure (compared op (to.number t 0, t) (to.number u 0, u))
-equality op (value a (pointer t)) (value b (pointer u)) = do
-  only_if (same_type t u)
-  pure (equal_pointers op (is_function t) a b)
-equality op (value a (pointer t)) (zero u) = pure (equal_pointers op (is_function t) a (null_of t))
-equality op (value a (pointer t)) form.null = pure (equal_pointers op (is_function t) a (null_of t))
-equality op (zero t) (value b (pointer u)) = pure (equal_pointers op (is_function u) (null_of u) b)
-equality op form.null (value b (pointer u)) = pure (equal_pointers op (is_function u) (null_of u) b)
-equality op _ _ = none
-
--- of two operands, the left one first
 abbrev pub operating : Operator → Form → Rule Form → Rule Form
 operating And x right = do
   c ← condition_of x
-  y ← right
-  d ← condition_of y
+  d ← a_condition right
   pure (value (to.and c d) (integer Int))
 operating Or x right = do
   c ← condition_of x
-  y ← right
-  d ← condition_of y
+  d ← a_condition right
   pure (value (to.or c d) (integer Int))
 operating (Equality op) x right = do
   u ← operand x
-  y ← right
-  v ← operand y
-  equality op u v
+  v ← an_operand right
+  given (equality op u v)
 operating (Order op) x right = do
   u ← value_of x
-  y ← right
-  v ← value_of y
-  order op u v
+  v ← a_value right
+  given (order op u v)
 operating (Arithmetic op) x right = do
   u ← integer_of x
-  y ← right
-  v ← integer_of y
+  v ← an_integer right
   pure (arithmetic op u v)
 operating (Shift op) x right = do
   u ← integer_of x
-  y ← right
-  v ← integer_of y
+  v ← an_integer right
   pure (shift op u v)
 operating Plus x right = do
   u ← value_of x
-  y ← right
-  v ← value_of y
+  v ← a_value right
   sum u v
 operating Minus x right = do
   u ← value_of x
-  y ← right
-  v ← value_of y
+  v ← a_value right
   minus u v
-
--- ---- `c ? x : y` (6.5.15)
-
-abbrev pub chosen : to.Expr → (t : Ty) → to.Expr → to.Expr → Form
-chosen c t a b = value (to.choose (scalar_of t) c a b) t
-
-abbrev pub chosen_integer : to.Expr → to.Expr × IntType → to.Expr × IntType → Form
-chosen_integer c (a, t) (b, u) =
-    let v = common t u in chosen c (integer v) (at_type t v a) (at_type u v b)
-
-abbrev pub choice : to.Expr → Form → Form → Rule Form
-choice c (value a (integer t)) (value b (integer u)) = pure (chosen_integer c (a, t) (b, u))
-choice c (value a (integer t)) (zero u) = pure (chosen_integer c (a, t) (to.number u 0, u))
-choice c (zero t) (value b (integer u)) = pure (chosen_integer c (to.number t 0, t) (b, u))
-choice c (zero t) (zero u) = pure (chosen_integer c (to.number t 0, t) (to.number u 0, u))
-choice c (value a (pointer t)) (value b (pointer u)) = do
-  only_if (same_type t u)
-  pure (chosen c (pointer t) a b)
-choice c (value a (pointer t)) (zero u) = pure (chosen c (pointer t) a (null_of t))
-choice c (value a (pointer t)) form.null = pure (chosen c (pointer t) a (null_of t))
-choice c (zero t) (value b (pointer u)) = pure (chosen c (pointer u) (null_of u) b)
-choice c form.null (value b (pointer u)) = pure (chosen c (pointer u) (null_of u) b)
-choice c (value a void) (value b void) = pure (chosen c void a b)
-choice c _ _ = none
-
--- 6.5.17
-abbrev pub comma : to.Expr → Form → Rule Form
-comma e f = do
-  v ← value_of f
-  pure (value (to.comma e v.0) v.1)
 
 -- ---- unary operators (6.5.3)
 
@@ -353,6 +268,11 @@ abbrev pub stepped : (old : Bool) → Operator → Form → Rule Form
 stepped old op f = do
   p ← place_of f
   updated old op p (to.number Int 1, Int)
+
+abbrev pub a_step : (old : Bool) → Operator → Rule Form → Rule Form
+a_step old op rule = do
+  x ← rule
+  stepped old op x
 
 abbrev pub step_operator : StepOp → Operator
 step_operator steps.Increment = Plus
@@ -470,18 +390,11 @@ library_call prelude.Free es only = do
 library_call prelude.Null es only = none
 library_call prelude.Eof es only = none
 
--- an argument of a parameter of this type
-abbrev pub argument : Ty → Rule Form → Rule to.Expr
-argument t rule = do
-  x ← rule
-  assigned_to t x
-
 -- a call: of the library, or of a function or a pointer to one
 abbrev pub calling : Option LibraryName → Rule Form → Exprs → Rule Form → (Tys → Rule (List to.Expr)) → Rule Form
 calling (Some l) callee es only arguments = library_call l es only
 calling None callee es only arguments = do
-  x ← callee
-  p ← pointer_of x
+  p ← a_pointer callee
   called p arguments
 
 -- a cast of a form (6.5.4)
@@ -515,18 +428,14 @@ abbrev mutual
   typing (tree.string bytes) = pure (text bytes)
   typing (tree.paren e) = typing e
   typing (tree.index a i) = do
-    x ← typing a
-    p ← pointer_of x
-    y ← typing i
-    j ← integer_of y
+    p ← a_pointer (typing a)
+    j ← an_integer (typing i)
     element p j
   typing (tree.call f es) = calling (called_library f) (typing f) es (sole es) (λ ts. arguments es ts [])
   typing (tree.member op e n) = do
     x ← typing e
     member op x n
-  typing (tree.after op e) = do
-    x ← typing e
-    stepped true (step_operator op) x
+  typing (tree.after op e) = a_step true (step_operator op) (typing e)
   typing (tree.unary unaries.AddressOf e) = do
     x ← typing e
     address x
@@ -545,12 +454,8 @@ abbrev mutual
   typing (tree.unary unaries.Not e) = do
     x ← typing e
     negated x
-  typing (tree.unary unaries.Increment e) = do
-    x ← typing e
-    stepped false Plus x
-  typing (tree.unary unaries.Decrement e) = do
-    x ← typing e
-    stepped false Minus x
+  typing (tree.unary unaries.Increment e) = a_step false Plus (typing e)
+  typing (tree.unary unaries.Decrement e) = a_step false Minus (typing e)
   typing (tree.unary unaries.SizeOf e) = unevaluated (size_of_value (typing e))
   typing (tree.size_of_type s d) = do
     t ← type_name s d
@@ -560,27 +465,23 @@ abbrev mutual
     t ← type_name s d
     x ← typing e
     cast t x
+  -- 6.5.17
   typing (tree.between Comma a b) = do
-    x ← typing a
-    e ← thrown_away x
-    y ← typing b
-    comma e y
+    e ← performed (typing a)
+    v ← a_value (typing b)
+    pure (value (to.comma e v.0) v.1)
   typing (tree.between (Assign op) a b) = do
-    x ← typing a
-    p ← place_of x
+    p ← a_place (typing a)
     y ← typing b
     assigning (assign_operator op) p y
   typing (tree.between (Binary op) a b) = do
     x ← typing a
     operating (operator_of op) x (typing b)
   typing (tree.choice c a b) = do
-    x ← typing c
-    test ← condition_of x
-    y ← typing a
-    u ← operand y
-    z ← typing b
-    v ← operand z
-    choice test u v
+    test ← a_condition (typing c)
+    u ← an_operand (typing a)
+    v ← an_operand (typing b)
+    given (choice test u v)
 
   -- the sole argument
   pub sole : Exprs → Rule Form
@@ -591,6 +492,6 @@ abbrev mutual
   pub arguments : Exprs → Tys → List to.Expr → Rule (List to.Expr)
   arguments tree.no_exprs no_types vs = pure vs
   arguments (tree.expr_and e es) (types t ts) vs = do
-    v ← argument t (typing e)
+    v ← as_assigned t (typing e)
     arguments es ts (vs ++ v ∷ [])
   arguments _ _ vs = none

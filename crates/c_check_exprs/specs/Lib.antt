@@ -1,3 +1,2 @@
-pub mod Forms
-pub mod FormViews
 pub mod Expressions
+pub mod Views

@@ -6,29 +6,27 @@ ghost use Rattle.c_types.specs.Views.{types_in};
 ghost use Rattle.c_typed.specs.Views.{expr_of};
 ghost use Rattle.c_tree.specs.Tree as tree;
 ghost use Rattle.c_check_types.specs.TypeEquality.{tys_of};
+ghost use Rattle.c_check_types.specs.declared.operators.Operator.TheVariants.{And, Equality, Or};
 ghost use Rattle.c_check_types.specs.Views.{Answers, state_of};
+ghost use Rattle.c_forms.specs.FormViews.{boxed_expr, form_of, integer_pair, place_pair, value_pair};
 ghost use Rattle.c_check_exprs.specs.Expressions as words;
-ghost use Rattle.c_check_exprs.specs.FormViews.{boxed_expr, exprs_in, form_of};
+ghost use Rattle.c_check_exprs.specs.Views.{exprs_in};
 
-use crate::arithmetic::{arithmetic, shift};
 use crate::assign::{assign_operator, assigning, step_operator, stepped};
 use crate::call::{allocating, call_of, cast, freeing, putting};
-use crate::choice::choice;
-use crate::equality::equality;
-use crate::form::{
-    Form, as_place, assigned_to, condition_of, integer_of, operand, pointer_of, thrown_away,
-    value_of,
-};
 use crate::member::{element, member};
 use crate::name::{name_form, number};
-use crate::operate::{minus, order, sum};
 use crate::unary::{address, deref, not, plus, signed, size, sized};
 use c_check_types::{
     Checker, LibraryName, Operator, Stop, character_bits, constant_bits, constant_type, library,
     operator_of,
 };
+use c_forms::{
+    Form, arithmetic, as_place, assigned_to, choice, condition_of, equality, integer_of, minus,
+    operand, order, pointer_of, shift, sum, thrown_away, value_of,
+};
 use c_tree::{Args, Expr as Written, ExprNode, Infix};
-use c_typed::{Expr, Made, Sized, UnaryOp, boxed};
+use c_typed::{Expr, Made, Place, RelOp, Sized, UnaryOp, boxed};
 use c_types::{CType, IntType, Signature};
 use std::alloc::{AllocError, Global};
 use std::mem;
@@ -49,10 +47,8 @@ pub fn typing<'a>(checker: &mut Checker<'a>, e: &'a Written) -> Result<Form<'a>,
         ExprNode::String(bytes) => Ok(Form::Text(bytes.as_slice())),
         ExprNode::Paren(e) => typing(checker, e),
         ExprNode::Index(a, i) => {
-            let x = typing(checker, a)?;
-            let p = pointer_of(checker, x)?;
-            let y = typing(checker, i)?;
-            let j = integer_of(checker, y)?;
+            let p = typed_pointer(checker, a)?;
+            let j = typed_integer(checker, i)?;
             element(checker, p, j)
         }
         ExprNode::Call(f, es) => call(checker, f, es),
@@ -60,10 +56,7 @@ pub fn typing<'a>(checker: &mut Checker<'a>, e: &'a Written) -> Result<Form<'a>,
             let x = typing(checker, e)?;
             member(checker, *op, x, n.as_slice())
         }
-        ExprNode::After(op, e) => {
-            let x = typing(checker, e)?;
-            stepped(checker, true, step_operator(*op), x)
-        }
+        ExprNode::After(op, e) => step(checker, true, step_operator(*op), e),
         ExprNode::Unary(op, e) => unary(checker, *op, e),
         ExprNode::SizeOfType(s, d) => {
             let t = checker.type_name(s, d)?;
@@ -75,31 +68,8 @@ pub fn typing<'a>(checker: &mut Checker<'a>, e: &'a Written) -> Result<Form<'a>,
             let x = typing(checker, e)?;
             cast(checker, t, x)
         }
-        ExprNode::Between(Infix::Comma, a, b) => {
-            let x = typing(checker, a)?;
-            let e = thrown_away(checker, x)?;
-            let y = typing(checker, b)?;
-            comma(checker, e, y)
-        }
-        ExprNode::Between(Infix::Assign(op), a, b) => {
-            let x = typing(checker, a)?;
-            let p = as_place(x)?;
-            let y = typing(checker, b)?;
-            assigning(checker, assign_operator(*op), p, y)
-        }
-        ExprNode::Between(Infix::Binary(op), a, b) => {
-            let x = typing(checker, a)?;
-            operating(checker, operator_of(*op), x, b)
-        }
-        ExprNode::Choice(c, a, b) => {
-            let x = typing(checker, c)?;
-            let test = condition_of(checker, x)?;
-            let y = typing(checker, a)?;
-            let u = operand(checker, y)?;
-            let z = typing(checker, b)?;
-            let v = operand(checker, z)?;
-            choice(checker, test, u, v)
-        }
+        ExprNode::Between(op, a, b) => between(checker, *op, a, b),
+        ExprNode::Choice(c, a, b) => choosing(checker, c, a, b),
     }
 }
 
@@ -114,13 +84,141 @@ fn constant_form<'a>(alloc: Global, n: u64, t: IntType) -> Result<Form<'a>, Allo
     }
 }
 
-/// `e, f` (C11, 6.5.17).
-fn comma<'a>(checker: &mut Checker<'a>, e: Box<Expr>, f: Form<'a>) -> Result<Form<'a>, Stop>
-    ensures { Answers form_of (words.comma (expr_of e.value) (form_of f.entry)) (state_of checker.old) (state_of checker.new) result }
+/// An expression as an operand: a value, the constant 0 or NULL.
+#[cycle(typing)]
+fn typed_operand<'a>(checker: &mut Checker<'a>, e: &'a Written) -> Result<Form<'a>, Stop>
+    ensures { Answers form_of (words.an_operand (words.typing e.now)) (state_of checker.old) (state_of checker.new) result }
 {
-    let (v, t) = value_of(checker, f)?;
-    let e = boxed(checker.alloc, Expr::Comma(e, v))?;
-    Ok(Form::Value(e, t))
+    let x = typing(checker, e)?;
+    operand(checker, x)
+}
+
+/// An expression as a value, with its type.
+#[cycle(typing)]
+fn typed_value<'a>(checker: &mut Checker<'a>, e: &'a Written) -> Result<(Box<Expr>, CType), Stop>
+    ensures { Answers value_pair (words.a_value (words.typing e.now)) (state_of checker.old) (state_of checker.new) result }
+{
+    let x = typing(checker, e)?;
+    value_of(checker, x)
+}
+
+/// An expression as an integer, with its type.
+#[cycle(typing)]
+fn typed_integer<'a>(
+    checker: &mut Checker<'a>,
+    e: &'a Written,
+) -> Result<(Box<Expr>, IntType), Stop>
+    ensures { Answers integer_pair (words.an_integer (words.typing e.now)) (state_of checker.old) (state_of checker.new) result }
+{
+    let x = typing(checker, e)?;
+    integer_of(checker, x)
+}
+
+/// An expression as a pointer, with what it leads to.
+#[cycle(typing)]
+fn typed_pointer<'a>(checker: &mut Checker<'a>, e: &'a Written) -> Result<(Box<Expr>, CType), Stop>
+    ensures { Answers value_pair (words.a_pointer (words.typing e.now)) (state_of checker.old) (state_of checker.new) result }
+{
+    let x = typing(checker, e)?;
+    pointer_of(checker, x)
+}
+
+/// An expression as a place, with its type.
+#[cycle(typing)]
+pub fn typed_place<'a>(
+    checker: &mut Checker<'a>,
+    e: &'a Written,
+) -> Result<(Box<Place>, CType), Stop>
+    ensures { Answers place_pair (words.a_place (words.typing e.now)) (state_of checker.old) (state_of checker.new) result }
+{
+    let x = typing(checker, e)?;
+    as_place(x)
+}
+
+/// An expression as a condition (C11, 6.8.4.1).
+#[cycle(typing)]
+pub fn typed_condition<'a>(checker: &mut Checker<'a>, e: &'a Written) -> Result<Box<Expr>, Stop>
+    ensures { Answers boxed_expr (words.a_condition (words.typing e.now)) (state_of checker.old) (state_of checker.new) result }
+{
+    let x = typing(checker, e)?;
+    condition_of(checker, x)
+}
+
+/// An expression whose value is thrown away (C11, 6.3.2.2).
+#[cycle(typing)]
+pub fn performed<'a>(checker: &mut Checker<'a>, e: &'a Written) -> Result<Box<Expr>, Stop>
+    ensures { Answers boxed_expr (words.performed (words.typing e.now)) (state_of checker.old) (state_of checker.new) result }
+{
+    let x = typing(checker, e)?;
+    thrown_away(checker, x)
+}
+
+/// An expression as a type, as if by assignment (C11, 6.5.16.1).
+#[cycle(typing)]
+pub fn typed_as<'a>(checker: &mut Checker<'a>, e: &'a Written, t: &CType) -> Result<Box<Expr>, Stop>
+    ensures { Answers boxed_expr (words.as_assigned (type_of t.now) (words.typing e.now)) (state_of checker.old) (state_of checker.new) result }
+{
+    let x = typing(checker, e)?;
+    assigned_to(checker, t, x)
+}
+
+/// `++` or `--`, on either side (C11, 6.5.2.4 and 6.5.3.1); whether it gives the old value.
+#[cycle(typing)]
+fn step<'a>(
+    checker: &mut Checker<'a>,
+    old: bool,
+    op: Operator,
+    e: &'a Written,
+) -> Result<Form<'a>, Stop>
+    ensures { Answers form_of (words.a_step old op (words.typing e.now)) (state_of checker.old) (state_of checker.new) result }
+{
+    let x = typing(checker, e)?;
+    stepped(checker, old, op, x)
+}
+
+/// What stands between two operands (C11, 6.5.5 to 6.5.14, 6.5.16 and 6.5.17).
+#[cycle(typing)]
+fn between<'a>(
+    checker: &mut Checker<'a>,
+    op: Infix,
+    a: &'a Written,
+    b: &'a Written,
+) -> Result<Form<'a>, Stop>
+    ensures { Answers form_of (words.typing (tree.between op a.now b.now)) (state_of checker.old) (state_of checker.new) result }
+{
+    match op {
+        Infix::Comma => {
+            let e = performed(checker, a)?;
+            let (v, t) = typed_value(checker, b)?;
+            let e = boxed(checker.alloc, Expr::Comma(e, v))?;
+            Ok(Form::Value(e, t))
+        }
+        Infix::Assign(op) => {
+            let p = typed_place(checker, a)?;
+            let y = typing(checker, b)?;
+            assigning(checker, assign_operator(op), p, y)
+        }
+        Infix::Binary(op) => {
+            let x = typing(checker, a)?;
+            operating(checker, operator_of(op), x, b)
+        }
+    }
+}
+
+/// `c ? a : b` (C11, 6.5.15).
+#[cycle(typing)]
+fn choosing<'a>(
+    checker: &mut Checker<'a>,
+    c: &'a Written,
+    a: &'a Written,
+    b: &'a Written,
+) -> Result<Form<'a>, Stop>
+    ensures { Answers form_of (words.typing (tree.choice c.now a.now b.now)) (state_of checker.old) (state_of checker.new) result }
+{
+    let test = typed_condition(checker, c)?;
+    let u = typed_operand(checker, a)?;
+    let v = typed_operand(checker, b)?;
+    choice(checker.alloc, test, u, v)
 }
 
 /// An operator before its operand (C11, 6.5.3).
@@ -157,14 +255,8 @@ fn unary<'a>(
             let x = typing(checker, e)?;
             not(checker, x)
         }
-        c_tree::UnaryOp::Increment => {
-            let x = typing(checker, e)?;
-            stepped(checker, false, Operator::Plus, x)
-        }
-        c_tree::UnaryOp::Decrement => {
-            let x = typing(checker, e)?;
-            stepped(checker, false, Operator::Minus, x)
-        }
+        c_tree::UnaryOp::Increment => step(checker, false, Operator::Plus, e),
+        c_tree::UnaryOp::Decrement => step(checker, false, Operator::Minus, e),
         c_tree::UnaryOp::SizeOf => size_of(checker, e),
     }
 }
@@ -195,57 +287,72 @@ fn operating<'a>(
     ensures { Answers form_of (words.operating op (form_of x.entry) (words.typing b.now)) (state_of checker.old) (state_of checker.new) result }
 {
     match op {
-        Operator::And => {
-            let c = condition_of(checker, x)?;
-            let y = typing(checker, b)?;
-            let d = condition_of(checker, y)?;
-            let e = boxed(checker.alloc, Expr::And(c, d))?;
-            Ok(Form::Value(e, CType::Int(IntType::Int)))
-        }
-        Operator::Or => {
-            let c = condition_of(checker, x)?;
-            let y = typing(checker, b)?;
-            let d = condition_of(checker, y)?;
-            let e = boxed(checker.alloc, Expr::Or(c, d))?;
-            Ok(Form::Value(e, CType::Int(IntType::Int)))
-        }
-        Operator::Equality(op) => {
-            let u = operand(checker, x)?;
-            let y = typing(checker, b)?;
-            let v = operand(checker, y)?;
-            equality(checker, op, u, v)
-        }
+        Operator::And => both(checker, x, b),
+        Operator::Or => either(checker, x, b),
+        Operator::Equality(op) => equal(checker, op, x, b),
         Operator::Order(op) => {
             let u = value_of(checker, x)?;
-            let y = typing(checker, b)?;
-            let v = value_of(checker, y)?;
-            order(checker, op, u, v)
+            let v = typed_value(checker, b)?;
+            order(checker.alloc, op, u, v)
         }
         Operator::Arithmetic(op) => {
             let u = integer_of(checker, x)?;
-            let y = typing(checker, b)?;
-            let v = integer_of(checker, y)?;
+            let v = typed_integer(checker, b)?;
             Ok(arithmetic(checker.alloc, op, u, v)?)
         }
         Operator::Shift(op) => {
             let u = integer_of(checker, x)?;
-            let y = typing(checker, b)?;
-            let v = integer_of(checker, y)?;
+            let v = typed_integer(checker, b)?;
             Ok(shift(checker.alloc, op, u, v)?)
         }
         Operator::Plus => {
             let u = value_of(checker, x)?;
-            let y = typing(checker, b)?;
-            let v = value_of(checker, y)?;
+            let v = typed_value(checker, b)?;
             sum(checker, u, v)
         }
         Operator::Minus => {
             let u = value_of(checker, x)?;
-            let y = typing(checker, b)?;
-            let v = value_of(checker, y)?;
+            let v = typed_value(checker, b)?;
             minus(checker, u, v)
         }
     }
+}
+
+/// `x && b` (C11, 6.5.13).
+#[cycle(typing)]
+fn both<'a>(checker: &mut Checker<'a>, x: Form<'a>, b: &'a Written) -> Result<Form<'a>, Stop>
+    ensures { Answers form_of (words.operating And (form_of x.entry) (words.typing b.now)) (state_of checker.old) (state_of checker.new) result }
+{
+    let c = condition_of(checker, x)?;
+    let d = typed_condition(checker, b)?;
+    let e = boxed(checker.alloc, Expr::And(c, d))?;
+    Ok(Form::Value(e, CType::Int(IntType::Int)))
+}
+
+/// `x || b` (C11, 6.5.14).
+#[cycle(typing)]
+fn either<'a>(checker: &mut Checker<'a>, x: Form<'a>, b: &'a Written) -> Result<Form<'a>, Stop>
+    ensures { Answers form_of (words.operating Or (form_of x.entry) (words.typing b.now)) (state_of checker.old) (state_of checker.new) result }
+{
+    let c = condition_of(checker, x)?;
+    let d = typed_condition(checker, b)?;
+    let e = boxed(checker.alloc, Expr::Or(c, d))?;
+    Ok(Form::Value(e, CType::Int(IntType::Int)))
+}
+
+/// `x == b` and `x != b` (C11, 6.5.9).
+#[cycle(typing)]
+fn equal<'a>(
+    checker: &mut Checker<'a>,
+    op: RelOp,
+    x: Form<'a>,
+    b: &'a Written,
+) -> Result<Form<'a>, Stop>
+    ensures { Answers form_of (words.operating (Equality op) (form_of x.entry) (words.typing b.now)) (state_of checker.old) (state_of checker.new) result }
+{
+    let u = operand(checker, x)?;
+    let v = typed_operand(checker, b)?;
+    equality(checker.alloc, op, u, v)
 }
 
 /// The library's function that a call names, if it does.
@@ -278,8 +385,7 @@ fn call<'a>(checker: &mut Checker<'a>, f: &'a Written, es: &'a Args) -> Result<F
     match called_library(f) {
         Some(l) => library_call(checker, l, es),
         None => {
-            let x = typing(checker, f)?;
-            let (e, t) = pointer_of(checker, x)?;
+            let (e, t) = typed_pointer(checker, f)?;
             called(checker, e, t, es)
         }
     }
@@ -403,19 +509,10 @@ fn arguments<'a>(
     for i in 0..items.len() {
         let e = &items[i];
         let t = &types[i];
-        match argument(checker, e, t) {
+        match typed_as(checker, e, t) {
             Ok(v) => values.push(Box::into_inner(v))?,
             Err(e) => return Err(e),
         }
     }
     Ok(values)
-}
-
-/// An argument, converted to the type of its parameter.
-#[cycle(typing)]
-fn argument<'a>(checker: &mut Checker<'a>, e: &'a Written, t: &CType) -> Result<Box<Expr>, Stop>
-    ensures { Answers boxed_expr (words.argument (type_of t.now) (words.typing e.now)) (state_of checker.old) (state_of checker.new) result }
-{
-    let x = typing(checker, e)?;
-    assigned_to(checker, t, x)
 }

@@ -6,12 +6,13 @@ ghost use Rattle.c_types.specs.Types.{struct, type_of};
 ghost use Rattle.c_typed.specs.Views.{place_of};
 ghost use Rattle.c_check_types.specs.Views.{Answers, Gives, state_of};
 ghost use Rattle.c_check_exprs.specs.Expressions as words;
-ghost use Rattle.c_check_exprs.specs.FormViews.{form_of, integer_pair, numbered_type, value_pair};
+ghost use Rattle.c_forms.specs.FormViews.{form_of, integer_pair, value_pair};
+ghost use Rattle.c_check_exprs.specs.Views.{numbered_type};
 
-use crate::form::{Form, as_place, at_type, pointer_of};
 use crate::name::type_at;
 use crate::unary::place_at;
 use c_check_types::{Checker, Stop};
+use c_forms::{Form, as_place, at_type, pointer_of};
 use c_tree::Access;
 use c_typed::{Expr, Place, boxed};
 use c_types::{CType, IntType, Structs};

@@ -5,27 +5,17 @@ ghost use Rattle.c_types.specs.Types.{integer, type_of};
 ghost use Rattle.c_typed.specs.Tree as to;
 ghost use Rattle.c_types.specs.Views.{types_in};
 ghost use Rattle.c_check_types.specs.Scopes as scopes;
-ghost use Rattle.c_check_types.specs.Views.{Answers, Gives, scope_of, scopes_of, state_of};
+ghost use Rattle.c_check_types.specs.Views.{Answers, Gives, scopes_of, state_of};
 ghost use Rattle.c_check_exprs.specs.Expressions as words;
-ghost use Rattle.c_check_exprs.specs.FormViews.{form_of};
-ghost use Rattle.c_check_exprs.specs.Forms as forms;
+ghost use Rattle.c_forms.specs.FormViews.{form_of};
+ghost use Rattle.c_forms.specs.Forms as forms;
 
-use crate::form::Form;
-use c_check_types::{Checker, Entity, LibraryName, Scope, Stop, library};
+use c_check_types::{Checker, Entity, LibraryName, Scope, Stop, entity_in, library};
+use c_forms::Form;
 use c_typed::{Expr, Place, Variable, boxed};
 use c_types::{CType, IntType};
 use std::alloc::{AllocError, Global};
 use std::collections::LinkedList;
-
-/// What a name stands for in a scope.
-pub fn entity_in(scope: &Scope, name: &[u8]) -> Option<Entity>
-    ensures { result ≡ scopes.entity_in (scope_of scope.now) name.now }
-{
-    match scope.names.find(name) {
-        Some(n) => scope.entities.get(n).copied(),
-        None => None,
-    }
-}
 
 /// What a name stands for: an inner name hides outer ones (C11, 6.2.1, paragraph 4).
 fn entity_of(all: &LinkedList<Scope>, name: &[u8]) -> Option<Entity>

@@ -6,12 +6,11 @@ ghost use Rattle.c_typed.specs.Tree as to;
 ghost use Rattle.c_typed.specs.Views.{expr_of, sized_of};
 ghost use Rattle.c_check_types.specs.Views.{Answers, state_of};
 ghost use Rattle.c_check_exprs.specs.Expressions as words;
-ghost use Rattle.c_check_exprs.specs.Forms as forms;
-ghost use Rattle.c_check_exprs.specs.FormViews.{form_of};
+ghost use Rattle.c_forms.specs.Forms as forms;
+ghost use Rattle.c_forms.specs.FormViews.{form_of};
 
-use crate::arithmetic::promoted_value;
-use crate::form::{Form, condition_of, integer_of, pointer_of, zero_of};
 use c_check_types::{Checker, Stop};
+use c_forms::{Form, condition_of, integer_of, pointer_of, promoted_value, zero_of};
 use c_typed::{Expr, Place, Sized, UnaryOp, boxed};
 use c_types::{CType, IntType};
 use std::alloc::{AllocError, Global};

@@ -2,10 +2,11 @@
 
 ghost use Rattle.std.specs.Prelude.{◌≡◌, ◌≤◌, None, IfOk};
 ghost use Rattle.c_types.specs.Types.{type_of};
+ghost use Rattle.c_check_types.specs.Scopes as scopes;
 ghost use Rattle.c_check_types.specs.Scopes.{new_tag, tag_number};
 ghost use Rattle.c_check_types.specs.Types as words;
 ghost use Rattle.c_check_types.specs.State.{number_of};
-ghost use Rattle.c_check_types.specs.Views.{Answers, state_of};
+ghost use Rattle.c_check_types.specs.Views.{Answers, scope_of, state_of};
 
 use crate::entity::Entity;
 use crate::fault::Stop;
@@ -22,6 +23,16 @@ use std::collections::LinkedList;
 pub struct Scope<'a> {
     pub names: Names<'a>,
     pub entities: Vec<Entity>,
+}
+
+/// What a name stands for in a scope.
+pub fn entity_in(scope: &Scope, name: &[u8]) -> Option<Entity>
+    ensures { result ≡ scopes.entity_in (scope_of scope.now) name.now }
+{
+    match scope.names.find(name) {
+        Some(n) => scope.entities.get(n).copied(),
+        None => None,
+    }
 }
 
 /// What is known at a place in a unit. Contracts see it by `state_of`.

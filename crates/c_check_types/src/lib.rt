@@ -16,7 +16,7 @@ mod operators;
 mod prelude;
 mod types;
 
-pub use checker::{Checker, Scope};
+pub use checker::{Checker, Scope, entity_in};
 pub use constants::{
     Constant, a_number, binary, cast, character_bits, choice, constant_bits, constant_type,
     converted, natural, unary, value_at,

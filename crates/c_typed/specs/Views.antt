@@ -1,13 +1,17 @@
 -- What the code's typed trees are, as plain values.
-use Rattle.std.specs.Prelude.{ℕ, List, [], ◌∷◌, map, Option, Some, None}
+use Rattle.std.specs.Prelude.{ℕ, List, [], ◌∷◌, map, Option, Some, None, Box}
+use Rattle.std.specs.declared.alloc.Global.{Global}
 use Rattle.c_types.specs.Types.{Ty, type_of}
 use Rattle.c_typed.specs.Tree as tree
+use Rattle.c_typed.specs.Parts.{element_place}
 use Rattle.c_typed.specs.declared.tree.Place.{Place}
 use Rattle.c_typed.specs.declared.tree.Place.TheVariants.{Of, Deref', Member'}
 use Rattle.c_typed.specs.declared.tree.Sized.{Sized}
 use Rattle.c_typed.specs.declared.tree.Sized.TheVariants.{Place', Value', Nothing}
 use Rattle.c_typed.specs.declared.tree.Expr.{Expr, Row_of-Expr, end_of-Expr, more_of-Expr}
 use Rattle.c_typed.specs.declared.tree.Expr.TheVariants.{Number, Null, NoFunction, Function, Literal, Read', Decay', Address', Convert', Truth', Not', Unary', Binary', Compare', ComparePointers', SameFunction', Difference', Move', MoveBy', And', Or', Choose', Comma', Assign', Update', Advance', Copy', Call', CallThrough', Putchar', Getchar, Abort, Malloc', Free', Discard', Visit', SizeOf}
+use Rattle.c_typed.specs.declared.path.Path.{Path}
+use Rattle.c_typed.specs.declared.path.Path.TheVariants as paths
 use Rattle.c_typed.specs.declared.tree.Stmt.{Stmt, Row_of-Stmt, end_of-Stmt, more_of-Stmt}
 use Rattle.c_typed.specs.declared.tree.Stmt.TheVariants as stmts
 use Rattle.c_typed.specs.declared.unit.Function.{Function as FunctionCode}
@@ -92,6 +96,18 @@ abbrev mutual
 
 abbrev pub list_of : List Stmt → List tree.Stmt
 list_of ss = map stmt_of ss
+
+-- ---- parts of variables, and what is put together
+
+-- the place of a part
+abbrev pub path_place : Path → tree.Place
+path_place (paths.Variable v) = tree.of v
+path_place (paths.Element' p path t n i) = element_place (path_place path) (type_of t.now) n i
+path_place (paths.Member' p path n m) = tree.member (path_place path) n m
+
+abbrev pub boxed_step : Option (Box Expr Global) → Option tree.Expr
+boxed_step None = None
+boxed_step (Some e) = Some (expr_of e.value)
 
 -- ---- units
 

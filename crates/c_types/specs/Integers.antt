@@ -1,6 +1,5 @@
 -- Integer types (C11, 6.2.5): their ranks, widths and signs, and the conversions among them.
-use Rattle.std.specs.Prelude.{ℕ, ◌&&◌, ℤ, pos, Bool, true, false, if◌then◌else◌, nat_lt, nat_le}
-use Rattle.ms_num.specs.Integers.{wrapped, signed}
+use Rattle.std.specs.Prelude.{ℕ, ◌&&◌, Bool, true, false, if◌then◌else◌, nat_lt, nat_le}
 use Rattle.c_types.specs.declared.integers.IntType.{IntType}
 use Rattle.c_types.specs.declared.integers.IntType.TheVariants.{Char, SignedChar, UnsignedChar, Short, UnsignedShort, Int, UnsignedInt, Long, UnsignedLong, LongLong, UnsignedLongLong}
 
@@ -75,7 +74,3 @@ common t u = of_promoted (promoted t) (promoted u) where
   of_promoted : IntType → IntType → IntType
   of_promoted t u =
       if is_signed t then (if is_signed u then greater t u else of_both_signs t u) else (if is_signed u then of_both_signs u t else greater t u)
-
--- the number of the type that is the same modulo 2^w (6.3.1.3)
-abbrev pub wrap : IntType → ℤ → ℤ
-wrap t z = if is_signed t then signed (bits t) (wrapped (bits t) z) else pos (wrapped (bits t) z)

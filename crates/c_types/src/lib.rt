@@ -1,8 +1,8 @@
 //! The types of C (C11, 6.2.5) and their layout.
 //!
 //! Integer types with their ranks, widths and conversions; types whose parts are shared; the structs that are defined, each
-//! with its layout, and from them sizes, alignments and offsets. It stands on `ms_num`, for the signed and unsigned readings
-//! of bits. `specs/Types.antt` is the definition to read first, then `specs/Layout.antt`.
+//! with its layout, and from them sizes, alignments and offsets. It stands on no other crate. `specs/Types.antt` is the
+//! definition to read first, then `specs/Layout.antt`.
 #![tactic(auto)]
 
 mod definition;

@@ -1,7 +1,7 @@
 use Rattle.std.proofs.Common.{◌∙◌, sym}
 use Rattle.c_types.specs.Types.{type_of}
 use Rattle.c_check_types.specs.Views.{state_of}
-use Rattle.c_check_exprs.proofs.Arguments.{answered}
+use Rattle.c_check_types.proofs.Rules.{answered}
 use Rattle.c_check.specs.Declarations.{declares_alone, names_function}
 use Rattle.c_check.proofs.Alone.{alone}
 use Rattle.c_check.proofs.global.declares_alone.Goals as goal

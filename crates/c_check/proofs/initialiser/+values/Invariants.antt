@@ -1,10 +1,9 @@
 use Rattle.std.proofs.Common.{◌≡◌, ◌+◌, ◌*◌, drop}
 use Rattle.c_types.specs.Types.{type_of}
 use Rattle.c_tree.specs.InitialiserViews.{initialisers_of, initialiser_nodes, initialisers_nodes}
-use Rattle.c_typed.specs.Views.{list_of}
+use Rattle.c_typed.specs.Views.{list_of, path_place}
 use Rattle.c_check_types.specs.Views.{state_of}
 use Rattle.c_check.specs.Initialisers.{elements, members}
-use Rattle.c_check.specs.Views.{path_place}
 use Rattle.c_check.proofs.initialiser.+values.Given as goal
 
 abbrev pub invariant-elements-loop-i : goal.invariant-elements-loop-i

@@ -6,7 +6,7 @@ use Rattle.c_typed.specs.Views.{expr_of}
 use Rattle.c_typed.specs.declared.tree.Expr.{Expr}
 use Rattle.c_check_types.proofs.Rows.{function_is}
 use Rattle.c_check_exprs.specs.Expressions.{exprs_of}
-use Rattle.c_check_exprs.specs.FormViews.{exprs_in}
+use Rattle.c_check_exprs.specs.Views.{exprs_in}
 use Rattle.c_check_exprs.proofs.Lists.{call_through_is}
 use Rattle.c_check_exprs.proofs.call.call_through.Goals as goal
 

@@ -8,8 +8,9 @@ use Rattle.c_check_types.proofs.Rows.{function_is}
 use Rattle.c_check_types.specs.TypeEquality.{tys_of}
 use Rattle.c_check_types.specs.Views.{Answers, state_of}
 use Rattle.c_check_exprs.specs.Expressions.{arguments, called, sole, typing}
-use Rattle.c_check_exprs.specs.FormViews.{form_of}
-use Rattle.c_check_exprs.proofs.Arguments.{answered, differ, one_falls, sole_is, sole_isnt}
+use Rattle.c_forms.specs.FormViews.{form_of}
+use Rattle.c_check_types.proofs.Rules.{answered}
+use Rattle.c_check_exprs.proofs.Arguments.{differ, one_falls, sole_is, sole_isnt}
 use Rattle.c_check_exprs.proofs.expression.+typing.Goals as goal
 
 pub arguments-returns-then-items-types : goal.arguments-returns-then-items-types
@@ -17,8 +18,8 @@ arguments-returns-then-items-types n c =
     let s = state_of c.args.checker.now in
     subst (λ (es : Exprs). arguments es (tys_of (types_in c.args.types.now)) [] s ≡ None) c.items-items.ensures (differ c.items-items.result.now c.args.types.now c.if-items-types.true [] s)
 
-pub arguments-argument-requires : goal.arguments-argument-requires
-arguments-argument-requires n c =
+pub arguments-typed_as-requires : goal.arguments-typed_as-requires
+arguments-typed_as-requires n c =
     let e = c.index-items-i.result in
     let falls = one_falls c.items-items.result.now c.loop-i.i e c.loop-i-test.true c.index-items-i.is in
     let less = subst (λ (es : Exprs). expr_nodes e < exprs_nodes es) c.items-items.ensures falls in

@@ -1,8 +1,0 @@
-use Rattle.std.proofs.Common.{◌∙◌, ap}
-use Rattle.c_tree.specs.Tree.{Initialisers}
-use Rattle.c_check.specs.Initialisers.{count}
-use Rattle.c_check.proofs.Counts.{count_is}
-use Rattle.c_check.proofs.initialiser.count.Goals as goal
-
-pub returns : goal.returns
-returns c = count_is c.items.result.now ∙ ap (λ (vs : Initialisers). count vs) c.items.ensures

@@ -1,0 +1,4 @@
+pub mod Structs
+pub mod Functions
+pub mod Initials
+pub mod Views

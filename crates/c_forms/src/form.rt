@@ -1,0 +1,420 @@
+//! What an expression is before it is used, and how it is used (C11, 6.3).
+
+ghost use Rattle.std.specs.Prelude.{◌≡◌, IfOk, Some};
+ghost use Rattle.c_types.specs.Types.{integer, pointer, scalar_of, type_of};
+ghost use Rattle.c_typed.specs.Tree as to;
+ghost use Rattle.c_typed.specs.Views.{expr_of, place_of};
+ghost use Rattle.c_forms.specs.Forms as words;
+ghost use Rattle.c_forms.specs.FormViews.{boxed_expr, form_of, integer_pair, place_pair, value_pair};
+ghost use Rattle.c_check_types.specs.Views.{Answers, Gives, state_of};
+
+use c_check_types::{Checker, Stop, same_integer, same_type};
+use c_typed::{Expr, Made, Place, boxed};
+use c_types::{CType, IntType, Scalar};
+use std::alloc::{AllocError, Global};
+use std::rc::Rc;
+
+/// What an expression is before it is used.
+#[derive(Drop)]
+pub enum Form<'a> {
+    Place(Box<Place>, CType),
+    /// A value of an integer type or a pointer type, or a void expression.
+    Value(Box<Expr>, CType),
+    /// A function, by a pointer to it, and its type.
+    Designator(Box<Expr>, CType),
+    /// A string literal.
+    Text(&'a [u8]),
+    /// The integer constant 0, which is a null constant, too.
+    Zero(IntType),
+    /// `NULL`.
+    Null,
+    /// A call of malloc with this argument.
+    Allocation(Box<Expr>),
+}
+
+/// An integer at a type (C11, 6.3.1.3).
+pub fn at_type(
+    alloc: Global,
+    from: IntType,
+    to: IntType,
+    e: Box<Expr>,
+) -> Result<Box<Expr>, AllocError>
+    ensures { IfOk result (λ r. expr_of r.value ≡ words.at_type from to (expr_of e.value)) }
+{
+    if same_integer(from, to) {
+        Ok(e)
+    } else {
+        boxed(alloc, Expr::Convert(from, to, e))
+    }
+}
+
+/// The null pointer to a type (C11, 6.3.2.3).
+pub fn null_of(t: &CType) -> Expr
+    ensures { expr_of result ≡ words.null_of (type_of t.now) }
+{
+    if t.is_function() {
+        Expr::NoFunction
+    } else {
+        Expr::Null
+    }
+}
+
+/// The null pointer to a type, in a box.
+pub fn null_at(alloc: Global, t: &CType) -> Result<Box<Expr>, AllocError>
+    ensures { IfOk result (λ r. expr_of r.value ≡ words.null_of (type_of t.now)) }
+{
+    boxed(alloc, null_of(t))
+}
+
+/// The number 0 of a type, in a box.
+pub fn zero_of(alloc: Global, t: IntType) -> Result<Box<Expr>, AllocError>
+    ensures { IfOk result (λ r. expr_of r.value ≡ to.number t 0) }
+{
+    boxed(alloc, Expr::Number(t, 0))
+}
+
+/// A value with its type; NULL has none.
+fn plain(alloc: Global, f: Form) -> Result<(Box<Expr>, CType), Stop>
+    ensures { Gives value_pair (words.plain (form_of f.entry)) result }
+{
+    match f {
+        Form::Value(e, t) => Ok((e, t)),
+        Form::Zero(t) => Ok((zero_of(alloc, t)?, CType::Int(t))),
+        Form::Place(_, _) => Err(Stop::NoTyping),
+        Form::Designator(_, _) => Err(Stop::NoTyping),
+        Form::Text(_) => Err(Stop::NoTyping),
+        Form::Null => Err(Stop::NoTyping),
+        Form::Allocation(_) => Err(Stop::NoTyping),
+    }
+}
+
+fn as_integer(v: (Box<Expr>, CType)) -> Result<(Box<Expr>, IntType), Stop>
+    ensures { Gives integer_pair (words.as_integer (expr_of v.0.value, type_of v.1)) result }
+{
+    let (e, t) = v;
+    match t {
+        CType::Int(t) => Ok((e, t)),
+        CType::Void => Err(Stop::NoTyping),
+        CType::Struct(_) => Err(Stop::NoTyping),
+        CType::Pointer(_) => Err(Stop::NoTyping),
+        CType::Array(_, _) => Err(Stop::NoTyping),
+        CType::Function(_) => Err(Stop::NoTyping),
+    }
+}
+
+/// A pointer, and what it leads to.
+fn as_pointer(v: (Box<Expr>, CType)) -> Result<(Box<Expr>, CType), Stop>
+    ensures { Gives value_pair (words.as_pointer (expr_of v.0.value, type_of v.1)) result }
+{
+    let (e, t) = v;
+    match t {
+        CType::Pointer(t) => Ok((e, t.share()?)),
+        CType::Int(_) => Err(Stop::NoTyping),
+        CType::Void => Err(Stop::NoTyping),
+        CType::Struct(_) => Err(Stop::NoTyping),
+        CType::Array(_, _) => Err(Stop::NoTyping),
+        CType::Function(_) => Err(Stop::NoTyping),
+    }
+}
+
+/// A place with its type.
+pub fn as_place(f: Form) -> Result<(Box<Place>, CType), Stop>
+    ensures { Gives place_pair (words.as_place (form_of f.entry)) result }
+{
+    match f {
+        Form::Place(p, t) => Ok((p, t)),
+        Form::Value(_, _) => Err(Stop::NoTyping),
+        Form::Designator(_, _) => Err(Stop::NoTyping),
+        Form::Text(_) => Err(Stop::NoTyping),
+        Form::Zero(_) => Err(Stop::NoTyping),
+        Form::Null => Err(Stop::NoTyping),
+        Form::Allocation(_) => Err(Stop::NoTyping),
+    }
+}
+
+/// A condition: an integer or a pointer (C11, 6.8.4.1).
+fn condition(alloc: Global, v: (Box<Expr>, CType)) -> Result<Box<Expr>, Stop>
+    ensures { Gives boxed_expr (words.condition (expr_of v.0.value, type_of v.1)) result }
+{
+    let (e, t) = v;
+    match t {
+        CType::Int(t) => Ok(integer_condition(alloc, e, t)?),
+        CType::Pointer(t) => Ok(boxed(alloc, Expr::Truth(pointer_scalar(&t), e))?),
+        CType::Void => Err(Stop::NoTyping),
+        CType::Struct(_) => Err(Stop::NoTyping),
+        CType::Array(_, _) => Err(Stop::NoTyping),
+        CType::Function(_) => Err(Stop::NoTyping),
+    }
+}
+
+fn integer_condition(alloc: Global, e: Box<Expr>, t: IntType) -> Result<Box<Expr>, AllocError>
+    ensures { IfOk result (λ r. Some (expr_of r.value) ≡ words.condition (expr_of e.value, integer t)) }
+{
+    if t.bits() <= 32 {
+        Ok(e)
+    } else {
+        boxed(alloc, Expr::Truth(Scalar::Int(t), e))
+    }
+}
+
+/// What a pointer to a type is.
+pub fn pointer_scalar(t: &CType) -> Scalar
+    ensures { Some result ≡ scalar_of (pointer (type_of t.now)) }
+{
+    if t.is_function() {
+        Scalar::Function
+    } else {
+        Scalar::Pointer
+    }
+}
+
+/// A form as an integer type, as if by assignment (C11, 6.5.16.1).
+fn to_integer(alloc: Global, t: IntType, f: Form) -> Result<Box<Expr>, Stop>
+    ensures { Gives boxed_expr (words.to_integer t (form_of f.entry)) result }
+{
+    match f {
+        Form::Value(e, u) => value_to_integer(alloc, t, e, u),
+        Form::Zero(u) => Ok(at_type(alloc, u, t, zero_of(alloc, u)?)?),
+        Form::Place(_, _) => Err(Stop::NoTyping),
+        Form::Designator(_, _) => Err(Stop::NoTyping),
+        Form::Text(_) => Err(Stop::NoTyping),
+        Form::Null => Err(Stop::NoTyping),
+        Form::Allocation(_) => Err(Stop::NoTyping),
+    }
+}
+
+fn value_to_integer(alloc: Global, t: IntType, e: Box<Expr>, u: CType) -> Result<Box<Expr>, Stop>
+    ensures { Gives boxed_expr (words.to_integer t (words.value (expr_of e.value) (type_of u))) result }
+{
+    match u {
+        CType::Int(u) => Ok(at_type(alloc, u, t, e)?),
+        CType::Void => Err(Stop::NoTyping),
+        CType::Struct(_) => Err(Stop::NoTyping),
+        CType::Pointer(_) => Err(Stop::NoTyping),
+        CType::Array(_, _) => Err(Stop::NoTyping),
+        CType::Function(_) => Err(Stop::NoTyping),
+    }
+}
+
+/// A form as a pointer to a type.
+fn to_pointer(alloc: Global, t: &CType, f: Form) -> Result<Box<Expr>, Stop>
+    ensures { Gives boxed_expr (words.to_pointer (type_of t.now) (form_of f.entry)) result }
+{
+    match f {
+        Form::Value(e, u) => value_to_pointer(t, e, u),
+        Form::Zero(_) => Ok(null_at(alloc, t)?),
+        Form::Null => Ok(null_at(alloc, t)?),
+        Form::Place(_, _) => Err(Stop::NoTyping),
+        Form::Designator(_, _) => Err(Stop::NoTyping),
+        Form::Text(_) => Err(Stop::NoTyping),
+        Form::Allocation(_) => Err(Stop::NoTyping),
+    }
+}
+
+fn value_to_pointer(t: &CType, e: Box<Expr>, u: CType) -> Result<Box<Expr>, Stop>
+    ensures { Gives boxed_expr (words.to_pointer (type_of t.now) (words.value (expr_of e.value) (type_of u))) result }
+{
+    match u {
+        CType::Pointer(u) => {
+            if same_type(t, &u) {
+                Ok(e)
+            } else {
+                Err(Stop::NoTyping)
+            }
+        }
+        CType::Int(_) => Err(Stop::NoTyping),
+        CType::Void => Err(Stop::NoTyping),
+        CType::Struct(_) => Err(Stop::NoTyping),
+        CType::Array(_, _) => Err(Stop::NoTyping),
+        CType::Function(_) => Err(Stop::NoTyping),
+    }
+}
+
+/// A string literal that decays: it is made before `main` (C11, 6.4.5).
+fn literal_pointer<'a>(checker: &mut Checker<'a>, bytes: &[u8]) -> Result<Form<'a>, Stop>
+    ensures { Answers form_of (words.literal_pointer bytes.now) (state_of checker.old) (state_of checker.new) result }
+{
+    let number = checker.literals;
+    let next = number.checked_add(1).ok_or(Stop::Memory)?;
+    let mut kept = Vec::new(checker.alloc);
+    kept.extend_from_slice(bytes)?;
+    checker.made.push(Made::Literal(kept))?;
+    checker.literals = next;
+    let e = boxed(checker.alloc, Expr::Literal(number))?;
+    let char_type = Rc::new(checker.alloc, CType::Int(IntType::Char))?;
+    Ok(Form::Value(e, CType::Pointer(char_type)))
+}
+
+/// What a place holds: an array decays, another place is read, a struct's isn't (C11, 6.3.2.1).
+fn read_place<'a>(checker: &mut Checker<'a>, p: Box<Place>, t: CType) -> Result<Form<'a>, Stop>
+    ensures { Answers form_of (words.read_place (place_of p.value) (type_of t)) (state_of checker.old) (state_of checker.new) result }
+{
+    match t {
+        CType::Array(t, n) => {
+            let e = boxed(checker.alloc, Expr::Decay(t.share()?, n, p))?;
+            Ok(Form::Value(e, CType::Pointer(t)))
+        }
+        CType::Int(t) => {
+            let e = boxed(checker.alloc, Expr::Read(Scalar::Int(t), p))?;
+            Ok(Form::Value(e, CType::Int(t)))
+        }
+        CType::Pointer(t) => {
+            let e = boxed(checker.alloc, Expr::Read(pointer_scalar(&t), p))?;
+            Ok(Form::Value(e, CType::Pointer(t)))
+        }
+        CType::Void => Err(Stop::NoTyping),
+        CType::Struct(_) => Err(Stop::NoTyping),
+        CType::Function(_) => Err(Stop::NoTyping),
+    }
+}
+
+/// An operand: a value, the constant 0 or NULL.
+pub fn operand<'a>(checker: &mut Checker<'a>, f: Form<'a>) -> Result<Form<'a>, Stop>
+    ensures { Answers form_of (words.operand (form_of f.entry)) (state_of checker.old) (state_of checker.new) result }
+{
+    match f {
+        Form::Place(p, t) => read_place(checker, p, t),
+        Form::Value(e, t) => Ok(Form::Value(e, t)),
+        Form::Designator(e, t) => Ok(Form::Value(e, CType::Pointer(Rc::new(checker.alloc, t)?))),
+        Form::Text(bytes) => literal_pointer(checker, bytes),
+        Form::Zero(t) => Ok(Form::Zero(t)),
+        Form::Null => Ok(Form::Null),
+        Form::Allocation(_) => Err(Stop::NoTyping),
+    }
+}
+
+/// A value and its type.
+pub fn value_of<'a>(checker: &mut Checker<'a>, f: Form<'a>) -> Result<(Box<Expr>, CType), Stop>
+    ensures { Answers value_pair (words.value_of (form_of f.entry)) (state_of checker.old) (state_of checker.new) result }
+{
+    let v = operand(checker, f)?;
+    plain(checker.alloc, v)
+}
+
+/// An integer and its type.
+pub fn integer_of<'a>(checker: &mut Checker<'a>, f: Form<'a>) -> Result<(Box<Expr>, IntType), Stop>
+    ensures { Answers integer_pair (words.integer_of (form_of f.entry)) (state_of checker.old) (state_of checker.new) result }
+{
+    let v = value_of(checker, f)?;
+    as_integer(v)
+}
+
+/// A pointer, and what it leads to.
+pub fn pointer_of<'a>(checker: &mut Checker<'a>, f: Form<'a>) -> Result<(Box<Expr>, CType), Stop>
+    ensures { Answers value_pair (words.pointer_of (form_of f.entry)) (state_of checker.old) (state_of checker.new) result }
+{
+    let v = value_of(checker, f)?;
+    as_pointer(v)
+}
+
+/// A condition.
+pub fn condition_of<'a>(checker: &mut Checker<'a>, f: Form<'a>) -> Result<Box<Expr>, Stop>
+    ensures { Answers boxed_expr (words.condition_of (form_of f.entry)) (state_of checker.old) (state_of checker.new) result }
+{
+    let v = value_of(checker, f)?;
+    condition(checker.alloc, v)
+}
+
+/// A form as a type, as if by assignment (C11, 6.5.16.1).
+pub fn assigned_to<'a>(checker: &mut Checker<'a>, t: &CType, f: Form<'a>) -> Result<Box<Expr>, Stop>
+    ensures { Answers boxed_expr (words.assigned_to (type_of t.now) (form_of f.entry)) (state_of checker.old) (state_of checker.new) result }
+{
+    match t {
+        CType::Int(t) => {
+            let v = operand(checker, f)?;
+            to_integer(checker.alloc, *t, v)
+        }
+        CType::Pointer(t) => pointer_from(checker, t, f),
+        CType::Void => Err(Stop::NoTyping),
+        CType::Struct(_) => Err(Stop::NoTyping),
+        CType::Array(_, _) => Err(Stop::NoTyping),
+        CType::Function(_) => Err(Stop::NoTyping),
+    }
+}
+
+/// A form as a pointer to a type; malloc's call becomes one to a type with a size.
+pub fn pointer_from<'a>(
+    checker: &mut Checker<'a>,
+    t: &CType,
+    f: Form<'a>,
+) -> Result<Box<Expr>, Stop>
+    ensures { Answers boxed_expr (words.assigned_to (pointer (type_of t.now)) (form_of f.entry)) (state_of checker.old) (state_of checker.new) result }
+{
+    match f {
+        Form::Allocation(e) => {
+            checker.size_of(t)?;
+            Ok(boxed(checker.alloc, Expr::Malloc(t.share()?, e))?)
+        }
+        Form::Place(p, u) => {
+            let v = operand(checker, Form::Place(p, u))?;
+            to_pointer(checker.alloc, t, v)
+        }
+        Form::Value(e, u) => to_pointer(checker.alloc, t, Form::Value(e, u)),
+        Form::Designator(e, u) => {
+            let v = operand(checker, Form::Designator(e, u))?;
+            to_pointer(checker.alloc, t, v)
+        }
+        Form::Text(bytes) => {
+            let v = operand(checker, Form::Text(bytes))?;
+            to_pointer(checker.alloc, t, v)
+        }
+        Form::Zero(u) => to_pointer(checker.alloc, t, Form::Zero(u)),
+        Form::Null => to_pointer(checker.alloc, t, Form::Null),
+    }
+}
+
+/// A form that is thrown away (C11, 6.3.2.2).
+pub fn thrown_away<'a>(checker: &mut Checker<'a>, f: Form<'a>) -> Result<Box<Expr>, Stop>
+    ensures { Answers boxed_expr (words.thrown_away (form_of f.entry)) (state_of checker.old) (state_of checker.new) result }
+{
+    match f {
+        Form::Place(p, t) => place_thrown_away(checker, p, t),
+        Form::Value(e, t) => {
+            let v = value_of(checker, Form::Value(e, t))?;
+            Ok(v.0)
+        }
+        Form::Designator(e, t) => {
+            let v = value_of(checker, Form::Designator(e, t))?;
+            Ok(v.0)
+        }
+        Form::Text(bytes) => {
+            let v = value_of(checker, Form::Text(bytes))?;
+            Ok(v.0)
+        }
+        Form::Zero(t) => {
+            let v = value_of(checker, Form::Zero(t))?;
+            Ok(v.0)
+        }
+        Form::Null => Err(Stop::NoTyping),
+        Form::Allocation(_) => Err(Stop::NoTyping),
+    }
+}
+
+fn place_thrown_away<'a>(
+    checker: &mut Checker<'a>,
+    p: Box<Place>,
+    t: CType,
+) -> Result<Box<Expr>, Stop>
+    ensures { Answers boxed_expr (words.thrown_away (words.place (place_of p.value) (type_of t))) (state_of checker.old) (state_of checker.new) result }
+{
+    match t {
+        CType::Struct(n) => {
+            checker.size_of(&CType::Struct(n))?;
+            Ok(boxed(checker.alloc, Expr::Visit(p))?)
+        }
+        CType::Int(t) => {
+            let v = value_of(checker, Form::Place(p, CType::Int(t)))?;
+            Ok(v.0)
+        }
+        CType::Pointer(t) => {
+            let v = value_of(checker, Form::Place(p, CType::Pointer(t)))?;
+            Ok(v.0)
+        }
+        CType::Array(t, n) => {
+            let v = value_of(checker, Form::Place(p, CType::Array(t, n)))?;
+            Ok(v.0)
+        }
+        CType::Void => Err(Stop::NoTyping),
+        CType::Function(_) => Err(Stop::NoTyping),
+    }
+}
