@@ -1,15 +1,18 @@
-//! That the segment memory over its two parts begins with ample memory. What each call does is proved.
+//! That the segment memory over its two parts begins with ample memory, in each of the forms that these have. What each call
+//! does is proved.
 
 use crate::{SegTrap, Segments};
 use ms_event::Event;
 use ms_handle::Kind;
-use ms_live::ListGaps;
-use ms_tagged::ByteTags;
+use ms_live::{Gaps, ListGaps, TreeGaps};
+use ms_tagged::{ByteTags, Granules, Tagged};
+use std::alloc::{AllocError, Global};
+use std::process::Abort;
 use std::test::Fail;
 
-#[test]
-fn makes_and_frees_a_segment(rt: HostRuntime) -> Result<(), Fail> {
-    let mut memory: Segments<ListGaps, ByteTags> = Segments::new(rt.alloc(), 64)?;
+/// Makes a segment, writes and reads it, and frees it.
+fn use_a_segment<G: Gaps, T: Tagged>(rt: &impl Abort, alloc: Global) -> Result<(), AllocError> {
+    let mut memory: Segments<G, T> = Segments::new(alloc, 64)?;
     let (handle, event) = memory.make(32, Kind::Heap);
     let (id, lo, hi, addr, width) = (1, 0, 32, 0, 8);
     assert_eq!(rt; event, Event::Alloc { id, addr, size: hi });
@@ -39,5 +42,17 @@ fn makes_and_frees_a_segment(rt: HostRuntime) -> Result<(), Fail> {
     assert_eq!(rt; memory.free(handle, Kind::Heap), Ok(Event::Free { id }));
     assert_eq!(rt; memory.load(handle, width), Err(SegTrap::Freed));
     assert_eq!(rt; memory.live(), 0);
+    Ok(())
+}
+
+#[test]
+fn a_segment_in_plain_lists(rt: HostRuntime) -> Result<(), Fail> {
+    use_a_segment::<ListGaps, ByteTags>(&rt, rt.alloc())?;
+    Ok(())
+}
+
+#[test]
+fn a_segment_in_trees_and_granules(rt: HostRuntime) -> Result<(), Fail> {
+    use_a_segment::<TreeGaps, Granules>(&rt, rt.alloc())?;
     Ok(())
 }
