@@ -22,8 +22,9 @@ mod telling;
 
 pub use check::check_file;
 pub use convert::{asm_file, dis_file};
+pub use gathering::Naming;
 pub use judging::judge;
 pub use loading::{LoadFault, load_module};
 pub use report::answer;
-pub use running::{exec, run};
+pub use running::{exec, run, run_job};
 pub use status::Status;

@@ -27,9 +27,15 @@ use std::alloc::{AllocError, Global};
 /// How many entries in a row the task of `exec` has, which has all of them.
 const TURNS: u32 = 1_000_000;
 
-/// Reads the files of a job, links its modules and runs its tasks, however its segments are kept.
+/// Runs a job whose text was read: reads the files that it names, validates and links its modules, and runs its start functions and
+/// its tasks, over stores whose segments are placed by `G` and kept by `T`. `exec` and `run` are this call over the stores of the
+/// program; which ones they are makes no difference to its answer.
+///
+/// The job is as one that a text says: its modules have different names, it has 1 to 64 tasks with turns of at least 1, a budget of
+/// at most 10^12 and at most 2^24 bytes of segment memory. `naming` says how the report tells of a module that is refused. What
+/// becomes of `input` and `out` is as `exec` says.
 #[allow(clippy::too_many_arguments)]
-fn run_job<G: Gaps, T: Tagged, F: Shelf, I: Source, O: Sink, R: Sink>(
+pub fn run_job<G: Gaps, T: Tagged, F: Shelf, I: Source, O: Sink, R: Sink>(
     alloc: Global,
     naming: Naming,
     job: Job,

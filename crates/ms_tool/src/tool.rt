@@ -167,4 +167,6 @@ fn respond<F: Shelf, I: Source, O: Sink, R: Sink>(
 }
 
 #[cfg(test)]
+mod stores;
+#[cfg(test)]
 mod tests;

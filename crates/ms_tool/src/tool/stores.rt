@@ -1,0 +1,101 @@
+//! Jobs over both forms of the segment memory's stores: the plain ones, which keep a list of the live segments and a tag for each
+//! byte, and those of the program.
+
+use ms_job::parse;
+use ms_live::{Gaps, ListGaps, TreeGaps};
+use ms_outside::{MemShelf, MemSink, MemSource};
+use ms_run::{Naming, Status, run_job};
+use ms_tagged::{ByteTags, Granules, Tagged};
+use std::alloc::Global;
+use std::process::Abort;
+use std::test::Fail;
+
+/// The instructions of a `main`, and what is wanted of a job that runs them and dumps the live segments: the status, and the report.
+const ROWS: [(&str, Status, &str); 7] = [
+    // One byte over a handle leaves its other bytes.
+    (
+        "i32.const 32 segment.new heap local.tee $h i64.const 16 handle.add 1 local.get $h handle.store
+         local.get $h i64.const 21 handle.add 1 i32.const 171 i32.segstore8",
+        Status::Done,
+        "done\ndump 1 0 32 heap 00000000000000000000000000000000----------ab--------------------\n",
+    ),
+    // What is left of a handle is a broken one.
+    (
+        "i32.const 16 segment.new heap local.tee $h local.get $h handle.store
+         local.get $h i32.const 0 i32.segstore8 local.get $h handle.load i32.segload drop",
+        Status::Trapped,
+        "trap invalid\ndump 1 0 16 heap 00------------------------------\n",
+    ),
+    // Nor is it data.
+    (
+        "i32.const 16 segment.new heap local.tee $h local.get $h handle.store
+         local.get $h i32.const 0 i32.segstore8 local.get $h i32.segload16_u drop",
+        Status::Trapped,
+        "trap provenance\ndump 1 0 16 heap 00------------------------------\n",
+    ),
+    // A whole handle that comes back from memory leads to its segment.
+    (
+        "i32.const 32 segment.new heap local.tee $h i64.const 16 handle.add 1 local.get $h handle.store
+         local.get $h i64.const 16 handle.add 1 handle.load i32.const 258 i32.segstore16",
+        Status::Done,
+        "done\ndump 1 0 32 heap 02010000000000000000000000000000--------------------------------\n",
+    ),
+    // Two segments side by side, of which the second keeps its handle as the first one ends.
+    (
+        "i32.const 16 segment.new heap local.tee $h i32.const 16 segment.new frame local.tee $g handle.store
+         local.get $g local.get $g handle.store local.get $h segment.free heap",
+        Status::Done,
+        "done\ndump 2 16 16 frame --------------------------------\n",
+    ),
+    // The place of a segment that ended is found again, and is clear.
+    (
+        "i32.const 16 segment.new heap local.tee $h local.get $h handle.store
+         i32.const 16 segment.new heap drop local.get $h segment.free heap i32.const 8 segment.new heap drop",
+        Status::Done,
+        "done\ndump 2 16 16 heap 00000000000000000000000000000000\ndump 3 0 8 heap 0000000000000000\n",
+    ),
+    // There is no room for a third.
+    (
+        "i32.const 32 segment.new heap drop i32.const 32 segment.new heap drop
+         i32.const 1 segment.new heap i32.segload drop",
+        Status::Trapped,
+        "trap null\ndump 1 0 32 heap 0000000000000000000000000000000000000000000000000000000000000000
+dump 2 32 32 heap 0000000000000000000000000000000000000000000000000000000000000000\n",
+    ),
+];
+
+/// Runs each row over stores of these kinds, and compares its status and its report.
+fn expect_rows<G: Gaps, T: Tagged>(rt: &impl Abort, alloc: Global) -> Result<(), Fail> {
+    for (code, status, report) in ROWS {
+        let text =
+            format!(in alloc; "(func (export \"main\") (local $h handle) (local $g handle) {code})")?;
+        let mut shelf = MemShelf::new(alloc);
+        shelf.add(alloc, "m.wat", Vec::from_slice(alloc, text.as_bytes())?)?;
+        let mut input = MemSource::new(alloc, Vec::new(alloc));
+        let mut out = MemSink::new(alloc, 16)?;
+        let mut told = MemSink::new(alloc, 256)?;
+        let job = parse(alloc, b"module m m.wat\ntask m main\nmemory 64\ndump\n")?;
+        let given = run_job::<G, T, MemShelf, MemSource, MemSink, MemSink>(
+            alloc,
+            Naming::Numbered,
+            job,
+            &mut shelf,
+            &mut input,
+            &mut out,
+            &mut told,
+        );
+        assert_eq!(rt; given, status, "{code}");
+        assert_eq!(rt; told.held(), report.as_bytes(), "the report of {code}");
+    }
+    Ok(())
+}
+
+#[test]
+fn the_plain_stores(rt: HostRuntime) -> Result<(), Fail> {
+    expect_rows::<ListGaps, ByteTags>(&rt, rt.alloc())
+}
+
+#[test]
+fn the_stores_of_the_program(rt: HostRuntime) -> Result<(), Fail> {
+    expect_rows::<TreeGaps, Granules>(&rt, rt.alloc())
+}
