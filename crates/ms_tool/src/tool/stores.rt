@@ -67,8 +67,9 @@ dump 2 32 32 heap 00000000000000000000000000000000000000000000000000000000000000
 /// Runs each row over stores of these kinds, and compares its status and its report.
 fn expect_rows<G: Gaps, T: Tagged>(rt: &impl Abort, alloc: Global) -> Result<(), Fail> {
     for (code, status, report) in ROWS {
-        let text =
-            format!(in alloc; "(func (export \"main\") (local $h handle) (local $g handle) {code})")?;
+        let text = format!(in alloc;
+            "(func (export \"main\") (local $h handle) (local $g handle) {code})"
+        )?;
         let mut shelf = MemShelf::new(alloc);
         shelf.add(alloc, "m.wat", Vec::from_slice(alloc, text.as_bytes())?)?;
         let mut input = MemSource::new(alloc, Vec::new(alloc));
