@@ -1,2 +1,5 @@
 pub mod States
 pub mod Extension
+pub mod Rules
+pub mod Sizes
+pub mod Types
