@@ -3,3 +3,4 @@ pub mod Extension
 pub mod Rules
 pub mod Sizes
 pub mod Types
+pub mod Same
