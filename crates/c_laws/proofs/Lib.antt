@@ -4,3 +4,4 @@ pub mod Rules
 pub mod Sizes
 pub mod Types
 pub mod Same
+pub mod Scopes
