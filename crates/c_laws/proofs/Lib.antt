@@ -5,3 +5,4 @@ pub mod Sizes
 pub mod Types
 pub mod Same
 pub mod Scopes
+pub mod Declared

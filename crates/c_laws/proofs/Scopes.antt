@@ -60,14 +60,14 @@ at-end [] x = refl
 at-end (y ∷ xs) x = at-end xs x
 
 -- a state with a slot more
-abbrev with-slot : State → Ty → State
+abbrev pub with-slot : State → Ty → State
 with-slot s t = record s { slots = s.slots ++ t ∷ [] }
 
-slot-good : (s : State) (t : Ty) → Good s → IsObject s.structs t → Good (with-slot s t)
+pub slot-good : (s : State) (t : Ty) → Good s → IsObject s.structs t → Good (with-slot s t)
 slot-good s t g h =
     record { tags = g.tags; structs = g.structs; globals = g.globals; functions = g.functions; slots = All-push (IsObject s.structs) s.slots t g.slots h }
 
-slot-more : (s : State) (t : Ty) → Steps s (with-slot s t)
+pub slot-more : (s : State) (t : Ty) → Steps s (with-slot s t)
 slot-more s t =
     let same = steps-same s in
     record { structs = same.structs; globals = refl; values = refl; functions = same.functions; slots = (t ∷ [], refl); made = same.made }
