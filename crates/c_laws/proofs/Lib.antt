@@ -6,3 +6,4 @@ pub mod Types
 pub mod Same
 pub mod Scopes
 pub mod Declared
+pub mod Structs
