@@ -1,2 +1,3 @@
 pub mod States
 pub mod Extension
+pub mod Growth
