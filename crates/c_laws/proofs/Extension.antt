@@ -1,15 +1,14 @@
 -- What stays where a state goes on: sizes, types, and what a tree may name.
-use Rattle.std.proofs.Common.{◌≡◌, ◌∙◌, sym, ap, subst, refl, ℕ, zero, suc, ◌+◌, ◌*◌, ◌≤◌, ◌<◌, ◌^◌, List, [], ◌∷◌, ◌++◌, length, map, Option, Some, None, IsSome, slice_get, append_assoc, arith, rules}
+use Rattle.std.proofs.Common.{◌≡◌, ◌∙◌, sym, ap, subst, refl, ℕ, zero, suc, ◌+◌, ◌*◌, List, [], ◌∷◌, ◌++◌, map, Option, Some, None, IsSome, slice_get, append_assoc, arith}
 use Rattle.std.proofs.lemmas.List.{map-append, append-nil}
 use Rattle.std.proofs.lemmas.List.Elements.{All-nil, All-append}
-use Rattle.std.specs.List.{All}
 use Rattle.c_types.specs.Layout.{Table, Layout, layout_at, HasSize, IsSmall, size, size_in, members_in}
 use Rattle.c_types.specs.Types.{Ty, void, integer, struct, pointer, array, function, Tys, no_types, types}
 use Rattle.c_typed.specs.Tree as tree
 use Rattle.c_typed.specs.Tree.{Function, Made}
 use Rattle.c_check_types.specs.State.{State}
 use Rattle.c_well_typed.specs.Types.{IsType, IsObject, AreParameters}
-use Rattle.c_well_typed.specs.Expressions.{Context, IsMember}
+use Rattle.c_well_typed.specs.Expressions.{IsMember}
 use Rattle.c_well_typed.specs.Units.{literals_in}
 use Rattle.c_laws.proofs.States.{context, Extends, IsText, MakesTexts, Quiet, IsNew, Steps, Grows}
 

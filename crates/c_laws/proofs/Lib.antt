@@ -1,3 +1,9 @@
 pub mod States
 pub mod Extension
 pub mod Growth
+pub mod Rules
+pub mod Sizes
+pub mod Types
+pub mod Integers
+pub mod Forms
+pub mod Operations

@@ -1,11 +1,11 @@
 -- What holds of each state of typing, what a rule may do to one, and rules one behind the other.
-use Rattle.std.proofs.Common.{◌≡◌, ◌∙◌, sym, ap, subst, refl, ℕ, ◌+◌, ◌≤◌, ◌<◌, false, true, List, [], ◌∷◌, ◌++◌, length, map, slice_get, Option, Some, None, arith}
+use Rattle.std.proofs.Common.{◌≡◌, refl, ℕ, ◌+◌, ◌≤◌, List, ◌++◌, length, map, slice_get, Option, Some, None}
 use Rattle.std.specs.List.{All}
 use Rattle.c_types.specs.Layout.{Table, Layout, layout_at}
 use Rattle.c_types.specs.Types.{Ty, function, Tys}
 use Rattle.c_typed.specs.Tree as tree
 use Rattle.c_typed.specs.Tree.{Function, Made, Stmt}
-use Rattle.c_check_types.specs.State.{State, Rule, followed, ◌>>=◌, ◌>>◌, pure}
+use Rattle.c_check_types.specs.State.{State, Rule, followed, ◌>>=◌}
 use Rattle.c_well_typed.specs.Expressions.{Context}
 use Rattle.c_well_typed.specs.Types.{IsType, IsObject}
 use Rattle.c_well_typed.specs.Units.{literals_in}
