@@ -1,9 +1,12 @@
 pub mod States
 pub mod Extension
+pub mod Growth
 pub mod Rules
 pub mod Sizes
 pub mod Types
-pub mod Same
+pub mod Integers
+pub mod Forms
+pub mod Operations
 pub mod Scopes
 pub mod Declared
 pub mod Structs

@@ -17,7 +17,7 @@ use Rattle.c_laws.proofs.States.{Good, IsDeclared, Extends, Quiet, Steps, MakesT
 use Rattle.c_laws.proofs.Extension.{extends-same, quiet-same, quiet-onward, quiet-steps, steps-same, steps-onward, get-kept, object-kept, type-kept, extends-onward, makes-onward, more}
 use Rattle.c_laws.proofs.Rules.{quietly, calmly, step, stepping, steadily, behind, ends, given-then, given-ends, only-then}
 use Rattle.c_laws.proofs.Sizes.{small_if_measured}
-use Rattle.c_laws.proofs.Same.{type-is}
+use Rattle.c_laws.proofs.Integers.{same-type}
 
 -- ---- names alone
 
@@ -35,10 +35,6 @@ scoped-good s scopes g =
 scoped : (s : State) (scopes : List Scope) → Quiet s (with-scopes s scopes)
 scoped s scopes =
     record { structs = extends-same s.structs; globals = refl; values = refl; functions = refl; slots = refl; made = (quiet-same s).made }
-
--- nothing but scopes is changed
-abbrev Same : State → {A : Type 0} → State → A → Type 0
-Same s u a = u ≡ with-scopes s u.scopes
 
 pub opened-does : (s : State) → Good s → Does Quiet opened s (λ u a. Unit {0})
 opened-does s g =
@@ -146,11 +142,11 @@ new_function-does name t s g f h =
 
 has-type-is : (o : Option Function) (t : Ty) → has_type o t ≡ true → (f : Function) × (o ≡ Some f) × (f.ty ≡ t)
 has-type-is None t e = let q : false ≡ true = e in absurd (cc)
-has-type-is (Some f) t e = (f, refl, type-is f.ty t e)
+has-type-is (Some f) t e = (f, refl, same-type f.ty t e)
 
 old-there : (fs : List Function) (n : ℕ) (t : Ty) → has_type (slice_get fs n) t ≡ true → slice_get (map (λ (f : Function). f.ty) fs) n ≡ Some t
 old-there [] n t e = let q : false ≡ true = e in absurd (cc)
-old-there (f ∷ fs) zero t e = ap (λ u. Some u) (type-is f.ty t e)
+old-there (f ∷ fs) zero t e = ap (λ u. Some u) (same-type f.ty t e)
 old-there (f ∷ fs) (suc n) t e = old-there fs n t e
 
 old_function-does : (name : List ℕ) (t : Ty) (n : ℕ) (s : State) → Good s → Does Steps (old_function name t n) s (HasFunction t)
