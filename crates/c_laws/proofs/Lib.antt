@@ -7,3 +7,8 @@ pub mod Types
 pub mod Integers
 pub mod Forms
 pub mod Operations
+pub mod Uses
+pub mod Operands
+pub mod Assignments
+pub mod Calls
+pub mod Expressions
