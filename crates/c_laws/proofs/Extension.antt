@@ -63,15 +63,15 @@ member-kept x y p n m t h = behind (layout_at x n) refl where
 
 -- ---- what is made
 
-texts-append : (ms ns : List Made) → literals_in (ms ++ ns) ≡ literals_in ms + literals_in ns
+pub texts-append : (ms ns : List Made) → literals_in (ms ++ ns) ≡ literals_in ms + literals_in ns
 texts-append [] ns = omega arith
 texts-append (tree.global n ∷ ms) ns = texts-append ms ns
 texts-append (tree.text bytes ∷ ms) ns = let e = texts-append ms ns in omega (arith, e)
 
-makes-nothing : (s : State) → MakesTexts s s
+pub makes-nothing : (s : State) → MakesTexts s s
 makes-nothing s = ([], sym (append-nil s.made), All-nil IsText, omega arith)
 
-makes-onward : (s t u : State) → MakesTexts s t → MakesTexts t u → MakesTexts s u
+pub makes-onward : (s t u : State) → MakesTexts s t → MakesTexts t u → MakesTexts s u
 makes-onward s t u p q =
     let ms = p.0 in
     let ns = q.0 in
@@ -108,7 +108,7 @@ quiet-steps s t p =
 pub steps-same : (s : State) → Steps s s
 steps-same s = quiet-steps s s (quiet-same s)
 
-more : {A : Type 0} (a b c xs ys : List A) → b ≡ a ++ xs → c ≡ b ++ ys → c ≡ a ++ (xs ++ ys)
+pub more : {A : Type 0} (a b c xs ys : List A) → b ≡ a ++ xs → c ≡ b ++ ys → c ≡ a ++ (xs ++ ys)
 more a b c xs ys p q = q ∙ ap (λ zs. zs ++ ys) p ∙ append_assoc a xs ys
 
 pub steps-onward : (s t u : State) → Steps s t → Steps t u → Steps s u

@@ -12,3 +12,6 @@ pub mod Operands
 pub mod Assignments
 pub mod Calls
 pub mod Expressions
+pub mod Scopes
+pub mod Declared
+pub mod Structs

@@ -28,10 +28,10 @@ module _ (R : State → State → Type 0) where
   only-then true next s Q f b u e = f (λ i. true) b u e
 
 -- a rule, and one that takes its answer
-abbrev Is : (R : State → State → Type 0) → {A : Type 0} → Option (A × State) → State → (State → A → Type 0) → Type 0
+abbrev pub Is : (R : State → State → Type 0) → {A : Type 0} → Option (A × State) → State → (State → A → Type 0) → Type 0
 Is R {A} o s P = (a : A) (t : State) → ◌≡◌ {A = Option (A × State)} o (Some (a, t)) → Good t × R s t × P t a
 
-step : (R : State → State → Type 0) (onward : (s t u : State) → R s t → R t u → R s u) {A B : Type 0} (o : Option (A × State)) (next : A → Rule B) (s : State)
+pub step : (R : State → State → Type 0) (onward : (s t u : State) → R s t → R t u → R s u) {A B : Type 0} (o : Option (A × State)) (next : A → Rule B) (s : State)
     (P : State → A → Type 0) (Q : State → B → Type 0) → Is R o s P
     → ((a : A) (t : State) → Good t → R s t → P t a → Is R (next a t) t Q) → Is R (followed o next) s Q
 step R onward None next s P Q does f b u e = let q : None ≡ Some (b, u) = e in absurd (cc)
@@ -57,3 +57,18 @@ pub steadily : {A : Type 0} {o : Option (A × State)} (s : State) {P : State →
     → ((a : A) (t : State) → ◌≡◌ {A = Option (A × State)} o (Some (a, t)) → Good t × Quiet s t × P t a)
     → (a : A) (t : State) → ◌≡◌ {A = Option (A × State)} o (Some (a, t)) → Good t × Steps s t × P t a
 steadily s does a t e = let d = does a t e in (d.0, quiet-steps s t d.1, d.2)
+
+-- a quiet rule in front of one of statements
+pub calmly : {A B : Type 0} {o : Option (A × State)} {next : A → Rule B} (s : State) {P : State → A → Type 0} {Q : State → B → Type 0}
+    → ((a : A) (t : State) → ◌≡◌ {A = Option (A × State)} o (Some (a, t)) → Good t × Quiet s t × P t a)
+    → ((a : A) (t : State) → Good t → Quiet s t → P t a → (b : B) (u : State) → ◌≡◌ {A = Option (B × State)} (next a t) (Some (b, u)) → Good u × Steps t u × Q u b)
+    → (b : B) (u : State) → ◌≡◌ {A = Option (B × State)} (followed o next) (Some (b, u)) → Good u × Steps s u × Q u b
+calmly {A} {o = o} {next = next} s {P = P} {Q = Q} does f =
+    step Steps steps-onward o next s (λ t a. Quiet s t × P t a) Q (λ a t e. let d = does a t e in (d.0, quiet-steps s t d.1, (d.1, d.2)))
+    (λ a t good q p. f a t good p.0 p.1)
+
+-- what a rule does at a state, it does from one in front of it
+pub behind : {A : Type 0} {o : Option (A × State)} (s v : State) {P : State → A → Type 0} → Steps s v
+    → ((a : A) (t : State) → ◌≡◌ {A = Option (A × State)} o (Some (a, t)) → Good t × Steps v t × P t a)
+    → (a : A) (t : State) → ◌≡◌ {A = Option (A × State)} o (Some (a, t)) → Good t × Steps s t × P t a
+behind s v r does a t e = let d = does a t e in (d.0, steps-onward s v t r d.1, d.2)

@@ -6,6 +6,7 @@ use Rattle.c_types.specs.declared.integers.IntType.{IntType}
 use Rattle.c_types.specs.declared.integers.IntType.TheVariants.{Char, SignedChar, UnsignedChar, Short, UnsignedShort, Int, UnsignedInt, Long, UnsignedLong, LongLong, UnsignedLongLong}
 use Rattle.c_types.specs.Layout.{Table, Layout, HasSize, IsSmall, layout_at, size, size_in, pointer_size}
 use Rattle.c_types.specs.Types.{Ty, void, integer, struct, pointer, array, function, is_function}
+use Rattle.c_well_typed.specs.Types.{IsScalar}
 use Rattle.c_check_types.specs.Types.{limited, measured, most_bytes, so_many}
 
 same : (a b : ℕ) → Some a ≡ Some b → a ≡ b
@@ -77,3 +78,11 @@ small_if_measured table t n e =
 -- an array that is measured has at most 2^30 elements
 pub few_if_measured : (table : Table) (t : Ty) (m n : ℕ) → measured table (array t m) ≡ Some n → m ≤ 2 ^ 30
 few_if_measured table t m n e = (counted m (measured table t) n e).4
+
+pub scalar-small : (table : Table) (t : Ty) → IsScalar t → IsSmall table t
+scalar-small table void h = absurd h
+scalar-small table (integer t) h = (tt, omega (arith, integer_bits t))
+scalar-small table (struct n) h = absurd h
+scalar-small table (pointer t) h = (tt, pointer_bytes (is_function t))
+scalar-small table (array t n) h = absurd h
+scalar-small table (function r ps) h = absurd h
