@@ -7,6 +7,11 @@ pub mod Types
 pub mod Integers
 pub mod Forms
 pub mod Operations
+pub mod Uses
+pub mod Operands
+pub mod Assignments
+pub mod Calls
+pub mod Expressions
 pub mod Scopes
 pub mod Declared
 pub mod Structs
