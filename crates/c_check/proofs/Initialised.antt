@@ -2,6 +2,8 @@
 use Rattle.std.proofs.Common.{◌≡◌, ◌∙◌, sym, ap, subst, refl, ℕ, zero, suc, ◌+◌, ◌*◌, ◌-◌, ◌%◌, ◌<◌, ◌≤◌, ◌^◌, ◌&&◌, nat_lt, nat_le, Bool, true, false, List, [], ◌∷◌, ◌++◌, length, ℤ, pos, negsuc, Option, Some, None, slice_get, if◌then◌else◌, arith}
 use Rattle.std.proofs.lemmas.Bool.Decides.{nat_tests}
 use Rattle.std.proofs.lemmas.List.Elements.{All-head, All-tail, All-push, All-weaker}
+use Rattle.std.proofs.lemmas.Option.{get_or_from_slice_get, slice_get_within}
+use Rattle.std.proofs.Math.Nat.{suc-mul}
 use Rattle.std.specs.List.{All}
 use Rattle.ms_num.specs.Integers.{wrapped}
 use Rattle.c_types.specs.declared.integers.IntType.{IntType}
@@ -147,10 +149,10 @@ module _ (r : Ty) (l : Bool) where
   -- an element is as large as all of them at most
   one-small : (n k : ℕ) → 0 < n → n * k ≤ 2 ^ 30 → k ≤ 2 ^ 30
   one-small zero k h e = absurd (omega arith)
-  one-small (suc n) k h e = ?
+  one-small (suc n) k h e = omega (arith, e, suc-mul n k)
 
   element-object : (x : Table) (t : Ty) (n : ℕ) → IsType x (array t n) → IsObject x t
-  element-object x t n h = (h.0, h.1.0.1, one-small n (size x t) h.1.0.0 h.1.1)
+  element-object x t n h = (h.0, (h.1.0.1, one-small n (size x t) h.1.0.0 h.1.1))
 
   element-at : (c : Context) (p : Place) (t : Ty) (n i : ℕ) → IsType c.structs (array t n) → i < n → IsPlace c p (array t n) → IsPlace c (element_place p t n i) t
   element-at c p t n i h less at =
@@ -160,8 +162,10 @@ module _ (r : Ty) (l : Bool) where
   member-object : (s : State) → Good s → (m i : ℕ) (t : Ty) → IsMember s.structs m i t → IsObject s.structs t
   member-object s g m i t h = by (layout_at s.structs m) refl where
     by : (o : Option Layout) → layout_at s.structs m ≡ o → IsObject s.structs t
-    by None e = ?
-    by (Some k) e = ?
+    by None e = let q : None ≡ Some t = subst (λ o. slice_get (members_in o) i ≡ Some t) e h in absurd (cc)
+    by (Some k) e =
+        let q : slice_get k.members i ≡ Some t = subst (λ o. slice_get (members_in o) i ≡ Some t) e h in
+        subst (λ u. IsObject s.structs u) (get_or_from_slice_get k.members i t t q) (g.structs m k e i t (slice_get_within k.members i t q))
 
   mutual
     inside-does : (v : Initialiser) (static : Bool) (p : Place) (t : Ty) (ss : List Stmt) (s : State) → Good s → IsObject s.structs t → IsPlace (context s) p t → Done r l s ss
@@ -201,8 +205,8 @@ module _ (r : Ty) (l : Bool) where
       only-then Quiet (same_type (struct m) q.1) _ s _ (λ b.
       given-then Quiet (measured s.structs q.1) _ s _ (λ k f.
       let is = same-type (struct m) q.1 b in
-      let small : IsSmall s.structs (struct m) = rw is (small_if_measured s.structs q.1 k f).0 in
-      let there : IsPlace (context s) q.0 (struct m) = rw is from in
+      let small = subst (λ t. IsSmall s.structs t) (sym is) (small_if_measured s.structs q.1 k f).0 in
+      let there = subst (λ t. IsPlace (context s) q.0 t) (sym is) from in
       ends Quiet (ss ++ to.perform (to.copy m p q.0) ∷ []) s s (Done r l) g (quiet-same s)
       (All-push (IsStatement (context s) r l) ss (to.perform (to.copy m p q.0)) done (void, (refl, small, at, there)))))
 
