@@ -1,0 +1,17 @@
+pub mod States
+pub mod Extension
+pub mod Growth
+pub mod Rules
+pub mod Sizes
+pub mod Types
+pub mod Integers
+pub mod Forms
+pub mod Operations
+pub mod Uses
+pub mod Operands
+pub mod Assignments
+pub mod Calls
+pub mod Expressions
+pub mod Scopes
+pub mod Declared
+pub mod Structs

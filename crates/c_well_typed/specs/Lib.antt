@@ -1,0 +1,4 @@
+pub mod Types
+pub mod Expressions
+pub mod Statements
+pub mod Units
