@@ -1,7 +1,8 @@
 -- What holds of the tables of a unit as far as it has been read.
 use Rattle.std.proofs.Common.{◌≡◌, ◌∙◌, sym, ap, subst, refl, ℕ, zero, suc, ◌+◌, ◌<◌, ◌≤◌, false, List, [], ◌∷◌, ◌++◌, length, map, set, Option, Some, None, slice_get, arith}
 use Rattle.std.proofs.lemmas.List.{map-append, length-append}
-use Rattle.std.proofs.lemmas.List.Elements.{All-head, All-tail, All-append, All-push, All-weaker}
+use Rattle.std.proofs.lemmas.List.Elements.{All-nil, All-head, All-tail, All-append, All-push, All-set, All-weaker}
+use Rattle.std.proofs.lemmas.Option.{get_or_from_slice_get, slice_get_within}
 use Rattle.std.specs.List.{All}
 use Rattle.c_types.specs.Layout.{Table}
 use Rattle.c_types.specs.Types.{Ty, void, function, Tys}
@@ -12,6 +13,7 @@ use Rattle.c_well_typed.specs.Types.{IsType, IsObject}
 use Rattle.c_well_typed.specs.Expressions.{Context}
 use Rattle.c_well_typed.specs.Statements.{IsStatement}
 use Rattle.c_well_typed.specs.Units.{literals_in, context_of, list_of, IsBody, IsFunction, IsMade, IsWellTyped}
+use Rattle.c_declare.specs.Functions.{defined}
 use Rattle.c_check.specs.Units.{typed_state}
 use Rattle.c_laws.proofs.States.{context, Good, IsDeclared, Extends, IsText, MakesTexts, IsNew, Grows}
 use Rattle.c_laws.proofs.Extension.{extends-same, type-kept, object-kept, get-kept, texts-append}
@@ -176,4 +178,65 @@ values-held s ss empty news h =
         (All-weaker (IsStatement (so_far s []) void false) is there ss
         (All-weaker (IsStatement (context s) void false) (IsStatement (so_far s []) void false) (statement-grown (context s) (so_far s []) (context-is s [] h.literals empty) void false) ss news));
       functions = All-weaker (IsFunction u) (IsFunction v) (function-kept u v (extends-same s.structs) grows) s.functions h.functions;
+    }
+
+-- ---- a function that is defined
+
+types-set : (fs : List Function) (n : ℕ) (f g : Function) → slice_get fs n ≡ Some f → g.ty ≡ f.ty → map (λ (h : Function). h.ty) (set fs n g) ≡ map (λ (h : Function). h.ty) fs
+types-set [] n f g e same = refl
+types-set (x ∷ fs) zero f g e same =
+    let q : x ≡ f = cc in
+    ap (λ t. t ∷ map (λ (h : Function). h.ty) fs) (same ∙ sym (ap (λ (h : Function). h.ty) q))
+types-set (x ∷ fs) (suc n) f g e same = ap (λ ts. x.ty ∷ ts) (types-set fs n f g e same)
+
+-- a state in which a function is defined, and its slots are gone
+abbrev pub with-body : State → ℕ → Function → Stmt → State
+with-body s n f body = record s { functions = set s.functions n (defined f s.slots body); slots = [] }
+
+body-types : (s : State) (n : ℕ) (f : Function) (body : Stmt) → slice_get s.functions n ≡ Some f
+    → map (λ (h : Function). h.ty) (with-body s n f body).functions ≡ map (λ (h : Function). h.ty) s.functions
+body-types s n f body e = types-set s.functions n f (defined f s.slots body) e refl
+
+body-grows : (s : State) (n : ℕ) (f : Function) (body : Stmt) → slice_get s.functions n ≡ Some f → (slots : List Ty)
+    → Grows (so_far s slots) (so_far (with-body s n f body) slots)
+body-grows s n f body e slots =
+    record {
+      structs = extends-same s.structs;
+      globals = λ m u h. h;
+      literals = omega arith;
+      functions = λ m u h. rw (body-types s n f body e) h;
+      slots = λ m u h. h;
+    }
+
+all-at : {A : Type 0} (P : A → Type 0) (xs : List A) (n : ℕ) (x : A) → slice_get xs n ≡ Some x → All P xs → P x
+all-at P xs n x e h = subst P (get_or_from_slice_get xs n x x e) (h n x (slice_get_within xs n x e))
+
+pub body-good : (s : State) (n : ℕ) (f : Function) (body : Stmt) → slice_get s.functions n ≡ Some f → Good s → Good (with-body s n f body)
+body-good s n f body e g =
+    let d = all-at (IsDeclared s.structs) s.functions n f e g.functions in
+    record {
+      tags = g.tags;
+      structs = g.structs;
+      globals = g.globals;
+      functions = All-set (IsDeclared s.structs) s.functions n (defined f s.slots body) (d.0, d.1, d.2, d.3) g.functions;
+      slots = All-nil (IsObject s.structs);
+    }
+
+pub body-held : (s : State) (n : ℕ) (f : Function) (body : Stmt) (r : Ty) (us : Tys) (locals : List Ty) → slice_get s.functions n ≡ Some f → f.ty ≡ function r us
+    → s.slots ≡ list_of us ++ locals → IsStatement (context s) r false body → Good s → Held s → Held (with-body s n f body)
+body-held s n f body r us locals e ty slots is g h =
+    let u = typed_state s in
+    let w = with-body s n f body in
+    let v = typed_state w in
+    let grows = body-grows s n f body e in
+    let d = all-at (IsDeclared s.structs) s.functions n f e g.functions in
+    let there = statement-grown (so_far s s.slots) (so_far w s.slots) (grows s.slots) r false body
+    (statement-grown (context s) (so_far s s.slots) (context-is s s.slots h.literals refl) r false body is) in
+    record {
+      literals = h.literals;
+      made = h.made;
+      values = All-weaker (IsStatement (so_far s []) void false) (IsStatement (so_far w []) void false)
+        (statement-grown (so_far s []) (so_far w []) (grows []) void false) s.values h.values;
+      functions = All-set (IsFunction v) s.functions n (defined f s.slots body) (r, us, ty, d.3, ((locals, slots), g.slots, there))
+        (All-weaker (IsFunction u) (IsFunction v) (function-kept u v (extends-same s.structs) grows) s.functions h.functions);
     }
