@@ -46,7 +46,7 @@ pub declaring-grown : (c d : Context) → Grows c d → (r : Ty) (l : Bool) (x :
 declaring-grown c d g r l x h =
     (All-weaker (IsSlot c) (IsSlot d) (slot-grown c d g) x.slots h.0, all-grown c d g r l x.done h.1)
 
-nothing-declared : (c : Context) (r : Ty) (l : Bool) → IsDeclaring c r l nothing_done
+pub nothing-declared : (c : Context) (r : Ty) (l : Bool) → IsDeclaring c r l nothing_done
 nothing-declared c r l = (All-nil (IsSlot c), All-nil (IsStatement c r l))
 
 sequence-is : (c : Context) (r : Ty) (l : Bool) (ss : List Stmt) → AllDone c r l ss → AreStatements c r l (sequence ss)
