@@ -80,9 +80,9 @@ enters_local-does name t s g h =
 
 -- ---- functions
 
--- at this number there is a function of this type
-abbrev pub HasFunction : Ty → State → ℕ → Type 0
-HasFunction t u n = slice_get (map (λ (f : Function). f.ty) u.functions) n ≡ Some t
+-- at this number there is a function of this type, and slots are those of a state
+abbrev pub HasFunction : Ty → State → State → ℕ → Type 0
+HasFunction t s u n = (slice_get (map (λ (f : Function). f.ty) u.functions) n ≡ Some t) × (u.slots ≡ s.slots)
 
 abbrev pub IsFunctionType : Ty → Type 0
 IsFunctionType t = (r : Ty) × (ps : Tys) × (t ≡ function r ps)
@@ -131,14 +131,14 @@ function-there : (fs : List Function) (name : List ℕ) (t : Ty) → slice_get (
 function-there [] name t = refl
 function-there (f ∷ fs) name t = function-there fs name t
 
-new_function-does : (name : List ℕ) (t : Ty) (s : State) → Good s → IsFunctionType t → IsType s.structs t → Does Steps (new_function name t) s (HasFunction t)
+new_function-does : (name : List ℕ) (t : Ty) (s : State) → Good s → IsFunctionType t → IsType s.structs t → Does Steps (new_function name t) s (HasFunction t s)
 new_function-does name t s g f h =
     only-then Steps (not (names_variable s.scopes name)) _ s _ (λ b.
     let v = with-function s name t in
     let n = length s.functions in
     behind s v (function-more s name t) (
     calmly v (enters_function-does name n v (function-good s name t g f h)) (λ c w good q i.
-    ends Steps n w w (HasFunction t) good (steps-same w) (rw q.functions (function-there s.functions name t)))))
+    ends Steps n w w (HasFunction t s) good (steps-same w) (rw q.functions (function-there s.functions name t), q.slots))))
 
 has-type-is : (o : Option Function) (t : Ty) → has_type o t ≡ true → (f : Function) × (o ≡ Some f) × (f.ty ≡ t)
 has-type-is None t e = let q : false ≡ true = e in absurd (cc)
@@ -149,17 +149,17 @@ old-there [] n t e = let q : false ≡ true = e in absurd (cc)
 old-there (f ∷ fs) zero t e = ap (λ u. Some u) (same-type f.ty t e)
 old-there (f ∷ fs) (suc n) t e = old-there fs n t e
 
-old_function-does : (name : List ℕ) (t : Ty) (n : ℕ) (s : State) → Good s → Does Steps (old_function name t n) s (HasFunction t)
+old_function-does : (name : List ℕ) (t : Ty) (n : ℕ) (s : State) → Good s → Does Steps (old_function name t n) s (HasFunction t s)
 old_function-does name t n s g =
     only-then Steps (has_type (slice_get s.functions n) t) _ s _ (λ b.
     calmly s (enters_function-does name n s g) (λ c w good q i.
-    ends Steps n w w (HasFunction t) good (steps-same w) (rw q.functions (old-there s.functions n t b))))
+    ends Steps n w w (HasFunction t s) good (steps-same w) (rw q.functions (old-there s.functions n t b), q.slots)))
 
-old_or_new-does : (name : List ℕ) (t : Ty) (o : Option ℕ) (s : State) → Good s → IsFunctionType t → IsType s.structs t → Does Steps (old_or_new name t o) s (HasFunction t)
+old_or_new-does : (name : List ℕ) (t : Ty) (o : Option ℕ) (s : State) → Good s → IsFunctionType t → IsType s.structs t → Does Steps (old_or_new name t o) s (HasFunction t s)
 old_or_new-does name t None s g f h = new_function-does name t s g f h
 old_or_new-does name t (Some n) s g f h = old_function-does name t n s g
 
-pub declares_function-does : (name : List ℕ) (t : Ty) (s : State) → Good s → IsFunctionType t → IsType s.structs t → Does Steps (declares_function name t) s (HasFunction t)
+pub declares_function-does : (name : List ℕ) (t : Ty) (s : State) → Good s → IsFunctionType t → IsType s.structs t → Does Steps (declares_function name t) s (HasFunction t s)
 declares_function-does name t s g f h = old_or_new-does name t (number_of s.function_names name) s g f h
 
 -- ---- variables at file scope
@@ -209,19 +209,20 @@ global-good : (s : State) (t : Ty) → Good s → IsObject s.structs t → Good 
 global-good s t g h =
     record { tags = g.tags; structs = g.structs; globals = All-push (IsObject s.structs) s.globals t g.globals h; functions = g.functions; slots = g.slots }
 
-abbrev pub HasGlobal : Ty → State → ℕ → Type 0
-HasGlobal t u n = slice_get u.globals n ≡ Some t
+-- at this number there is a variable of this type, and slots are those of a state
+abbrev pub HasGlobal : Ty → State → State → ℕ → Type 0
+HasGlobal t s u n = (slice_get u.globals n ≡ Some t) × (u.slots ≡ s.slots)
 
 global-widens : (s : State) (t : Ty) → Widens s (with-global s t)
 global-widens s t =
     let p = steps-same s in
     record { structs = p.structs; globals = (t ∷ [], refl); values = refl; functions = p.functions; slots = p.slots; made = p.made }
 
-pub enters_global-does : (name : List ℕ) (t : Ty) (s : State) → Good s → IsObject s.structs t → Does Widens (enters_global name t) s (HasGlobal t)
+pub enters_global-does : (name : List ℕ) (t : Ty) (s : State) → Good s → IsObject s.structs t → Does Widens (enters_global name t) s (HasGlobal t s)
 enters_global-does name t s g h =
     only-then Widens (not (is_some (number_of s.function_names name))) _ s _ (λ b.
-    step Widens widens-onward (enters name (entities.Global (length s.globals)) s) _ s (λ v a. Quiet s v) (HasGlobal t)
+    step Widens widens-onward (enters name (entities.Global (length s.globals)) s) _ s (λ v a. Quiet s v) (HasGlobal t s)
     (λ a v e. let d = enters-does name (entities.Global (length s.globals)) s g a v e in (d.0, steps-widens s v (quiet-steps s v d.1), d.1))
     (λ a v good w q.
-    ends Widens (length s.globals) v (with-global v t) (HasGlobal t) (global-good v t good (object-kept s.structs v.structs q.structs t h)) (global-widens v t)
-    (rw q.globals (at-end s.globals t))))
+    ends Widens (length s.globals) v (with-global v t) (HasGlobal t s) (global-good v t good (object-kept s.structs v.structs q.structs t h)) (global-widens v t)
+    (rw q.globals (at-end s.globals t), q.slots)))

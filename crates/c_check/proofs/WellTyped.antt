@@ -1,0 +1,56 @@
+-- A unit that the rules type is well typed.
+use Rattle.std.proofs.Common.{◌≡◌, subst, refl, ℕ, false, List, [], ◌∷◌, Option, Some, None, Result, Ok, Err, arith}
+use Rattle.std.proofs.lemmas.List.Elements.{All-nil}
+use Rattle.std.specs.List.{All}
+use Rattle.c_types.specs.Layout.{Layout, layout_at}
+use Rattle.c_types.specs.Types.{Ty, void}
+use Rattle.c_tree.specs.declared.external.External.{External}
+use Rattle.c_typed.specs.Tree.{Function, Made, Stmt, Typed}
+use Rattle.c_check_types.specs.State.{State}
+use Rattle.c_well_typed.specs.Types.{IsObject}
+use Rattle.c_well_typed.specs.Statements.{IsStatement}
+use Rattle.c_well_typed.specs.Units.{IsFunction, IsMade, IsWellTyped}
+use Rattle.c_laws.proofs.States.{Good, IsDeclared}
+use Rattle.c_check.specs.Declarations.{external}
+use Rattle.c_check.specs.Units.{start, typed_state, going_on, externals, typing_of}
+use Rattle.c_check.proofs.Held.{so_far, Held, well-typed}
+use Rattle.c_check.proofs.Externals.{external-does}
+
+nothing-defined : (n : ℕ) (l : Layout) → layout_at [] n ≡ Some l → All (IsObject []) l.members
+nothing-defined n l e = let q : None ≡ Some l = e in absurd (cc)
+
+start-good : Good start
+start-good =
+    record {
+      tags = refl;
+      structs = nothing-defined;
+      globals = All-nil (IsObject []);
+      functions = All-nil (IsDeclared []);
+      slots = All-nil (IsObject []);
+    }
+
+start-held : Held start
+start-held =
+    record {
+      literals = refl;
+      made = All-nil (IsMade []);
+      values = All-nil (IsStatement (so_far start []) void false);
+      functions = All-nil (IsFunction (typed_state start));
+    }
+
+-- behind one declaration
+behind-one : (x : External) (s : State) (next : State → Result Typed ℕ) (u : Typed) → Good s → Held s → s.slots ≡ []
+    → ((t : State) → Good t → Held t → t.slots ≡ [] → next t ≡ Ok u → IsWellTyped u)
+    → (o : Option (Unit {0} × State)) → external x s ≡ o → going_on x.at o next ≡ Ok u → IsWellTyped u
+behind-one x s next u g h e more None is f = let q : Err x.at ≡ Ok u = f in absurd (cc)
+behind-one x s next u g h e more (Some (a, t)) is f = let d = external-does x s g h e a t is in more t d.0 d.2.0 d.2.1 f
+
+externals-does : (xs : List External) (s : State) → Good s → Held s → s.slots ≡ [] → (u : Typed) → externals xs s ≡ Ok u → IsWellTyped u
+externals-does [] s g h e u f =
+    let q : typed_state s ≡ u = cc in subst IsWellTyped q (well-typed s g h)
+externals-does (x ∷ xs) s g h e u f =
+    behind-one x s (λ t. externals xs t) u g h e (λ t good held empty is. externals-does xs t good held empty u is) (external x s) refl f
+
+-- what typing gives is well typed
+pub typing-well : (xs : List External) (u : Typed) → typing_of xs ≡ Ok u → IsWellTyped u
+typing-well xs u e = externals-does xs start start-good start-held refl u e
