@@ -131,7 +131,7 @@ made-held s n less h =
       literals = omega (arith, h.literals, texts-append s.made (tree.global n ∷ []));
       made = All-push (IsMade s.globals) s.made (tree.global n) h.made less;
       values = All-weaker (IsStatement (so_far s []) void false) (IsStatement (so_far (with-made s n) []) void false)
-        (statement-grown (so_far s []) (so_far (with-made s n) []) (grows []) void false) s.values h.values;
+          (statement-grown (so_far s []) (so_far (with-made s n) []) (grows []) void false) s.values h.values;
       functions = All-weaker (IsFunction u) (IsFunction v) (function-kept u v (extends-same s.structs) grows) s.functions h.functions;
     }
 
@@ -175,8 +175,8 @@ values-held s ss empty news h =
       literals = h.literals;
       made = h.made;
       values = All-append is s.values ss (All-weaker (IsStatement (so_far s []) void false) is there s.values h.values)
-        (All-weaker (IsStatement (so_far s []) void false) is there ss
-        (All-weaker (IsStatement (context s) void false) (IsStatement (so_far s []) void false) (statement-grown (context s) (so_far s []) (context-is s [] h.literals empty) void false) ss news));
+          (All-weaker (IsStatement (so_far s []) void false) is there ss
+          (All-weaker (IsStatement (context s) void false) (IsStatement (so_far s []) void false) (statement-grown (context s) (so_far s []) (context-is s [] h.literals empty) void false) ss news));
       functions = All-weaker (IsFunction u) (IsFunction v) (function-kept u v (extends-same s.structs) grows) s.functions h.functions;
     }
 
@@ -236,7 +236,7 @@ body-held s n f body r us locals e ty slots is g h =
       literals = h.literals;
       made = h.made;
       values = All-weaker (IsStatement (so_far s []) void false) (IsStatement (so_far w []) void false)
-        (statement-grown (so_far s []) (so_far w []) (grows []) void false) s.values h.values;
+          (statement-grown (so_far s []) (so_far w []) (grows []) void false) s.values h.values;
       functions = All-set (IsFunction v) s.functions n (defined f s.slots body) (r, us, ty, d.3, ((locals, slots), g.slots, there))
-        (All-weaker (IsFunction u) (IsFunction v) (function-kept u v (extends-same s.structs) grows) s.functions h.functions);
+          (All-weaker (IsFunction u) (IsFunction v) (function-kept u v (extends-same s.structs) grows) s.functions h.functions);
     }

@@ -80,9 +80,11 @@ module _ (r : Ty) (l : Bool) where
       let grown = declaring-grown (context u) (context w) (steps-grows u w z) r l x (declaring-grown (context s) (context u) (quiet-grows s u q) r l x i) in
       calmly w (local_value-does n t v x.done w fine fit slot.0 grown.1) (λ done y fair k j.
       let d : Declaring = record { slots = x.slots ++ n ∷ []; done = done } in
-      ends Steps d y y (Declares r l) fair (steps-same y)
-      (All-push (IsSlot (context y)) x.slots n (declaring-grown (context w) (context y) (quiet-grows w y k) r l x grown).0
-      (slot-grown (context w) (context y) (quiet-grows w y k) n (slice_get_within w.slots n t slot.0)), j))))
+      ends Steps d y y (Declares r l) fair (steps-same y) (
+        All-push (IsSlot (context y)) x.slots n (declaring-grown (context w) (context y) (quiet-grows w y k) r l x grown).0
+            (slot-grown (context w) (context y) (quiet-grows w y k) n (slice_get_within w.slots n t slot.0)),
+        j,
+      ))))
 
   declares_function_there-does : (name : List ℕ) (t : Ty) (v : Option Initialiser) (x : Declaring) (s : State) → Good s → IsFunctionType t → IsType s.structs t
       → IsDeclaring (context s) r l x → Does Steps (declares_function_there name t v x) s (Declares r l)

@@ -7,6 +7,7 @@ ghost use Rattle.c_check_types.specs.Views.{Answers, state_of};
 ghost use Rattle.c_check.specs.Declarations as words;
 ghost use Rattle.c_check.specs.Units.{start, typed_state};
 ghost use Rattle.c_check.specs.Views.{Checks, GoesOn};
+ghost use Rattle.c_well_typed.specs.Units.{IsWellTyped};
 
 use crate::definition::definition;
 use crate::fault::CCheck;
@@ -134,10 +135,12 @@ fn typed_unit(alloc: Global, xs: &[External]) -> Result<Typed, CCheck>
     Ok(typed(checker))
 }
 
-/// The typed tree of a unit (C11, 6.9). `NoTyping`: where the first external declaration begins up to which there is none.
-/// `Memory` says nothing of the unit.
+/// The typed tree of a unit (C11, 6.9), which is well typed. `NoTyping`: where the first external declaration begins up to which
+/// there is none. `Memory` says nothing of the unit.
+#[tactic(auto, using(crate::proofs::WellTyped::checked_well))]
 pub fn check(alloc: Global, unit: Unit) -> Result<Typed, CCheck>
-    ensures { Checks unit result }
+    ensures checks { Checks unit result }
+    ensures well_typed { IfOk result (λ t. IsWellTyped (typed_of t)) }
 {
     typed_unit(alloc, unit.externals())
 }

@@ -73,7 +73,7 @@ abbrev pub HasSlot : State → Ty → State → ℕ → Type 0
 HasSlot s t u n = (slice_get u.slots n ≡ Some t) × (u.slots ≡ s.slots ++ t ∷ [])
 
 pub enters_local-does : (name : List ℕ) (t : Ty) (s : State) → Good s → IsObject s.structs t → Does Steps (enters_local name t) s (HasSlot s t)
-enters_local-does name t s g h = 
+enters_local-does name t s g h =
     calmly s (enters-does name (entities.Local (length s.slots)) s g) (λ a u good q p.
     ends Steps (length s.slots) u (with-slot u t) (HasSlot s t) (slot-good u t good (object-kept s.structs u.structs q.structs t h)) (slot-more u t)
     (rw q.slots (at-end s.slots t), ap (λ ts. ts ++ t ∷ []) q.slots))
