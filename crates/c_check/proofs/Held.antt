@@ -1,22 +1,21 @@
 -- What holds of the tables of a unit as far as it has been read.
-use Rattle.std.proofs.Common.{◌≡◌, ◌∙◌, sym, ap, subst, refl, ℕ, zero, suc, ◌+◌, ◌<◌, ◌≤◌, false, List, [], ◌∷◌, ◌++◌, length, map, set, Option, Some, None, slice_get, arith}
+use Rattle.std.proofs.Common.{◌≡◌, ◌∙◌, sym, ap, subst, refl, ℕ, zero, suc, ◌<◌, ◌≤◌, false, List, [], ◌∷◌, ◌++◌, length, map, set, Option, Some, None, slice_get, arith}
 use Rattle.std.proofs.lemmas.List.{map-append, length-append}
-use Rattle.std.proofs.lemmas.List.Elements.{All-nil, All-head, All-tail, All-append, All-push, All-set, All-weaker}
+use Rattle.std.proofs.lemmas.List.Elements.{All-nil, All-tail, All-append, All-push, All-set, All-weaker}
 use Rattle.std.proofs.lemmas.Option.{get_or_from_slice_get, slice_get_within}
 use Rattle.std.specs.List.{All}
-use Rattle.c_types.specs.Layout.{Table}
 use Rattle.c_types.specs.Types.{Ty, void, function, Tys}
 use Rattle.c_typed.specs.Tree as tree
 use Rattle.c_typed.specs.Tree.{Function, Made, Stmt, Typed}
 use Rattle.c_check_types.specs.State.{State}
-use Rattle.c_well_typed.specs.Types.{IsType, IsObject}
+use Rattle.c_well_typed.specs.Types.{IsObject}
 use Rattle.c_well_typed.specs.Expressions.{Context}
 use Rattle.c_well_typed.specs.Statements.{IsStatement}
 use Rattle.c_well_typed.specs.Units.{literals_in, context_of, list_of, IsBody, IsFunction, IsMade, IsWellTyped}
 use Rattle.c_declare.specs.Functions.{defined}
 use Rattle.c_check.specs.Units.{typed_state}
-use Rattle.c_laws.proofs.States.{context, Good, IsDeclared, Extends, IsText, MakesTexts, IsNew, Grows}
-use Rattle.c_laws.proofs.Extension.{extends-same, type-kept, object-kept, get-kept, texts-append}
+use Rattle.c_laws.proofs.States.{context, Good, IsDeclared, Extends, IsText, IsNew, Grows}
+use Rattle.c_laws.proofs.Extension.{extends-same, type-kept, get-kept, texts-append}
 use Rattle.c_laws.proofs.Growth.{statement-grown}
 use Rattle.c_laws.proofs.Types.{objects-kept}
 use Rattle.c_laws.proofs.Scopes.{Widens}
@@ -131,7 +130,7 @@ made-held s n less h =
       literals = omega (arith, h.literals, texts-append s.made (tree.global n ∷ []));
       made = All-push (IsMade s.globals) s.made (tree.global n) h.made less;
       values = All-weaker (IsStatement (so_far s []) void false) (IsStatement (so_far (with-made s n) []) void false)
-        (statement-grown (so_far s []) (so_far (with-made s n) []) (grows []) void false) s.values h.values;
+          (statement-grown (so_far s []) (so_far (with-made s n) []) (grows []) void false) s.values h.values;
       functions = All-weaker (IsFunction u) (IsFunction v) (function-kept u v (extends-same s.structs) grows) s.functions h.functions;
     }
 
@@ -175,8 +174,8 @@ values-held s ss empty news h =
       literals = h.literals;
       made = h.made;
       values = All-append is s.values ss (All-weaker (IsStatement (so_far s []) void false) is there s.values h.values)
-        (All-weaker (IsStatement (so_far s []) void false) is there ss
-        (All-weaker (IsStatement (context s) void false) (IsStatement (so_far s []) void false) (statement-grown (context s) (so_far s []) (context-is s [] h.literals empty) void false) ss news));
+          (All-weaker (IsStatement (so_far s []) void false) is there ss
+          (All-weaker (IsStatement (context s) void false) (IsStatement (so_far s []) void false) (statement-grown (context s) (so_far s []) (context-is s [] h.literals empty) void false) ss news));
       functions = All-weaker (IsFunction u) (IsFunction v) (function-kept u v (extends-same s.structs) grows) s.functions h.functions;
     }
 
@@ -236,7 +235,7 @@ body-held s n f body r us locals e ty slots is g h =
       literals = h.literals;
       made = h.made;
       values = All-weaker (IsStatement (so_far s []) void false) (IsStatement (so_far w []) void false)
-        (statement-grown (so_far s []) (so_far w []) (grows []) void false) s.values h.values;
+          (statement-grown (so_far s []) (so_far w []) (grows []) void false) s.values h.values;
       functions = All-set (IsFunction v) s.functions n (defined f s.slots body) (r, us, ty, d.3, ((locals, slots), g.slots, there))
-        (All-weaker (IsFunction u) (IsFunction v) (function-kept u v (extends-same s.structs) grows) s.functions h.functions);
+          (All-weaker (IsFunction u) (IsFunction v) (function-kept u v (extends-same s.structs) grows) s.functions h.functions);
     }

@@ -2,3 +2,8 @@ pub mod Computed
 pub mod Items
 pub mod Values
 pub mod Alone
+pub mod Initialised
+pub mod Stated
+pub mod Held
+pub mod Externals
+pub mod WellTyped

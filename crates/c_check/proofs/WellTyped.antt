@@ -1,11 +1,11 @@
 -- A unit that the rules type is well typed.
-use Rattle.std.proofs.Common.{◌≡◌, subst, refl, ℕ, false, List, [], ◌∷◌, Option, Some, None, Result, Ok, Err, arith}
+use Rattle.std.proofs.Common.{◌≡◌, subst, refl, ℕ, false, List, [], ◌∷◌, Option, Some, None, Result, Ok, Err}
 use Rattle.std.proofs.lemmas.List.Elements.{All-nil}
 use Rattle.std.specs.List.{All}
 use Rattle.c_types.specs.Layout.{Layout, layout_at}
-use Rattle.c_types.specs.Types.{Ty, void}
+use Rattle.c_types.specs.Types.{void}
 use Rattle.c_tree.specs.declared.external.External.{External}
-use Rattle.c_typed.specs.Tree.{Function, Made, Stmt, Typed}
+use Rattle.c_typed.specs.Tree.{Typed}
 use Rattle.c_check_types.specs.State.{State}
 use Rattle.c_well_typed.specs.Types.{IsObject}
 use Rattle.c_well_typed.specs.Statements.{IsStatement}
@@ -52,5 +52,5 @@ externals-does (x ∷ xs) s g h e u f =
     behind-one x s (λ t. externals xs t) u g h e (λ t good held empty is. externals-does xs t good held empty u is) (external x s) refl f
 
 -- what typing gives is well typed
-pub typing-well : (xs : List External) (u : Typed) → typing_of xs ≡ Ok u → IsWellTyped u
-typing-well xs u e = externals-does xs start start-good start-held refl u e
+pub typing_well : (xs : List External) (u : Typed) → typing_of xs ≡ Ok u → IsWellTyped u
+typing_well xs u e = externals-does xs start start-good start-held refl u e
