@@ -32,7 +32,7 @@ use Rattle.c_laws.proofs.Scopes.{IsFunctionType, function-type, opened-does, clo
 use Rattle.c_laws.proofs.Declared.{variable_type-does}
 use Rattle.c_laws.proofs.Expressions.{as_assigned-does, a_condition-does, performed-does}
 use Rattle.c_check.specs.Statements.{Declaring, nothing_done, and_done, scope_of, local_value, declares_variable, is_missing, declares_function_there, declares, declares_one, declaration, declaration_of, test_of, step_of, first_of, in_front_of_loop, returned, is_void, returned_nothing, jump_of, jumped, statement, items}
-use Rattle.c_check.proofs.Initialised.{AllDone, all-grown, Done, initialised-does}
+use Rattle.c_check.proofs.Leaves.{AllDone, all-grown, Done, initialised-does}
 
 -- ---- what is declared, and done there
 

@@ -14,7 +14,7 @@ use Rattle.c_laws.proofs.States.{Good, IsDeclared}
 use Rattle.c_check.specs.Declarations.{external}
 use Rattle.c_check.specs.Units.{start, typed_state, going_on, externals, typing_of}
 use Rattle.c_check.proofs.Held.{so_far, Held, well-typed}
-use Rattle.c_check.proofs.Externals.{external-does}
+use Rattle.c_check.proofs.FileScope.{external-does}
 
 nothing-defined : (n : ℕ) (l : Layout) → layout_at [] n ≡ Some l → All (IsObject []) l.members
 nothing-defined n l e = let q : None ≡ Some l = e in absurd (cc)

@@ -29,7 +29,7 @@ use Rattle.c_laws.proofs.Types.{IsBase, IsParameter, IsDerived, base-derived, wh
 use Rattle.c_laws.proofs.Scopes.{IsFunctionType, function-type, Widens, steps-widens, opened-does, closed-does, declares_function-does, enters_global-does}
 use Rattle.c_laws.proofs.Declared.{types-in, types-listed, variable_type-does, enters_parameters-does}
 use Rattle.c_laws.proofs.Structs.{outer-does}
-use Rattle.c_check.proofs.Initialised.{initialised-does}
+use Rattle.c_check.proofs.Leaves.{initialised-does}
 use Rattle.c_check.proofs.Stated.{declaring-grown, nothing-declared, scope-is, items-does}
 use Rattle.c_check.proofs.Held.{Held, held-widened, with-made, made-good, made-held, with-values, values-good, values-held, body-good, body-held}
 
