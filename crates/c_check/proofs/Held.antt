@@ -1,22 +1,21 @@
 -- What holds of the tables of a unit as far as it has been read.
-use Rattle.std.proofs.Common.{◌≡◌, ◌∙◌, sym, ap, subst, refl, ℕ, zero, suc, ◌+◌, ◌<◌, ◌≤◌, false, List, [], ◌∷◌, ◌++◌, length, map, set, Option, Some, None, slice_get, arith}
+use Rattle.std.proofs.Common.{◌≡◌, ◌∙◌, sym, ap, subst, refl, ℕ, zero, suc, ◌<◌, ◌≤◌, false, List, [], ◌∷◌, ◌++◌, length, map, set, Option, Some, None, slice_get, arith}
 use Rattle.std.proofs.lemmas.List.{map-append, length-append}
-use Rattle.std.proofs.lemmas.List.Elements.{All-nil, All-head, All-tail, All-append, All-push, All-set, All-weaker}
+use Rattle.std.proofs.lemmas.List.Elements.{All-nil, All-tail, All-append, All-push, All-set, All-weaker}
 use Rattle.std.proofs.lemmas.Option.{get_or_from_slice_get, slice_get_within}
 use Rattle.std.specs.List.{All}
-use Rattle.c_types.specs.Layout.{Table}
 use Rattle.c_types.specs.Types.{Ty, void, function, Tys}
 use Rattle.c_typed.specs.Tree as tree
 use Rattle.c_typed.specs.Tree.{Function, Made, Stmt, Typed}
 use Rattle.c_check_types.specs.State.{State}
-use Rattle.c_well_typed.specs.Types.{IsType, IsObject}
+use Rattle.c_well_typed.specs.Types.{IsObject}
 use Rattle.c_well_typed.specs.Expressions.{Context}
 use Rattle.c_well_typed.specs.Statements.{IsStatement}
 use Rattle.c_well_typed.specs.Units.{literals_in, context_of, list_of, IsBody, IsFunction, IsMade, IsWellTyped}
 use Rattle.c_declare.specs.Functions.{defined}
 use Rattle.c_check.specs.Units.{typed_state}
-use Rattle.c_laws.proofs.States.{context, Good, IsDeclared, Extends, IsText, MakesTexts, IsNew, Grows}
-use Rattle.c_laws.proofs.Extension.{extends-same, type-kept, object-kept, get-kept, texts-append}
+use Rattle.c_laws.proofs.States.{context, Good, IsDeclared, Extends, IsText, IsNew, Grows}
+use Rattle.c_laws.proofs.Extension.{extends-same, type-kept, get-kept, texts-append}
 use Rattle.c_laws.proofs.Growth.{statement-grown}
 use Rattle.c_laws.proofs.Types.{objects-kept}
 use Rattle.c_laws.proofs.Scopes.{Widens}

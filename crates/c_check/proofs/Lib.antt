@@ -2,8 +2,8 @@ pub mod Computed
 pub mod Items
 pub mod Values
 pub mod Alone
-pub mod Held
-pub mod Initialised
+pub mod Leaves
 pub mod Stated
-pub mod Externals
+pub mod Held
+pub mod FileScope
 pub mod WellTyped

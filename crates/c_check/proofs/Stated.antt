@@ -1,5 +1,5 @@
 -- What statements make are statements, of a function with its result.
-use Rattle.std.proofs.Common.{◌≡◌, ◌∙◌, sym, ap, subst, refl, ℕ, ◌+◌, ◌<◌, ◌≤◌, ◌^◌, Bool, true, false, List, [], ◌∷◌, ◌++◌, length, Option, Some, None, slice_get, arith}
+use Rattle.std.proofs.Common.{◌≡◌, refl, ℕ, ◌<◌, Bool, true, false, List, [], ◌∷◌, ◌++◌, length, Option, Some, None, slice_get, arith}
 use Rattle.std.proofs.lemmas.List.Elements.{All-nil, All-head, All-tail, All-push, All-weaker}
 use Rattle.std.proofs.lemmas.Option.{slice_get_within}
 use Rattle.std.specs.List.{All}
@@ -18,21 +18,21 @@ use Rattle.c_typed.specs.declared.ops.Variable.TheVariants as variables
 use Rattle.c_typed.specs.Tree as to
 use Rattle.c_typed.specs.Tree.{Stmt, Stmts}
 use Rattle.c_typed.specs.Parts.{sequence}
-use Rattle.c_check_types.specs.State.{State, Rule}
-use Rattle.c_check_types.specs.Types.{Derived, whole, lengthless, Parameter, declared}
-use Rattle.c_well_typed.specs.Types.{IsScalar, IsType, IsObject}
-use Rattle.c_well_typed.specs.Expressions.{Context, HasType, IsPlace, IsCondition}
-use Rattle.c_well_typed.specs.Statements.{IsDone, IsStep, IsStatement, AreStatements}
+use Rattle.c_check_types.specs.State.{State}
+use Rattle.c_check_types.specs.Types.{Derived, whole, lengthless, Parameter}
+use Rattle.c_well_typed.specs.Types.{IsType, IsObject}
+use Rattle.c_well_typed.specs.Expressions.{Context, IsCondition}
+use Rattle.c_well_typed.specs.Statements.{IsStep, IsStatement, AreStatements}
 use Rattle.c_laws.proofs.States.{context, Good, Quiet, Steps, Grows, Does}
 use Rattle.c_laws.proofs.Extension.{type-kept, object-kept, quiet-same, steps-same, quiet-steps, quiet-onward, steps-onward, quiet-grows, steps-grows}
 use Rattle.c_laws.proofs.Rules.{quietly, calmly, stepping, steadily, ends, given-then, only-then}
 use Rattle.c_laws.proofs.Growth.{condition-grown, step-grown, slot-grown, statement-grown}
-use Rattle.c_laws.proofs.Types.{IsBase, IsDerived, base-derived, derived-kept, specified-does, declared-does}
+use Rattle.c_laws.proofs.Types.{IsBase, IsDerived, base-derived, specified-does, declared-does}
 use Rattle.c_laws.proofs.Scopes.{IsFunctionType, function-type, opened-does, closed-does, enters_local-does, declares_function-does}
 use Rattle.c_laws.proofs.Declared.{variable_type-does}
 use Rattle.c_laws.proofs.Expressions.{as_assigned-does, a_condition-does, performed-does}
-use Rattle.c_check.specs.Statements.{Declaring, nothing_done, and_done, scope_of, local_value, declares_variable, is_missing, declares_function_there, declares, declares_one, declaration, declaration_of, test_of, step_of, first_of, in_front_of_loop, returned, is_void, returned_nothing, jump_of, jumped, doing, statement, items}
-use Rattle.c_check.proofs.Initialised.{AllDone, all-grown, Done, initialised-does}
+use Rattle.c_check.specs.Statements.{Declaring, nothing_done, and_done, scope_of, local_value, declares_variable, is_missing, declares_function_there, declares, declares_one, declaration, declaration_of, test_of, step_of, first_of, in_front_of_loop, returned, is_void, returned_nothing, jump_of, jumped, statement, items}
+use Rattle.c_check.proofs.Leaves.{AllDone, all-grown, Done, initialised-does}
 
 -- ---- what is declared, and done there
 

@@ -1,25 +1,20 @@
 -- A unit that the rules type is well typed.
-use Rattle.std.proofs.Common.{◌≡◌, subst, refl, ℕ, false, List, [], ◌∷◌, Option, Some, None, Result, Ok, Err, arith}
+use Rattle.std.proofs.Common.{◌≡◌, subst, refl, ℕ, false, List, [], ◌∷◌, Option, Some, None, Result, Ok, Err}
 use Rattle.std.proofs.lemmas.List.Elements.{All-nil}
 use Rattle.std.specs.List.{All}
-use Rattle.std.specs.Prelude.{IfOk}
 use Rattle.c_types.specs.Layout.{Layout, layout_at}
-use Rattle.c_types.specs.Types.{Ty, void}
+use Rattle.c_types.specs.Types.{void}
 use Rattle.c_tree.specs.declared.external.External.{External}
-use Rattle.c_typed.specs.Tree.{Function, Made, Stmt, Typed}
-use Rattle.c_typed.specs.Views.{typed_of}
-use Rattle.c_typed.specs.declared.unit.Typed.{Typed as TypedCode}
+use Rattle.c_typed.specs.Tree.{Typed}
 use Rattle.c_check_types.specs.State.{State}
 use Rattle.c_well_typed.specs.Types.{IsObject}
 use Rattle.c_well_typed.specs.Statements.{IsStatement}
 use Rattle.c_well_typed.specs.Units.{IsFunction, IsMade, IsWellTyped}
 use Rattle.c_laws.proofs.States.{Good, IsDeclared}
-use Rattle.c_check.specs.declared.fault.CCheck.{CCheck}
 use Rattle.c_check.specs.Declarations.{external}
 use Rattle.c_check.specs.Units.{start, typed_state, going_on, externals, typing_of}
-use Rattle.c_check.specs.Views.{Checks}
 use Rattle.c_check.proofs.Held.{so_far, Held, well-typed}
-use Rattle.c_check.proofs.Externals.{external-does}
+use Rattle.c_check.proofs.FileScope.{external-does}
 
 nothing-defined : (n : ℕ) (l : Layout) → layout_at [] n ≡ Some l → All (IsObject []) l.members
 nothing-defined n l e = let q : None ≡ Some l = e in absurd (cc)
@@ -57,10 +52,5 @@ externals-does (x ∷ xs) s g h e u f =
     behind-one x s (λ t. externals xs t) u g h e (λ t good held empty is. externals-does xs t good held empty u is) (external x s) refl f
 
 -- what typing gives is well typed
-pub typing-well : (xs : List External) (u : Typed) → typing_of xs ≡ Ok u → IsWellTyped u
-typing-well xs u e = externals-does xs start start-good start-held refl u e
-
--- what an answer gives is well typed
-pub checked_well : (xs : List External) (r : Result TypedCode CCheck) → Checks xs r → IfOk r (λ t. IsWellTyped (typed_of t))
-checked_well xs (Ok t) h = typing-well xs (typed_of t) h
-checked_well xs (Err e) h = tt
+pub typing_well : (xs : List External) (u : Typed) → typing_of xs ≡ Ok u → IsWellTyped u
+typing_well xs u e = externals-does xs start start-good start-held refl u e

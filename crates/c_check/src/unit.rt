@@ -4,10 +4,10 @@ ghost use Rattle.std.specs.Prelude.{◌≡◌, IfOk};
 ghost use Rattle.c_types.specs.Types.{type_of};
 ghost use Rattle.c_typed.specs.Views.{typed_of};
 ghost use Rattle.c_check_types.specs.Views.{Answers, state_of};
+ghost use Rattle.c_well_typed.specs.Units.{IsWellTyped};
 ghost use Rattle.c_check.specs.Declarations as words;
 ghost use Rattle.c_check.specs.Units.{start, typed_state};
 ghost use Rattle.c_check.specs.Views.{Checks, GoesOn};
-ghost use Rattle.c_well_typed.specs.Units.{IsWellTyped};
 
 use crate::definition::definition;
 use crate::fault::CCheck;
@@ -137,9 +137,9 @@ fn typed_unit(alloc: Global, xs: &[External]) -> Result<Typed, CCheck>
 
 /// The typed tree of a unit (C11, 6.9), which is well typed. `NoTyping`: where the first external declaration begins up to which
 /// there is none. `Memory` says nothing of the unit.
-#[tactic(auto, using(crate::proofs::WellTyped::checked_well))]
+#[tactic(auto, using(crate::proofs::WellTyped::typing_well))]
 pub fn check(alloc: Global, unit: Unit) -> Result<Typed, CCheck>
-    ensures checks { Checks unit result }
+    ensures checked { Checks unit result }
     ensures well_typed { IfOk result (λ t. IsWellTyped (typed_of t)) }
 {
     typed_unit(alloc, unit.externals())

@@ -1,18 +1,18 @@
 -- The parameters of a function that is defined, and the types of variables.
-use Rattle.std.proofs.Common.{◌≡◌, ◌∙◌, sym, ap, subst, refl, ℕ, List, [], ◌∷◌, ◌++◌, length, map, Option, Some, None, append_assoc, arith}
+use Rattle.std.proofs.Common.{◌≡◌, ◌∙◌, sym, ap, refl, ℕ, List, [], ◌∷◌, ◌++◌, map, Option, Some, None, append_assoc}
 use Rattle.std.proofs.lemmas.List.{append-nil}
 use Rattle.std.proofs.lemmas.List.Elements.{All-head, All-tail}
 use Rattle.std.specs.List.{All}
-use Rattle.c_types.specs.Layout.{Table, IsSmall}
-use Rattle.c_types.specs.Types.{Ty, Tys, types, no_types, array}
+use Rattle.c_types.specs.Layout.{Table}
+use Rattle.c_types.specs.Types.{Ty, array}
 use Rattle.c_tree.specs.Tree.{Initialiser}
-use Rattle.c_check_types.specs.State.{State, Rule}
+use Rattle.c_check_types.specs.State.{State}
 use Rattle.c_check_types.specs.Types.{measured, Derived, whole, lengthless, Parameter, types_of_parameters}
 use Rattle.c_declare.specs.Functions.{enters_parameter, enters_parameters}
 use Rattle.c_declare.specs.Initials.{given_length, variable_type}
-use Rattle.c_well_typed.specs.Types.{IsScalar, IsType, IsObject}
+use Rattle.c_well_typed.specs.Types.{IsObject}
 use Rattle.c_well_typed.specs.Units.{list_of}
-use Rattle.c_laws.proofs.States.{Good, Extends, Quiet, Steps, Does}
+use Rattle.c_laws.proofs.States.{Good, Quiet, Steps, Does}
 use Rattle.c_laws.proofs.Extension.{quiet-same, steps-same}
 use Rattle.c_laws.proofs.Rules.{stepping, ends, given-then}
 use Rattle.c_laws.proofs.Sizes.{small_if_measured, few_if_measured, scalar-small}

@@ -1,22 +1,18 @@
 -- What declarations make known: variables, functions and the names of scopes.
-use Rattle.std.proofs.Common.{◌≡◌, ◌∙◌, sym, ap, subst, refl, ℕ, zero, suc, ◌+◌, ◌*◌, ◌/◌, ◌<◌, ◌≤◌, ◌^◌, ◌&&◌, Bool, true, false, not, List, [], ◌∷◌, ◌++◌, length, map, Option, Some, None, slice_get, is_some, if◌then◌else◌, append_assoc, arith}
-use Rattle.std.proofs.lemmas.List.{map-append, append-nil, length-append}
-use Rattle.std.proofs.lemmas.List.Elements.{All-nil, All-cons, All-head, All-tail, All-append, All-push}
+use Rattle.std.proofs.Common.{◌≡◌, ◌∙◌, sym, ap, refl, ℕ, zero, suc, ◌&&◌, Bool, true, false, not, List, [], ◌∷◌, ◌++◌, length, map, Option, Some, None, slice_get, is_some}
+use Rattle.std.proofs.lemmas.List.{append-nil}
+use Rattle.std.proofs.lemmas.List.Elements.{All-nil, All-cons, All-append, All-push}
 use Rattle.std.specs.List.{All}
-use Rattle.c_types.specs.Layout.{Table, HasSize, IsSmall, size}
-use Rattle.c_types.specs.Types.{Ty, void, integer, struct, pointer, array, function, Tys, no_types, types, is_function}
-use Rattle.c_typed.specs.Tree.{Function, Made, Stmt}
+use Rattle.c_types.specs.Types.{Ty, void, integer, struct, pointer, array, function, Tys, is_function}
+use Rattle.c_typed.specs.Tree.{Function}
 use Rattle.c_check_types.specs.declared.entity.Entity.{Entity}
 use Rattle.c_check_types.specs.declared.entity.Entity.TheVariants as entities
-use Rattle.c_check_types.specs.State.{State, Scope, Names, Rule, number_of, only_if, ◌>>=◌, ◌>>◌}
+use Rattle.c_check_types.specs.State.{State, Scope, number_of}
 use Rattle.c_check_types.specs.Scopes.{library, no_names, opened, outer, closed, in_front, is_known, enters, enters_local, is_function as names_function, entity_in_front, enters_function, names_variable, a_function, new_function, has_type, old_function, old_or_new, declares_function, enters_global}
-use Rattle.c_check_types.specs.TypeEquality.{same_type}
-use Rattle.c_check_types.specs.Types.{measured}
-use Rattle.c_well_typed.specs.Types.{IsScalar, IsType, IsObject}
+use Rattle.c_well_typed.specs.Types.{IsType, IsObject}
 use Rattle.c_laws.proofs.States.{Good, IsDeclared, Extends, Quiet, Steps, MakesTexts, IsNew, Does}
-use Rattle.c_laws.proofs.Extension.{extends-same, quiet-same, quiet-onward, quiet-steps, steps-same, steps-onward, get-kept, object-kept, type-kept, extends-onward, makes-onward, more}
-use Rattle.c_laws.proofs.Rules.{quietly, calmly, step, stepping, steadily, behind, ends, given-then, given-ends, only-then}
-use Rattle.c_laws.proofs.Sizes.{small_if_measured}
+use Rattle.c_laws.proofs.Extension.{extends-same, quiet-same, quiet-steps, steps-same, object-kept, extends-onward, makes-onward, more}
+use Rattle.c_laws.proofs.Rules.{calmly, step, behind, ends, only-then}
 use Rattle.c_laws.proofs.Integers.{same-type}
 
 -- ---- names alone
@@ -139,10 +135,6 @@ new_function-does name t s g f h =
     behind s v (function-more s name t) (
     calmly v (enters_function-does name n v (function-good s name t g f h)) (λ c w good q i.
     ends Steps n w w (HasFunction t s) good (steps-same w) (rw q.functions (function-there s.functions name t), q.slots))))
-
-has-type-is : (o : Option Function) (t : Ty) → has_type o t ≡ true → (f : Function) × (o ≡ Some f) × (f.ty ≡ t)
-has-type-is None t e = let q : false ≡ true = e in absurd (cc)
-has-type-is (Some f) t e = (f, refl, same-type f.ty t e)
 
 old-there : (fs : List Function) (n : ℕ) (t : Ty) → has_type (slice_get fs n) t ≡ true → slice_get (map (λ (f : Function). f.ty) fs) n ≡ Some t
 old-there [] n t e = let q : false ≡ true = e in absurd (cc)

@@ -1,19 +1,19 @@
 -- Structs that are defined: their members are objects.
-use Rattle.std.proofs.Common.{◌≡◌, ◌∙◌, sym, ap, subst, refl, ℕ, zero, suc, ◌<◌, ◌≤◌, ◌⊎◌, inl, inr, Bool, true, false, not, nat_le, List, [], ◌∷◌, ◌++◌, length, set, Option, Some, None, slice_get, is_some, arith}
+use Rattle.std.proofs.Common.{◌≡◌, refl, ℕ, zero, suc, ◌<◌, ◌⊎◌, inl, inr, true, false, not, nat_le, List, [], ◌∷◌, ◌++◌, length, set, Option, Some, None, slice_get, is_some, arith}
 use Rattle.std.proofs.lemmas.List.{length-set}
 use Rattle.std.proofs.lemmas.List.Elements.{All-nil, All-cons, All-head, All-tail, All-push, All-weaker}
 use Rattle.std.specs.List.{All}
 use Rattle.c_types.specs.Layout.{Table, Layout, layout_at, laid_out}
-use Rattle.c_types.specs.Types.{Ty, struct, is_function}
+use Rattle.c_types.specs.Types.{Ty, struct}
 use Rattle.c_tree.specs.declared.external.MemberHead.TheVariants as heads
 use Rattle.c_tree.specs.declared.external.OuterSpecifier.{OuterSpecifier}
 use Rattle.c_tree.specs.declared.external.OuterSpecifier.TheVariants as outers
 use Rattle.c_tree.specs.declared.external.Piece.{Piece}
 use Rattle.c_tree.specs.declared.external.Piece.TheVariants as pieces
 use Rattle.c_tree.specs.Tree.{Declarator}
-use Rattle.c_check_types.specs.State.{State, Rule, number_of}
-use Rattle.c_check_types.specs.Types.{measured, whole, whole_type, declared, most_bytes}
-use Rattle.c_declare.specs.Structs.{Open, opens_struct, with_member, declares_member, with_members, is_undefined, defines, closes, in_front, piece, all_pieces, last_one, struct_defined, outer}
+use Rattle.c_check_types.specs.State.{State, number_of}
+use Rattle.c_check_types.specs.Types.{measured, whole, whole_type, most_bytes}
+use Rattle.c_declare.specs.Structs.{Open, opens_struct, with_member, declares_member, with_members, is_undefined, defines, closes, in_front, piece, all_pieces, last_one, outer}
 use Rattle.c_well_typed.specs.Types.{IsType, IsObject}
 use Rattle.c_laws.proofs.States.{Good, Extends, Quiet, Does}
 use Rattle.c_laws.proofs.Extension.{quiet-same, quiet-onward, type-kept}
@@ -22,11 +22,6 @@ use Rattle.c_laws.proofs.Sizes.{small_if_measured}
 use Rattle.c_laws.proofs.Types.{IsBase, base-derived, whole-is, objects-kept, functions-kept, tag-does, specified-does, declared-does}
 
 -- ---- a struct more that is defined
-
-undefined-is : (o : Option (Option Layout)) → is_undefined o ≡ true → o ≡ Some None
-undefined-is None e = let q : false ≡ true = e in absurd (cc)
-undefined-is (Some None) e = refl
-undefined-is (Some (Some l)) e = let q : false ≡ true = e in absurd (cc)
 
 within : (x : Table) (k : ℕ) → is_undefined (slice_get x k) ≡ true → k < length x
 within [] k e = let q : false ≡ true = e in absurd (cc)

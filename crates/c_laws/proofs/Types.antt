@@ -15,9 +15,9 @@ use Rattle.c_tree.specs.Operators.{combination}
 use Rattle.c_tree.specs.Tree as tree
 use Rattle.c_tree.specs.Tree.{Expr, Declarator, Parameters}
 use Rattle.c_typed.specs.Tree.{Function}
-use Rattle.c_check_types.specs.State.{State, Names, Rule, number_of, ◌>>=◌}
+use Rattle.c_check_types.specs.State.{State, Names, Rule, number_of}
 use Rattle.c_check_types.specs.Scopes.{tag_number, old_or_new_tag}
-use Rattle.c_check_types.specs.Types.{measured, size_of, specified, integer_said, Derived, whole, lengthless, whole_type, Parameter, Declared, may_be_led_to, pointer_to, element, array_of, sized_array, result_type, adjusted, types_of_parameters, integer_type, with_name, a_parameter, declared, parameters, constant, type_name}
+use Rattle.c_check_types.specs.Types.{measured, size_of, specified, integer_said, Derived, whole, lengthless, whole_type, Parameter, Declared, may_be_led_to, pointer_to, element, sized_array, result_type, adjusted, types_of_parameters, integer_type, with_name, a_parameter, declared, parameters, constant, type_name}
 use Rattle.c_check_types.specs.Constants.{natural, unary}
 use Rattle.c_check_types.specs.declared.constants.Constant.{Constant}
 use Rattle.c_well_typed.specs.Types.{IsScalar, IsValue, MayBeLedTo, IsType, IsObject, AreParameters}
@@ -103,19 +103,6 @@ pub size_of-does : (t : Ty) (s : State) → Good s → Does Quiet (size_of t) s 
 size_of-does t s g =
     given-ends Quiet (measured s.structs t) s (Measures s t) g (quiet-same s) (λ n e. let p = small_if_measured s.structs t n e in (p.0, p.1, refl))
 
--- a rule that begins with a size
-pub sized-then : (R : State → State → Type 0) {B : Type 0} (t : Ty) (next : ℕ → Rule B) (s : State) (Q : State → B → Type 0)
-    → ((n : ℕ) → measured s.structs t ≡ Some n → Does R (next n) s Q) → Does R (λ u. (size_of t >>= next) u) s Q
-sized-then R t next s Q f = given-then R (measured s.structs t) next s Q f
-
-pub array_of-does : (t : Ty) (n : ℕ) (s : State) → Good s → IsType s.structs t
-    → Does Quiet (array_of t n) s (λ u a. IsObject u.structs a × (a ≡ array t n) × (u ≡ s))
-array_of-does t n s g h =
-    given-then Quiet (measured s.structs (array t n)) _ s _ (λ k e.
-    let small = (small_if_measured s.structs (array t n) k e).0 in
-    ends Quiet (array t n) s s (λ u a. IsObject u.structs a × (a ≡ array t n) × (u ≡ s)) g (quiet-same s)
-    (((h, small, few_if_measured s.structs t n k e), small), refl, refl))
-
 -- ---- specifiers
 
 -- a type that is written without a declarator
@@ -153,18 +140,6 @@ parameter-kept x y p q h = (h.0, type-kept x y p q.ty h.1)
 
 pub params-kept : (x y : Table) → Extends x y → (ps : List Parameter) → All (IsParameter x) ps → All (IsParameter y) ps
 params-kept x y p ps h = All-weaker (IsParameter x) (IsParameter y) (parameter-kept x y p) ps h
-
-has-kept : (x y : Table) → Extends x y → (t : Ty) (ps : List Parameter) → HasParameters x t ps → HasParameters y t ps
-has-kept x y p void ps h = tt
-has-kept x y p (integer t) ps h = tt
-has-kept x y p (struct n) ps h = tt
-has-kept x y p (pointer t) ps h = tt
-has-kept x y p (array t n) ps h = tt
-has-kept x y p (function r us) ps h = (h.0, params-kept x y p ps h.1)
-
-pub derived-kept : (x y : Table) → Extends x y → (d : Derived) (ps : List Parameter) → IsDerived x d ps → IsDerived y d ps
-derived-kept x y p (whole t) ps h = (type-kept x y p t h.0, has-kept x y p t ps h.1)
-derived-kept x y p (lengthless t) ps h = object-kept x y p t h
 
 base-has : (x : Table) (t : Ty) → is_function t ≡ false → HasParameters x t []
 base-has x void e = tt

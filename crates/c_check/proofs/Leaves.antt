@@ -1,41 +1,39 @@
 -- What initializers make are statements.
-use Rattle.std.proofs.Common.{◌≡◌, ◌∙◌, sym, ap, subst, refl, ℕ, zero, suc, ◌+◌, ◌*◌, ◌-◌, ◌%◌, ◌<◌, ◌≤◌, ◌^◌, ◌&&◌, nat_lt, nat_le, Bool, true, false, List, [], ◌∷◌, ◌++◌, length, ℤ, pos, negsuc, Option, Some, None, slice_get, if◌then◌else◌, arith}
+use Rattle.std.proofs.Common.{◌≡◌, sym, ap, subst, refl, ℕ, zero, suc, ◌+◌, ◌*◌, ◌-◌, ◌%◌, ◌<◌, ◌≤◌, ◌^◌, nat_lt, nat_le, Bool, true, false, List, [], ◌∷◌, ◌++◌, length, ℤ, pos, negsuc, Option, Some, None, slice_get, if◌then◌else◌, arith}
 use Rattle.std.proofs.lemmas.Bool.Decides.{nat_tests}
-use Rattle.std.proofs.lemmas.List.Elements.{All-head, All-tail, All-push, All-weaker}
+use Rattle.std.proofs.lemmas.List.Elements.{All-push, All-weaker}
 use Rattle.std.proofs.lemmas.Option.{get_or_from_slice_get, slice_get_within}
 use Rattle.std.proofs.Math.Nat.{suc-mul}
 use Rattle.std.specs.List.{All}
 use Rattle.ms_num.specs.Integers.{wrapped}
 use Rattle.c_types.specs.declared.integers.IntType.{IntType}
-use Rattle.c_types.specs.declared.integers.IntType.TheVariants.{Char, LongLong}
+use Rattle.c_types.specs.declared.integers.IntType.TheVariants.{Char}
 use Rattle.c_types.specs.Integers.{bits}
-use Rattle.c_types.specs.Layout.{Table, Layout, layout_at, members_of, members_in, HasSize, IsSmall, size}
-use Rattle.c_types.specs.Types.{Ty, void, integer, struct, pointer, array, function, scalar_of, is_function}
+use Rattle.c_types.specs.Layout.{Table, Layout, layout_at, members_of, members_in, IsSmall, size}
+use Rattle.c_types.specs.Types.{Ty, void, integer, struct, pointer, array, function, scalar_of}
 use Rattle.c_tree.specs.Tree as tree
 use Rattle.c_tree.specs.Tree.{Expr, Initialiser, Initialisers}
 use Rattle.c_typed.specs.Tree as to
 use Rattle.c_typed.specs.Tree.{Place, Stmt}
 use Rattle.c_typed.specs.Parts.{element_place}
-use Rattle.c_check_types.specs.State.{State, Rule, given, only_if, ◌>>◌, ◌>>=◌}
-use Rattle.c_check_types.specs.TypeEquality.{same_type, same_integer}
-use Rattle.c_check_types.specs.Types.{constant, measured}
+use Rattle.c_check_types.specs.State.{State, given}
+use Rattle.c_check_types.specs.TypeEquality.{same_type}
+use Rattle.c_check_types.specs.Types.{measured}
 use Rattle.c_check_types.specs.Constants.{value_at, meant}
-use Rattle.c_check_types.specs.declared.constants.Constant.{Constant}
 use Rattle.c_declare.specs.Initials.{bare, is_address, is_char, string_of, at_most, fills}
-use Rattle.c_check_exprs.specs.Expressions.{typing}
 use Rattle.c_well_typed.specs.Types.{IsScalar, IsType, IsObject}
 use Rattle.c_well_typed.specs.Expressions.{Context, HasType, IsPlace, IsMember}
 use Rattle.c_well_typed.specs.Statements.{IsStatement}
 use Rattle.c_laws.proofs.States.{context, Good, Quiet, Grows, Does}
 use Rattle.c_laws.proofs.Extension.{type-kept, object-kept, quiet-same, quiet-grows}
-use Rattle.c_laws.proofs.Rules.{quietly, ends, given-then, given-ends, only-then}
+use Rattle.c_laws.proofs.Rules.{quietly, ends, given-then, only-then}
 use Rattle.c_laws.proofs.Sizes.{small_if_measured}
 use Rattle.c_laws.proofs.Types.{constant-does}
 use Rattle.c_laws.proofs.Integers.{same-integer, same-type, zero-fits}
 use Rattle.c_laws.proofs.Growth.{place-grown, statement-grown}
-use Rattle.c_laws.proofs.Forms.{IsForm, none-does, assigned_to-does, sized-led_to}
+use Rattle.c_laws.proofs.Forms.{none-does, assigned_to-does, sized-led_to}
 use Rattle.c_laws.proofs.Expressions.{typing-does, as_assigned-does, a_place-does}
-use Rattle.c_check.specs.Initialisers.{is_known, pointer_constant, static_value, leaf, string_value, scalar_value, single_value, element, member, inside, elements, members, from_place, copied_from, initialised}
+use Rattle.c_check.specs.Initialisers.{is_known, pointer_constant, static_value, leaf, string_value, scalar_value, single_value, inside, elements, members, from_place, copied_from, initialised}
 
 -- ---- numbers
 

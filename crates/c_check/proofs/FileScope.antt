@@ -1,9 +1,8 @@
 -- What external declarations make is a unit that is well typed, as far as it has been read.
-use Rattle.std.proofs.Common.{◌≡◌, ◌∙◌, sym, ap, subst, refl, ℕ, zero, suc, ◌<◌, Bool, true, false, List, [], ◌∷◌, ◌++◌, length, map, set, Option, Some, None, slice_get, arith}
+use Rattle.std.proofs.Common.{◌≡◌, ◌∙◌, sym, ap, subst, refl, ℕ, zero, suc, Bool, true, false, List, [], ◌∷◌, ◌++◌, map, set, Option, Some, None, slice_get}
 use Rattle.std.proofs.lemmas.List.Elements.{All-nil}
-use Rattle.std.proofs.lemmas.Option.{slice_get_within, slice_get-map}
+use Rattle.std.proofs.lemmas.Option.{slice_get_within}
 use Rattle.std.specs.List.{All}
-use Rattle.std.specs.Option.{option_map}
 use Rattle.c_types.specs.Types.{Ty, void, integer, struct, pointer, array, function, Tys, is_function}
 use Rattle.c_tree.specs.declared.external.ExternalForm.{ExternalForm}
 use Rattle.c_tree.specs.declared.external.ExternalForm.TheVariants as forms
@@ -16,23 +15,23 @@ use Rattle.c_typed.specs.declared.ops.Variable.TheVariants as variables
 use Rattle.c_typed.specs.Tree as to
 use Rattle.c_typed.specs.Tree.{Function, Stmt}
 use Rattle.c_check_types.specs.State.{State, Rule, followed, only_if, and_then}
-use Rattle.c_check_types.specs.Types.{Derived, whole, lengthless, whole_type, Parameter, types_of_parameters, declared}
+use Rattle.c_check_types.specs.Types.{Derived, whole, lengthless, whole_type, Parameter, types_of_parameters}
 use Rattle.c_declare.specs.Functions.{has_no_body, result_in, defined, with_definition, with_body}
-use Rattle.c_check.specs.Statements.{Declaring, scope_of, nothing_done, is_missing}
-use Rattle.c_check.specs.Declarations.{global_value, declares_global, names_function, declares_alone, declares, declares_one, declaration, defines_function, definition, is_struct, form, external}
+use Rattle.c_check.specs.Statements.{scope_of, nothing_done, is_missing}
+use Rattle.c_check.specs.Declarations.{global_value, declares_global, names_function, declares, declares_one, declaration, defines_function, definition, is_struct, form, external}
 use Rattle.c_well_typed.specs.Types.{IsType, IsObject}
 use Rattle.c_well_typed.specs.Statements.{IsStatement}
 use Rattle.c_well_typed.specs.Units.{list_of}
-use Rattle.c_laws.proofs.States.{context, Good, IsDeclared, Extends, Quiet, Steps, Grows, Does}
-use Rattle.c_laws.proofs.Extension.{extends-same, extends-onward, type-kept, object-kept, get-kept, quiet-same, quiet-onward, quiet-steps, quiet-grows, steps-same, steps-onward, steps-grows}
-use Rattle.c_laws.proofs.Rules.{Is, step, ends, given-then, only-then}
-use Rattle.c_laws.proofs.Types.{IsBase, IsParameter, HasParameters, IsDerived, base-derived, whole-is, params-kept, declared-does}
-use Rattle.c_laws.proofs.Scopes.{IsFunctionType, function-type, HasFunction, HasGlobal, Widens, steps-widens, opened-does, closed-does, declares_function-does, enters_global-does}
+use Rattle.c_laws.proofs.States.{context, Good, Extends, Quiet, Steps, Does}
+use Rattle.c_laws.proofs.Extension.{extends-same, extends-onward, type-kept, object-kept, quiet-steps, quiet-grows, steps-onward, steps-grows}
+use Rattle.c_laws.proofs.Rules.{step, ends, given-then, only-then}
+use Rattle.c_laws.proofs.Types.{IsBase, IsParameter, IsDerived, base-derived, whole-is, params-kept, declared-does}
+use Rattle.c_laws.proofs.Scopes.{IsFunctionType, function-type, Widens, steps-widens, opened-does, closed-does, declares_function-does, enters_global-does}
 use Rattle.c_laws.proofs.Declared.{types-in, types-listed, variable_type-does, enters_parameters-does}
 use Rattle.c_laws.proofs.Structs.{outer-does}
-use Rattle.c_check.proofs.Initialised.{Done, initialised-does}
-use Rattle.c_check.proofs.Stated.{Declares, declaring-grown, nothing-declared, scope-is, items-does}
-use Rattle.c_check.proofs.Held.{Held, held-widened, with-made, made-good, made-held, with-values, values-good, values-held, with-body, body-good, body-held}
+use Rattle.c_check.proofs.Leaves.{initialised-does}
+use Rattle.c_check.proofs.Stated.{declaring-grown, nothing-declared, scope-is, items-does}
+use Rattle.c_check.proofs.Held.{Held, held-widened, with-made, made-good, made-held, with-values, values-good, values-held, body-good, body-held}
 
 -- ---- rules between which little is said
 
