@@ -167,6 +167,4 @@ fn respond<F: Shelf, I: Source, O: Sink, R: Sink>(
 }
 
 #[cfg(test)]
-mod stores;
-#[cfg(test)]
 mod tests;

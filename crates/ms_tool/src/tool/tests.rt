@@ -1,5 +1,7 @@
 //! The program over fakes: the worked rows, and faults that are scripted.
 
+mod stores;
+
 use super::*;
 use ms_outside::{Got, MemShelf, MemSink, MemSource};
 use std::process::Abort;

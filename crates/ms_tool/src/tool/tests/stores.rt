@@ -1,14 +1,11 @@
 //! Jobs over both forms of the segment memory's stores: the plain ones, which keep a list of the live segments and a tag for each
 //! byte, and those of the program.
 
+use super::*;
 use ms_job::parse;
 use ms_live::{Gaps, ListGaps, TreeGaps};
-use ms_outside::{MemShelf, MemSink, MemSource};
-use ms_run::{Naming, Status, run_job};
+use ms_run::{Naming, run_job};
 use ms_tagged::{ByteTags, Granules, Tagged};
-use std::alloc::Global;
-use std::process::Abort;
-use std::test::Fail;
 
 /// The instructions of a `main`, and what is wanted of a job that runs them and dumps the live segments: the status, and the report.
 const ROWS: [(&str, Status, &str); 7] = [
@@ -64,27 +61,35 @@ dump 2 32 32 heap 00000000000000000000000000000000000000000000000000000000000000
     ),
 ];
 
-/// Runs each row over stores of these kinds, and compares its status and its report.
+/// What comes of a job over stores of these kinds that runs these instructions: its status, and its report.
+fn told<G: Gaps, T: Tagged>(alloc: Global, code: &str) -> Result<(Status, MemSink), Fail> {
+    let text = format!(in alloc;
+        "(func (export \"main\") (local $h handle) (local $g handle) {code})"
+    )?;
+    let world = world(alloc, "m.wat", text.as_bytes())?;
+    let job = parse(alloc, b"module m m.wat\ntask m main\nmemory 64\ndump\n")?;
+    let Outside {
+        mut shelf,
+        mut input,
+        mut out,
+        report: mut told,
+    } = world;
+    let given = run_job::<G, T, MemShelf, MemSource, MemSink, MemSink>(
+        alloc,
+        Naming::Numbered,
+        job,
+        &mut shelf,
+        &mut input,
+        &mut out,
+        &mut told,
+    );
+    Ok((given, told))
+}
+
+/// Whether each row comes out so over stores of these kinds.
 fn expect_rows<G: Gaps, T: Tagged>(rt: &impl Abort, alloc: Global) -> Result<(), Fail> {
     for (code, status, report) in ROWS {
-        let text = format!(in alloc;
-            "(func (export \"main\") (local $h handle) (local $g handle) {code})"
-        )?;
-        let mut shelf = MemShelf::new(alloc);
-        shelf.add(alloc, "m.wat", Vec::from_slice(alloc, text.as_bytes())?)?;
-        let mut input = MemSource::new(alloc, Vec::new(alloc));
-        let mut out = MemSink::new(alloc, 16)?;
-        let mut told = MemSink::new(alloc, 256)?;
-        let job = parse(alloc, b"module m m.wat\ntask m main\nmemory 64\ndump\n")?;
-        let given = run_job::<G, T, MemShelf, MemSource, MemSink, MemSink>(
-            alloc,
-            Naming::Numbered,
-            job,
-            &mut shelf,
-            &mut input,
-            &mut out,
-            &mut told,
-        );
+        let (given, told) = told::<G, T>(alloc, code)?;
         assert_eq!(rt; given, status, "{code}");
         assert_eq!(rt; told.held(), report.as_bytes(), "the report of {code}");
     }
