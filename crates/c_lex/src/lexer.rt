@@ -235,6 +235,3 @@ pub fn lex(alloc: Global, bytes: &[u8]) -> Result<Vec<Token>, CLex>
         Err(fault) => Err(fault),
     }
 }
-
-#[cfg(test)]
-mod tests;

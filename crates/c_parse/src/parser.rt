@@ -179,6 +179,3 @@ pub fn parse(alloc: Global, tokens: &[Token], end: usize) -> Result<Unit, CParse
 {
     unit_of(alloc, tokens, end)
 }
-
-#[cfg(test)]
-mod tests;

@@ -1,7 +1,8 @@
 //! Texts with their tokens, and texts with their faults, worked out by hand.
 
-use super::*;
-use c_token::{IntegerType, Keyword, Mark};
+use c_lex::{CLex, lex};
+use c_token::{IntegerType, Keyword, Mark, Token, Word};
+use std::alloc::Global;
 use std::test::Fail;
 
 /// What a token is to be.

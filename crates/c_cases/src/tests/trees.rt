@@ -1,8 +1,9 @@
 //! Texts with the heights of their trees, or their faults, worked out by hand. Where it matters which tree it is, one of
 //! two parts is high, so that each other tree has another height.
 
-use super::*;
 use c_lex::lex;
+use c_parse::{CParse, parse};
+use std::alloc::{AllocError, Global};
 use std::test::Fail;
 
 #[derive(Clone, Copy)]
