@@ -85,9 +85,9 @@ struct Outside {
     report: MemSink,
 }
 
-/// Adds the jobs and their schedules.
-fn add_jobs(alloc: Global, shelf: &mut MemShelf) -> Result<(), Fail> {
-    for (name, text) in JOBS {
+/// Adds files by their names and texts.
+fn add_files(alloc: Global, shelf: &mut MemShelf, files: &[(&str, &str)]) -> Result<(), Fail> {
+    for (name, text) in files {
         shelf.add(alloc, name, Vec::from_slice(alloc, text.as_bytes())?)?;
     }
     Ok(())
@@ -97,7 +97,7 @@ fn add_jobs(alloc: Global, shelf: &mut MemShelf) -> Result<(), Fail> {
 fn world(alloc: Global, name: &str, bytes: &[u8]) -> Result<Outside, Fail> {
     let mut shelf = MemShelf::new(alloc);
     shelf.add(alloc, name, Vec::from_slice(alloc, bytes)?)?;
-    add_jobs(alloc, &mut shelf)?;
+    add_files(alloc, &mut shelf, &JOBS)?;
     Ok(Outside {
         shelf,
         input: MemSource::new(alloc, Vec::from_slice(alloc, b"in")?),
@@ -115,38 +115,44 @@ fn bytes_of(alloc: Global, pairs: &str) -> Result<Vec<u8>, Fail> {
     Ok(bytes)
 }
 
+/// What the program answers to the words of a line.
+fn answer_to(alloc: Global, line: &str, world: &mut Outside) -> Result<Status, Fail> {
+    let words: Vec<&str> = line.split_whitespace().collect(alloc)?;
+    Ok(tool(
+        alloc,
+        words.as_slice(),
+        &mut world.shelf,
+        &mut world.input,
+        &mut world.out,
+        &mut world.report,
+    ))
+}
+
 /// Runs the program on the words of a line, and compares its status, its report, its output, the byte that the input gives
 /// next, and what it wrote to the file `o`.
 fn expect<R: Abort + AllocGlobal>(
     rt: &R,
     line: &str,
-    world: Outside,
+    mut world: Outside,
     status: Status,
     report: &str,
     flow: (&str, u8),
     written: Option<&[u8]>,
 ) -> Result<(), Fail> {
     let (output, next) = flow;
-    let words: Vec<&str> = line.split_whitespace().collect(rt.alloc())?;
-    let Outside {
-        mut shelf,
-        mut input,
-        mut out,
-        report: mut told,
-    } = world;
-    let given = tool(
-        rt.alloc(),
-        words.as_slice(),
-        &mut shelf,
-        &mut input,
-        &mut out,
-        &mut told,
-    );
+    let given = answer_to(rt.alloc(), line, &mut world)?;
     assert_eq!(rt; given, status, "{line}");
-    assert_eq!(rt; told.held(), report.as_bytes(), "the report of {line}");
-    assert_eq!(rt; out.held(), output.as_bytes(), "the output of {line}");
-    assert_eq!(rt; input.take(), Got::Byte(next), "the input of {line}");
-    assert!(rt; shelf.get("o") == written, "the file that {line} writes");
+    assert_eq!(rt;
+        world.report.held(),
+        report.as_bytes(),
+        "the report of {line}"
+    );
+    assert_eq!(rt; world.out.held(), output.as_bytes(), "the output of {line}");
+    assert_eq!(rt; world.input.take(), Got::Byte(next), "the input of {line}");
+    assert!(rt;
+        world.shelf.get("o") == written,
+        "the file that {line} writes"
+    );
     Ok(())
 }
 
@@ -514,22 +520,34 @@ const ROWS: [Row; 43] = [
     },
 ];
 
+/// Whether a row comes out so.
+fn expect_row<R: Abort + AllocGlobal>(rt: &R, row: &Row) -> Result<(), Fail> {
+    let world = world(rt.alloc(), "a.wat", row.text.as_bytes())?;
+    let words = row.words;
+    let line = format!(in rt.alloc(); "mswasm {words}")?;
+    let flow = (row.output, row.next);
+    expect(rt, line.as_str(), world, row.status, row.report, flow, None)
+}
+
+fn expect_rows<R: Abort + AllocGlobal>(rt: &R, rows: &[Row]) -> Result<(), Fail> {
+    for row in rows {
+        expect_row(rt, row)?;
+    }
+    Ok(())
+}
+
 #[test]
 fn worked_rows(rt: HostRuntime) -> Result<(), Fail> {
-    for row in ROWS {
-        let world = world(rt.alloc(), "a.wat", row.text.as_bytes())?;
-        let words = row.words;
-        let line = format!(in rt.alloc(); "mswasm {words}")?;
-        let flow = (row.output, row.next);
-        expect(
-            &rt,
-            line.as_str(),
-            world,
-            row.status,
-            row.report,
-            flow,
-            None,
-        )?;
+    expect_rows(&rt, &ROWS)
+}
+
+/// The bytes of the file `a`, words, a report, and the bytes of the file `o` behind it.
+type Written<'a> = (&'a [u8], &'a str, &'a str, &'a [u8]);
+
+fn expect_written<R: Abort + AllocGlobal>(rt: &R, rows: &[Written]) -> Result<(), Fail> {
+    for (bytes, line, report, written) in rows {
+        let world = world(rt.alloc(), "a", bytes)?;
+        expect(rt, line, world, Status::Done, report, QUIET, Some(written))?;
     }
     Ok(())
 }
@@ -557,11 +575,7 @@ fn both_forms_are_written(rt: HostRuntime) -> Result<(), Fail> {
             b"\0asm\x01\0\0\0".as_slice(),
         ),
     ];
-    for (bytes, line, report, written) in table {
-        let world = world(rt.alloc(), "a", bytes)?;
-        expect(&rt, line, world, Status::Done, report, QUIET, Some(written))?;
-    }
-    Ok(())
+    expect_written(&rt, &table)
 }
 
 #[test]
@@ -742,32 +756,45 @@ const FAULTY: [Faulty; 11] = [
     },
 ];
 
+/// Whether a row comes out so when its calls fail, of which the file `o` has these bytes, if it is written.
+fn expect_faulty<R: Abort + AllocGlobal>(
+    rt: &R,
+    faulty: &Faulty,
+    bytes: &[u8],
+) -> Result<(), Fail> {
+    let row = faulty.row;
+    let mut world = world(rt.alloc(), "a.wat", row.text.as_bytes())?;
+    let_fail(&mut world, faulty.calls)?;
+    let words = row.words;
+    let line = format!(in rt.alloc(); "mswasm {words}")?;
+    let flow = (row.output, row.next);
+    let written = if faulty.written { Some(bytes) } else { None };
+    expect(
+        rt,
+        line.as_str(),
+        world,
+        row.status,
+        row.report,
+        flow,
+        written,
+    )
+}
+
+fn expect_all_faulty<R: Abort + AllocGlobal>(
+    rt: &R,
+    rows: &[Faulty],
+    bytes: &[u8],
+) -> Result<(), Fail> {
+    for faulty in rows {
+        expect_faulty(rt, faulty, bytes)?;
+    }
+    Ok(())
+}
+
 #[test]
 fn scripted_faults(rt: HostRuntime) -> Result<(), Fail> {
     let binary = bytes_of(rt.alloc(), SEVEN_BINARY)?;
-    for faulty in FAULTY {
-        let row = faulty.row;
-        let mut world = world(rt.alloc(), "a.wat", row.text.as_bytes())?;
-        let_fail(&mut world, faulty.calls)?;
-        let words = row.words;
-        let line = format!(in rt.alloc(); "mswasm {words}")?;
-        let flow = (row.output, row.next);
-        let written = if faulty.written {
-            Some(binary.as_slice())
-        } else {
-            None
-        };
-        expect(
-            &rt,
-            line.as_str(),
-            world,
-            row.status,
-            row.report,
-            flow,
-            written,
-        )?;
-    }
-    Ok(())
+    expect_all_faulty(&rt, &FAULTY, binary.as_slice())
 }
 
 #[test]
