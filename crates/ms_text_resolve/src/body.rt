@@ -43,12 +43,14 @@ impl Making {
         })
     }
 
-    /// An instruction that is no block. The grammar gives no other one here.
+    /// An instruction that is no block.
     fn plain(&mut self, alloc: Global, around: Around, plain: &Plain) -> Result<(), AllocError>
         requires { (around.locals.now).source ≡ (around.context.now).source }
         ensures { OnOk result (self.new ≡ with_instr (around.entry.context.now).source (around.entry.context.now).scope (instr_of (around.entry.context.now).source (around.entry.context.now).scope (around.entry.locals.now).ids around.entry.uses.now self.old.labels plain.now) self.old) }
     {
         let instr = instr_of(alloc, around, &self.labels, plain, &mut self.wrong)?;
+        // Never fails: an instruction that the grammar gives here is no block, and its alignment is at most 31. Fields of
+        // another origin have the only answer that is left, want of memory, since a builder can't hold other ones.
         if !is_plain(&instr) {
             return Err(AllocError);
         }

@@ -19,6 +19,8 @@ fn local_types(alloc: Global, params: &[Param]) -> Result<Locals, AllocError>
 {
     let mut locals = Locals::new(alloc);
     for param in params {
+        // Never comes: the grammar bounds the locals of a function. Fields of another origin have the only answer that is left,
+        // want of memory, since locals are at most 2^32 - 1.
         if locals.len() >= u32::MAX as usize {
             return Err(AllocError);
         }

@@ -15,6 +15,8 @@ use std::alloc::{AllocError, Global};
 fn exactly(n: usize) -> Result<Limits, AllocError>
     ensures { IfOk result (λ limits. limits ≡ exactly n) }
 {
+    // Never fails on a text of less than 2^32 bytes, in which each entry, and each byte of data, takes one. Want of memory is
+    // the only answer that is left where it does, since limits can't hold the number.
     let n = number(n)?;
     Ok(Limits {
         min: n,
@@ -23,13 +25,10 @@ fn exactly(n: usize) -> Result<Limits, AllocError>
 }
 
 /// The pages of so many bytes.
-fn pages(n: usize) -> Result<usize, AllocError>
-    ensures { IfOk result (λ m. m ≡ pages n) }
+fn pages(n: usize) -> usize
+    ensures { result ≡ pages n }
 {
-    match n.checked_add(65_535) {
-        Some(n) => Ok(n / 65_536),
-        None => Err(AllocError),
-    }
+    n.div_ceil(65_536)
 }
 
 /// The size of a table or a memory.
@@ -42,7 +41,7 @@ fn limits_of(alloc: Global, source: &[u8], item: &Item) -> Result<Limits, AllocE
         Item::Elements(funcs) => exactly(funcs.len()),
         Item::Data(strings) => {
             let bytes = text_values(alloc, source, strings.as_slice())?;
-            exactly(pages(bytes.len())?)
+            exactly(pages(bytes.len()))
         }
         _ => exactly(0),
     }

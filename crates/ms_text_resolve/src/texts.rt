@@ -9,13 +9,15 @@ use ms_text_lex::{Token, append_value, string_value};
 use std::alloc::{AllocError, Global};
 use std::str::from_utf8;
 
-/// The name that a string token stands for. Each name of the grammar is UTF-8.
+/// The name that a string token stands for.
 pub fn name_of(alloc: Global, source: &[u8], token: Token) -> Result<Name, AllocError>
     ensures { IfOk result (λ name. name ≡ value_of source.now token) }
 {
     let bytes = string_value(alloc, source, token)?;
     match from_utf8(bytes.as_slice()) {
         Ok(text) => Name::new(alloc, text),
+        // Never comes: a name that the grammar gives is UTF-8. Fields of another origin have the only answer that is
+        // left, want of memory, since a name can't hold other bytes.
         Err(_) => Err(AllocError),
     }
 }
