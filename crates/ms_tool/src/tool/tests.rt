@@ -4,6 +4,7 @@ mod stores;
 
 use super::*;
 use ms_outside::{Got, MemShelf, MemSink, MemSource};
+use std::alloc::AllocError;
 use std::process::Abort;
 use std::test::Fail;
 
@@ -85,10 +86,25 @@ struct Outside {
     report: MemSink,
 }
 
+/// Adds a file of this name and these bytes.
+fn add_file(
+    alloc: Global,
+    shelf: &mut MemShelf,
+    name: &str,
+    bytes: &[u8],
+) -> Result<(), AllocError> {
+    let bytes = Vec::from_slice(alloc, bytes)?;
+    shelf.add(alloc, name, bytes)
+}
+
 /// Adds files by their names and texts.
-fn add_files(alloc: Global, shelf: &mut MemShelf, files: &[(&str, &str)]) -> Result<(), Fail> {
+fn add_files(
+    alloc: Global,
+    shelf: &mut MemShelf,
+    files: &[(&str, &str)],
+) -> Result<(), AllocError> {
     for (name, text) in files {
-        shelf.add(alloc, name, Vec::from_slice(alloc, text.as_bytes())?)?;
+        add_file(alloc, shelf, name, text.as_bytes())?;
     }
     Ok(())
 }
@@ -96,7 +112,7 @@ fn add_files(alloc: Global, shelf: &mut MemShelf, files: &[(&str, &str)]) -> Res
 /// The file of this name and these bytes, beside the jobs and their schedules.
 fn world(alloc: Global, name: &str, bytes: &[u8]) -> Result<Outside, Fail> {
     let mut shelf = MemShelf::new(alloc);
-    shelf.add(alloc, name, Vec::from_slice(alloc, bytes)?)?;
+    add_file(alloc, &mut shelf, name, bytes)?;
     add_files(alloc, &mut shelf, &JOBS)?;
     Ok(Outside {
         shelf,
@@ -115,17 +131,22 @@ fn bytes_of(alloc: Global, pairs: &str) -> Result<Vec<u8>, Fail> {
     Ok(bytes)
 }
 
-/// What the program answers to the words of a line.
-fn answer_to(alloc: Global, line: &str, world: &mut Outside) -> Result<Status, Fail> {
-    let words: Vec<&str> = line.split_whitespace().collect(alloc)?;
-    Ok(tool(
+/// What the program answers to words.
+fn answer_to(alloc: Global, words: &[&str], world: &mut Outside) -> Status {
+    tool(
         alloc,
-        words.as_slice(),
+        words,
         &mut world.shelf,
         &mut world.input,
         &mut world.out,
         &mut world.report,
-    ))
+    )
+}
+
+/// The same to the words of a line.
+fn answer_to_line(alloc: Global, line: &str, world: &mut Outside) -> Result<Status, Fail> {
+    let words: Vec<&str> = line.split_whitespace().collect(alloc)?;
+    Ok(answer_to(alloc, words.as_slice(), world))
 }
 
 /// Runs the program on the words of a line, and compares its status, its report, its output, the byte that the input gives
@@ -140,7 +161,7 @@ fn expect<R: Abort + AllocGlobal>(
     written: Option<&[u8]>,
 ) -> Result<(), Fail> {
     let (output, next) = flow;
-    let given = answer_to(rt.alloc(), line, &mut world)?;
+    let given = answer_to_line(rt.alloc(), line, &mut world)?;
     assert_eq!(rt; given, status, "{line}");
     assert_eq!(rt;
         world.report.held(),
