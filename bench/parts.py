@@ -152,22 +152,32 @@ def changed_program(name, source, changes):
 
 class Spent(NamedTuple):
     seconds: float  # of the processor, in the program and for it
-    memory: int  # the greatest resident size, in bytes; that of this script, some 15 MiB, where it is below that
+    memory: int  # the greatest resident size, in bytes
     status: int
     report: bytes
 
 
-def spent(command):
+def memory_of(command):
+    """The greatest resident size of a run. The system counts that of whoever starts a program as the program's, so that
+    something small, GNU time, has to start it."""
+    with tempfile.NamedTemporaryFile("r") as told:
+        words = ["/usr/bin/time", "--quiet", "--format=%M", f"--output={told.name}", *command]
+        subprocess.run(words, stdin=subprocess.DEVNULL, stdout=subprocess.DEVNULL, stderr=subprocess.DEVNULL)
+        return int(told.read()) * 1024
+
+
+def spent(command, memory=0):
     with tempfile.TemporaryFile() as report:
         process = subprocess.Popen(command, stdin=subprocess.DEVNULL, stdout=subprocess.DEVNULL, stderr=report)
         _, status, usage = os.wait4(process.pid, 0)
         process.returncode = os.waitstatus_to_exitcode(status)
         report.seek(0)
-        return Spent(usage.ru_utime + usage.ru_stime, usage.ru_maxrss * 1024, process.returncode, report.read())
+        return Spent(usage.ru_utime + usage.ru_stime, memory, process.returncode, report.read())
 
 
 def least(runs, *commands):
-    """For each command the run that took the least time, of so many. The commands take turns, so that what else the
-    machine does meets all of them."""
-    rounds = [[spent(command) for command in commands] for _ in range(runs)]
+    """For each command the run that took the least time, of so many, with the memory of one more. The commands take turns, so
+    that what else the machine does meets all of them."""
+    memory = [memory_of(command) for command in commands]
+    rounds = [[spent(*it) for it in zip(commands, memory)] for _ in range(runs)]
     return [min(of_one, key=lambda it: it.seconds) for of_one in zip(*rounds)]
