@@ -1,4 +1,5 @@
 pub mod Computed
+pub mod Trees
 pub mod Items
 pub mod Values
 pub mod Alone

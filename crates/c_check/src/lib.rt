@@ -2,7 +2,7 @@
 //!
 //! Initializers, statements, declarations and units have rules in `specs/`, which give the typed tree or have no answer; each
 //! rule is a function on what is known at a place in a unit. It stands on `c_check_exprs`, the typing of expressions. Read
-//! `specs/Units.antt` first, then `specs/Statements.antt`; `proofs/Computed.antt` has units whose typing is computed.
+//! `specs/Units.antt` first, then `specs/Statements.antt`; `proofs/Trees.antt` has units whose typing is computed.
 #![tactic(auto)]
 
 mod declaring;
