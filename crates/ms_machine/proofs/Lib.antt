@@ -31,6 +31,7 @@ pub mod SafeSizes
 pub mod SafeSteps
 pub mod SafeStarts
 pub mod Moving
+pub mod StraightLine
 pub mod SafeMoves
 pub mod Counting
 pub mod Asking

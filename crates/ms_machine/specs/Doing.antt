@@ -1,5 +1,5 @@
 -- What the code of an instruction did, against what the definition says of the instruction.
-use Rattle.std.specs.Prelude.{◌≡◌, ◌≢◌, ℕ, Bool, List, Option, Result, Ok, Err}
+use Rattle.std.specs.Prelude.{◌≡◌, ◌≢◌, ℕ, Bool, List, Option, None, Result, Ok, Err}
 use Rattle.ms_event.specs.declared.event.Event.{Event}
 use Rattle.ms_host.specs.declared.host.Host.{Host}
 use Rattle.ms_host.specs.declared.host.Host.TheVariants as hosts
@@ -10,7 +10,7 @@ use Rattle.ms_operate.specs.declared.trap.Fault.{Fault as OperateFault}
 use Rattle.ms_operate.specs.declared.trap.Fault.TheVariants as operate
 use Rattle.ms_task.specs.declared.task.Task.{Task}
 use Rattle.ms_task.specs.Thread.{Thread}
-use Rattle.ms_task.specs.View.{at_next, thread_of}
+use Rattle.ms_task.specs.View.{IsAt, at_next, thread_of}
 use Rattle.ms_machine.specs.Segments as segments
 use Rattle.ms_machine.specs.Segments.{Effect}
 use Rattle.ms_machine.specs.Step.{Calls, Next, Outcome, Stuck, Trap, act, trap_of}
@@ -49,6 +49,24 @@ Can i next s task = act s i (at_next s.funcs task next) ≢ Stuck
 -- The code of the instruction did what the definition says.
 abbrev pub DoesInstr : Instr → ℕ → Store → Task → Store → Task → Result (Option Event) Fault → Type 0
 DoesInstr i next s task s' task' result = DoesOutcome (act s i (at_next s.funcs task next)) s (thread_of s.funcs task) s' (thread_of s'.funcs task') result
+
+-- ---- instructions that tell nothing
+
+-- where it stopped, nothing has changed
+abbrev pub IsQuiet : Task → Task → Result (Option Event) Fault → Type 0
+IsQuiet t t' (Ok event) = event ≡ None
+IsQuiet t t' (Err fault) = t' ≡ t
+
+-- ---- those that stay within their sequence
+
+-- It tells nothing; where it stopped, nothing has changed.
+abbrev pub Stays : Task → ℕ → Task → Result (Option Event) Fault → Type 0
+Stays t next t' (Ok event) = (event ≡ None) × IsAt t next t'
+Stays t next t' (Err fault) = t' ≡ t
+
+-- The instruction was carried out so, on the store as it is.
+abbrev pub Carries : Instr → ℕ → Store → Task → Task → Type 0
+Carries i next s t t' = (act s i (at_next s.funcs t next) ≡ Next s (thread_of s.funcs t') None) × IsAt t next t'
 
 -- ---- the same with a word on what follows
 

@@ -6,6 +6,7 @@ pub mod Moves
 pub mod Stepped
 pub mod Running
 pub mod Accesses
+pub mod StraightLine
 pub mod Crews
 pub mod Constants
 pub mod Writing

@@ -1,7 +1,7 @@
 //! Control instructions on the store (WebAssembly 1.0, 4.4.5).
 
 ghost use Rattle.std.specs.Prelude.{◌≡◌, ◌≢◌, ◌<◌, None, Some, length, slice_get};
-ghost use Rattle.ms_machine.specs.Doing.{DoesInstr, DoesOutcome, Can};
+ghost use Rattle.ms_machine.specs.Doing.{Can, DoesInstr, DoesOutcome, IsQuiet};
 ghost use Rattle.ms_machine.specs.Step.{Stuck, asks, called, host_in, popped, table_trap};
 ghost use Rattle.ms_machine.specs.Store.{Store as Spec, func_address, instance_of};
 ghost use Rattle.ms_module.specs.declared.instr.Instr.TheVariants as instr;
@@ -25,7 +25,8 @@ pub(crate) fn block<G: Gaps, T: Tagged>(
     body: u32,
     next: usize,
 ) -> Result<Option<Event>, Fault>
-    ensures { DoesInstr (instr.Block ty body) next store.now task.old store.now task.new result }
+    ensures does { DoesInstr (instr.Block ty body) next store.now task.old store.now task.new result }
+    ensures quiet { IsQuiet task.old task.new result }
 {
     let _ = store;
     match task.block(body, ty, next, false) {
@@ -43,7 +44,8 @@ pub(crate) fn begin_loop<G: Gaps, T: Tagged>(
     next: usize,
 ) -> Result<Option<Event>, Fault>
     requires { before store.now.funcs task.old next ≡ Some (instr.Loop ty body) }
-    ensures { DoesInstr (instr.Loop ty body) next store.now task.old store.now task.new result }
+    ensures does { DoesInstr (instr.Loop ty body) next store.now task.old store.now task.new result }
+    ensures quiet { IsQuiet task.old task.new result }
 {
     let _ = store;
     match task.block(body, None, next, true) {
@@ -79,7 +81,8 @@ pub(crate) fn br<G: Gaps, T: Tagged>(
     next: usize,
 ) -> Result<Option<Event>, Fault>
     requires { Can (instr.Br label) next store.now task.old }
-    ensures { DoesInstr (instr.Br label) next store.now task.old store.now task.new result }
+    ensures does { DoesInstr (instr.Br label) next store.now task.old store.now task.new result }
+    ensures quiet { IsQuiet task.old task.new result }
 {
     let _ = next;
     task.branch(&store.funcs, label as usize);
@@ -94,7 +97,8 @@ pub(crate) fn br_if<G: Gaps, T: Tagged>(
     next: usize,
 ) -> Result<Option<Event>, Fault>
     requires { Can (instr.BrIf label) next store.now task.old }
-    ensures { DoesInstr (instr.BrIf label) next store.now task.old store.now task.new result }
+    ensures does { DoesInstr (instr.BrIf label) next store.now task.old store.now task.new result }
+    ensures quiet { IsQuiet task.old task.new result }
 {
     task.branch_if(&store.funcs, label, next);
     Ok(None)
@@ -108,7 +112,8 @@ pub(crate) fn return_<G: Gaps, T: Tagged>(
     next: usize,
 ) -> Result<Option<Event>, Fault>
     requires { Can instr.Return next store.now task.old }
-    ensures { DoesInstr instr.Return next store.now task.old store.now task.new result }
+    ensures does { DoesInstr instr.Return next store.now task.old store.now task.new result }
+    ensures quiet { IsQuiet task.old task.new result }
 {
     let _ = next;
     task.return_from(&store.funcs);

@@ -17,9 +17,11 @@ mod segment;
 mod starting;
 mod stepped;
 mod store;
+mod straight;
 
 pub use externs::{Extern, Why};
 pub use machine::step;
 pub use starting::{has_ended, start};
 pub use stepped::Stepped;
 pub use store::{Instance, Store};
+pub use straight::run_quietly;

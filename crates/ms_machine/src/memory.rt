@@ -1,7 +1,7 @@
 //! Numeric instructions, and those on the linear memory and on segments, on the store.
 
 ghost use Rattle.std.specs.Prelude.{◌<◌, ◌^◌};
-ghost use Rattle.ms_machine.specs.Doing.{DoesInstr, Can};
+ghost use Rattle.ms_machine.specs.Doing.{Can, DoesInstr, Stays};
 ghost use Rattle.ms_machine.specs.Holding.{Each, Fits};
 ghost use Rattle.ms_module.specs.declared.instr.Instr.TheVariants as instr;
 
@@ -22,7 +22,8 @@ pub(crate) fn numeric<G: Gaps, T: Tagged>(
     next: usize,
 ) -> Result<Option<Event>, Fault>
     requires { Can (instr.Numeric i) next store.now task.old }
-    ensures { DoesInstr (instr.Numeric i) next store.now task.old store.now task.new result }
+    ensures does { DoesInstr (instr.Numeric i) next store.now task.old store.now task.new result }
+    ensures stays { Stays task.old next task.new result }
 {
     let _ = store;
     match ms_operate::numeric(i, &mut task.operands) {

@@ -1,6 +1,6 @@
 //! Constants, and parametric and variable instructions (WebAssembly 1.0, 4.4.1 to 4.4.3), each in a small function.
 
-ghost use Rattle.ms_machine.specs.Doing.{DoesInstr, Can};
+ghost use Rattle.ms_machine.specs.Doing.{Can, DoesInstr, Stays};
 ghost use Rattle.ms_module.specs.declared.instr.Instr.TheVariants as instr;
 
 use crate::fault::Fault;
@@ -17,7 +17,8 @@ pub(crate) fn nop<G: Gaps, T: Tagged>(
     task: &mut Task,
     next: usize,
 ) -> Result<Option<Event>, Fault>
-    ensures { DoesInstr instr.Nop next store.now task.old store.now task.new result }
+    ensures does { DoesInstr instr.Nop next store.now task.old store.now task.new result }
+    ensures stays { Stays task.old next task.new result }
 {
     let _ = store;
     task.go_to(next);
@@ -31,7 +32,8 @@ pub(crate) fn i32_const<G: Gaps, T: Tagged>(
     n: i32,
     next: usize,
 ) -> Result<Option<Event>, Fault>
-    ensures { DoesInstr (instr.I32Const n) next store.now task.old store.now task.new result }
+    ensures does { DoesInstr (instr.I32Const n) next store.now task.old store.now task.new result }
+    ensures stays { Stays task.old next task.new result }
 {
     let _ = store;
     match task.operands.push(Value::I32(n.cast_unsigned())) {
@@ -50,7 +52,8 @@ pub(crate) fn i64_const<G: Gaps, T: Tagged>(
     n: i64,
     next: usize,
 ) -> Result<Option<Event>, Fault>
-    ensures { DoesInstr (instr.I64Const n) next store.now task.old store.now task.new result }
+    ensures does { DoesInstr (instr.I64Const n) next store.now task.old store.now task.new result }
+    ensures stays { Stays task.old next task.new result }
 {
     let _ = store;
     match task.operands.push(Value::I64(n.cast_unsigned())) {
@@ -69,7 +72,8 @@ pub(crate) fn discard<G: Gaps, T: Tagged>(
     next: usize,
 ) -> Result<Option<Event>, Fault>
     requires { Can instr.Drop next store.now task.old }
-    ensures { DoesInstr instr.Drop next store.now task.old store.now task.new result }
+    ensures does { DoesInstr instr.Drop next store.now task.old store.now task.new result }
+    ensures stays { Stays task.old next task.new result }
 {
     let _ = store;
     task.operands.cut(1);
@@ -84,7 +88,8 @@ pub(crate) fn select<G: Gaps, T: Tagged>(
     next: usize,
 ) -> Result<Option<Event>, Fault>
     requires { Can instr.Select next store.now task.old }
-    ensures { DoesInstr instr.Select next store.now task.old store.now task.new result }
+    ensures does { DoesInstr instr.Select next store.now task.old store.now task.new result }
+    ensures stays { Stays task.old next task.new result }
 {
     let _ = store;
     let Value::I32(n) = task.operands.get(0) else {
@@ -107,7 +112,8 @@ pub(crate) fn local_get<G: Gaps, T: Tagged>(
     next: usize,
 ) -> Result<Option<Event>, Fault>
     requires { Can (instr.LocalGet x) next store.now task.old }
-    ensures { DoesInstr (instr.LocalGet x) next store.now task.old store.now task.new result }
+    ensures does { DoesInstr (instr.LocalGet x) next store.now task.old store.now task.new result }
+    ensures stays { Stays task.old next task.new result }
 {
     let _ = store;
     let value = task.frames.get(x as usize);
@@ -128,7 +134,8 @@ pub(crate) fn local_set<G: Gaps, T: Tagged>(
     next: usize,
 ) -> Result<Option<Event>, Fault>
     requires { Can (instr.LocalSet x) next store.now task.old }
-    ensures { DoesInstr (instr.LocalSet x) next store.now task.old store.now task.new result }
+    ensures does { DoesInstr (instr.LocalSet x) next store.now task.old store.now task.new result }
+    ensures stays { Stays task.old next task.new result }
 {
     let _ = store;
     let value = task.operands.get(0);
@@ -146,7 +153,8 @@ pub(crate) fn local_tee<G: Gaps, T: Tagged>(
     next: usize,
 ) -> Result<Option<Event>, Fault>
     requires { Can (instr.LocalTee x) next store.now task.old }
-    ensures { DoesInstr (instr.LocalTee x) next store.now task.old store.now task.new result }
+    ensures does { DoesInstr (instr.LocalTee x) next store.now task.old store.now task.new result }
+    ensures stays { Stays task.old next task.new result }
 {
     let _ = store;
     let kept = task.operands.get(0);
@@ -163,7 +171,8 @@ pub(crate) fn global_get<G: Gaps, T: Tagged>(
     next: usize,
 ) -> Result<Option<Event>, Fault>
     requires { Can (instr.GlobalGet x) next store.now task.old }
-    ensures { DoesInstr (instr.GlobalGet x) next store.now task.old store.now task.new result }
+    ensures does { DoesInstr (instr.GlobalGet x) next store.now task.old store.now task.new result }
+    ensures stays { Stays task.old next task.new result }
 {
     let address = store.instance(task.function()).globals.as_slice()[x as usize];
     let value = store.globals[address as usize].value;

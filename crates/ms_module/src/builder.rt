@@ -173,6 +173,7 @@ impl Builder {
             ty,
             seq,
         };
+        give_back(&mut self.sequences, seq);
     }
 
     /// Ends the innermost block. After an error nothing has changed.
@@ -184,6 +185,7 @@ impl Builder {
         let last = self.blocks.len() - 1;
         let around = current(&self.blocks[..last]);
         put_at(&mut self.sequences, around, self.blocks[last].whole())?;
+        give_back(&mut self.sequences, self.blocks[last].seq);
         self.blocks.truncate(last);
         Ok(())
     }
@@ -195,9 +197,11 @@ impl Builder {
     {
         let Builder {
             blocks: _,
-            sequences,
+            mut sequences,
             alloc: _,
         } = self;
+        give_back(&mut sequences, 0);
+        sequences.shrink_to_fit();
         Code::new(Vector::from_vec(sequences))
     }
 
@@ -238,6 +242,15 @@ fn put_at(sequences: &mut Vec<Vector<Instr>>, number: usize, instr: Instr) -> Re
     let sequence = &mut sequences[number];
     sequence.push(instr)?;
     Ok(())
+}
+
+/// Gives back the room that the sequence of this number, if there is one, has kept for more instructions.
+fn give_back(sequences: &mut Vec<Vector<Instr>>, number: u32)
+    ensures { sequences.new.items ≡ sequences.old.items }
+{
+    if let Some(sequence) = sequences.get_mut(number as usize) {
+        sequence.shrink_to_fit();
+    }
 }
 
 /// The innermost block goes on in its second sequence, which has this number.

@@ -93,3 +93,15 @@ fetched_before funcs f s place g is i found same within read =
 pub begins_behind : (funcs : List FuncInst) (w : List Item) (f s place : ℕ) (g : FuncInst) (is : List Instr) → slice_get funcs f ≡ Some g → is ≡ sequence_at g.body s → place + 1 < length is → Begins (rest_at funcs f s (place + 1) ++ w)
 begins_behind funcs w f s place g is found same within =
     begins_past (drop (place + 1) (sequence funcs f s)) w (λ e. absurd (let le = at_end funcs f s (place + 1) g is found same e in omega arith))
+
+-- ---- the same in a sequence that is held
+
+pub held : (funcs : List FuncInst) (fr : Frame) (vs : List Value) (w : List Item) (f s place : ℕ) (is : List Instr) (i : Instr) → is ≡ sequence funcs f s → place < length is → i ≡ get_or is place i → thread fr vs (rest_at funcs f s place ++ w) ≡ with_first i (thread fr vs (rest_at funcs f s (place + 1) ++ w))
+held funcs fr vs w f s place is i same within read =
+    let one : suc place ≡ place + 1 = omega arith in
+    ap (λ l. thread fr vs (dos l ++ w))
+    (ap (drop place) (sym same) ∙ drop-cons is place i within ∙ ap (λ x. x ∷ drop (suc place) is) (sym read) ∙ ap (λ n. i ∷ drop n is) one ∙ ap (λ l. i ∷ drop (place + 1) l) same)
+
+pub held_behind : (funcs : List FuncInst) (w : List Item) (f s place : ℕ) (is : List Instr) → is ≡ sequence funcs f s → place + 1 < length is → Begins (rest_at funcs f s (place + 1) ++ w)
+held_behind funcs w f s place is same within =
+    begins_past (drop (place + 1) (sequence funcs f s)) w (λ e. absurd (let le = drop_is_nil (place + 1) is (ap (drop (place + 1)) same ∙ e) in omega arith))

@@ -1,5 +1,5 @@
 -- The code's task as a thread: a place in a sequence stands for what follows it.
-use Rattle.std.specs.Prelude.{ℕ, zero, suc, ◌-◌, List, [], ◌∷◌, ◌++◌, Bool, true, false, take, drop, slice_get, Option, None}
+use Rattle.std.specs.Prelude.{◌≡◌, ℕ, zero, suc, ◌-◌, List, [], ◌∷◌, ◌++◌, Bool, true, false, take, drop, slice_get, Option, None}
 use Rattle.ms_linear.specs.declared.value.Value.{Value}
 use Rattle.ms_module.specs.declared.instr.Instr.{Instr}
 use Rattle.ms_task.specs.declared.func.FuncInst.{FuncInst}
@@ -48,6 +48,10 @@ at_next funcs t next = thread (frame_of t) t.operands (rest_at funcs t.function 
 -- the instruction before a place of the current sequence
 abbrev pub before : List FuncInst → Task → ℕ → Option Instr
 before funcs t next = again_at true next (sequence funcs t.function t.sequence)
+
+-- The next instruction stands at this place of the same sequence.
+abbrev pub IsAt : Task → ℕ → Task → Type 0
+IsAt t next t' = (t'.function ≡ t.function) × (t'.sequence ≡ t.sequence) × (t'.place ≡ next)
 
 -- one end in front is dropped
 abbrev pub exit_one : Frame → List Value → List Item → Thread

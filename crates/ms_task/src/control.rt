@@ -1,6 +1,6 @@
 //! The control instructions, each in a small function (WebAssembly 1.0, 4.4.5).
 
-ghost use Rattle.std.specs.Prelude.{◌≡◌, ◌≢◌, ℕ, ◌≤◌, List, [], ◌∷◌, ◌++◌, length, drop, take, reverse, map, slice_get, unwrap_or, OnOk, Option, Some, None, Err};
+ghost use Rattle.std.specs.Prelude.{◌≡◌, ◌≢◌, ℕ, ◌≤◌, List, [], ◌∷◌, ◌++◌, length, drop, take, reverse, map, slice_get, unwrap_or, OnErr, OnOk, Option, Some, None, Err};
 ghost use Rattle.ms_linear.specs.Values.{default_of};
 ghost use Rattle.ms_task.specs.Control.{To, Stuck, TooDeep, block_on, br_if_on, br_table_on, branch, call_on, if_on, keep, return_on};
 ghost use Rattle.ms_task.specs.Thread.{sequence};
@@ -103,7 +103,8 @@ pub(crate) fn label_at(table: &BrTable, operand: u32) -> u32
 
 impl Task {
     /// Enters a sequence of the current function, behind which the work goes on at `next`. A branch to its label keeps
-    /// what `keeps` says, and goes to the instruction before `next` where it is to begin again.
+    /// what `keeps` says, and goes to the instruction before `next` where it is to begin again. After an error nothing has
+    /// changed.
     pub fn block(
         &mut self,
         body: u32,
@@ -111,7 +112,8 @@ impl Task {
         next: usize,
         again: bool,
     ) -> Result<(), AllocError>
-        ensures { (funcs : List FuncInst) → OnOk result (To (thread_of funcs self.new) ≡ block_on funcs body keeps (again_at again next (sequence funcs self.old.function self.old.sequence)) (at_next funcs self.old next)) }
+        ensures ok { (funcs : List FuncInst) → OnOk result (To (thread_of funcs self.new) ≡ block_on funcs body keeps (again_at again next (sequence funcs self.old.function self.old.sequence)) (at_next funcs self.old next)) }
+        ensures err { OnErr result (self.new ≡ self.old) }
     {
         self.marks
             .push_label(keeps, self.operands.len(), self.sequence, next, again)?;

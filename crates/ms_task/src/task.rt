@@ -3,7 +3,7 @@
 ghost use Rattle.std.specs.Prelude.{◌≡◌, ◌↔◌, ℕ, List, [], ◌∷◌, Some, IfOk, IsTrue, drop, nat_lt, slice_get};
 ghost use Rattle.ms_task.specs.Control.{deepest, exited, started};
 ghost use Rattle.ms_task.specs.Thread.{Begins, depth_of, sequence, with_first};
-ghost use Rattle.ms_task.specs.View.{at_next, before, frame_of, items_of, exit_one, thread_of};
+ghost use Rattle.ms_task.specs.View.{IsAt, at_next, before, frame_of, items_of, exit_one, thread_of};
 ghost use Rattle.ms_task.specs.declared.func.FuncInst.{FuncInst};
 
 use crate::control::{DEEPEST, add_locals};
@@ -101,9 +101,25 @@ impl Task {
         }
     }
 
+    /// The sequence in which the next instruction stands.
+    pub fn code<'a>(&self, funcs: &'a [FuncInst]) -> &'a [Instr]
+        requires { Begins (thread_of funcs.now self.now).work }
+        ensures { result.now ≡ sequence funcs.now self.now.function self.now.sequence }
+    {
+        funcs[self.function].body.sequence(self.sequence)
+    }
+
+    /// The place of the next instruction in its sequence.
+    pub fn place(&self) -> usize
+        ensures { result ≡ self.now.place }
+    {
+        self.place
+    }
+
     /// Goes on at a place of the current sequence.
     pub fn go_to(&mut self, next: usize)
-        ensures { (funcs : List FuncInst) → thread_of funcs self.new ≡ at_next funcs self.old next }
+        ensures thread { (funcs : List FuncInst) → thread_of funcs self.new ≡ at_next funcs self.old next }
+        ensures place { IsAt self.old next self.new }
     {
         self.place = next;
     }

@@ -212,6 +212,7 @@ fn plain_byte(c: &mut Cursor) -> Result<u8, LexFault>
 }
 
 /// The byte that an escape of two digits in front tells.
+#[inline(always)]
 fn hex_escape(bytes: &[u8]) -> Option<u8>
     ensures { result ≡ hex_escape bytes.now }
 {
@@ -227,6 +228,7 @@ fn hex_escape(bytes: &[u8]) -> Option<u8>
 }
 
 /// Takes a byte or an escape.
+#[inline(always)]
 #[tactic(auto, unfolding(crate::specs::Strings::piece, crate::specs::Strings::behind_first))]
 pub fn next_piece(c: &mut Cursor) -> Result<Piece, LexFault>
     ensures { Reads c.old c.new result (piece.read c.old.end c.old.left) }
@@ -268,7 +270,10 @@ fn plain_len(bytes: &[u8]) -> usize
 fn is_plain(byte: u8) -> bool
     ensures { result ≡ is_plain byte }
 {
-    !(byte < 32 || byte == b'"' || byte == b'\\' || byte == 127)
+    if byte > b'\\' {
+        return byte != 127;
+    }
+    !(byte < 32 || byte == b'"' || byte == b'\\')
 }
 
 /// What is made of the elements of a string.

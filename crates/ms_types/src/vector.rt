@@ -69,4 +69,11 @@ impl<T> Vector<T> {
     {
         self.items.push(item)
     }
+
+    /// Gives back the room that was kept for more items. Takes no memory.
+    pub fn shrink_to_fit(&mut self)
+        ensures { self.new ≡ self.old }
+    {
+        self.items.shrink_to_fit();
+    }
 }

@@ -13,4 +13,4 @@ returns-in-Err g c =
 pub returns : goal.returns
 returns g c =
     let s = c.args.store.now in
-    linear_does _ s c.args.i c.function.result c.in-Some.address c.instance.result.now c.index_mut-memory.result.now c.linear.new.memory (λ funcs. at_next funcs c.args.task.now c.args.next) (λ funcs. thread_of funcs c.go_to.new.self) c.linear.new.operands c.store.view_is c.function.ensures c.instance.ensures c.in-Some.is c.requires c.index_mut-memory.ensures.value c.in-Ok.ensures c.go_to.ensures
+    linear_does _ s c.args.i c.function.result c.in-Some.address c.instance.result.now c.index_mut-memory.result.now c.linear.new.memory (λ funcs. at_next funcs c.args.task.now c.args.next) (λ funcs. thread_of funcs c.go_to.new.self) c.linear.new.operands c.store.view_is c.function.ensures c.instance.ensures c.in-Some.is c.requires c.index_mut-memory.ensures.value c.in-Ok.ensures c.go_to.ensures.thread

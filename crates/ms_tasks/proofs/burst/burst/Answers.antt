@@ -1,4 +1,4 @@
-use Rattle.std.proofs.Common.{rules, ◌≡◌, ◌+◌, ◌-◌, [], Option, refl, ap, sym, ◌∙◌, arith}
+use Rattle.std.proofs.Common.{rules, ◌≡◌, ◌+◌, ◌-◌, ◌≤◌, [], Option, refl, ap, sym, ◌∙◌, arith}
 use Rattle.ms_event.specs.declared.event.Event.{Event}
 use Rattle.ms_machine.specs.Running.{with_event}
 use Rattle.ms_tasks.specs.Logs.{all_seen}
@@ -6,7 +6,7 @@ use Rattle.ms_machine.proofs.Outsides.{none_taken}
 use Rattle.ms_task.specs.View.{thread_of}
 use Rattle.ms_machine.specs.Crews.{run_entries}
 use Rattle.ms_tasks.proofs.Deeds.{told_within}
-use Rattle.ms_tasks.proofs.Stepping.{begins_way, goes_way, stops_before, stops_behind, stops_in, way_ends, way_here, way_pauses, way_traps}
+use Rattle.ms_tasks.proofs.Stepping.{begins_way, goes_on, quiet_way, stops_before, stops_behind, stops_in, way_ends, way_here, way_pauses, way_traps}
 use Rattle.ms_tasks.proofs.burst.burst.Goals as goal
 
 pub loop-left-init : goal.loop-left-init
@@ -39,6 +39,11 @@ loop-left-preserved g c =
     let log0 = c.args.log.now in
     let s = l.store in
     let t = thread_of s.funcs l.task in
+    let u = thread_of s.funcs c.run_quietly-rest.new.task in
+    let rest = c.run_quietly-rest.result.0 in
+    let less = c.run_quietly-rest.ensures.left in
+    let among = v.left in
+    let within : rest + 1 ≤ c.args.most = omega (arith, less, among, c.loop-left-test.true) in
     let left = g.I.Source.left in
     let held = g.O.Sink.held in
     let s' = c.step.new.store in
@@ -47,7 +52,7 @@ loop-left-preserved g c =
     let event = c.in-On-Some.field-0 in
     let tells = c.in-Ok.ensures.told ∙ ap (λ (o : Option Event). all_seen (with_event o []) l.log.told) (sym c.in-On-Some.field-0-is) in
     record {
-      runs = λ whose next entries row. goes_way whose next entries c.args.most s0 t0 log0.told l.left s t l.log.told (left c.args.input.now) (left l.input) (left c.step.new.input) (held c.args.out.now) (held l.out) (held c.step.new.out) c.loop-left-test.true v.left v.going (v.runs whose next entries row) s' t' event c.see.new.self.told e.step.0 tells;
+      runs = λ whose next entries row. goes_on whose next entries c.args.most s0 t0 log0.told rest s u l.log.told (left c.args.input.now) (left l.input) (left c.step.new.input) (held c.args.out.now) (held l.out) (held c.step.new.out) within (c.run_quietly-rest.ensures.going c.if-has_ended-2.false) (quiet_way whose next entries c.args.most s0 t0 log0.told l.left rest s t u l.log.told (left c.args.input.now) (left l.input) (held c.args.out.now) (held l.out) c.loop-left-test.true less among (v.runs whose next entries row) c.run_quietly-rest.ensures.steps) s' t' event c.see.new.self.told e.step.0 tells;
       outline = e.outline tt ∙ v.outline;
       task = e.task tt;
       going = e.step.1;
@@ -57,7 +62,7 @@ loop-left-preserved g c =
       made = let m = e.made tt in omega (arith, m, v.made, c.loop-left-test.true);
       left = let x = v.left in omega (arith, x);
       entries = c.in-Ok.ensures.entries ∙ v.entries;
-      within = let x = v.left in told_within (log0.entries + (c.args.most - l.left)) (log0.entries + (c.args.most - (l.left - 1))) event l.log.told c.see.new.self.told (omega (arith, x, c.loop-left-test.true)) tells v.within;
+      within = let x = v.left in told_within (log0.entries + (c.args.most - l.left)) (log0.entries + (c.args.most - rest)) event l.log.told c.see.new.self.told (omega (arith, x, c.loop-left-test.true)) tells v.within;
       input = e.input_faults ∙ v.input;
       out = e.out_faults ∙ v.out;
     }
@@ -71,6 +76,11 @@ loop-left-preserved-in-On-None g c =
     let log0 = c.args.log.now in
     let s = l.store in
     let t = thread_of s.funcs l.task in
+    let u = thread_of s.funcs c.run_quietly-rest.new.task in
+    let rest = c.run_quietly-rest.result.0 in
+    let less = c.run_quietly-rest.ensures.left in
+    let among = v.left in
+    let within : rest + 1 ≤ c.args.most = omega (arith, less, among, c.loop-left-test.true) in
     let left = g.I.Source.left in
     let held = g.O.Sink.held in
     let s' = c.step.new.store in
@@ -79,7 +89,7 @@ loop-left-preserved-in-On-None g c =
     let event = c.in-On-None.field-0 in
     let tells = ap (λ (o : Option Event). all_seen (with_event o []) l.log.told) (sym c.in-On-None.field-0-is) in
     record {
-      runs = λ whose next entries row. goes_way whose next entries c.args.most s0 t0 log0.told l.left s t l.log.told (left c.args.input.now) (left l.input) (left c.step.new.input) (held c.args.out.now) (held l.out) (held c.step.new.out) c.loop-left-test.true v.left v.going (v.runs whose next entries row) s' t' event l.log.told e.step.0 tells;
+      runs = λ whose next entries row. goes_on whose next entries c.args.most s0 t0 log0.told rest s u l.log.told (left c.args.input.now) (left l.input) (left c.step.new.input) (held c.args.out.now) (held l.out) (held c.step.new.out) within (c.run_quietly-rest.ensures.going c.if-has_ended-2.false) (quiet_way whose next entries c.args.most s0 t0 log0.told l.left rest s t u l.log.told (left c.args.input.now) (left l.input) (held c.args.out.now) (held l.out) c.loop-left-test.true less among (v.runs whose next entries row) c.run_quietly-rest.ensures.steps) s' t' event l.log.told e.step.0 tells;
       outline = e.outline tt ∙ v.outline;
       task = e.task tt;
       going = e.step.1;
@@ -89,7 +99,7 @@ loop-left-preserved-in-On-None g c =
       made = let m = e.made tt in omega (arith, m, v.made, c.loop-left-test.true);
       left = let x = v.left in omega (arith, x);
       entries = v.entries;
-      within = let x = v.left in told_within (log0.entries + (c.args.most - l.left)) (log0.entries + (c.args.most - (l.left - 1))) event l.log.told l.log.told (omega (arith, x, c.loop-left-test.true)) tells v.within;
+      within = let x = v.left in told_within (log0.entries + (c.args.most - l.left)) (log0.entries + (c.args.most - rest)) event l.log.told l.log.told (omega (arith, x, c.loop-left-test.true)) tells v.within;
       input = e.input_faults ∙ v.input;
       out = e.out_faults ∙ v.out;
     }
@@ -97,6 +107,26 @@ loop-left-preserved-in-On-None g c =
 pub returns-then-has_ended-clause-run : goal.returns-then-has_ended-clause-run
 returns-then-has_ended-clause-run g c = λ whose next entries row.
     way_ends whose next entries c.args.most c.args.store.now (thread_of c.args.store.now.funcs c.args.task.now) c.args.log.now (g.I.Source.left c.args.input.now) (g.O.Sink.held c.args.out.now)
+
+pub returns-then-has_ended-2-clause-run : goal.returns-then-has_ended-2-clause-run
+returns-then-has_ended-2-clause-run g c = λ whose next entries row.
+    let l = c.loop-left in
+    let v = l.invariant in
+    let s0 = c.args.store.now in
+    let t0 = thread_of s0.funcs c.args.task.now in
+    let log0 = c.args.log.now in
+    let s = l.store in
+    let t = thread_of s.funcs l.task in
+    let u = thread_of s.funcs c.run_quietly-rest.new.task in
+    let rest = c.run_quietly-rest.result.0 in
+    let less = c.run_quietly-rest.ensures.left in
+    let among = v.left in
+    let within : rest + 1 ≤ c.args.most = omega (arith, less, among, c.loop-left-test.true) in
+    let left = g.I.Source.left in
+    let held = g.O.Sink.held in
+    way_here whose next entries c.args.most s0 t0 log0 l.log c.count.new.self (rest + 1) (c.args.most - (rest + 1)) s u (left c.args.input.now) (left l.input) (held c.args.out.now) (held l.out)
+    (quiet_way whose next entries c.args.most s0 t0 log0.told l.left rest s t u l.log.told (left c.args.input.now) (left l.input) (held c.args.out.now) (held l.out) c.loop-left-test.true less among (v.runs whose next entries row) c.run_quietly-rest.ensures.steps)
+    v.entries (omega (arith, within)) c.count.ensures
 
 pub returns-in_default-clause-run : goal.returns-in_default-clause-run
 returns-in_default-clause-run g c = λ whose next entries row.
@@ -107,11 +137,16 @@ returns-in_default-clause-run g c = λ whose next entries row.
     let log0 = c.args.log.now in
     let s = l.store in
     let t = thread_of s.funcs l.task in
+    let u = thread_of s.funcs c.run_quietly-rest.new.task in
+    let rest = c.run_quietly-rest.result.0 in
+    let less = c.run_quietly-rest.ensures.left in
+    let among = v.left in
+    let within : rest + 1 ≤ c.args.most = omega (arith, less, among, c.loop-left-test.true) in
     let left = g.I.Source.left in
     let held = g.O.Sink.held in
     let s' = c.step.new.store in
     let t' = thread_of s'.funcs c.step.new.task in
-    stops_behind whose next entries c.args.most s0 t0 log0.told l.left s t l.log.told (left c.args.input.now) (left l.input) (left c.step.new.input) (held c.args.out.now) (held l.out) (held c.step.new.out) c.loop-left-test.true v.left v.going (v.runs whose next entries row) s' t' c.in-On-Some.field-0 log0 c.see.new.self refl c.in_default.ensures.lost c.in-On-Some.ensures.step.0
+    stops_behind whose next entries c.args.most s0 t0 log0.told (rest + 1) s u l.log.told (left c.args.input.now) (left l.input) (left c.step.new.input) (held c.args.out.now) (held l.out) (held c.step.new.out) (omega arith) within (c.run_quietly-rest.ensures.going c.if-has_ended-2.false) (quiet_way whose next entries c.args.most s0 t0 log0.told l.left rest s t u l.log.told (left c.args.input.now) (left l.input) (held c.args.out.now) (held l.out) c.loop-left-test.true less among (v.runs whose next entries row) c.run_quietly-rest.ensures.steps) s' t' c.in-On-Some.field-0 log0 c.see.new.self refl c.in_default.ensures.lost c.in-On-Some.ensures.step.0
 
 pub returns-in_default-see-clause-run : goal.returns-in_default-see-clause-run
 returns-in_default-see-clause-run g c = λ whose next entries row.
@@ -122,11 +157,16 @@ returns-in_default-see-clause-run g c = λ whose next entries row.
     let log0 = c.args.log.now in
     let s = l.store in
     let t = thread_of s.funcs l.task in
+    let u = thread_of s.funcs c.run_quietly-rest.new.task in
+    let rest = c.run_quietly-rest.result.0 in
+    let less = c.run_quietly-rest.ensures.left in
+    let among = v.left in
+    let within : rest + 1 ≤ c.args.most = omega (arith, less, among, c.loop-left-test.true) in
     let left = g.I.Source.left in
     let held = g.O.Sink.held in
     let s' = c.step.new.store in
     let t' = thread_of s'.funcs c.step.new.task in
-    stops_behind whose next entries c.args.most s0 t0 log0.told l.left s t l.log.told (left c.args.input.now) (left l.input) (left c.step.new.input) (held c.args.out.now) (held l.out) (held c.step.new.out) c.loop-left-test.true v.left v.going (v.runs whose next entries row) s' t' c.in-Ended.event log0 c.see-in-Ended.new.self refl c.in_default-see.ensures.lost c.in-Ended.ensures.step.0
+    stops_behind whose next entries c.args.most s0 t0 log0.told (rest + 1) s u l.log.told (left c.args.input.now) (left l.input) (left c.step.new.input) (held c.args.out.now) (held l.out) (held c.step.new.out) (omega arith) within (c.run_quietly-rest.ensures.going c.if-has_ended-2.false) (quiet_way whose next entries c.args.most s0 t0 log0.told l.left rest s t u l.log.told (left c.args.input.now) (left l.input) (held c.args.out.now) (held l.out) c.loop-left-test.true less among (v.runs whose next entries row) c.run_quietly-rest.ensures.steps) s' t' c.in-Ended.event log0 c.see-in-Ended.new.self refl c.in_default-see.ensures.lost c.in-Ended.ensures.step.0
 
 pub returns-in-Ended-clause-run : goal.returns-in-Ended-clause-run
 returns-in-Ended-clause-run g c = λ whose next entries row.
@@ -137,15 +177,20 @@ returns-in-Ended-clause-run g c = λ whose next entries row.
     let log0 = c.args.log.now in
     let s = l.store in
     let t = thread_of s.funcs l.task in
+    let u = thread_of s.funcs c.run_quietly-rest.new.task in
+    let rest = c.run_quietly-rest.result.0 in
+    let less = c.run_quietly-rest.ensures.left in
+    let among = v.left in
+    let within : rest + 1 ≤ c.args.most = omega (arith, less, among, c.loop-left-test.true) in
     let left = g.I.Source.left in
     let held = g.O.Sink.held in
     let s' = c.step.new.store in
     let t' = thread_of s'.funcs c.step.new.task in
     let see = c.see-in-Ended.new.self in
     let x = v.left in
-    let way = goes_way whose next entries c.args.most s0 t0 log0.told l.left s t l.log.told (left c.args.input.now) (left l.input) (left c.step.new.input) (held c.args.out.now) (held l.out) (held c.step.new.out) c.loop-left-test.true v.left v.going (v.runs whose next entries row) s' t' c.in-Ended.event see.told c.in-Ended.ensures.step.0 c.in-Ok-see.ensures.told in
-    way_here whose next entries c.args.most s0 t0 log0 see c.count.new.self (l.left - 1) (c.args.most - (l.left - 1)) s' t' (left c.args.input.now) (left c.step.new.input) (held c.args.out.now) (held c.step.new.out) way
-    (c.in-Ok-see.ensures.entries ∙ v.entries) (omega (arith, x)) c.count.ensures
+    let way = goes_on whose next entries c.args.most s0 t0 log0.told rest s u l.log.told (left c.args.input.now) (left l.input) (left c.step.new.input) (held c.args.out.now) (held l.out) (held c.step.new.out) within (c.run_quietly-rest.ensures.going c.if-has_ended-2.false) (quiet_way whose next entries c.args.most s0 t0 log0.told l.left rest s t u l.log.told (left c.args.input.now) (left l.input) (held c.args.out.now) (held l.out) c.loop-left-test.true less among (v.runs whose next entries row) c.run_quietly-rest.ensures.steps) s' t' c.in-Ended.event see.told c.in-Ended.ensures.step.0 c.in-Ok-see.ensures.told in
+    way_here whose next entries c.args.most s0 t0 log0 see c.count-in-Ended.new.self rest (c.args.most - rest) s' t' (left c.args.input.now) (left c.step.new.input) (held c.args.out.now) (held c.step.new.out) way
+    (c.in-Ok-see.ensures.entries ∙ v.entries) (omega (arith, x)) c.count-in-Ended.ensures
 
 pub returns-in-Trap-clause-run : goal.returns-in-Trap-clause-run
 returns-in-Trap-clause-run g c = λ whose next entries row.
@@ -156,13 +201,18 @@ returns-in-Trap-clause-run g c = λ whose next entries row.
     let log0 = c.args.log.now in
     let s = l.store in
     let t = thread_of s.funcs l.task in
+    let u = thread_of s.funcs c.run_quietly-rest.new.task in
+    let rest = c.run_quietly-rest.result.0 in
+    let less = c.run_quietly-rest.ensures.left in
+    let among = v.left in
+    let within : rest + 1 ≤ c.args.most = omega (arith, less, among, c.loop-left-test.true) in
     let left = g.I.Source.left in
     let held = g.O.Sink.held in
     let s' = c.step.new.store in
     let t' = thread_of s'.funcs c.step.new.task in
     let e = c.in-Trap.ensures.step in
     let x = v.left in
-    (whose, way_traps whose next entries c.args.most s0 t0 log0.told l.left s t l.log.told (left c.args.input.now) (left l.input) (left c.step.new.input) (held c.args.out.now) (held l.out) (held c.step.new.out) c.loop-left-test.true v.left v.going (v.runs whose next entries row) c.in-Trap.kind s' t' log0 c.count-in-Trap.new.self (c.args.most - (l.left - 1)) l.log.entries refl v.entries e.0 e.1 e.2 e.3 e.4 (omega (arith, x)) c.count-in-Trap.ensures)
+    (whose, way_traps whose next entries c.args.most s0 t0 log0.told (rest + 1) s u l.log.told (left c.args.input.now) (left l.input) (left c.step.new.input) (held c.args.out.now) (held l.out) (held c.step.new.out) (omega arith) within (c.run_quietly-rest.ensures.going c.if-has_ended-2.false) (quiet_way whose next entries c.args.most s0 t0 log0.told l.left rest s t u l.log.told (left c.args.input.now) (left l.input) (held c.args.out.now) (held l.out) c.loop-left-test.true less among (v.runs whose next entries row) c.run_quietly-rest.ensures.steps) c.in-Trap.kind s' t' log0 c.count-in-Trap.new.self (c.args.most - rest) l.log.entries refl v.entries e.0 e.1 e.2 e.3 e.4 (omega (arith, x)) c.count-in-Trap.ensures)
 
 pub returns-in-ReadFault-clause-run : goal.returns-in-ReadFault-clause-run
 returns-in-ReadFault-clause-run g c = λ whose next entries row.
@@ -173,10 +223,15 @@ returns-in-ReadFault-clause-run g c = λ whose next entries row.
     let log0 = c.args.log.now in
     let s = l.store in
     let t = thread_of s.funcs l.task in
+    let u = thread_of s.funcs c.run_quietly-rest.new.task in
+    let rest = c.run_quietly-rest.result.0 in
+    let less = c.run_quietly-rest.ensures.left in
+    let among = v.left in
+    let within : rest + 1 ≤ c.args.most = omega (arith, less, among, c.loop-left-test.true) in
     let left = g.I.Source.left in
     let held = g.O.Sink.held in
     let e = c.in-ReadFault.ensures.step in
-    stops_before whose next entries c.args.most s0 t0 log0.told l.left s t l.log.told (left c.args.input.now) (left l.input) (left c.step.new.input) (held c.args.out.now) (held l.out) (held c.step.new.out) c.loop-left-test.true v.left v.going (v.runs whose next entries row) log0 l.log refl refl (none_taken (left l.input) (left c.step.new.input) e.2) e.3
+    stops_before whose next entries c.args.most s0 t0 log0.told (rest + 1) s u l.log.told (left c.args.input.now) (left l.input) (left c.step.new.input) (held c.args.out.now) (held l.out) (held c.step.new.out) (omega arith) within (c.run_quietly-rest.ensures.going c.if-has_ended-2.false) (quiet_way whose next entries c.args.most s0 t0 log0.told l.left rest s t u l.log.told (left c.args.input.now) (left l.input) (held c.args.out.now) (held l.out) c.loop-left-test.true less among (v.runs whose next entries row) c.run_quietly-rest.ensures.steps) log0 l.log refl refl (none_taken (left l.input) (left c.step.new.input) e.2) e.3
 
 pub returns-in-WriteFault-clause-run : goal.returns-in-WriteFault-clause-run
 returns-in-WriteFault-clause-run g c = λ whose next entries row.
@@ -187,10 +242,15 @@ returns-in-WriteFault-clause-run g c = λ whose next entries row.
     let log0 = c.args.log.now in
     let s = l.store in
     let t = thread_of s.funcs l.task in
+    let u = thread_of s.funcs c.run_quietly-rest.new.task in
+    let rest = c.run_quietly-rest.result.0 in
+    let less = c.run_quietly-rest.ensures.left in
+    let among = v.left in
+    let within : rest + 1 ≤ c.args.most = omega (arith, less, among, c.loop-left-test.true) in
     let left = g.I.Source.left in
     let held = g.O.Sink.held in
     let e = c.in-WriteFault.ensures.step in
-    stops_in whose next entries c.args.most s0 t0 log0.told l.left s t l.log.told (left c.args.input.now) (left l.input) (left c.step.new.input) (held c.args.out.now) (held l.out) (held c.step.new.out) c.loop-left-test.true v.left v.going (v.runs whose next entries row) log0 l.log e.0 refl refl e.1 e.3 e.4
+    stops_in whose next entries c.args.most s0 t0 log0.told (rest + 1) s u l.log.told (left c.args.input.now) (left l.input) (left c.step.new.input) (held c.args.out.now) (held l.out) (held c.step.new.out) (omega arith) within (c.run_quietly-rest.ensures.going c.if-has_ended-2.false) (quiet_way whose next entries c.args.most s0 t0 log0.told l.left rest s t u l.log.told (left c.args.input.now) (left l.input) (held c.args.out.now) (held l.out) c.loop-left-test.true less among (v.runs whose next entries row) c.run_quietly-rest.ensures.steps) log0 l.log e.0 refl refl e.1 e.3 e.4
 
 pub returns-in-Memory-clause-run : goal.returns-in-Memory-clause-run
 returns-in-Memory-clause-run g c = λ whose next entries row.
@@ -201,10 +261,15 @@ returns-in-Memory-clause-run g c = λ whose next entries row.
     let log0 = c.args.log.now in
     let s = l.store in
     let t = thread_of s.funcs l.task in
+    let u = thread_of s.funcs c.run_quietly-rest.new.task in
+    let rest = c.run_quietly-rest.result.0 in
+    let less = c.run_quietly-rest.ensures.left in
+    let among = v.left in
+    let within : rest + 1 ≤ c.args.most = omega (arith, less, among, c.loop-left-test.true) in
     let left = g.I.Source.left in
     let held = g.O.Sink.held in
     let e = c.in-Memory.ensures.step in
-    stops_before whose next entries c.args.most s0 t0 log0.told l.left s t l.log.told (left c.args.input.now) (left l.input) (left c.step.new.input) (held c.args.out.now) (held l.out) (held c.step.new.out) c.loop-left-test.true v.left v.going (v.runs whose next entries row) log0 l.log refl refl e.1 e.2
+    stops_before whose next entries c.args.most s0 t0 log0.told (rest + 1) s u l.log.told (left c.args.input.now) (left l.input) (left c.step.new.input) (held c.args.out.now) (held l.out) (held c.step.new.out) (omega arith) within (c.run_quietly-rest.ensures.going c.if-has_ended-2.false) (quiet_way whose next entries c.args.most s0 t0 log0.told l.left rest s t u l.log.told (left c.args.input.now) (left l.input) (held c.args.out.now) (held l.out) c.loop-left-test.true less among (v.runs whose next entries row) c.run_quietly-rest.ensures.steps) log0 l.log refl refl e.1 e.2
 
 pub returns-clause-run : goal.returns-clause-run
 returns-clause-run g c = λ whose next entries row.

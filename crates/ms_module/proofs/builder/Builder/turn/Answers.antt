@@ -8,11 +8,11 @@ invariant_of-self c =
     let os = c.self.inside.blocks.items in
     let may = rw (← c.self.view_is) at c.requires in
     let some = may_turn-some os may in
-    rw (turned-is os (c.len-last.result - 1) c.index.result.now (omega arith) (sym c.index.ensures)) (turns may c.self.invariant)
+    rw (c.give_back.ensures, turned-is os (c.len-last.result - 1) c.index.result.now (omega arith) (sym c.index.ensures)) (turns may c.self.invariant)
 
 pub returns : goal.returns
 returns c =
     let os = c.self.inside.blocks.items in
     let may = rw (← c.self.view_is) at c.requires in
     let some = may_turn-some os may in
-    rw (← c.self.view_is, turned-is os (c.len-last.result - 1) c.index.result.now (omega arith) (sym c.index.ensures)) refl
+    rw (← c.self.view_is, c.give_back.ensures, turned-is os (c.len-last.result - 1) c.index.result.now (omega arith) (sym c.index.ensures)) refl

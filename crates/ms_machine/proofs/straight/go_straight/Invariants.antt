@@ -1,0 +1,19 @@
+use Rattle.std.proofs.Common.{◌≡◌, ◌≢◌, ◌-◌, ◌≤◌, []}
+use Rattle.ms_machine.specs.StraightLine.{GoesQuietly}
+use Rattle.ms_machine.specs.Typing.{TaskTyped, outline_of}
+use Rattle.ms_task.specs.View.{thread_of}
+use Rattle.ms_machine.proofs.straight.go_straight.Given as goal
+
+abbrev pub invariant-loop-left : goal.invariant-loop-left
+invariant-loop-left g l = record {
+  steps : GoesQuietly l.store (l.most - l.left) (thread_of l.store.funcs l.fn.task) (thread_of l.store.funcs l.task);
+  left : l.left ≤ l.most;
+  task : TaskTyped (outline_of l.store) (thread_of l.store.funcs l.task);
+  going : (thread_of l.store.funcs l.task).work ≢ [];
+  function : l.task.function ≡ l.fn.task.function;
+  sequence : l.task.sequence ≡ l.fn.task.sequence;
+  place : l.place ≡ l.task.place;
+}
+
+abbrev pub decreases-loop-left : goal.decreases-loop-left
+decreases-loop-left g l = l.left
