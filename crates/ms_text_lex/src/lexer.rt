@@ -115,6 +115,3 @@ pub fn lex(alloc: Global, source: &[u8]) -> Result<Vector<Token>, LexFault>
         Err(fault) => Err(fault),
     }
 }
-
-#[cfg(test)]
-mod tests;

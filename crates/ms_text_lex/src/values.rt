@@ -106,6 +106,3 @@ pub fn append_value(
     }
     bytes.extend_from_slice(value.as_slice())
 }
-
-#[cfg(test)]
-mod tests;

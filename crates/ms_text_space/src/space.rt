@@ -97,6 +97,3 @@ fn name<'a>(
     first.insert(text, number)?;
     Ok(false)
 }
-
-#[cfg(test)]
-mod tests;

@@ -2,8 +2,8 @@
 
 ghost use Rattle.std.specs.Prelude.{◌<◌};
 
-use super::*;
-use ms_text_lex::Kind;
+use ms_text_lex::{Kind, Token};
+use ms_text_space::Space;
 use std::test::Fail;
 
 fn identifier(at: usize) -> Option<Token>
