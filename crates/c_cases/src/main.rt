@@ -2,8 +2,8 @@
 //!
 //! It goes over the rows of the standard input and prints what becomes of each text, a line each: `typed`, or why it has no
 //! typed tree and where, in the words of a report. The crate's `stdin` is the table, by the rules of typing, and `stdout` what
-//! is wanted, worked out by hand. Its tests are those of the lexer and of the parser, of which each is so proved only once. It
-//! stands on these two and on the typing of C. Read `specs/Answers.antt` first.
+//! is wanted, worked out by hand. Its tests are those of the trees, the lexer and the parser, of which each is so proved only
+//! once. It stands on these and on the typing of C. Read `specs/Answers.antt` first.
 #![tactic(auto)]
 
 mod refusal;

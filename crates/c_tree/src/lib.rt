@@ -25,6 +25,3 @@ pub use statement::{Block, Item, Statement, StatementNode};
 pub use tree::{
     Args, Core, Declarator, DeclaratorNode, Expr, ExprNode, Parameter, Parameters, above,
 };
-
-#[cfg(test)]
-mod tests;

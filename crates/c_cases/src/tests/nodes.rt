@@ -1,12 +1,12 @@
-//! Trees with ample memory.
+//! The nodes of trees, with ample memory.
 
-use crate::{
+use c_token::{Bytes, IntegerType};
+use c_tree::{
     Args, BinaryOp, Block, Declarator, DeclaratorNode, Declarators, Expr, ExprNode, External,
     ExternalForm, ForFirst, ForFirstNode, Infix, Init, Initialiser, InitialiserNode, Initialisers,
     Inits, Item, Members, OuterSpecifier, Parameters, Piece, Specifier, SpecifierNode, Statement,
     StatementNode, Unit,
 };
-use c_token::{Bytes, IntegerType};
 use std::alloc::{AllocError, Global};
 use std::test::Fail;
 
