@@ -52,6 +52,10 @@ DoesInstr i next s task s' task' result = DoesOutcome (act s i (at_next s.funcs 
 
 -- ---- instructions that tell nothing
 
+abbrev pub TellsNone : Result (Option Event) Fault → Type 0
+TellsNone (Ok event) = event ≡ None
+TellsNone (Err fault) = Unit {0}
+
 -- where it stopped, nothing has changed
 abbrev pub IsQuiet : Task → Task → Result (Option Event) Fault → Type 0
 IsQuiet t t' (Ok event) = event ≡ None

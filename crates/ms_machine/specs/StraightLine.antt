@@ -1,18 +1,63 @@
--- Steps in a row that take the store as it is and tell nothing.
-use Rattle.std.specs.Prelude.{◌≡◌, ◌≢◌, ℕ, zero, suc, [], None}
-use Rattle.ms_task.specs.Thread.{Thread}
-use Rattle.ms_machine.specs.Step.{Next, step_of}
+-- Steps in a row of which the outside and the segment memory see nothing.
+use Rattle.std.specs.Prelude.{◌≡◌, ◌≢◌, ◌<◌, ◌-◌, ℕ, zero, suc, [], None}
+use Rattle.ms_module.specs.declared.instr.Instr.{Instr}
+use Rattle.ms_module.specs.declared.instr.Instr.TheVariants as instr
+use Rattle.ms_task.specs.Thread.{Thread, with_first}
+use Rattle.ms_task.specs.View.{IsAt, at_next, thread_of}
+use Rattle.ms_task.specs.declared.task.Task.{Task}
+use Rattle.ms_machine.specs.Doing.{Can, Carries}
+use Rattle.ms_machine.specs.Step.{Next, act, step_of}
 use Rattle.ms_machine.specs.Store.{Store}
-use Rattle.ms_machine.specs.declared.straight.Jumped.{Jumped}
-use Rattle.ms_machine.specs.declared.straight.Jumped.TheVariants as jumps
+use Rattle.ms_machine.specs.declared.straight.Carried.{Carried}
+use Rattle.ms_machine.specs.declared.straight.Carried.TheVariants as carries
+use Rattle.ms_machine.specs.declared.straight.Met.{Met}
+use Rattle.ms_machine.specs.declared.straight.Met.TheVariants as mets
+use Rattle.ms_machine.specs.declared.straight.Quiet.{Quiet}
+use Rattle.ms_machine.specs.declared.straight.Quiet.TheVariants as quiets
+use Rattle.ms_machine.specs.declared.straight.Worked.{Worked}
+use Rattle.ms_machine.specs.declared.straight.Worked.TheVariants as works
 
--- so many steps from a thread to a thread
-abbrev pub GoesQuietly : Store → ℕ → Thread → Thread → Type 0
-GoesQuietly s zero t t' = t' ≡ t
-GoesQuietly s (suc n) t t' = (t.work ≢ []) × (t1 : Thread) × (step_of s t ≡ Next s t1 None) × GoesQuietly s n t1 t'
+-- one of them
+abbrev pub StepsQuietly : Store → Thread → Store → Thread → Type 0
+StepsQuietly s t s' t' = (step_of s t ≡ Next s' t' None) × (s'.segments ≡ s.segments)
 
--- one of them, or none
-abbrev pub DoesJump : Jumped → Store → Thread → Thread → Type 0
-DoesJump jumps.On s t t' = (step_of s t ≡ Next s t' None) × (t'.work ≢ [])
-DoesJump jumps.Ended s t t' = (step_of s t ≡ Next s t' None) × (t'.work ≡ [])
-DoesJump jumps.Not s t t' = t' ≡ t
+-- so many
+abbrev pub GoesQuietly : Store → Thread → ℕ → Store → Thread → Type 0
+GoesQuietly s t zero s' t' = (s' ≡ s) × (t' ≡ t)
+GoesQuietly s t (suc n) s' t' = (s1 : Store) × (t1 : Thread) × GoesQuietly s t n s1 t1 × (t1.work ≢ []) × StepsQuietly s1 t1 s' t'
+
+-- so many, with what they came to
+abbrev pub IsHalted : Quiet → ℕ → Store → Thread → Store → Thread → Type 0
+IsHalted quiets.Paused n s t s' t' = GoesQuietly s t n s' t' × (t'.work ≢ [])
+IsHalted quiets.Ended n s t s' t' = GoesQuietly s t n s' t' × (t'.work ≡ [])
+IsHalted quiets.Memory n s t s' t' = Unit {0}
+
+-- ---- an instruction on the store as it is, behind which a task goes on at a place
+
+abbrev pub DoesCarry : Carried → Instr → ℕ → Store → Task → Task → Type 0
+DoesCarry carries.On i next s t t' = Carries i next s t t'
+DoesCarry carries.Jumped i next s t t' = act s i (at_next s.funcs t next) ≡ Next s (thread_of s.funcs t') None
+DoesCarry (carries.Linear j) i next s t t' = (i ≡ instr.Linear j) × (t' ≡ t)
+DoesCarry (carries.Global x) i next s t t' = (i ≡ instr.GlobalSet x) × (t' ≡ t)
+DoesCarry carries.Not i next s t t' = t' ≡ t
+DoesCarry carries.Memory i next s t t' = Unit {0}
+
+-- the instruction is the task's next one, and it finds what it takes
+abbrev pub IsNext : Instr → ℕ → Store → Task → Type 0
+IsNext i next s t = (thread_of s.funcs t ≡ with_first i (at_next s.funcs t next)) × Can i next s t
+
+-- several of them, of which so many are left of so many
+abbrev pub DoesMeet : Met → (left most : ℕ) → Store → Thread → Task → Type 0
+DoesMeet mets.Paused left most s t t' = GoesQuietly s t (most - left) s (thread_of s.funcs t') × ((thread_of s.funcs t').work ≢ [])
+DoesMeet mets.Ended left most s t t' = GoesQuietly s t (most - left) s (thread_of s.funcs t') × ((thread_of s.funcs t').work ≡ [])
+DoesMeet (mets.Linear i next) left most s t t' = GoesQuietly s t (most - left) s (thread_of s.funcs t') × (0 < left) × ((thread_of s.funcs t').work ≢ []) × IsNext (instr.Linear i) next s t'
+DoesMeet (mets.Global x next) left most s t t' = GoesQuietly s t (most - left) s (thread_of s.funcs t') × (0 < left) × ((thread_of s.funcs t').work ≢ []) × IsNext (instr.GlobalSet x) next s t'
+DoesMeet mets.Memory left most s t t' = Unit {0}
+
+-- ---- an instruction that changes the store
+
+abbrev pub DoesWork : Worked → Store → Thread → Store → Thread → Type 0
+DoesWork works.On s t s' t' = StepsQuietly s t s' t' × (t'.work ≢ [])
+DoesWork works.Ended s t s' t' = StepsQuietly s t s' t' × (t'.work ≡ [])
+DoesWork works.Not s t s' t' = (s' ≡ s) × (t' ≡ t)
+DoesWork works.Memory s t s' t' = Unit {0}

@@ -1,7 +1,7 @@
 //! Control instructions on the store (WebAssembly 1.0, 4.4.5).
 
 ghost use Rattle.std.specs.Prelude.{◌≡◌, ◌≢◌, ◌<◌, None, Some, length, slice_get};
-ghost use Rattle.ms_machine.specs.Doing.{Can, DoesInstr, DoesOutcome, IsQuiet};
+ghost use Rattle.ms_machine.specs.Doing.{Can, DoesInstr, DoesOutcome, IsQuiet, TellsNone};
 ghost use Rattle.ms_machine.specs.Step.{Stuck, asks, called, host_in, popped, table_trap};
 ghost use Rattle.ms_machine.specs.Store.{Store as Spec, func_address, instance_of};
 ghost use Rattle.ms_module.specs.declared.instr.Instr.TheVariants as instr;
@@ -64,7 +64,8 @@ pub(crate) fn if_else<G: Gaps, T: Tagged>(
     next: usize,
 ) -> Result<Option<Event>, Fault>
     requires { Can (instr.If ty then_ other) next store.now task.old }
-    ensures { DoesInstr (instr.If ty then_ other) next store.now task.old store.now task.new result }
+    ensures does { DoesInstr (instr.If ty then_ other) next store.now task.old store.now task.new result }
+    ensures tells { TellsNone result }
 {
     match task.if_else(&store.funcs, then_, other, ty, next) {
         Ok(()) => Ok(None),
@@ -149,7 +150,7 @@ fn ask_by_table(task: &mut Task, host: Host, next: usize) -> Result<Option<Event
 }
 
 /// The address of the function of an index.
-fn address_of<G: Gaps, T: Tagged>(store: &Store<G, T>, task: &Task, x: u32) -> u32
+pub(crate) fn address_of<G: Gaps, T: Tagged>(store: &Store<G, T>, task: &Task, x: u32) -> u32
     requires { func_address (instance_of store.now (frame_of task.now)) x ≢ None }
     ensures { func_address (instance_of store.now (frame_of task.now)) x ≡ Some result }
 {

@@ -1,7 +1,7 @@
 //! Numeric instructions, and those on the linear memory and on segments, on the store.
 
-ghost use Rattle.std.specs.Prelude.{◌<◌, ◌^◌};
-ghost use Rattle.ms_machine.specs.Doing.{Can, DoesInstr, Stays};
+ghost use Rattle.std.specs.Prelude.{◌≡◌, ◌<◌, ◌^◌};
+ghost use Rattle.ms_machine.specs.Doing.{Can, DoesInstr, Stays, TellsNone};
 ghost use Rattle.ms_machine.specs.Holding.{Each, Fits};
 ghost use Rattle.ms_module.specs.declared.instr.Instr.TheVariants as instr;
 
@@ -15,6 +15,7 @@ use ms_tagged::Tagged;
 use ms_task::Task;
 
 /// A numeric instruction.
+#[inline(always)]
 pub(crate) fn numeric<G: Gaps, T: Tagged>(
     store: &Store<G, T>,
     task: &mut Task,
@@ -43,7 +44,9 @@ pub(crate) fn linear<G: Gaps, T: Tagged>(
     next: usize,
 ) -> Result<Option<Event>, Fault>
     requires { Can (instr.Linear i) next store.old task.old }
-    ensures { DoesInstr (instr.Linear i) next store.old task.old store.new task.new result }
+    ensures does { DoesInstr (instr.Linear i) next store.old task.old store.new task.new result }
+    ensures tells { TellsNone result }
+    ensures segments { store.new.segments ≡ store.old.segments }
 {
     let Some(address) = store.instance(task.function()).memory else {
         unreachable!()

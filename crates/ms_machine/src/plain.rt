@@ -1,6 +1,7 @@
 //! Constants, and parametric and variable instructions (WebAssembly 1.0, 4.4.1 to 4.4.3), each in a small function.
 
-ghost use Rattle.ms_machine.specs.Doing.{Can, DoesInstr, Stays};
+ghost use Rattle.std.specs.Prelude.{◌≡◌};
+ghost use Rattle.ms_machine.specs.Doing.{Can, DoesInstr, Stays, TellsNone};
 ghost use Rattle.ms_module.specs.declared.instr.Instr.TheVariants as instr;
 
 use crate::fault::Fault;
@@ -193,7 +194,9 @@ pub(crate) fn global_set<G: Gaps, T: Tagged>(
     next: usize,
 ) -> Result<Option<Event>, Fault>
     requires { Can (instr.GlobalSet x) next store.old task.old }
-    ensures { DoesInstr (instr.GlobalSet x) next store.old task.old store.new task.new result }
+    ensures does { DoesInstr (instr.GlobalSet x) next store.old task.old store.new task.new result }
+    ensures tells { TellsNone result }
+    ensures segments { store.new.segments ≡ store.old.segments }
 {
     let address = store.instance(task.function()).globals.as_slice()[x as usize];
     let value = task.operands.get(0);

@@ -1,24 +1,25 @@
-//! Steps in a row that take the store as it is and tell nothing: straight-line code, and the jumps between.
+//! Steps in a row that tell nothing: all but those that work on segments, call the host, or go through a table.
 
-ghost use Rattle.std.specs.Prelude.{◌≡◌, ◌≢◌, ◌≤◌, ◌-◌, [], false, true, IsTrue, None, Some};
-ghost use Rattle.ms_machine.specs.StraightLine.{DoesJump, GoesQuietly};
+ghost use Rattle.std.specs.Prelude.{◌≡◌, ◌≢◌, ◌≤◌, ◌-◌, [], None, false, IsTrue, Some};
+ghost use Rattle.ms_machine.specs.StraightLine.{DoesCarry, DoesMeet, DoesWork, IsHalted, IsNext};
 ghost use Rattle.ms_machine.specs.Doing.{Can, Carries};
-ghost use Rattle.ms_machine.specs.Holding.{StoreFits, ThreadFits};
 ghost use Rattle.ms_machine.specs.Step.{Next, act};
 ghost use Rattle.ms_machine.specs.Typing.{StoreTyped, TaskTyped, outline_of};
+ghost use Rattle.ms_module.specs.declared.instr.Instr.TheVariants as instr;
 ghost use Rattle.ms_task.specs.View.{at_next, before, thread_of};
 
+use crate::fault::Fault;
 use crate::store::Store;
 use crate::{control, memory, plain};
 use ms_live::Gaps;
-use ms_module::Instr;
+use ms_module::{Instr, Linear};
 use ms_tagged::Tagged;
-use ms_task::Task;
+use ms_task::{CallFault, Task};
 
 /// Carries out an instruction that stays within its sequence, behind which the task goes on at `next`, or says that it
 /// didn't; then nothing has changed.
 #[inline(always)]
-fn carry_out<G: Gaps, T: Tagged>(
+fn carry_straight<G: Gaps, T: Tagged>(
     store: &Store<G, T>,
     task: &mut Task,
     instr: &Instr,
@@ -43,45 +44,7 @@ fn carry_out<G: Gaps, T: Tagged>(
     }
 }
 
-/// Carries out the next instructions of a task, at most so many, as long as each stays within its sequence and has another
-/// one behind it. It gives how many are left.
-#[inline(always)]
-fn go_straight<G: Gaps, T: Tagged>(store: &Store<G, T>, task: &mut Task, most: u64) -> u64
-    requires store { StoreTyped (outline_of store.now) }
-    requires task { TaskTyped (outline_of store.now) (thread_of store.now.funcs task.old) }
-    requires going { (thread_of store.now.funcs task.old).work ≢ [] }
-    ensures left { result ≤ most }
-    ensures steps { GoesQuietly store.now (most - result) (thread_of store.now.funcs task.old) (thread_of store.now.funcs task.new) }
-    ensures going { (thread_of store.now.funcs task.new).work ≢ [] }
-    ensures task { TaskTyped (outline_of store.now) (thread_of store.now.funcs task.new) }
-{
-    let code = task.code(&store.funcs);
-    let last = code.len().saturating_sub(1);
-    let mut place = task.place();
-    let mut left = most;
-    while left > 0 && place < last {
-        if !carry_out(store, task, &code[place], place + 1) {
-            break;
-        }
-        place += 1;
-        left -= 1;
-    }
-    left
-}
-
-/// What came of a jump.
-#[derive(Clone, Copy)]
-pub(crate) enum Jumped {
-    /// The task has more to do.
-    On,
-    /// The task has ended.
-    Ended,
-    /// The next instruction is no jump. Nothing has changed.
-    Not,
-}
-
-/// Carries out a jump, or an instruction that stays within its sequence, behind which the task goes on at `next`, or says that
-/// it didn't; then nothing has changed.
+/// Carries out a jump, or says that it didn't, since memory has run out.
 #[inline(always)]
 fn jump<G: Gaps, T: Tagged>(
     store: &Store<G, T>,
@@ -91,68 +54,256 @@ fn jump<G: Gaps, T: Tagged>(
 ) -> bool
     requires before { before store.now.funcs task.old next ≡ Some instr.now }
     requires can { Can instr.now next store.now task.old }
-    ensures on { IsTrue result → act store.now instr.now (at_next store.now.funcs task.old next) ≡ Next store.now (thread_of store.now.funcs task.new) None }
-    ensures off { result ≡ false → task.new ≡ task.old }
+    ensures { IsTrue result → act store.now instr.now (at_next store.now.funcs task.old next) ≡ Next store.now (thread_of store.now.funcs task.new) None }
 {
     match *instr {
         Instr::Block { ty, body } => control::block(store, task, ty, body, next).is_ok(),
         Instr::Loop { ty, body } => control::begin_loop(store, task, ty, body, next).is_ok(),
+        Instr::If { ty, then, other } => {
+            control::if_else(store, task, ty, then, other, next).is_ok()
+        }
         Instr::Br(label) => control::br(store, task, label, next).is_ok(),
         Instr::BrIf(label) => control::br_if(store, task, label, next).is_ok(),
+        Instr::BrTable(ref table) => {
+            task.branch_by_table(&store.funcs, table, next);
+            true
+        }
         Instr::Return => control::return_(store, task, next).is_ok(),
-        _ => carry_out(store, task, instr, next),
+        _ => false,
     }
 }
 
-/// Carries out the next instruction and exits the blocks and calls that are then at their ends, if it is a jump or stays within
-/// its sequence.
+/// What came of an instruction.
+#[derive(Clone, Copy)]
+pub(crate) enum Carried {
+    /// It was carried out, and the task goes on behind it in the same sequence.
+    On,
+    /// It was carried out, and led anywhere.
+    Jumped,
+    /// It works on the linear memory. Nothing has changed.
+    Linear(Linear),
+    /// It sets the global of this index. Nothing has changed.
+    Global(u32),
+    /// It was not carried out. Nothing has changed.
+    Not,
+    /// Memory has run out.
+    Memory,
+}
+
+/// A call of a function that has a body, behind which the task goes on at `next`.
 #[inline(always)]
-fn leave<G: Gaps, T: Tagged>(store: &Store<G, T>, task: &mut Task) -> Jumped
-    requires store { StoreTyped (outline_of store.now) }
-    requires task { TaskTyped (outline_of store.now) (thread_of store.now.funcs task.old) }
-    requires going { (thread_of store.now.funcs task.old).work ≢ [] }
-    ensures { DoesJump result store.now (thread_of store.now.funcs task.old) (thread_of store.now.funcs task.new) }
-{
-    let fetched = task.fetch(&store.funcs);
-    if !jump(store, task, fetched.instr, fetched.next) {
-        return Jumped::Not;
-    }
-    if task.exit_ended(&store.funcs) {
-        return Jumped::Ended;
-    }
-    Jumped::On
-}
-
-/// Carries out the next instructions of a task, at most so many, as long as each works on operands, locals and the places of
-/// instructions alone. It gives how many are left, and whether the task has ended.
-///
-/// Each is a step, of which the store and the outside see nothing.
-pub fn run_quietly<G: Gaps, T: Tagged>(
+fn call<G: Gaps, T: Tagged>(
     store: &Store<G, T>,
     task: &mut Task,
-    most: u64,
-) -> (u64, bool)
+    x: u32,
+    next: usize,
+) -> Carried
+    requires { Can (instr.Call x) next store.now task.old }
+    ensures { DoesCarry result (instr.Call x) next store.now task.old task.new }
+{
+    let address = control::address_of(store, task, x);
+    if store.host(address).is_some() {
+        return Carried::Not;
+    }
+    match task.call(&store.funcs, address, next) {
+        Ok(()) => Carried::Jumped,
+        Err(CallFault::TooDeep) => Carried::Not,
+        Err(CallFault::Memory) => Carried::Memory,
+    }
+}
+
+/// Carries out an instruction that takes the store as it is, behind which the task goes on at `next`, or says what it is.
+#[inline(always)]
+fn carry_out<G: Gaps, T: Tagged>(
+    store: &Store<G, T>,
+    task: &mut Task,
+    instr: &Instr,
+    next: usize,
+) -> Carried
+    requires before { before store.now.funcs task.old next ≡ Some instr.now }
+    requires can { Can instr.now next store.now task.old }
+    ensures { DoesCarry result instr.now next store.now task.old task.new }
+{
+    match *instr {
+        Instr::Block { .. }
+        | Instr::Loop { .. }
+        | Instr::If { .. }
+        | Instr::Br(_)
+        | Instr::BrIf(_)
+        | Instr::BrTable(_)
+        | Instr::Return => {
+            if jump(store, task, instr, next) {
+                Carried::Jumped
+            } else {
+                Carried::Memory
+            }
+        }
+        Instr::Call(x) => call(store, task, x, next),
+        Instr::GlobalSet(x) => Carried::Global(x),
+        Instr::Linear(i) => Carried::Linear(i),
+        _ => {
+            if carry_straight(store, task, instr, next) {
+                Carried::On
+            } else {
+                Carried::Not
+            }
+        }
+    }
+}
+
+/// What instructions in a row came to.
+#[derive(Clone, Copy)]
+pub(crate) enum Met {
+    /// No steps are left, or the next one is another's.
+    Paused,
+    /// The task has ended.
+    Ended,
+    /// The next instruction works on the linear memory; behind it the task goes on at this place.
+    Linear(Linear, usize),
+    /// The next instruction sets the global of this index; behind it the task goes on at this place.
+    Global(u32, usize),
+    /// Memory has run out.
+    Memory,
+}
+
+/// Carries out the next instructions of a task, at most so many, as long as they take the store as it is. It gives how many
+/// are left.
+#[inline(always)]
+fn go<G: Gaps, T: Tagged>(store: &Store<G, T>, task: &mut Task, most: u64) -> (Met, u64)
     requires store { StoreTyped (outline_of store.now) }
     requires task { TaskTyped (outline_of store.now) (thread_of store.now.funcs task.old) }
     requires going { (thread_of store.now.funcs task.old).work ≢ [] }
-    ensures left { result.0 ≤ most }
-    ensures steps { GoesQuietly store.now (most - result.0) (thread_of store.now.funcs task.old) (thread_of store.now.funcs task.new) }
-    ensures going { result.1 ≡ false → (thread_of store.now.funcs task.new).work ≢ [] }
-    ensures ended { result.1 ≡ true → (thread_of store.now.funcs task.new).work ≡ [] }
-    ensures task { TaskTyped (outline_of store.now) (thread_of store.now.funcs task.new) }
-    ensures fits { StoreFits store.now → ThreadFits store.now (thread_of store.now.funcs task.old) → ThreadFits store.now (thread_of store.now.funcs task.new) }
+    ensures left { result.1 ≤ most }
+    ensures met { DoesMeet result.0 result.1 most store.now (thread_of store.now.funcs task.old) task.new }
+{
+    let mut left = most;
+    let mut code = task.code(&store.funcs);
+    let mut place = task.place();
+    while left > 0 {
+        let next = place + 1;
+        match carry_out(store, task, &code[place], next) {
+            Carried::On => {
+                left -= 1;
+                place = next;
+                if place < code.len() {
+                    continue;
+                }
+            }
+            Carried::Jumped => left -= 1,
+            Carried::Linear(i) => return (Met::Linear(i, next), left),
+            Carried::Global(x) => return (Met::Global(x, next), left),
+            Carried::Not => return (Met::Paused, left),
+            Carried::Memory => return (Met::Memory, left),
+        }
+        if task.exit_ended(&store.funcs) {
+            return (Met::Ended, left);
+        }
+        code = task.code(&store.funcs);
+        place = task.place();
+    }
+    (Met::Paused, 0)
+}
+
+/// What came of an instruction that changes the store.
+#[derive(Clone, Copy)]
+pub(crate) enum Worked {
+    /// The task has more to do.
+    On,
+    /// The task has ended.
+    Ended,
+    /// It was not carried out. Nothing has changed.
+    Not,
+    /// Memory has run out.
+    Memory,
+}
+
+/// Carries out an instruction on the linear memory, behind which the task goes on at `next`, and exits the blocks and calls
+/// that are then at their ends.
+#[inline(always)]
+fn linear<G: Gaps, T: Tagged>(
+    store: &mut Store<G, T>,
+    task: &mut Task,
+    i: Linear,
+    next: usize,
+) -> Worked
+    requires { IsNext (instr.Linear i) next store.old task.old }
+    ensures { DoesWork result store.old (thread_of store.old.funcs task.old) store.new (thread_of store.new.funcs task.new) }
+{
+    match memory::linear(store, task, i, next) {
+        Ok(_) => {
+            if task.exit_ended(&store.funcs) {
+                return Worked::Ended;
+            }
+            Worked::On
+        }
+        Err(Fault::Trap(_)) => Worked::Not,
+        Err(_) => Worked::Memory,
+    }
+}
+
+/// Sets a global, in the same way.
+#[inline(always)]
+fn global<G: Gaps, T: Tagged>(
+    store: &mut Store<G, T>,
+    task: &mut Task,
+    x: u32,
+    next: usize,
+) -> Worked
+    requires { IsNext (instr.GlobalSet x) next store.old task.old }
+    ensures { DoesWork result store.old (thread_of store.old.funcs task.old) store.new (thread_of store.new.funcs task.new) }
+{
+    match plain::global_set(store, task, x, next) {
+        Ok(_) => {
+            if task.exit_ended(&store.funcs) {
+                return Worked::Ended;
+            }
+            Worked::On
+        }
+        Err(Fault::Trap(_)) => Worked::Not,
+        Err(_) => Worked::Memory,
+    }
+}
+
+/// What quiet steps in a row came to.
+#[derive(Clone, Copy, Debug, PartialEq, Eq)]
+pub enum Quiet {
+    /// No steps are left, or the next one is not quiet.
+    Paused,
+    /// The task has ended.
+    Ended,
+    /// Memory has run out. The task is not to be run again.
+    Memory,
+}
+
+/// Makes the next steps of a task, at most so many, as long as the outside and the segment memory see nothing of them, and no
+/// call goes through a table. It gives how many are left.
+pub fn run_quietly<G: Gaps, T: Tagged>(
+    store: &mut Store<G, T>,
+    task: &mut Task,
+    most: u64,
+) -> (Quiet, u64)
+    requires store { StoreTyped (outline_of store.old) }
+    requires task { TaskTyped (outline_of store.old) (thread_of store.old.funcs task.old) }
+    requires going { (thread_of store.old.funcs task.old).work ≢ [] }
+    ensures left { result.1 ≤ most }
+    ensures steps { IsHalted result.0 (most - result.1) store.old (thread_of store.old.funcs task.old) store.new (thread_of store.new.funcs task.new) }
 {
     let mut left = most;
     while left > 0 {
-        left = go_straight(store, task, left);
-        if left == 0 {
-            return (0, false);
-        }
-        match leave(store, task) {
-            Jumped::On => left -= 1,
-            Jumped::Ended => return (left - 1, true),
-            Jumped::Not => return (left, false),
+        let (met, rest) = go(store, task, left);
+        let worked = match met {
+            Met::Paused => return (Quiet::Paused, rest),
+            Met::Ended => return (Quiet::Ended, rest),
+            Met::Memory => return (Quiet::Memory, rest),
+            Met::Linear(i, next) => linear(store, task, i, next),
+            Met::Global(x, next) => global(store, task, x, next),
+        };
+        match worked {
+            Worked::On => left = rest - 1,
+            Worked::Ended => return (Quiet::Ended, rest - 1),
+            Worked::Not => return (Quiet::Paused, rest),
+            Worked::Memory => return (Quiet::Memory, rest),
         }
     }
-    (left, false)
+    (Quiet::Paused, left)
 }

@@ -1,6 +1,6 @@
 //! The declared locals of a body, as runs of one type.
 
-ghost use Rattle.std.specs.Prelude.{◌≡◌, ◌==◌, ◌+◌, ◌<◌, ◌^◌, ◌++◌, List, [], length, replicate, slice_get, is_ok, nat_le, if◌then◌else◌};
+ghost use Rattle.std.specs.Prelude.{◌≡◌, ◌==◌, ◌+◌, ◌<◌, ◌^◌, ◌++◌, List, [], ◌∷◌, length, replicate, slice_get, is_ok, nat_le, OnErr, OnOk, if◌then◌else◌};
 ghost use Rattle.ms_module.specs.Locals.{Differ, Rise, types_of};
 
 use ms_types::ValType;
@@ -83,7 +83,7 @@ impl Locals {
         let end = self.end() + count;
         match self.runs.last_mut() {
             Some(run) if run.ty == ty => run.end = end,
-            _ => self.runs.push(Run { end, ty })?,
+            _ => add(&mut self.runs, Run { end, ty })?,
         }
         Ok(())
     }
@@ -106,6 +106,18 @@ impl Locals {
             Some(run) => run.end,
         }
     }
+}
+
+/// Adds a run. Most functions have one, which takes no more room than it needs.
+fn add(runs: &mut Vec<Run>, run: Run) -> Result<(), AllocError>
+    ensures items { OnOk result (runs.new.items ≡ runs.old.items ++ run ∷ []) }
+    ensures err { OnErr result (runs.new.items ≡ runs.old.items) }
+{
+    if runs.is_empty() {
+        runs.reserve_exact(1)?;
+    }
+    runs.push(run)?;
+    Ok(())
 }
 
 #[cfg(test)]

@@ -21,6 +21,7 @@ use ms_types::Stack;
 /// Carries out a numeric instruction on the operands. Where it stops the program the operands are as before.
 ///
 /// The widths are told apart here, so that each is a constant in what is done with it.
+#[inline(always)]
 pub fn numeric(i: Numeric, operands: &mut Stack<Value>) -> Result<(), Trap>
     requires { numeric_on i operands.old ≢ Stuck }
     ensures { Does (numeric_on i operands.old) operands.old operands.new result }

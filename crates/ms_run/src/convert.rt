@@ -94,20 +94,28 @@ pub fn asm_file<F: Shelf, I: Source, O: Sink, R: Sink>(
     }
 }
 
+/// Reads a module, and gives back the memory of the bytes that spelled it.
+fn take_binary(alloc: Global, bytes: Vec<u8>) -> Result<Module, LoadFault>
+    ensures reads { Reads Binary bytes.items result }
+    ensures reading { IfErr result IsOfReading }
+{
+    read_binary(alloc, bytes.as_slice())
+}
+
 fn dis_bytes<F: Shelf, R: Sink>(
     alloc: Global,
-    bytes: &[u8],
+    bytes: Vec<u8>,
     target: &str,
     shelf: &mut F,
     report: &mut R,
 ) -> Status
-    ensures makes { Makes (Disassembles target.now) bytes.now
+    ensures makes { Makes (Disassembles target.now) bytes.items
         (shelved F.files F.read_faults F.write_faults shelf.old shelf.new)
         (reported R.held R.faults report.old report.new)
         result }
     ensures reads { SameCounts (F.read_faults shelf.old) (F.read_faults shelf.new) }
 {
-    let module = match read_binary(alloc, bytes) {
+    let module = match take_binary(alloc, bytes) {
         Ok(module) => module,
         Err(fault) => return answer_fault(alloc, "", fault, report),
     };
@@ -136,7 +144,7 @@ pub fn dis_file<F: Shelf, I: Source, O: Sink, R: Sink>(
     ensures out { (O.held _out.new ≡ O.held _out.old) × (O.faults _out.new ≡ O.faults _out.old) }
 {
     match fetch(alloc, file, shelf, report) {
-        Ok(bytes) => dis_bytes(alloc, bytes.as_slice(), target, shelf, report),
+        Ok(bytes) => dis_bytes(alloc, bytes, target, shelf, report),
         Err(status) => status,
     }
 }

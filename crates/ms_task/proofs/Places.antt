@@ -105,3 +105,8 @@ held funcs fr vs w f s place is i same within read =
 pub held_behind : (funcs : List FuncInst) (w : List Item) (f s place : ℕ) (is : List Instr) → is ≡ sequence funcs f s → place + 1 < length is → Begins (rest_at funcs f s (place + 1) ++ w)
 held_behind funcs w f s place is same within =
     begins_past (drop (place + 1) (sequence funcs f s)) w (λ e. absurd (let le = drop_is_nil (place + 1) is (ap (drop (place + 1)) same ∙ e) in omega arith))
+
+pub held_before : (funcs : List FuncInst) (f s place : ℕ) (is : List Instr) (i : Instr) → is ≡ sequence funcs f s → place < length is → i ≡ get_or is place i → again_at true (place + 1) (sequence funcs f s) ≡ Some i
+held_before funcs f s place is i same within read =
+    let one : place + 1 ≡ suc place = omega arith in
+    ap (λ n. again_at true n (sequence funcs f s)) one ∙ ap (λ l. slice_get l place) (sym same) ∙ slice_get_read is (length is) place i refl within read

@@ -76,15 +76,14 @@ fn take_arguments(
     Ok(())
 }
 
-/// Adds the frame's other locals.
+/// Adds the frame's other locals, a run of one type at a time.
 pub(crate) fn add_locals(frames: &mut Frames, types: &Locals) -> Result<(), AllocError>
     ensures { OnOk result (frames.new ≡ (frames.old.0, frames.old.1 ++ map default_of types.now)) }
 {
-    for index in 0..types.len() as u32 {
-        let Some(ty) = types.get(index) else {
-            unreachable!()
-        };
-        frames.add(Value::default_of(ty))?;
+    let mut from = 0;
+    for run in types.runs() {
+        frames.add_many(Value::default_of(run.ty), run.end - from)?;
+        from = run.end;
     }
     Ok(())
 }
@@ -151,6 +150,7 @@ impl Task {
     }
 
     /// Leaves blocks up to the label's, or the call.
+    #[inline(always)]
     pub fn branch(&mut self, funcs: &[FuncInst], label: usize)
         requires { branch label (frame_of self.old) self.old.operands (outer_of funcs.now self.old) ≢ Stuck }
         ensures { To (thread_of funcs.now self.new) ≡ branch label (frame_of self.old) self.old.operands (outer_of funcs.now self.old) }

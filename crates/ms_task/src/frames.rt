@@ -2,7 +2,7 @@
 
 // The locals of all frames, one frame's after another's.
 
-ghost use Rattle.std.specs.Prelude.{◌≡◌, ℕ, ◌+◌, ◌<◌, ◌≤◌, [], ◌∷◌, ◌++◌, length, drop, take, slice_get, slice_set, OnOk, OnErr, Some};
+ghost use Rattle.std.specs.Prelude.{◌≡◌, ℕ, ◌+◌, ◌<◌, ◌≤◌, [], ◌∷◌, ◌++◌, length, drop, replicate, take, slice_get, slice_set, OnOk, OnErr, Some};
 
 use ms_linear::Value;
 use std::alloc::{AllocError, Global};
@@ -62,6 +62,14 @@ impl Frames {
         ensures err { OnErr result (self.new ≡ self.old) }
     {
         self.items.push(v)?;
+        Ok(())
+    }
+
+    /// The same value so many times.
+    pub fn add_many(&mut self, v: Value, n: u32) -> Result<(), AllocError>
+        ensures { OnOk result (self.new ≡ (self.old.0, self.old.1 ++ replicate n v)) }
+    {
+        self.items.resize(self.items.len() + n as usize, v)?;
         Ok(())
     }
 

@@ -1,6 +1,6 @@
 //! A task, the start of one, and the places of instructions.
 
-ghost use Rattle.std.specs.Prelude.{◌≡◌, ◌↔◌, ℕ, List, [], ◌∷◌, Some, IfOk, IsTrue, drop, nat_lt, slice_get};
+ghost use Rattle.std.specs.Prelude.{◌≡◌, ◌↔◌, ℕ, List, [], ◌∷◌, ◌<◌, Some, IfOk, IsTrue, drop, length, nat_lt, slice_get};
 ghost use Rattle.ms_task.specs.Control.{deepest, exited, started};
 ghost use Rattle.ms_task.specs.Thread.{Begins, depth_of, sequence, with_first};
 ghost use Rattle.ms_task.specs.View.{IsAt, at_next, before, frame_of, items_of, exit_one, thread_of};
@@ -102,9 +102,11 @@ impl Task {
     }
 
     /// The sequence in which the next instruction stands.
+    #[inline(always)]
     pub fn code<'a>(&self, funcs: &'a [FuncInst]) -> &'a [Instr]
         requires { Begins (thread_of funcs.now self.now).work }
-        ensures { result.now ≡ sequence funcs.now self.now.function self.now.sequence }
+        ensures code { result.now ≡ sequence funcs.now self.now.function self.now.sequence }
+        ensures within { self.now.place < length result.now }
     {
         funcs[self.function].body.sequence(self.sequence)
     }
@@ -125,6 +127,7 @@ impl Task {
     }
 
     /// Exits blocks and calls that are at their ends, and says whether nothing is left to do.
+    #[inline(always)]
     pub fn exit_ended(&mut self, funcs: &[FuncInst]) -> bool
         ensures thread { thread_of funcs.now self.new ≡ exited (thread_of funcs.now self.old) }
         ensures ended { IsTrue result ↔ ((thread_of funcs.now self.new).work ≡ []) }

@@ -19,7 +19,7 @@ invariant_of-self c =
     (rise, Differ-set items _ _ c.in-Some.run'.now ty c.self.invariant.1)
 
 -- the runs before the last one is added
-same_runs : (c : goal.In_ok-push-in_default) → c.in_default.self-inside.runs.items ≡ c.self.inside.runs.items
+same_runs : (c : goal.In_ok-add-in_default) → c.in_default.self-inside.runs.items ≡ c.self.inside.runs.items
 same_runs c = elim c.in_default.branch [
   | in_default-via-in-Some+else-eq w ↦
       let items = c.self.inside.runs.items in
@@ -28,7 +28,7 @@ same_runs c = elim c.in_default.branch [
 ]
 
 -- a last run has another type
-other_type : (c : goal.In_ok-push-in_default) (r : Run) (k : ℕ) → suc k ≡ length c.self.inside.runs.items → get_or c.self.inside.runs.items k r ≡ r → r.ty ≢ c.args.ty
+other_type : (c : goal.In_ok-add-in_default) (r : Run) (k : ℕ) → suc k ≡ length c.self.inside.runs.items → get_or c.self.inside.runs.items k r ≡ r → r.ty ≢ c.args.ty
 other_type c r k last is e = elim c.in_default.branch [
   | in_default-via-in-Some+else-eq w ↦
       let items = c.self.inside.runs.items in
@@ -43,7 +43,7 @@ pub invariant_of-self-in-Continue-1 : goal.invariant_of-self-in-Continue-1
 invariant_of-self-in-Continue-1 c =
     let items = c.self.inside.runs.items in
     let rise = Rise-more items c.args.self.now c.self.view_is c.self.invariant.0 c.end.result c.args.count c.args.ty c.end.ensures (omega arith) in
-    rw (c.in_ok-push-in_default.ensures.items, same_runs c) (rise, Differ-push items (longer c.end.result c.args.count c.args.ty) c.self.invariant.1 (other_type c))
+    rw (c.in_ok-add-in_default.ensures.items, same_runs c) (rise, Differ-push items (longer c.end.result c.args.count c.args.ty) c.self.invariant.1 (other_type c))
 
 pub returns-in-Some : goal.returns-in-Some
 returns-in-Some c =
@@ -53,7 +53,7 @@ returns-in-Some c =
     let is = types_of-longer c.self.inside.runs.items c.args.self.now c.self.view_is c.self.invariant.0 c.end.result c.args.count c.in-Some.run'.now.ty c.end.ensures _ c.in-Some.run'.now last (omega arith) ty in
     is ∙ ap (λ (t : ValType). c.args.self.now ++ replicate c.args.count t) same
 
-pub returns-in_ok-push-in_default : goal.returns-in_ok-push-in_default
-returns-in_ok-push-in_default c =
+pub returns-in_ok-add-in_default : goal.returns-in_ok-add-in_default
+returns-in_ok-add-in_default c =
     let more = types_of-more c.self.inside.runs.items c.args.self.now c.self.view_is c.self.invariant.0 c.end.result c.args.count c.args.ty c.end.ensures in
-    rw (c.in_ok-push-in_default.ensures.items, same_runs c) more
+    rw (c.in_ok-add-in_default.ensures.items, same_runs c) more
