@@ -2,5 +2,7 @@
 //! trees, with ample memory.
 
 mod nodes;
+mod token;
 mod tokens;
 mod trees;
+mod types;

@@ -9,6 +9,3 @@ mod word;
 
 pub use bytes::Bytes;
 pub use word::{IntegerType, Keyword, Mark, Token, Word};
-
-#[cfg(test)]
-mod tests;

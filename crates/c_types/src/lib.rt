@@ -14,6 +14,3 @@ mod types;
 pub use integers::IntType;
 pub use structs::{Structs, align, offset, size};
 pub use types::{CType, Scalar, Signature};
-
-#[cfg(test)]
-mod tests;

@@ -51,6 +51,3 @@ pub fn read(alloc: Global, bytes: &[u8]) -> Result<Module, ReadFault>
         Err(fault) => Err(fault),
     }
 }
-
-#[cfg(test)]
-mod tests;

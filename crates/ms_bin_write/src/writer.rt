@@ -84,6 +84,3 @@ pub fn write(alloc: Global, module: &Module) -> Result<Vec<u8>, BinFault>
     write_sections(alloc, module, &mut out)?;
     Ok(out)
 }
-
-#[cfg(test)]
-mod tests;

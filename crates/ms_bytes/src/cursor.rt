@@ -130,6 +130,3 @@ impl<'a> Cursor<'a> {
         Cursor { left: front, at }
     }
 }
-
-#[cfg(test)]
-mod tests;

@@ -13,6 +13,3 @@ mod text;
 
 pub use event::Event;
 pub use laws::{accepted_by_steps, one_text, prefixes_are_accepted};
-
-#[cfg(test)]
-mod tests;

@@ -7,8 +7,6 @@
 
 mod arithmetic;
 mod handle;
-#[cfg(test)]
-mod tests;
 
 pub use arithmetic::{add, diff, eq, is_null, slice};
 pub use handle::{Apart, Handle, Kind};

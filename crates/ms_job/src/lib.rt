@@ -17,6 +17,3 @@ pub use entries::schedule;
 pub use fault::{JobFault, SchedFault};
 pub use job::Job;
 pub use reader::parse;
-
-#[cfg(test)]
-mod tests;

@@ -64,6 +64,3 @@ pub fn read_s(c: &mut Cursor, bits: u32) -> Result<i64, Leb>
 {
     signed_of(c, bits)
 }
-
-#[cfg(test)]
-mod tests;

@@ -94,6 +94,3 @@ pub fn write_s(value: i64, out: &mut Vec<u8>) -> Result<(), AllocError>
     }
     put_signed(false, magnitude(value), out)
 }
-
-#[cfg(test)]
-mod tests;

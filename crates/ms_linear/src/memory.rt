@@ -149,6 +149,3 @@ impl Linear {
         Ok(address as usize)
     }
 }
-
-#[cfg(test)]
-mod tests;

@@ -127,6 +127,3 @@ fn are_same(a: &[ValType], b: &[ValType]) -> bool
 {
     a == b
 }
-
-#[cfg(test)]
-mod tests;

@@ -10,8 +10,6 @@ mod ids;
 mod least_gap;
 mod list_gaps;
 mod order;
-#[cfg(test)]
-mod tests;
 mod tree_gaps;
 
 pub use gaps::{Gaps, Live, MOST_LIVE};

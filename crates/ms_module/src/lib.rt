@@ -30,6 +30,3 @@ pub use module::{Element, Export, ExportDesc, Fill, Func, Global, Import, Import
 pub use name::Name;
 pub use numeric::{BinOp, Numeric, RelOp, UnOp, Width};
 pub use opcode::{is_float_opcode, is_float_type, val_type_from_code};
-
-#[cfg(test)]
-mod tests;

@@ -119,6 +119,3 @@ fn add(runs: &mut Vec<Run>, run: Run) -> Result<(), AllocError>
     runs.push(run)?;
     Ok(())
 }
-
-#[cfg(test)]
-mod tests;

@@ -13,8 +13,6 @@ mod laws;
 mod lines;
 mod monitor;
 mod shades;
-#[cfg(test)]
-mod tests;
 mod trace;
 
 pub use judgement::{JudgeFault, judge};

@@ -78,6 +78,3 @@ impl NameTable {
         }
     }
 }
-
-#[cfg(test)]
-mod tests;

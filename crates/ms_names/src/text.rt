@@ -13,6 +13,3 @@ pub fn utf8(bytes: &[u8]) -> Option<&str>
         Err(_) => None,
     }
 }
-
-#[cfg(test)]
-mod tests;

@@ -12,8 +12,6 @@ mod convert;
 mod count;
 mod shifts;
 mod signed;
-#[cfg(test)]
-mod tests;
 
 pub use arith::Arith;
 pub use arithmetic::{add, div_s, div_u, mul, rem_s, rem_u, sub};

@@ -99,6 +99,3 @@ fn grow(memory: &mut LinearMemory, operands: &mut Stack<Value>) -> Result<(), Fa
         Err(_) => Err(Fault::Memory),
     }
 }
-
-#[cfg(test)]
-mod tests;

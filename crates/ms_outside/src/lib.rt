@@ -42,6 +42,3 @@ pub use sure_shelf::SureShelf;
 pub use sure_sink::SureSink;
 pub use sure_source::SureSource;
 pub use system::{SystemDisk, SystemReader, SystemWriter};
-
-#[cfg(test)]
-mod tests;

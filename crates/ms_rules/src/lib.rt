@@ -14,6 +14,3 @@ pub use instructions::{
     integer, linear_params, linear_result, loaded, numeric_params, numeric_result, segment_params,
     segment_result, stored,
 };
-
-#[cfg(test)]
-mod tests;

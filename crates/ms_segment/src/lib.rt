@@ -7,8 +7,6 @@
 
 mod access;
 mod segments;
-#[cfg(test)]
-mod tests;
 mod trap;
 
 pub use segments::Segments;

@@ -80,22 +80,6 @@ impl Marks {
         self.items.len() == 0
     }
 
-    /// The mark with so many inside it.
-    #[cfg(test)]
-    pub fn get(&self, depth: usize) -> Mark
-        requires { depth < length self.now }
-        ensures { slice_get self.now depth ≡ Some result }
-    {
-        self.items.get(depth)
-    }
-
-    #[cfg(test)]
-    pub fn len(&self) -> usize
-        ensures { result ≡ length self.now }
-    {
-        self.items.len()
-    }
-
     pub fn push_label(
         &mut self,
         keeps: Option<ValType>,

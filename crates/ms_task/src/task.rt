@@ -181,6 +181,3 @@ impl Task {
         }
     }
 }
-
-#[cfg(test)]
-mod tests;

@@ -16,8 +16,6 @@ mod names;
 mod others;
 mod reader;
 mod scans;
-#[cfg(test)]
-mod tests;
 
 pub use laws::texts_spell_one_module;
 pub use reader::read;

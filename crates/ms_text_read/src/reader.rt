@@ -63,6 +63,3 @@ pub fn read(alloc: Global, source: &[u8]) -> Result<Module, TextFault>
         Err(fault) => Err(fault),
     }
 }
-
-#[cfg(test)]
-mod tests;

@@ -21,6 +21,3 @@ pub use laws::{
     keywords_are_read_back, strings_are_read_back,
 };
 pub use writer::write;
-
-#[cfg(test)]
-mod tests;

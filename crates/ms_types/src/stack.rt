@@ -98,6 +98,3 @@ impl<T: Copy + Drop> Stack<T> {
         self.items[top] = item;
     }
 }
-
-#[cfg(test)]
-mod tests;

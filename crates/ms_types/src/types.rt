@@ -39,6 +39,3 @@ pub struct GlobalType {
     /// Whether the value may change.
     pub mutable: bool,
 }
-
-#[cfg(test)]
-mod tests;

@@ -14,6 +14,3 @@ mod request;
 pub use lines::usage;
 pub use parse::parse_words;
 pub use request::{Request, WordsFault};
-
-#[cfg(test)]
-mod tests;

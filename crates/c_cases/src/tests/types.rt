@@ -1,6 +1,6 @@
 //! A struct laid out, with ample memory.
 
-use crate::{CType, IntType, Structs, align, offset, size};
+use c_types::{CType, IntType, Structs, align, offset, size};
 use std::rc::Rc;
 use std::test::Fail;
 

@@ -1,6 +1,6 @@
 //! The calls that take memory, with ample memory.
 
-use crate::Bytes;
+use c_token::Bytes;
 use std::test::Fail;
 
 #[test]

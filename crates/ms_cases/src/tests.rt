@@ -1,0 +1,32 @@
+//! Tests, a file a crate.
+
+mod bin_read;
+mod bin_write;
+mod bytes;
+mod event;
+mod flat;
+mod handle;
+mod job;
+mod leb_read;
+mod leb_write;
+mod linear_memory;
+mod linear_table;
+mod live;
+mod module;
+mod module_locals;
+mod monitor;
+mod names_table;
+mod names_text;
+mod num;
+mod operate;
+mod outside;
+mod rules;
+mod segment;
+mod task;
+mod text_read;
+mod text_read_spaces;
+mod text_read_tokens;
+mod text_write;
+mod types_stack;
+mod types_types;
+mod words;
