@@ -2,18 +2,21 @@
 use Rattle.std.specs.Prelude.{◌≡◌, ◌≢◌, ◌<◌, ◌-◌, ℕ, zero, suc, [], None}
 use Rattle.ms_module.specs.declared.instr.Instr.{Instr}
 use Rattle.ms_module.specs.declared.instr.Instr.TheVariants as instr
+use Rattle.ms_task.specs.Control.{exited}
 use Rattle.ms_task.specs.Thread.{Thread, with_first}
 use Rattle.ms_task.specs.View.{IsAt, at_next, thread_of}
 use Rattle.ms_task.specs.declared.task.Task.{Task}
-use Rattle.ms_machine.specs.Doing.{Can, Carries}
+use Rattle.ms_machine.specs.Doing.{Can}
 use Rattle.ms_machine.specs.Step.{Next, act, step_of}
 use Rattle.ms_machine.specs.Store.{Store}
-use Rattle.ms_machine.specs.declared.straight.Carried.{Carried}
-use Rattle.ms_machine.specs.declared.straight.Carried.TheVariants as carries
+use Rattle.ms_machine.specs.declared.straight.Called.{Called}
+use Rattle.ms_machine.specs.declared.straight.Called.TheVariants as calls
 use Rattle.ms_machine.specs.declared.straight.Met.{Met}
 use Rattle.ms_machine.specs.declared.straight.Met.TheVariants as mets
 use Rattle.ms_machine.specs.declared.straight.Quiet.{Quiet}
 use Rattle.ms_machine.specs.declared.straight.Quiet.TheVariants as quiets
+use Rattle.ms_machine.specs.declared.straight.Turned.{Turned}
+use Rattle.ms_machine.specs.declared.straight.Turned.TheVariants as turns
 use Rattle.ms_machine.specs.declared.straight.Worked.{Worked}
 use Rattle.ms_machine.specs.declared.straight.Worked.TheVariants as works
 
@@ -32,19 +35,35 @@ IsHalted quiets.Paused n s t s' t' = GoesQuietly s t n s' t' × (t'.work ≢ [])
 IsHalted quiets.Ended n s t s' t' = GoesQuietly s t n s' t' × (t'.work ≡ [])
 IsHalted quiets.Memory n s t s' t' = Unit {0}
 
+-- memory has not run out
+abbrev pub IsCalm : Quiet → Type 0
+IsCalm quiets.Memory = ⊥
+IsCalm _ = Unit {0}
+
 -- ---- an instruction on the store as it is, behind which a task goes on at a place
 
-abbrev pub DoesCarry : Carried → Instr → ℕ → Store → Task → Task → Type 0
-DoesCarry carries.On i next s t t' = Carries i next s t t'
-DoesCarry carries.Jumped i next s t t' = act s i (at_next s.funcs t next) ≡ Next s (thread_of s.funcs t') None
-DoesCarry (carries.Linear j) i next s t t' = (i ≡ instr.Linear j) × (t' ≡ t)
-DoesCarry (carries.Global x) i next s t t' = (i ≡ instr.GlobalSet x) × (t' ≡ t)
-DoesCarry carries.Not i next s t t' = t' ≡ t
-DoesCarry carries.Memory i next s t t' = Unit {0}
+abbrev pub DoesCall : Called → Instr → ℕ → Store → Task → Task → Type 0
+DoesCall calls.Made i next s t t' = act s i (at_next s.funcs t next) ≡ Next s (thread_of s.funcs t') None
+DoesCall calls.Not i next s t t' = t' ≡ t
+DoesCall calls.Memory i next s t t' = Unit {0}
 
 -- the instruction is the task's next one, and it finds what it takes
 abbrev pub IsNext : Instr → ℕ → Store → Task → Type 0
 IsNext i next s t = (thread_of s.funcs t ≡ with_first i (at_next s.funcs t next)) × Can i next s t
+
+abbrev pub DoesLeave : Turned → Thread → Thread → Type 0
+DoesLeave turns.Elsewhere t t' = (t' ≡ exited t) × (t'.work ≢ [])
+DoesLeave turns.Ended t t' = (t' ≡ exited t) × (t'.work ≡ [])
+DoesLeave _ t t' = ⊥
+
+abbrev pub DoesTurn : Turned → Instr → ℕ → Store → Task → Task → Type 0
+DoesTurn turns.On i next s t t' = StepsQuietly s (thread_of s.funcs t) s (thread_of s.funcs t') × IsAt t next t'
+DoesTurn turns.Elsewhere i next s t t' = StepsQuietly s (thread_of s.funcs t) s (thread_of s.funcs t') × ((thread_of s.funcs t').work ≢ [])
+DoesTurn turns.Ended i next s t t' = StepsQuietly s (thread_of s.funcs t) s (thread_of s.funcs t') × ((thread_of s.funcs t').work ≡ [])
+DoesTurn (turns.Linear j) i next s t t' = (i ≡ instr.Linear j) × (t' ≡ t)
+DoesTurn (turns.Global x) i next s t t' = (i ≡ instr.GlobalSet x) × (t' ≡ t)
+DoesTurn turns.Not i next s t t' = t' ≡ t
+DoesTurn turns.Memory i next s t t' = Unit {0}
 
 -- several of them, of which so many are left of so many
 abbrev pub DoesMeet : Met → (left most : ℕ) → Store → Thread → Task → Type 0

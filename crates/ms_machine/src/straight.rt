@@ -1,11 +1,13 @@
 //! Steps in a row that tell nothing: all but those that work on segments, call the host, or go through a table.
 
 ghost use Rattle.std.specs.Prelude.{◌≡◌, ◌≢◌, ◌≤◌, ◌-◌, [], None, false, IsTrue, Some};
-ghost use Rattle.ms_machine.specs.StraightLine.{DoesCarry, DoesMeet, DoesWork, IsHalted, IsNext};
+ghost use Rattle.ms_machine.specs.StraightLine.{DoesCall, DoesLeave, DoesMeet, DoesTurn, DoesWork, IsCalm, IsHalted, IsNext};
 ghost use Rattle.ms_machine.specs.Doing.{Can, Carries};
+ghost use Rattle.ms_machine.specs.Holding.{StoreFits, ThreadFits};
 ghost use Rattle.ms_machine.specs.Step.{Next, act};
 ghost use Rattle.ms_machine.specs.Typing.{StoreTyped, TaskTyped, outline_of};
 ghost use Rattle.ms_module.specs.declared.instr.Instr.TheVariants as instr;
+ghost use Rattle.ms_task.specs.Thread.{Begins};
 ghost use Rattle.ms_task.specs.View.{at_next, before, thread_of};
 
 use crate::fault::Fault;
@@ -73,18 +75,12 @@ fn jump<G: Gaps, T: Tagged>(
     }
 }
 
-/// What came of an instruction.
+/// What came of a call.
 #[derive(Clone, Copy)]
-pub(crate) enum Carried {
-    /// It was carried out, and the task goes on behind it in the same sequence.
-    On,
-    /// It was carried out, and led anywhere.
-    Jumped,
-    /// It works on the linear memory. Nothing has changed.
-    Linear(Linear),
-    /// It sets the global of this index. Nothing has changed.
-    Global(u32),
-    /// It was not carried out. Nothing has changed.
+pub(crate) enum Called {
+    /// The function was entered.
+    Made,
+    /// It is a function of the host, or too many calls are open. Nothing has changed.
     Not,
     /// Memory has run out.
     Memory,
@@ -97,32 +93,66 @@ fn call<G: Gaps, T: Tagged>(
     task: &mut Task,
     x: u32,
     next: usize,
-) -> Carried
+) -> Called
     requires { Can (instr.Call x) next store.now task.old }
-    ensures { DoesCarry result (instr.Call x) next store.now task.old task.new }
+    ensures { DoesCall result (instr.Call x) next store.now task.old task.new }
 {
     let address = control::address_of(store, task, x);
     if store.host(address).is_some() {
-        return Carried::Not;
+        return Called::Not;
     }
     match task.call(&store.funcs, address, next) {
-        Ok(()) => Carried::Jumped,
-        Err(CallFault::TooDeep) => Carried::Not,
-        Err(CallFault::Memory) => Carried::Memory,
+        Ok(()) => Called::Made,
+        Err(CallFault::TooDeep) => Called::Not,
+        Err(CallFault::Memory) => Called::Memory,
     }
 }
 
-/// Carries out an instruction that takes the store as it is, behind which the task goes on at `next`, or says what it is.
+/// What came of an instruction.
+#[derive(Clone, Copy)]
+pub(crate) enum Turned {
+    /// It was carried out, and the task goes on behind it in the same sequence.
+    On,
+    /// It was carried out, and the task has more to do.
+    Elsewhere,
+    /// It was carried out, and the task has ended.
+    Ended,
+    /// It works on the linear memory. Nothing has changed.
+    Linear(Linear),
+    /// It sets the global of this index. Nothing has changed.
+    Global(u32),
+    /// It was not carried out. Nothing has changed.
+    Not,
+    /// Memory has run out.
+    Memory,
+}
+
+/// Exits the blocks and calls that are at their ends.
 #[inline(always)]
-fn carry_out<G: Gaps, T: Tagged>(
+fn leave<G: Gaps, T: Tagged>(store: &Store<G, T>, task: &mut Task) -> Turned
+    ensures { DoesLeave result (thread_of store.now.funcs task.old) (thread_of store.now.funcs task.new) }
+{
+    if task.exit_ended(&store.funcs) {
+        Turned::Ended
+    } else {
+        Turned::Elsewhere
+    }
+}
+
+/// Carries out an instruction that takes the store as it is, behind which the task goes on at `next`, where `more` says
+/// that another one stands; or it says what the instruction is.
+#[inline(always)]
+fn turn<G: Gaps, T: Tagged>(
     store: &Store<G, T>,
     task: &mut Task,
     instr: &Instr,
     next: usize,
-) -> Carried
+    more: bool,
+) -> Turned
     requires before { before store.now.funcs task.old next ≡ Some instr.now }
-    requires can { Can instr.now next store.now task.old }
-    ensures { DoesCarry result instr.now next store.now task.old task.new }
+    requires next { IsNext instr.now next store.now task.old }
+    requires more { IsTrue more → Begins (at_next store.now.funcs task.old next).work }
+    ensures { DoesTurn result instr.now next store.now task.old task.new }
 {
     match *instr {
         Instr::Block { .. }
@@ -133,20 +163,26 @@ fn carry_out<G: Gaps, T: Tagged>(
         | Instr::BrTable(_)
         | Instr::Return => {
             if jump(store, task, instr, next) {
-                Carried::Jumped
+                leave(store, task)
             } else {
-                Carried::Memory
+                Turned::Memory
             }
         }
-        Instr::Call(x) => call(store, task, x, next),
-        Instr::GlobalSet(x) => Carried::Global(x),
-        Instr::Linear(i) => Carried::Linear(i),
+        Instr::Call(x) => match call(store, task, x, next) {
+            Called::Made => leave(store, task),
+            Called::Not => Turned::Not,
+            Called::Memory => Turned::Memory,
+        },
+        Instr::GlobalSet(x) => Turned::Global(x),
+        Instr::Linear(i) => Turned::Linear(i),
         _ => {
-            if carry_straight(store, task, instr, next) {
-                Carried::On
-            } else {
-                Carried::Not
+            if !carry_straight(store, task, instr, next) {
+                return Turned::Not;
             }
+            if more {
+                return Turned::On;
+            }
+            leave(store, task)
         }
     }
 }
@@ -181,25 +217,19 @@ fn go<G: Gaps, T: Tagged>(store: &Store<G, T>, task: &mut Task, most: u64) -> (M
     let mut place = task.place();
     while left > 0 {
         let next = place + 1;
-        match carry_out(store, task, &code[place], next) {
-            Carried::On => {
-                left -= 1;
-                place = next;
-                if place < code.len() {
-                    continue;
-                }
+        match turn(store, task, &code[place], next, next < code.len()) {
+            Turned::On => place = next,
+            Turned::Elsewhere => {
+                code = task.code(&store.funcs);
+                place = task.place();
             }
-            Carried::Jumped => left -= 1,
-            Carried::Linear(i) => return (Met::Linear(i, next), left),
-            Carried::Global(x) => return (Met::Global(x, next), left),
-            Carried::Not => return (Met::Paused, left),
-            Carried::Memory => return (Met::Memory, left),
+            Turned::Ended => return (Met::Ended, left - 1),
+            Turned::Linear(i) => return (Met::Linear(i, next), left),
+            Turned::Global(x) => return (Met::Global(x, next), left),
+            Turned::Not => return (Met::Paused, left),
+            Turned::Memory => return (Met::Memory, left),
         }
-        if task.exit_ended(&store.funcs) {
-            return (Met::Ended, left);
-        }
-        code = task.code(&store.funcs);
-        place = task.place();
+        left -= 1;
     }
     (Met::Paused, 0)
 }
@@ -277,7 +307,8 @@ pub enum Quiet {
 
 /// Makes the next steps of a task, at most so many, as long as the outside and the segment memory see nothing of them, and no
 /// call goes through a table. It gives how many are left.
-pub fn run_quietly<G: Gaps, T: Tagged>(
+#[inline(always)]
+fn go_quietly<G: Gaps, T: Tagged>(
     store: &mut Store<G, T>,
     task: &mut Task,
     most: u64,
@@ -306,4 +337,31 @@ pub fn run_quietly<G: Gaps, T: Tagged>(
         }
     }
     (Quiet::Paused, left)
+}
+
+/// Makes the next steps of a task, at most so many, as long as the outside and the segment memory see nothing of them, and no
+/// call goes through a table. It gives how many are left.
+///
+/// The task stays well typed, and handles that fit go on fitting. Where memory has run out nothing is said of the store and
+/// the task.
+#[tactic(auto, using(crate::proofs::StraightLine::halted_typed, crate::proofs::StraightLine::halted_fits, crate::proofs::StraightLine::halted_segments))]
+pub fn run_quietly<G: Gaps, T: Tagged>(
+    store: &mut Store<G, T>,
+    task: &mut Task,
+    most: u64,
+) -> (Quiet, u64)
+    requires store { StoreTyped (outline_of store.old) }
+    requires task { TaskTyped (outline_of store.old) (thread_of store.old.funcs task.old) }
+    requires going { (thread_of store.old.funcs task.old).work ≢ [] }
+    requires store_fits { StoreFits store.old }
+    requires task_fits { ThreadFits store.old (thread_of store.old.funcs task.old) }
+    ensures left { result.1 ≤ most }
+    ensures steps { IsHalted result.0 (most - result.1) store.old (thread_of store.old.funcs task.old) store.new (thread_of store.new.funcs task.new) }
+    ensures outline { IsCalm result.0 → outline_of store.new ≡ outline_of store.old }
+    ensures task { IsCalm result.0 → TaskTyped (outline_of store.new) (thread_of store.new.funcs task.new) }
+    ensures store_fits { IsCalm result.0 → StoreFits store.new }
+    ensures task_fits { IsCalm result.0 → ThreadFits store.new (thread_of store.new.funcs task.new) }
+    ensures segments { IsCalm result.0 → store.new.segments ≡ store.old.segments }
+{
+    go_quietly(store, task, most)
 }
