@@ -1,6 +1,7 @@
 -- Entries for one thread in a row, a step at a time.
 use Rattle.std.proofs.Common.{◌≡◌, ◌≢◌, ◌<◌, ◌≤◌, ◌+◌, ◌-◌, ℕ, zero, suc, false, List, [], ◌∷◌, ◌++◌, drop, Option, None, refl, sym, ap, subst, ◌∙◌, append-nil, append_assoc, arith}
 use Rattle.ms_event.specs.declared.event.Event.{Event}
+use Rattle.ms_handle.specs.declared.handle.Handle.{Handle}
 use Rattle.ms_host.specs.declared.trap.TrapKind.{TrapKind}
 use Rattle.ms_machine.specs.Crews.{Crew, Deeds, Input, Run, Trap, Whose, behind, both, bytes_of, deed, ends, events_of, moved, nothing, passed, run_entries}
 use Rattle.ms_machine.specs.Moves as moves
@@ -14,6 +15,7 @@ use Rattle.ms_machine.proofs.Outsides.{Told as Tells, before, front_put, left_al
 use Rattle.ms_machine.proofs.Quiet.{moves_so}
 use Rattle.ms_outside.specs.Sink.{IsFront, Puts}
 use Rattle.ms_outside.specs.declared.sink.Put.TheVariants as puts
+use Rattle.ms_segment.specs.Memory.{IsFit}
 use Rattle.ms_task.specs.Thread.{Thread}
 use Rattle.ms_tasks.specs.Logs.{Log, Told, all_seen}
 use Rattle.ms_tasks.specs.Parts.{Comes, ComesTo, IsRow}
@@ -201,26 +203,31 @@ way_pauses whose next entries most left none s t l l' h h' old new run comes =
     let e : most - left ≡ most = omega (arith, none) in
     subst (λ n. ComesTo l l' h h' old new run (run_entries (drop n entries) (next s t))) e comes
 
--- steps that take the store as it is and tell nothing
-step_quiet : (s : Store) (t t' : Thread) (l h : Tells) → step_of s t ≡ Next s t' None → Went (move_for s t) None s t' l l h h
-step_quiet s t t' l h is = record { got = None; took = false; put = None; is = ap (move_on s None) is; input = refl; out = refl }
+-- handles fit as before
+pub kept_fit : (s s' : Store) → s'.segments ≡ s.segments → (h : Handle) → IsFit s.segments h → IsFit s'.segments h
+kept_fit s s' same h fit = subst (λ m. IsFit m h) (sym same) fit
 
-way_quietly : (whose : Whose) (next : Store → Thread → Crew) (entries : List ℕ) (most : ℕ) (s0 : Store) (t0 : Thread) (told0 : Told) (n left : ℕ) (s : Store) (t t' : Thread) (told : Told) (l l' h h' : Tells) → n < left → left ≤ most → IsUnderWay whose next entries most s0 t0 told0 left s t told l l' h h' → GoesQuietly s n t t' → IsUnderWay whose next entries most s0 t0 told0 (left - n) s t' told l l' h h'
-way_quietly whose next entries most s0 t0 told0 zero left s t t' told l l' h h' some within way same =
+-- steps of which the outside sees nothing
+step_quiet : (s s' : Store) (t t' : Thread) (l h : Tells) → step_of s t ≡ Next s' t' None → Went (move_for s t) None s' t' l l h h
+step_quiet s s' t t' l h is = record { got = None; took = false; put = None; is = ap (move_on s None) is; input = refl; out = refl }
+
+way_quietly : (whose : Whose) (next : Store → Thread → Crew) (entries : List ℕ) (most : ℕ) (s0 : Store) (t0 : Thread) (told0 : Told) (n left : ℕ) (s s' : Store) (t t' : Thread) (told : Told) (l l' h h' : Tells) → n < left → left ≤ most → IsUnderWay whose next entries most s0 t0 told0 left s t told l l' h h' → GoesQuietly s t n s' t' → IsUnderWay whose next entries most s0 t0 told0 (left - n) s' t' told l l' h h'
+way_quietly whose next entries most s0 t0 told0 zero left s s' t t' told l l' h h' some within way (same, still) =
     let e : left ≡ left - 0 = omega arith in
-    subst (λ n. IsUnderWay whose next entries most s0 t0 told0 n s t' told l l' h h') e (subst (λ x. IsUnderWay whose next entries most s0 t0 told0 left s x told l l' h h') (sym same) way)
-way_quietly whose next entries most s0 t0 told0 (suc n) left s t t' told l l' h h' some within way (going, u, one, rest) =
-    let e : (left - 1) - n ≡ left - suc n = omega arith in
-    let first = goes_way whose next entries most s0 t0 told0 left s t told l l' l' h h' h' (omega (arith, some)) within going way s u None told (step_quiet s t u l' h' one) refl in
-    subst (λ n. IsUnderWay whose next entries most s0 t0 told0 n s t' told l l' h h') e
-    (way_quietly whose next entries most s0 t0 told0 n (left - 1) s u t' told l l' h h' (omega (arith, some)) (omega (arith, within)) first rest)
+    subst (λ n. IsUnderWay whose next entries most s0 t0 told0 n s' t' told l l' h h') e
+    (subst (λ (x : Store). IsUnderWay whose next entries most s0 t0 told0 left x t' told l l' h h') (sym same) (subst (λ x. IsUnderWay whose next entries most s0 t0 told0 left s x told l l' h h') (sym still) way))
+way_quietly whose next entries most s0 t0 told0 (suc n) left s s' t t' told l l' h h' some within way (s1, t1, steps, going, step) =
+    let e : (left - n) - 1 ≡ left - suc n = omega arith in
+    subst (λ n. IsUnderWay whose next entries most s0 t0 told0 n s' t' told l l' h h') e
+    (goes_way whose next entries most s0 t0 told0 (left - n) s1 t1 told l l' l' h h' h' (omega (arith, some)) (omega (arith, within)) going
+    (way_quietly whose next entries most s0 t0 told0 n left s s1 t t1 told l l' h h' (omega (arith, some)) within way steps) s' t' None told (step_quiet s1 s' t1 t' l' h' step.0) refl)
 
 -- so that one step more is left than the rest
-pub quiet_way : (whose : Whose) (next : Store → Thread → Crew) (entries : List ℕ) (most : ℕ) (s0 : Store) (t0 : Thread) (told0 : Told) (left rest : ℕ) (s : Store) (t t' : Thread) (told : Told) (l l' h h' : Tells) → 0 < left → rest ≤ left - 1 → left ≤ most → IsUnderWay whose next entries most s0 t0 told0 left s t told l l' h h' → GoesQuietly s ((left - 1) - rest) t t' → IsUnderWay whose next entries most s0 t0 told0 (rest + 1) s t' told l l' h h'
-quiet_way whose next entries most s0 t0 told0 left rest s t t' told l l' h h' some less within way steps =
+pub quiet_way : (whose : Whose) (next : Store → Thread → Crew) (entries : List ℕ) (most : ℕ) (s0 : Store) (t0 : Thread) (told0 : Told) (left rest : ℕ) (s s' : Store) (t t' : Thread) (told : Told) (l l' h h' : Tells) → 0 < left → rest ≤ left - 1 → left ≤ most → IsUnderWay whose next entries most s0 t0 told0 left s t told l l' h h' → GoesQuietly s t ((left - 1) - rest) s' t' → IsUnderWay whose next entries most s0 t0 told0 (rest + 1) s' t' told l l' h h'
+quiet_way whose next entries most s0 t0 told0 left rest s s' t t' told l l' h h' some less within way steps =
     let e : left - ((left - 1) - rest) ≡ rest + 1 = omega (arith, some, less) in
-    subst (λ n. IsUnderWay whose next entries most s0 t0 told0 n s t' told l l' h h') e
-    (way_quietly whose next entries most s0 t0 told0 ((left - 1) - rest) left s t t' told l l' h h' (omega (arith, some, less)) within way steps)
+    subst (λ n. IsUnderWay whose next entries most s0 t0 told0 n s' t' told l l' h h') e
+    (way_quietly whose next entries most s0 t0 told0 ((left - 1) - rest) left s s' t t' told l l' h h' (omega (arith, some, less)) within way steps)
 
 -- a step behind which the rest is left
 pub goes_on : (whose : Whose) (next : Store → Thread → Crew) (entries : List ℕ) (most : ℕ) (s0 : Store) (t0 : Thread) (told0 : Told) (rest : ℕ) (s : Store) (t : Thread) (told : Told) (l l' l'' h h' h'' : Tells) → rest + 1 ≤ most → t.work ≢ [] → IsUnderWay whose next entries most s0 t0 told0 (rest + 1) s t told l l' h h' → (s' : Store) (t' : Thread) (event : Option Event) (told' : Told) → Went (move_for s t) event s' t' l' l'' h' h'' → told' ≡ all_seen (with_event event []) told → IsUnderWay whose next entries most s0 t0 told0 rest s' t' told' l l'' h h''

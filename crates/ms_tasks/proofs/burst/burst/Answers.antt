@@ -6,7 +6,8 @@ use Rattle.ms_machine.proofs.Outsides.{none_taken}
 use Rattle.ms_task.specs.View.{thread_of}
 use Rattle.ms_machine.specs.Crews.{run_entries}
 use Rattle.ms_tasks.proofs.Deeds.{told_within}
-use Rattle.ms_tasks.proofs.Stepping.{begins_way, goes_on, quiet_way, stops_before, stops_behind, stops_in, way_ends, way_here, way_pauses, way_traps}
+use Rattle.ms_segment.specs.Memory.{Memory}
+use Rattle.ms_tasks.proofs.Stepping.{begins_way, goes_on, kept_fit, quiet_way, stops_before, stops_behind, stops_in, way_ends, way_here, way_pauses, way_traps}
 use Rattle.ms_tasks.proofs.burst.burst.Goals as goal
 
 pub loop-left-init : goal.loop-left-init
@@ -39,27 +40,29 @@ loop-left-preserved g c =
     let log0 = c.args.log.now in
     let s = l.store in
     let t = thread_of s.funcs l.task in
-    let u = thread_of s.funcs c.run_quietly-rest.new.task in
-    let rest = c.run_quietly-rest.result.0 in
-    let less = c.run_quietly-rest.ensures.left in
+    let s1 = c.run_quietly-quiet.new.store in
+    let u = thread_of s1.funcs c.run_quietly-quiet.new.task in
+    let rest = c.run_quietly-quiet.result.1 in
+    let less = c.run_quietly-quiet.ensures.left in
     let among = v.left in
     let within : rest + 1 ≤ c.args.most = omega (arith, less, among, c.loop-left-test.true) in
     let left = g.I.Source.left in
     let held = g.O.Sink.held in
     let s' = c.step.new.store in
     let t' = thread_of s'.funcs c.step.new.task in
+    let q = c.run_quietly-quiet.ensures in
     let e = c.in-On-Some.ensures in
     let event = c.in-On-Some.field-0 in
     let tells = c.in-Ok.ensures.told ∙ ap (λ (o : Option Event). all_seen (with_event o []) l.log.told) (sym c.in-On-Some.field-0-is) in
     record {
-      runs = λ whose next entries row. goes_on whose next entries c.args.most s0 t0 log0.told rest s u l.log.told (left c.args.input.now) (left l.input) (left c.step.new.input) (held c.args.out.now) (held l.out) (held c.step.new.out) within (c.run_quietly-rest.ensures.going c.if-has_ended-2.false) (quiet_way whose next entries c.args.most s0 t0 log0.told l.left rest s t u l.log.told (left c.args.input.now) (left l.input) (held c.args.out.now) (held l.out) c.loop-left-test.true less among (v.runs whose next entries row) c.run_quietly-rest.ensures.steps) s' t' event c.see.new.self.told e.step.0 tells;
-      outline = e.outline tt ∙ v.outline;
+      runs = λ whose next entries row. goes_on whose next entries c.args.most s0 t0 log0.told rest s1 u l.log.told (left c.args.input.now) (left l.input) (left c.step.new.input) (held c.args.out.now) (held l.out) (held c.step.new.out) within (c.in-Paused.ensures.1) (quiet_way whose next entries c.args.most s0 t0 log0.told l.left rest s s1 t u l.log.told (left c.args.input.now) (left l.input) (held c.args.out.now) (held l.out) c.loop-left-test.true less among (v.runs whose next entries row) c.in-Paused.ensures.0) s' t' event c.see.new.self.told e.step.0 tells;
+      outline = e.outline tt ∙ (q.outline tt ∙ v.outline);
       task = e.task tt;
       going = e.step.1;
       store_fits = e.store_fits tt;
       task_fits = e.task_fits tt;
-      others = λ h fit. e.others tt h (v.others h fit);
-      made = let m = e.made tt in omega (arith, m, v.made, c.loop-left-test.true);
+      others = λ h fit. e.others tt h (kept_fit s s1 (q.segments tt) h (v.others h fit));
+      made = let m = e.made tt in let k = ap (λ (x : Memory). x.made) (q.segments tt) in omega (arith, m, k, v.made, c.loop-left-test.true);
       left = let x = v.left in omega (arith, x);
       entries = c.in-Ok.ensures.entries ∙ v.entries;
       within = let x = v.left in told_within (log0.entries + (c.args.most - l.left)) (log0.entries + (c.args.most - rest)) event l.log.told c.see.new.self.told (omega (arith, x, c.loop-left-test.true)) tells v.within;
@@ -76,27 +79,29 @@ loop-left-preserved-in-On-None g c =
     let log0 = c.args.log.now in
     let s = l.store in
     let t = thread_of s.funcs l.task in
-    let u = thread_of s.funcs c.run_quietly-rest.new.task in
-    let rest = c.run_quietly-rest.result.0 in
-    let less = c.run_quietly-rest.ensures.left in
+    let s1 = c.run_quietly-quiet.new.store in
+    let u = thread_of s1.funcs c.run_quietly-quiet.new.task in
+    let rest = c.run_quietly-quiet.result.1 in
+    let less = c.run_quietly-quiet.ensures.left in
     let among = v.left in
     let within : rest + 1 ≤ c.args.most = omega (arith, less, among, c.loop-left-test.true) in
     let left = g.I.Source.left in
     let held = g.O.Sink.held in
     let s' = c.step.new.store in
     let t' = thread_of s'.funcs c.step.new.task in
+    let q = c.run_quietly-quiet.ensures in
     let e = c.in-On-None.ensures in
     let event = c.in-On-None.field-0 in
     let tells = ap (λ (o : Option Event). all_seen (with_event o []) l.log.told) (sym c.in-On-None.field-0-is) in
     record {
-      runs = λ whose next entries row. goes_on whose next entries c.args.most s0 t0 log0.told rest s u l.log.told (left c.args.input.now) (left l.input) (left c.step.new.input) (held c.args.out.now) (held l.out) (held c.step.new.out) within (c.run_quietly-rest.ensures.going c.if-has_ended-2.false) (quiet_way whose next entries c.args.most s0 t0 log0.told l.left rest s t u l.log.told (left c.args.input.now) (left l.input) (held c.args.out.now) (held l.out) c.loop-left-test.true less among (v.runs whose next entries row) c.run_quietly-rest.ensures.steps) s' t' event l.log.told e.step.0 tells;
-      outline = e.outline tt ∙ v.outline;
+      runs = λ whose next entries row. goes_on whose next entries c.args.most s0 t0 log0.told rest s1 u l.log.told (left c.args.input.now) (left l.input) (left c.step.new.input) (held c.args.out.now) (held l.out) (held c.step.new.out) within (c.in-Paused.ensures.1) (quiet_way whose next entries c.args.most s0 t0 log0.told l.left rest s s1 t u l.log.told (left c.args.input.now) (left l.input) (held c.args.out.now) (held l.out) c.loop-left-test.true less among (v.runs whose next entries row) c.in-Paused.ensures.0) s' t' event l.log.told e.step.0 tells;
+      outline = e.outline tt ∙ (q.outline tt ∙ v.outline);
       task = e.task tt;
       going = e.step.1;
       store_fits = e.store_fits tt;
       task_fits = e.task_fits tt;
-      others = λ h fit. e.others tt h (v.others h fit);
-      made = let m = e.made tt in omega (arith, m, v.made, c.loop-left-test.true);
+      others = λ h fit. e.others tt h (kept_fit s s1 (q.segments tt) h (v.others h fit));
+      made = let m = e.made tt in let k = ap (λ (x : Memory). x.made) (q.segments tt) in omega (arith, m, k, v.made, c.loop-left-test.true);
       left = let x = v.left in omega (arith, x);
       entries = v.entries;
       within = let x = v.left in told_within (log0.entries + (c.args.most - l.left)) (log0.entries + (c.args.most - rest)) event l.log.told l.log.told (omega (arith, x, c.loop-left-test.true)) tells v.within;
@@ -108,8 +113,8 @@ pub returns-then-has_ended-clause-run : goal.returns-then-has_ended-clause-run
 returns-then-has_ended-clause-run g c = λ whose next entries row.
     way_ends whose next entries c.args.most c.args.store.now (thread_of c.args.store.now.funcs c.args.task.now) c.args.log.now (g.I.Source.left c.args.input.now) (g.O.Sink.held c.args.out.now)
 
-pub returns-then-has_ended-2-clause-run : goal.returns-then-has_ended-2-clause-run
-returns-then-has_ended-2-clause-run g c = λ whose next entries row.
+pub returns-in-Ended-clause-run : goal.returns-in-Ended-clause-run
+returns-in-Ended-clause-run g c = λ whose next entries row.
     let l = c.loop-left in
     let v = l.invariant in
     let s0 = c.args.store.now in
@@ -117,15 +122,16 @@ returns-then-has_ended-2-clause-run g c = λ whose next entries row.
     let log0 = c.args.log.now in
     let s = l.store in
     let t = thread_of s.funcs l.task in
-    let u = thread_of s.funcs c.run_quietly-rest.new.task in
-    let rest = c.run_quietly-rest.result.0 in
-    let less = c.run_quietly-rest.ensures.left in
+    let s1 = c.run_quietly-quiet.new.store in
+    let u = thread_of s1.funcs c.run_quietly-quiet.new.task in
+    let rest = c.run_quietly-quiet.result.1 in
+    let less = c.run_quietly-quiet.ensures.left in
     let among = v.left in
     let within : rest + 1 ≤ c.args.most = omega (arith, less, among, c.loop-left-test.true) in
     let left = g.I.Source.left in
     let held = g.O.Sink.held in
-    way_here whose next entries c.args.most s0 t0 log0 l.log c.count.new.self (rest + 1) (c.args.most - (rest + 1)) s u (left c.args.input.now) (left l.input) (held c.args.out.now) (held l.out)
-    (quiet_way whose next entries c.args.most s0 t0 log0.told l.left rest s t u l.log.told (left c.args.input.now) (left l.input) (held c.args.out.now) (held l.out) c.loop-left-test.true less among (v.runs whose next entries row) c.run_quietly-rest.ensures.steps)
+    way_here whose next entries c.args.most s0 t0 log0 l.log c.count.new.self (rest + 1) (c.args.most - (rest + 1)) s1 u (left c.args.input.now) (left l.input) (held c.args.out.now) (held l.out)
+    (quiet_way whose next entries c.args.most s0 t0 log0.told l.left rest s s1 t u l.log.told (left c.args.input.now) (left l.input) (held c.args.out.now) (held l.out) c.loop-left-test.true less among (v.runs whose next entries row) c.in-Ended.ensures.0)
     v.entries (omega (arith, within)) c.count.ensures
 
 pub returns-in_default-clause-run : goal.returns-in_default-clause-run
@@ -137,16 +143,17 @@ returns-in_default-clause-run g c = λ whose next entries row.
     let log0 = c.args.log.now in
     let s = l.store in
     let t = thread_of s.funcs l.task in
-    let u = thread_of s.funcs c.run_quietly-rest.new.task in
-    let rest = c.run_quietly-rest.result.0 in
-    let less = c.run_quietly-rest.ensures.left in
+    let s1 = c.run_quietly-quiet.new.store in
+    let u = thread_of s1.funcs c.run_quietly-quiet.new.task in
+    let rest = c.run_quietly-quiet.result.1 in
+    let less = c.run_quietly-quiet.ensures.left in
     let among = v.left in
     let within : rest + 1 ≤ c.args.most = omega (arith, less, among, c.loop-left-test.true) in
     let left = g.I.Source.left in
     let held = g.O.Sink.held in
     let s' = c.step.new.store in
     let t' = thread_of s'.funcs c.step.new.task in
-    stops_behind whose next entries c.args.most s0 t0 log0.told (rest + 1) s u l.log.told (left c.args.input.now) (left l.input) (left c.step.new.input) (held c.args.out.now) (held l.out) (held c.step.new.out) (omega arith) within (c.run_quietly-rest.ensures.going c.if-has_ended-2.false) (quiet_way whose next entries c.args.most s0 t0 log0.told l.left rest s t u l.log.told (left c.args.input.now) (left l.input) (held c.args.out.now) (held l.out) c.loop-left-test.true less among (v.runs whose next entries row) c.run_quietly-rest.ensures.steps) s' t' c.in-On-Some.field-0 log0 c.see.new.self refl c.in_default.ensures.lost c.in-On-Some.ensures.step.0
+    stops_behind whose next entries c.args.most s0 t0 log0.told (rest + 1) s1 u l.log.told (left c.args.input.now) (left l.input) (left c.step.new.input) (held c.args.out.now) (held l.out) (held c.step.new.out) (omega arith) within (c.in-Paused.ensures.1) (quiet_way whose next entries c.args.most s0 t0 log0.told l.left rest s s1 t u l.log.told (left c.args.input.now) (left l.input) (held c.args.out.now) (held l.out) c.loop-left-test.true less among (v.runs whose next entries row) c.in-Paused.ensures.0) s' t' c.in-On-Some.field-0 log0 c.see.new.self refl c.in_default.ensures.lost c.in-On-Some.ensures.step.0
 
 pub returns-in_default-see-clause-run : goal.returns-in_default-see-clause-run
 returns-in_default-see-clause-run g c = λ whose next entries row.
@@ -157,16 +164,17 @@ returns-in_default-see-clause-run g c = λ whose next entries row.
     let log0 = c.args.log.now in
     let s = l.store in
     let t = thread_of s.funcs l.task in
-    let u = thread_of s.funcs c.run_quietly-rest.new.task in
-    let rest = c.run_quietly-rest.result.0 in
-    let less = c.run_quietly-rest.ensures.left in
+    let s1 = c.run_quietly-quiet.new.store in
+    let u = thread_of s1.funcs c.run_quietly-quiet.new.task in
+    let rest = c.run_quietly-quiet.result.1 in
+    let less = c.run_quietly-quiet.ensures.left in
     let among = v.left in
     let within : rest + 1 ≤ c.args.most = omega (arith, less, among, c.loop-left-test.true) in
     let left = g.I.Source.left in
     let held = g.O.Sink.held in
     let s' = c.step.new.store in
     let t' = thread_of s'.funcs c.step.new.task in
-    stops_behind whose next entries c.args.most s0 t0 log0.told (rest + 1) s u l.log.told (left c.args.input.now) (left l.input) (left c.step.new.input) (held c.args.out.now) (held l.out) (held c.step.new.out) (omega arith) within (c.run_quietly-rest.ensures.going c.if-has_ended-2.false) (quiet_way whose next entries c.args.most s0 t0 log0.told l.left rest s t u l.log.told (left c.args.input.now) (left l.input) (held c.args.out.now) (held l.out) c.loop-left-test.true less among (v.runs whose next entries row) c.run_quietly-rest.ensures.steps) s' t' c.in-Ended.event log0 c.see-in-Ended.new.self refl c.in_default-see.ensures.lost c.in-Ended.ensures.step.0
+    stops_behind whose next entries c.args.most s0 t0 log0.told (rest + 1) s1 u l.log.told (left c.args.input.now) (left l.input) (left c.step.new.input) (held c.args.out.now) (held l.out) (held c.step.new.out) (omega arith) within (c.in-Paused.ensures.1) (quiet_way whose next entries c.args.most s0 t0 log0.told l.left rest s s1 t u l.log.told (left c.args.input.now) (left l.input) (held c.args.out.now) (held l.out) c.loop-left-test.true less among (v.runs whose next entries row) c.in-Paused.ensures.0) s' t' c.in-Ended.event log0 c.see-in-Ended.new.self refl c.in_default-see.ensures.lost c.in-Ended.ensures.step.0
 
 pub returns-in-Ended-clause-run : goal.returns-in-Ended-clause-run
 returns-in-Ended-clause-run g c = λ whose next entries row.
@@ -177,9 +185,10 @@ returns-in-Ended-clause-run g c = λ whose next entries row.
     let log0 = c.args.log.now in
     let s = l.store in
     let t = thread_of s.funcs l.task in
-    let u = thread_of s.funcs c.run_quietly-rest.new.task in
-    let rest = c.run_quietly-rest.result.0 in
-    let less = c.run_quietly-rest.ensures.left in
+    let s1 = c.run_quietly-quiet.new.store in
+    let u = thread_of s1.funcs c.run_quietly-quiet.new.task in
+    let rest = c.run_quietly-quiet.result.1 in
+    let less = c.run_quietly-quiet.ensures.left in
     let among = v.left in
     let within : rest + 1 ≤ c.args.most = omega (arith, less, among, c.loop-left-test.true) in
     let left = g.I.Source.left in
@@ -188,7 +197,7 @@ returns-in-Ended-clause-run g c = λ whose next entries row.
     let t' = thread_of s'.funcs c.step.new.task in
     let see = c.see-in-Ended.new.self in
     let x = v.left in
-    let way = goes_on whose next entries c.args.most s0 t0 log0.told rest s u l.log.told (left c.args.input.now) (left l.input) (left c.step.new.input) (held c.args.out.now) (held l.out) (held c.step.new.out) within (c.run_quietly-rest.ensures.going c.if-has_ended-2.false) (quiet_way whose next entries c.args.most s0 t0 log0.told l.left rest s t u l.log.told (left c.args.input.now) (left l.input) (held c.args.out.now) (held l.out) c.loop-left-test.true less among (v.runs whose next entries row) c.run_quietly-rest.ensures.steps) s' t' c.in-Ended.event see.told c.in-Ended.ensures.step.0 c.in-Ok-see.ensures.told in
+    let way = goes_on whose next entries c.args.most s0 t0 log0.told rest s1 u l.log.told (left c.args.input.now) (left l.input) (left c.step.new.input) (held c.args.out.now) (held l.out) (held c.step.new.out) within (c.in-Paused.ensures.1) (quiet_way whose next entries c.args.most s0 t0 log0.told l.left rest s s1 t u l.log.told (left c.args.input.now) (left l.input) (held c.args.out.now) (held l.out) c.loop-left-test.true less among (v.runs whose next entries row) c.in-Paused.ensures.0) s' t' c.in-Ended.event see.told c.in-Ended.ensures.step.0 c.in-Ok-see.ensures.told in
     way_here whose next entries c.args.most s0 t0 log0 see c.count-in-Ended.new.self rest (c.args.most - rest) s' t' (left c.args.input.now) (left c.step.new.input) (held c.args.out.now) (held c.step.new.out) way
     (c.in-Ok-see.ensures.entries ∙ v.entries) (omega (arith, x)) c.count-in-Ended.ensures
 
@@ -201,9 +210,10 @@ returns-in-Trap-clause-run g c = λ whose next entries row.
     let log0 = c.args.log.now in
     let s = l.store in
     let t = thread_of s.funcs l.task in
-    let u = thread_of s.funcs c.run_quietly-rest.new.task in
-    let rest = c.run_quietly-rest.result.0 in
-    let less = c.run_quietly-rest.ensures.left in
+    let s1 = c.run_quietly-quiet.new.store in
+    let u = thread_of s1.funcs c.run_quietly-quiet.new.task in
+    let rest = c.run_quietly-quiet.result.1 in
+    let less = c.run_quietly-quiet.ensures.left in
     let among = v.left in
     let within : rest + 1 ≤ c.args.most = omega (arith, less, among, c.loop-left-test.true) in
     let left = g.I.Source.left in
@@ -212,7 +222,7 @@ returns-in-Trap-clause-run g c = λ whose next entries row.
     let t' = thread_of s'.funcs c.step.new.task in
     let e = c.in-Trap.ensures.step in
     let x = v.left in
-    (whose, way_traps whose next entries c.args.most s0 t0 log0.told (rest + 1) s u l.log.told (left c.args.input.now) (left l.input) (left c.step.new.input) (held c.args.out.now) (held l.out) (held c.step.new.out) (omega arith) within (c.run_quietly-rest.ensures.going c.if-has_ended-2.false) (quiet_way whose next entries c.args.most s0 t0 log0.told l.left rest s t u l.log.told (left c.args.input.now) (left l.input) (held c.args.out.now) (held l.out) c.loop-left-test.true less among (v.runs whose next entries row) c.run_quietly-rest.ensures.steps) c.in-Trap.kind s' t' log0 c.count-in-Trap.new.self (c.args.most - rest) l.log.entries refl v.entries e.0 e.1 e.2 e.3 e.4 (omega (arith, x)) c.count-in-Trap.ensures)
+    (whose, way_traps whose next entries c.args.most s0 t0 log0.told (rest + 1) s1 u l.log.told (left c.args.input.now) (left l.input) (left c.step.new.input) (held c.args.out.now) (held l.out) (held c.step.new.out) (omega arith) within (c.in-Paused.ensures.1) (quiet_way whose next entries c.args.most s0 t0 log0.told l.left rest s s1 t u l.log.told (left c.args.input.now) (left l.input) (held c.args.out.now) (held l.out) c.loop-left-test.true less among (v.runs whose next entries row) c.in-Paused.ensures.0) c.in-Trap.kind s' t' log0 c.count-in-Trap.new.self (c.args.most - rest) l.log.entries refl v.entries e.0 e.1 e.2 e.3 e.4 (omega (arith, x)) c.count-in-Trap.ensures)
 
 pub returns-in-ReadFault-clause-run : goal.returns-in-ReadFault-clause-run
 returns-in-ReadFault-clause-run g c = λ whose next entries row.
@@ -223,15 +233,16 @@ returns-in-ReadFault-clause-run g c = λ whose next entries row.
     let log0 = c.args.log.now in
     let s = l.store in
     let t = thread_of s.funcs l.task in
-    let u = thread_of s.funcs c.run_quietly-rest.new.task in
-    let rest = c.run_quietly-rest.result.0 in
-    let less = c.run_quietly-rest.ensures.left in
+    let s1 = c.run_quietly-quiet.new.store in
+    let u = thread_of s1.funcs c.run_quietly-quiet.new.task in
+    let rest = c.run_quietly-quiet.result.1 in
+    let less = c.run_quietly-quiet.ensures.left in
     let among = v.left in
     let within : rest + 1 ≤ c.args.most = omega (arith, less, among, c.loop-left-test.true) in
     let left = g.I.Source.left in
     let held = g.O.Sink.held in
     let e = c.in-ReadFault.ensures.step in
-    stops_before whose next entries c.args.most s0 t0 log0.told (rest + 1) s u l.log.told (left c.args.input.now) (left l.input) (left c.step.new.input) (held c.args.out.now) (held l.out) (held c.step.new.out) (omega arith) within (c.run_quietly-rest.ensures.going c.if-has_ended-2.false) (quiet_way whose next entries c.args.most s0 t0 log0.told l.left rest s t u l.log.told (left c.args.input.now) (left l.input) (held c.args.out.now) (held l.out) c.loop-left-test.true less among (v.runs whose next entries row) c.run_quietly-rest.ensures.steps) log0 l.log refl refl (none_taken (left l.input) (left c.step.new.input) e.2) e.3
+    stops_before whose next entries c.args.most s0 t0 log0.told (rest + 1) s1 u l.log.told (left c.args.input.now) (left l.input) (left c.step.new.input) (held c.args.out.now) (held l.out) (held c.step.new.out) (omega arith) within (c.in-Paused.ensures.1) (quiet_way whose next entries c.args.most s0 t0 log0.told l.left rest s s1 t u l.log.told (left c.args.input.now) (left l.input) (held c.args.out.now) (held l.out) c.loop-left-test.true less among (v.runs whose next entries row) c.in-Paused.ensures.0) log0 l.log refl refl (none_taken (left l.input) (left c.step.new.input) e.2) e.3
 
 pub returns-in-WriteFault-clause-run : goal.returns-in-WriteFault-clause-run
 returns-in-WriteFault-clause-run g c = λ whose next entries row.
@@ -242,15 +253,16 @@ returns-in-WriteFault-clause-run g c = λ whose next entries row.
     let log0 = c.args.log.now in
     let s = l.store in
     let t = thread_of s.funcs l.task in
-    let u = thread_of s.funcs c.run_quietly-rest.new.task in
-    let rest = c.run_quietly-rest.result.0 in
-    let less = c.run_quietly-rest.ensures.left in
+    let s1 = c.run_quietly-quiet.new.store in
+    let u = thread_of s1.funcs c.run_quietly-quiet.new.task in
+    let rest = c.run_quietly-quiet.result.1 in
+    let less = c.run_quietly-quiet.ensures.left in
     let among = v.left in
     let within : rest + 1 ≤ c.args.most = omega (arith, less, among, c.loop-left-test.true) in
     let left = g.I.Source.left in
     let held = g.O.Sink.held in
     let e = c.in-WriteFault.ensures.step in
-    stops_in whose next entries c.args.most s0 t0 log0.told (rest + 1) s u l.log.told (left c.args.input.now) (left l.input) (left c.step.new.input) (held c.args.out.now) (held l.out) (held c.step.new.out) (omega arith) within (c.run_quietly-rest.ensures.going c.if-has_ended-2.false) (quiet_way whose next entries c.args.most s0 t0 log0.told l.left rest s t u l.log.told (left c.args.input.now) (left l.input) (held c.args.out.now) (held l.out) c.loop-left-test.true less among (v.runs whose next entries row) c.run_quietly-rest.ensures.steps) log0 l.log e.0 refl refl e.1 e.3 e.4
+    stops_in whose next entries c.args.most s0 t0 log0.told (rest + 1) s1 u l.log.told (left c.args.input.now) (left l.input) (left c.step.new.input) (held c.args.out.now) (held l.out) (held c.step.new.out) (omega arith) within (c.in-Paused.ensures.1) (quiet_way whose next entries c.args.most s0 t0 log0.told l.left rest s s1 t u l.log.told (left c.args.input.now) (left l.input) (held c.args.out.now) (held l.out) c.loop-left-test.true less among (v.runs whose next entries row) c.in-Paused.ensures.0) log0 l.log e.0 refl refl e.1 e.3 e.4
 
 pub returns-in-Memory-clause-run : goal.returns-in-Memory-clause-run
 returns-in-Memory-clause-run g c = λ whose next entries row.
@@ -261,15 +273,16 @@ returns-in-Memory-clause-run g c = λ whose next entries row.
     let log0 = c.args.log.now in
     let s = l.store in
     let t = thread_of s.funcs l.task in
-    let u = thread_of s.funcs c.run_quietly-rest.new.task in
-    let rest = c.run_quietly-rest.result.0 in
-    let less = c.run_quietly-rest.ensures.left in
+    let s1 = c.run_quietly-quiet.new.store in
+    let u = thread_of s1.funcs c.run_quietly-quiet.new.task in
+    let rest = c.run_quietly-quiet.result.1 in
+    let less = c.run_quietly-quiet.ensures.left in
     let among = v.left in
     let within : rest + 1 ≤ c.args.most = omega (arith, less, among, c.loop-left-test.true) in
     let left = g.I.Source.left in
     let held = g.O.Sink.held in
     let e = c.in-Memory.ensures.step in
-    stops_before whose next entries c.args.most s0 t0 log0.told (rest + 1) s u l.log.told (left c.args.input.now) (left l.input) (left c.step.new.input) (held c.args.out.now) (held l.out) (held c.step.new.out) (omega arith) within (c.run_quietly-rest.ensures.going c.if-has_ended-2.false) (quiet_way whose next entries c.args.most s0 t0 log0.told l.left rest s t u l.log.told (left c.args.input.now) (left l.input) (held c.args.out.now) (held l.out) c.loop-left-test.true less among (v.runs whose next entries row) c.run_quietly-rest.ensures.steps) log0 l.log refl refl e.1 e.2
+    stops_before whose next entries c.args.most s0 t0 log0.told (rest + 1) s1 u l.log.told (left c.args.input.now) (left l.input) (left c.step.new.input) (held c.args.out.now) (held l.out) (held c.step.new.out) (omega arith) within (c.in-Paused.ensures.1) (quiet_way whose next entries c.args.most s0 t0 log0.told l.left rest s s1 t u l.log.told (left c.args.input.now) (left l.input) (held c.args.out.now) (held l.out) c.loop-left-test.true less among (v.runs whose next entries row) c.in-Paused.ensures.0) log0 l.log refl refl e.1 e.2
 
 pub returns-clause-run : goal.returns-clause-run
 returns-clause-run g c = λ whose next entries row.
