@@ -1,16 +1,18 @@
 -- A call and the start of a task, as the code makes them.
-use Rattle.std.proofs.Common.{◌≡◌, ◌≢◌, ℕ, suc, ◌+◌, ◌-◌, ◌<◌, ◌≤◌, List, [], ◌∷◌, ◌++◌, length, drop, take, slice_get, Option, Some, refl, sym, ap, ◌∙◌, arith, length-drop, subst, ⊎_elim, reverse, map, cond, append_assoc}
+use Rattle.std.proofs.Common.{◌≡◌, ◌≢◌, ℕ, zero, suc, ◌+◌, ◌-◌, ◌<◌, ◌≤◌, List, [], ◌∷◌, ◌++◌, length, drop, take, slice_get, Option, Some, refl, sym, ap, ◌∙◌, arith, length-drop, subst, ⊎_elim, reverse, map, cond, append_assoc, get_or, replicate, append-nil}
 use Rattle.ms_types.specs.declared.types.ValType.{ValType}
 use Rattle.ms_linear.specs.declared.value.Value.{Value}
 use Rattle.ms_linear.specs.Values.{default_of}
+use Rattle.ms_module.specs.Locals.{Rise, types_of}
+use Rattle.ms_module.specs.declared.locals.Run.{Run}
 use Rattle.ms_task.specs.declared.func.FuncInst.{FuncInst}
 use Rattle.ms_task.specs.declared.marks.Mark.{Mark}
 use Rattle.ms_task.specs.declared.marks.Mark.TheVariants as marks
 use Rattle.ms_task.specs.Marks.{calls_in}
 use Rattle.std.proofs.lemmas.Bool.{lt-ltb, le-ltb, le-leb, cases_lt, lt-leb}
-use Rattle.std.proofs.lemmas.Option.{slice_get_past, slice_get_within, get_or_from_slice_get}
-use Rattle.std.proofs.lemmas.List.{length-take-le, get_or-take, map-append, reverse-append}
-use Rattle.std.proofs.Math.Seq.{take-append_seam, drop-append_seam, drop-cons, take-suc}
+use Rattle.std.proofs.lemmas.Option.{slice_get_past, get_or_from_slice_get}
+use Rattle.std.proofs.lemmas.List.{drop_all, length-take-le, get_or-take, reverse-append}
+use Rattle.std.proofs.Math.Seq.{take-append_seam, drop-append_seam, drop-cons}
 use Rattle.ms_task.specs.Control.{To, Stuck, TooDeep, call_on, deepest, enter, entered, started}
 use Rattle.ms_task.specs.Thread.{Activation, Frame, Thread, depth_of, dos, result_of, sequence, thread}
 use Rattle.ms_task.specs.View.{items_of, rest_at}
@@ -84,17 +86,31 @@ arguments_more i n vs v lt le e =
     ∙ reverse-append (v ∷ []) (drop (suc k) t)
     ∙ ap (λ j. reverse (drop j t) ++ v ∷ []) b
 
-pub locals_more : (types : List ValType) (i : ℕ) (ty : ValType) (v : Value) (vs : List Value) → Some ty ≡ slice_get types i → v ≡ default_of ty → (vs ++ map default_of (take i types)) ++ v ∷ [] ≡ vs ++ map default_of (take (i + 1) types)
-locals_more types i ty v vs e default =
-    let read = get_or_from_slice_get types i ty ty (sym e) in
+many_more : (n : ℕ) (ty : ValType) (types : List ValType) → replicate n (default_of ty) ++ map default_of types ≡ map default_of (replicate n ty ++ types)
+many_more zero ty types = refl
+many_more (suc n) ty types = ap (λ l. default_of ty ∷ l) (many_more n ty types)
+
+pub locals_more : (runs : List Run) (i from : ℕ) (run d : Run) (v : Value) (vs : List Value) → i < length runs → run ≡ get_or runs i d → v ≡ default_of run.ty → (vs ++ replicate (run.end - from) v) ++ map default_of (types_of run.end (drop (i + 1) runs)) ≡ vs ++ map default_of (types_of from (drop i runs))
+locals_more runs i from run d v vs within read default =
     let one : suc i ≡ i + 1 = omega arith in
-    let more = take-suc types i ty (slice_get_within types i ty (sym e)) ∙ ap (λ x. take i types ++ x ∷ []) read in
-    append_assoc vs (map default_of (take i types)) (v ∷ [])
+    let here : drop i runs ≡ run ∷ drop (i + 1) runs = drop-cons runs i d within ∙ (ap (λ (r : Run). r ∷ drop (suc i) runs) (sym read) ∙ ap (λ k. run ∷ drop k runs) one) in
+    append_assoc vs (replicate (run.end - from) v) (map default_of (types_of run.end (drop (i + 1) runs)))
     ∙ ap (λ l. vs ++ l)
-    (ap (λ x. map default_of (take i types) ++ x ∷ []) default
-    ∙ sym (map-append default_of (take i types) (ty ∷ []))
-    ∙ ap (map default_of) (sym more)
-    ∙ ap (λ k. map default_of (take k types)) one)
+    (ap (λ x. replicate (run.end - from) x ++ map default_of (types_of run.end (drop (i + 1) runs))) default
+    ∙ many_more (run.end - from) run.ty (types_of run.end (drop (i + 1) runs))
+    ∙ sym (ap (λ l. map default_of (types_of from l)) here))
+
+pub rises_on : (runs : List Run) (i from : ℕ) (run d : Run) → i < length runs → run ≡ get_or runs i d → Rise from (drop i runs) → (from < run.end) × Rise run.end (drop (i + 1) runs)
+rises_on runs i from run d within read rise =
+    let one : suc i ≡ i + 1 = omega arith in
+    let here : drop i runs ≡ run ∷ drop (i + 1) runs = drop-cons runs i d within ∙ (ap (λ (r : Run). r ∷ drop (suc i) runs) (sym read) ∙ ap (λ k. run ∷ drop k runs) one) in
+    subst (Rise from) here rise
+
+pub locals_all : (runs : List Run) (i from : ℕ) (frames old : List Value × List Value) (types : List ValType) → length runs ≤ i → frames.0 ≡ old.0 → frames.1 ++ map default_of (types_of from (drop i runs)) ≡ old.1 ++ map default_of types → frames ≡ (old.0, old.1 ++ map default_of types)
+locals_all runs i from frames old types past kept added =
+    let none = drop_all i runs past in
+    let more = sym (append-nil frames.1) ∙ (ap (λ l. frames.1 ++ map default_of (types_of from l)) (sym none) ∙ added) in
+    ap (λ a. (a, frames.1)) kept ∙ ap (λ b. (old.0, b)) more
 
 -- ---- the start
 
