@@ -7,8 +7,8 @@ use Rattle.ms_task.specs.View.{at_next, before, frame_of, outer_of, rest_at, thr
 use Rattle.ms_task.specs.declared.task.Task.{Task}
 use Rattle.ms_task.proofs.Places.{held, held_before, held_behind}
 use Rattle.ms_machine.specs.StraightLine.{GoesQuietly, IsCalm, IsHalted, IsNext, StepsQuietly}
-use Rattle.ms_machine.specs.declared.straight.Quiet.{Quiet}
-use Rattle.ms_machine.specs.declared.straight.Quiet.TheVariants as quiets
+use Rattle.ms_machine.specs.declared.straight.Stretch.{Stretch}
+use Rattle.ms_machine.specs.declared.straight.Stretch.TheVariants as stretches
 use Rattle.ms_machine.specs.Doing.{Can}
 use Rattle.ms_machine.specs.Holding.{StoreFits, ThreadFits}
 use Rattle.ms_machine.specs.Moves.{Goes, move_for, move_on}
@@ -54,20 +54,20 @@ pub quietly_segments : (s s' : Store) (t t' : Thread) (n : ℕ) → GoesQuietly 
 quietly_segments s s' t t' zero (same, still) = ap (λ (x : Store). x.segments) same
 quietly_segments s s' t t' (suc n) (s1, t1, rest, going, step) = step.1 ∙ quietly_segments s s1 t t1 n rest
 
-pub halted_typed : (q : Quiet) (n : ℕ) (s s' : Store) (t t' : Thread) → IsHalted q n s t s' t' → IsCalm q → StoreTyped (outline_of s) → TaskTyped (outline_of s) t → (outline_of s' ≡ outline_of s) × TaskTyped (outline_of s') t'
-halted_typed quiets.Paused n s s' t t' (steps, going) calm store task = quietly_typed s s' t t' n steps store task
-halted_typed quiets.Ended n s s' t t' (steps, ended) calm store task = quietly_typed s s' t t' n steps store task
-halted_typed quiets.Memory n s s' t t' steps calm store task = absurd calm
+pub halted_typed : (q : Stretch) (n : ℕ) (s s' : Store) (t t' : Thread) → IsHalted q n s t s' t' → IsCalm q → StoreTyped (outline_of s) → TaskTyped (outline_of s) t → (outline_of s' ≡ outline_of s) × TaskTyped (outline_of s') t'
+halted_typed stretches.Paused n s s' t t' (steps, going) calm store task = quietly_typed s s' t t' n steps store task
+halted_typed stretches.Ended n s s' t t' (steps, ended) calm store task = quietly_typed s s' t t' n steps store task
+halted_typed stretches.Memory n s s' t t' steps calm store task = absurd calm
 
-pub halted_fits : (q : Quiet) (n : ℕ) (s s' : Store) (t t' : Thread) → IsHalted q n s t s' t' → IsCalm q → StoreFits s → ThreadFits s t → StoreFits s' × ThreadFits s' t'
-halted_fits quiets.Paused n s s' t t' (steps, going) calm store fits = quietly_fits s s' t t' n steps store fits
-halted_fits quiets.Ended n s s' t t' (steps, ended) calm store fits = quietly_fits s s' t t' n steps store fits
-halted_fits quiets.Memory n s s' t t' steps calm store fits = absurd calm
+pub halted_fits : (q : Stretch) (n : ℕ) (s s' : Store) (t t' : Thread) → IsHalted q n s t s' t' → IsCalm q → StoreFits s → ThreadFits s t → StoreFits s' × ThreadFits s' t'
+halted_fits stretches.Paused n s s' t t' (steps, going) calm store fits = quietly_fits s s' t t' n steps store fits
+halted_fits stretches.Ended n s s' t t' (steps, ended) calm store fits = quietly_fits s s' t t' n steps store fits
+halted_fits stretches.Memory n s s' t t' steps calm store fits = absurd calm
 
-pub halted_segments : (q : Quiet) (n : ℕ) (s s' : Store) (t t' : Thread) → IsHalted q n s t s' t' → IsCalm q → s'.segments ≡ s.segments
-halted_segments quiets.Paused n s s' t t' (steps, going) calm = quietly_segments s s' t t' n steps
-halted_segments quiets.Ended n s s' t t' (steps, ended) calm = quietly_segments s s' t t' n steps
-halted_segments quiets.Memory n s s' t t' steps calm = absurd calm
+pub halted_segments : (q : Stretch) (n : ℕ) (s s' : Store) (t t' : Thread) → IsHalted q n s t s' t' → IsCalm q → s'.segments ≡ s.segments
+halted_segments stretches.Paused n s s' t t' (steps, going) calm = quietly_segments s s' t t' n steps
+halted_segments stretches.Ended n s s' t t' (steps, ended) calm = quietly_segments s s' t t' n steps
+halted_segments stretches.Memory n s s' t t' steps calm = absurd calm
 
 -- ---- the next instruction
 

@@ -13,8 +13,8 @@ use Rattle.ms_machine.specs.declared.straight.Called.{Called}
 use Rattle.ms_machine.specs.declared.straight.Called.TheVariants as calls
 use Rattle.ms_machine.specs.declared.straight.Met.{Met}
 use Rattle.ms_machine.specs.declared.straight.Met.TheVariants as mets
-use Rattle.ms_machine.specs.declared.straight.Quiet.{Quiet}
-use Rattle.ms_machine.specs.declared.straight.Quiet.TheVariants as quiets
+use Rattle.ms_machine.specs.declared.straight.Stretch.{Stretch}
+use Rattle.ms_machine.specs.declared.straight.Stretch.TheVariants as stretches
 use Rattle.ms_machine.specs.declared.straight.Turned.{Turned}
 use Rattle.ms_machine.specs.declared.straight.Turned.TheVariants as turns
 use Rattle.ms_machine.specs.declared.straight.Worked.{Worked}
@@ -30,14 +30,14 @@ GoesQuietly s t zero s' t' = (s' ≡ s) × (t' ≡ t)
 GoesQuietly s t (suc n) s' t' = (s1 : Store) × (t1 : Thread) × GoesQuietly s t n s1 t1 × (t1.work ≢ []) × StepsQuietly s1 t1 s' t'
 
 -- so many, with what they came to
-abbrev pub IsHalted : Quiet → ℕ → Store → Thread → Store → Thread → Type 0
-IsHalted quiets.Paused n s t s' t' = GoesQuietly s t n s' t' × (t'.work ≢ [])
-IsHalted quiets.Ended n s t s' t' = GoesQuietly s t n s' t' × (t'.work ≡ [])
-IsHalted quiets.Memory n s t s' t' = Unit {0}
+abbrev pub IsHalted : Stretch → ℕ → Store → Thread → Store → Thread → Type 0
+IsHalted stretches.Paused n s t s' t' = GoesQuietly s t n s' t' × (t'.work ≢ [])
+IsHalted stretches.Ended n s t s' t' = GoesQuietly s t n s' t' × (t'.work ≡ [])
+IsHalted stretches.Memory n s t s' t' = Unit {0}
 
 -- memory has not run out
-abbrev pub IsCalm : Quiet → Type 0
-IsCalm quiets.Memory = ⊥
+abbrev pub IsCalm : Stretch → Type 0
+IsCalm stretches.Memory = ⊥
 IsCalm _ = Unit {0}
 
 -- ---- an instruction on the store as it is, behind which a task goes on at a place

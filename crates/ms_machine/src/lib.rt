@@ -24,4 +24,4 @@ pub use machine::step;
 pub use starting::{has_ended, start};
 pub use stepped::Stepped;
 pub use store::{Instance, Store};
-pub use straight::{Quiet, run_quietly};
+pub use straight::{Stretch, run_quietly};

@@ -296,7 +296,7 @@ fn global<G: Gaps, T: Tagged>(
 
 /// What quiet steps in a row came to.
 #[derive(Clone, Copy, Debug, PartialEq, Eq)]
-pub enum Quiet {
+pub enum Stretch {
     /// No steps are left, or the next one is not quiet.
     Paused,
     /// The task has ended.
@@ -312,7 +312,7 @@ fn go_quietly<G: Gaps, T: Tagged>(
     store: &mut Store<G, T>,
     task: &mut Task,
     most: u64,
-) -> (Quiet, u64)
+) -> (Stretch, u64)
     requires store { StoreTyped (outline_of store.old) }
     requires task { TaskTyped (outline_of store.old) (thread_of store.old.funcs task.old) }
     requires going { (thread_of store.old.funcs task.old).work ≢ [] }
@@ -323,20 +323,20 @@ fn go_quietly<G: Gaps, T: Tagged>(
     while left > 0 {
         let (met, rest) = go(store, task, left);
         let worked = match met {
-            Met::Paused => return (Quiet::Paused, rest),
-            Met::Ended => return (Quiet::Ended, rest),
-            Met::Memory => return (Quiet::Memory, rest),
+            Met::Paused => return (Stretch::Paused, rest),
+            Met::Ended => return (Stretch::Ended, rest),
+            Met::Memory => return (Stretch::Memory, rest),
             Met::Linear(i, next) => linear(store, task, i, next),
             Met::Global(x, next) => global(store, task, x, next),
         };
         match worked {
             Worked::On => left = rest - 1,
-            Worked::Ended => return (Quiet::Ended, rest - 1),
-            Worked::Not => return (Quiet::Paused, rest),
-            Worked::Memory => return (Quiet::Memory, rest),
+            Worked::Ended => return (Stretch::Ended, rest - 1),
+            Worked::Not => return (Stretch::Paused, rest),
+            Worked::Memory => return (Stretch::Memory, rest),
         }
     }
-    (Quiet::Paused, left)
+    (Stretch::Paused, left)
 }
 
 /// Makes the next steps of a task, at most so many, as long as the outside and the segment memory see nothing of them, and no
@@ -349,7 +349,7 @@ pub fn run_quietly<G: Gaps, T: Tagged>(
     store: &mut Store<G, T>,
     task: &mut Task,
     most: u64,
-) -> (Quiet, u64)
+) -> (Stretch, u64)
     requires store { StoreTyped (outline_of store.old) }
     requires task { TaskTyped (outline_of store.old) (thread_of store.old.funcs task.old) }
     requires going { (thread_of store.old.funcs task.old).work ≢ [] }

@@ -15,7 +15,7 @@ ghost use Rattle.ms_tasks.specs.Parts.{Answers, CountsInput, CountsOut, IsRow, I
 use crate::log::Log;
 use ms_host::TrapKind;
 use ms_live::Gaps;
-use ms_machine::{Quiet, Stepped, Store, has_ended, run_quietly, step};
+use ms_machine::{Stepped, Store, Stretch, has_ended, run_quietly, step};
 use ms_outside::{Sink, Source};
 use ms_tagged::Tagged;
 use ms_task::Task;
@@ -75,12 +75,12 @@ pub(crate) fn burst<G: Gaps, T: Tagged, I: Source, O: Sink>(
     while left > 0 {
         let (quiet, rest) = run_quietly(store, task, left - 1);
         match quiet {
-            Quiet::Paused => left = rest,
-            Quiet::Ended => {
+            Stretch::Paused => left = rest,
+            Stretch::Ended => {
                 log.count(most - (rest + 1));
                 return (Halt::Ended, rest + 1);
             }
-            Quiet::Memory => return (Halt::Memory, rest + 1),
+            Stretch::Memory => return (Halt::Memory, rest + 1),
         }
         match step(store, task, input, out) {
             Stepped::On(None) => {}
