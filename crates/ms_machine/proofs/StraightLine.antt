@@ -1,21 +1,25 @@
 -- Steps in a row of which the outside and the segment memory see nothing.
-use Rattle.std.proofs.Common.{◌≡◌, ◌≢◌, ◌<◌, ◌+◌, ◌×◌, ℕ, zero, suc, false, List, [], ◌∷◌, ◌++◌, Some, None, get_or, length, refl, sym, ap, subst, ◌∙◌, arith}
+use Rattle.std.proofs.Common.{◌≡◌, ◌≢◌, ◌<◌, ◌+◌, ℕ, zero, suc, false, List, [], ◌∷◌, ◌++◌, Some, None, drop, get_or, length, length-drop, refl, sym, ap, subst, ◌∙◌, arith}
 use Rattle.ms_module.specs.declared.instr.Instr.{Instr}
 use Rattle.ms_task.specs.Control.{exit_ended, exited as exited_thread}
 use Rattle.ms_task.specs.Thread.{Activation, Begins, Do, Item, Label, Thread, sequence, thread, with_first}
 use Rattle.ms_task.specs.View.{at_next, before, frame_of, outer_of, rest_at, thread_of}
+use Rattle.ms_task.specs.declared.func.FuncInst.{FuncInst}
 use Rattle.ms_task.specs.declared.task.Task.{Task}
-use Rattle.ms_task.proofs.Places.{held, held_before, held_behind}
-use Rattle.ms_machine.specs.StraightLine.{GoesQuietly, IsCalm, IsHalted, IsNext, StepsQuietly}
+use Rattle.ms_task.proofs.Items.{begins_past}
+use Rattle.ms_task.proofs.Places.{held, held_before}
+use Rattle.ms_machine.specs.StraightLine.{DoesTurn, GoesQuietly, IsCalm, IsHalted, IsNext, StepsQuietly}
+use Rattle.ms_machine.specs.declared.straight.Turned.TheVariants as turns
 use Rattle.ms_machine.specs.declared.straight.Stretch.{Stretch}
 use Rattle.ms_machine.specs.declared.straight.Stretch.TheVariants as stretches
-use Rattle.ms_machine.specs.Doing.{Can}
+use Rattle.ms_machine.specs.Doing.{Carries}
 use Rattle.ms_machine.specs.Holding.{StoreFits, ThreadFits}
 use Rattle.ms_machine.specs.Moves.{Goes, move_for, move_on}
 use Rattle.ms_machine.specs.Step.{Next, act, exited, first, step_of}
 use Rattle.ms_machine.specs.Store.{Store}
 use Rattle.ms_machine.specs.Typing.{StoreTyped, TaskTyped, outline_of}
 use Rattle.ms_machine.proofs.Moving.{move_keeps, move_stays_typed, move_unstuck}
+use Rattle.ms_machine.proofs.TypedSteps.{begins_well}
 
 -- ---- one behind the other
 
@@ -106,6 +110,46 @@ module _ (s : Store) (code : List Instr) (t : Task) (place : ℕ) (i : Instr)
   is_next store task going =
       (stands, λ stuck. move_unstuck s (thread_of s.funcs t) None store task going (ap (move_on s None) (ap (step_of s) stands ∙ ap exited stuck)))
 
+begins_at : (s : Store) (w : List Item) (f q next : ℕ) → next < length (sequence s.funcs f q) → Begins (rest_at s.funcs f q next ++ w)
+begins_at s w f q next within = begins_past (drop next (sequence s.funcs f q)) w (λ e. absurd (omega (arith, within, length-drop next (sequence s.funcs f q), ap length e)))
+
 -- another one stands behind it
-pub more_behind : (s : Store) (code : List Instr) (t : Task) (place : ℕ) → code ≡ sequence s.funcs t.function t.sequence → place + 1 < length code → Begins (at_next s.funcs t (place + 1)).work
-more_behind s code t place code-is within = held_behind s.funcs (outer_of s.funcs t) t.function t.sequence place code code-is within
+pub carried_on : (s : Store) (t t' : Task) (i : Instr) (next : ℕ) → IsNext i next s t → Carries i next s t t' → next < length (sequence s.funcs t.function t.sequence) → DoesTurn turns.On i next s t t'
+carried_on s t t' i next here (acts, at) within =
+    let begins = begins_at s (outer_of s.funcs t') t.function t.sequence next within in
+    let e : rest_at s.funcs t.function t.sequence next ≡ rest_at s.funcs t'.function t'.sequence t'.place = rw (at.0, at.1, at.2) refl in
+    ((stays s (thread_of s.funcs t) (at_next s.funcs t next) (thread_of s.funcs t') i here.0 acts (subst (λ w. Begins (w ++ outer_of s.funcs t')) e begins), refl), at)
+
+-- a task that begins a sequence there goes on in it
+pub going_at : (s : Store) (t : Task) → t.place < length (sequence s.funcs t.function t.sequence) → (thread_of s.funcs t).work ≢ []
+going_at s t within = begins_going (thread_of s.funcs t).work (begins_at s (outer_of s.funcs t) t.function t.sequence t.place within)
+
+-- the instruction is another's
+pub met_here : (s : Store) (t0 : Thread) (n left next : ℕ) (t t' : Task) (i j : Instr) → GoesQuietly s t0 n s (thread_of s.funcs t) → 0 < left → (thread_of s.funcs t).work ≢ [] → IsNext i next s t → i ≡ j → t' ≡ t → GoesQuietly s t0 n s (thread_of s.funcs t') × (0 < left) × ((thread_of s.funcs t').work ≢ []) × IsNext j next s t'
+met_here s t0 n left next t t' i j steps some going here is same =
+    subst (λ (x : Task). GoesQuietly s t0 n s (thread_of s.funcs x) × (0 < left) × ((thread_of s.funcs x).work ≢ []) × IsNext j next s x) (sym same)
+    (steps, some, going, subst (λ k. IsNext k next s t) is here)
+
+-- the next sequence, wherever it is
+pub begins_there : (s : Store) (funcs : List FuncInst) (t0 : Thread) (n : ℕ) (t : Task) → funcs ≡ s.funcs → GoesQuietly s t0 n s (thread_of s.funcs t) → StoreTyped (outline_of s) → TaskTyped (outline_of s) t0 → (thread_of s.funcs t).work ≢ [] → Begins (thread_of funcs t).work
+begins_there s funcs t0 n t same steps store task going =
+    subst (λ (fs : List FuncInst). Begins (thread_of fs t).work) (sym same)
+    (begins_well (outline_of s) (thread_of s.funcs t) (quietly_typed s s t0 (thread_of s.funcs t) n steps store task).1 going)
+
+-- ---- an instruction that changes the store, behind others
+
+module _ (s0 s1 s2 s3 : Store) (t0 t1 t2 : Thread) (t3 t4 : Task) (a b c : ℕ)
+    (first : GoesQuietly s0 t0 a s1 t1) (second : GoesQuietly s1 t1 b s1 t2) (going : t2.work ≢ []) (store : s3 ≡ s2) (task : t4 ≡ t3) where
+  pub worked_on : (P : List Item → Type 0) → StepsQuietly s1 t2 s2 (thread_of s2.funcs t3) × P (thread_of s2.funcs t3).work → c ≡ suc (a + b) → GoesQuietly s0 t0 c s3 (thread_of s3.funcs t4) × P (thread_of s3.funcs t4).work
+  worked_on P (step, then) is =
+      subst (λ (x : Store). GoesQuietly s0 t0 c x (thread_of x.funcs t4) × P (thread_of x.funcs t4).work) (sym store)
+      (subst (λ (x : Task). GoesQuietly s0 t0 c s2 (thread_of s2.funcs x) × P (thread_of s2.funcs x).work) (sym task)
+      (quietly_on s0 s1 s2 (a + b) c t0 t2 (thread_of s2.funcs t3) (quietly_trans s0 s1 s1 a b (a + b) t0 t1 t2 first second refl) going step is, then))
+
+  pub worked_not : (s2 ≡ s1) × (thread_of s2.funcs t3 ≡ t2) → c ≡ a + b → GoesQuietly s0 t0 c s3 (thread_of s3.funcs t4) × ((thread_of s3.funcs t4).work ≢ [])
+  worked_not (same, still) is =
+      let steps = quietly_trans s0 s1 s1 a b c t0 t1 t2 first second is in
+      subst (λ (x : Store). GoesQuietly s0 t0 c x (thread_of x.funcs t4) × ((thread_of x.funcs t4).work ≢ [])) (sym store)
+      (subst (λ (x : Task). GoesQuietly s0 t0 c s2 (thread_of s2.funcs x) × ((thread_of s2.funcs x).work ≢ [])) (sym task)
+      (subst (λ (x : Store). GoesQuietly s0 t0 c x (thread_of s2.funcs t3)) (sym same) (subst (λ x. GoesQuietly s0 t0 c s1 x) (sym still) steps),
+      subst (λ (x : Thread). x.work ≢ []) (sym still) going))

@@ -1,13 +1,13 @@
 //! Steps in a row that tell nothing: all but those that work on segments, call the host, or go through a table.
 
-ghost use Rattle.std.specs.Prelude.{◌≡◌, ◌≢◌, ◌≤◌, ◌-◌, [], None, false, IsTrue, Some};
+ghost use Rattle.std.specs.Prelude.{◌≡◌, ◌≢◌, ◌<◌, ◌≤◌, ◌-◌, [], None, false, length, IsTrue, Some};
 ghost use Rattle.ms_machine.specs.StraightLine.{DoesCall, DoesLeave, DoesMeet, DoesTurn, DoesWork, IsCalm, IsHalted, IsNext};
 ghost use Rattle.ms_machine.specs.Doing.{Can, Carries};
 ghost use Rattle.ms_machine.specs.Holding.{StoreFits, ThreadFits};
 ghost use Rattle.ms_machine.specs.Step.{Next, act};
 ghost use Rattle.ms_machine.specs.Typing.{StoreTyped, TaskTyped, outline_of};
 ghost use Rattle.ms_module.specs.declared.instr.Instr.TheVariants as instr;
-ghost use Rattle.ms_task.specs.Thread.{Begins};
+ghost use Rattle.ms_task.specs.Thread.{sequence};
 ghost use Rattle.ms_task.specs.View.{at_next, before, thread_of};
 
 use crate::fault::Fault;
@@ -151,8 +151,9 @@ fn turn<G: Gaps, T: Tagged>(
 ) -> Turned
     requires before { before store.now.funcs task.old next ≡ Some instr.now }
     requires next { IsNext instr.now next store.now task.old }
-    requires more { IsTrue more → Begins (at_next store.now.funcs task.old next).work }
-    ensures { DoesTurn result instr.now next store.now task.old task.new }
+    requires more { IsTrue more → next < length (sequence store.now.funcs task.old.function task.old.sequence) }
+    ensures turned { DoesTurn result instr.now next store.now task.old task.new }
+    ensures on { result ≡ Turned.On → IsTrue more }
 {
     match *instr {
         Instr::Block { .. }
