@@ -1,0 +1,14 @@
+use Rattle.std.proofs.Common.{◌≢◌, ◌-◌, ◌≤◌, []}
+use Rattle.ms_machine.specs.StraightLine.{GoesQuietly}
+use Rattle.ms_task.specs.View.{thread_of}
+use Rattle.ms_machine.proofs.straight.go_quietly.Given as goal
+
+abbrev pub invariant-loop-left : goal.invariant-loop-left
+invariant-loop-left g l = record {
+  steps : GoesQuietly l.fn.store (thread_of l.fn.store.funcs l.fn.task) (l.most - l.left) l.store (thread_of l.store.funcs l.task);
+  left : l.left ≤ l.most;
+  going : (thread_of l.store.funcs l.task).work ≢ [];
+}
+
+abbrev pub decreases-loop-left : goal.decreases-loop-left
+decreases-loop-left g l = l.left
