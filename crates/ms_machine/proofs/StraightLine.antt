@@ -150,6 +150,7 @@ module _ (s0 s1 s2 s3 : Store) (t0 t1 t2 : Thread) (t3 t4 : Task) (a b c : ℕ)
   worked_not (same, still) is =
       let steps = quietly_trans s0 s1 s1 a b c t0 t1 t2 first second is in
       subst (λ (x : Store). GoesQuietly s0 t0 c x (thread_of x.funcs t4) × ((thread_of x.funcs t4).work ≢ [])) (sym store)
-      (subst (λ (x : Task). GoesQuietly s0 t0 c s2 (thread_of s2.funcs x) × ((thread_of s2.funcs x).work ≢ [])) (sym task)
-      (subst (λ (x : Store). GoesQuietly s0 t0 c x (thread_of s2.funcs t3)) (sym same) (subst (λ x. GoesQuietly s0 t0 c s1 x) (sym still) steps),
-      subst (λ (x : Thread). x.work ≢ []) (sym still) going))
+      (subst (λ (x : Task). GoesQuietly s0 t0 c s2 (thread_of s2.funcs x) × ((thread_of s2.funcs x).work ≢ [])) (sym task) (
+        subst (λ (x : Store). GoesQuietly s0 t0 c x (thread_of s2.funcs t3)) (sym same) (subst (λ x. GoesQuietly s0 t0 c s1 x) (sym still) steps),
+        subst (λ (x : Thread). x.work ≢ []) (sym still) going,
+      ))

@@ -88,12 +88,7 @@ pub(crate) enum Called {
 
 /// A call of a function that has a body, behind which the task goes on at `next`.
 #[inline(always)]
-fn call<G: Gaps, T: Tagged>(
-    store: &Store<G, T>,
-    task: &mut Task,
-    x: u32,
-    next: usize,
-) -> Called
+fn call<G: Gaps, T: Tagged>(store: &Store<G, T>, task: &mut Task, x: u32, next: usize) -> Called
     requires { Can (instr.Call x) next store.now task.old }
     ensures { DoesCall result (instr.Call x) next store.now task.old task.new }
 {
