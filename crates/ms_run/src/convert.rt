@@ -1,19 +1,21 @@
 //! `asm` and `dis`: a module is read in one form and written in the other.
 
-ghost use Rattle.std.specs.Prelude.{◌≡◌, Some, length};
+ghost use Rattle.std.specs.Prelude.{◌≡◌, IfErr, Some, length};
 ghost use Rattle.ms_outside.specs.Shelf.{SameCounts};
 ghost use Rattle.ms_run.specs.Answers.{Assembles, Disassembles, OnFile};
 ghost use Rattle.ms_run.specs.Lines.{written_line};
+ghost use Rattle.ms_run.specs.Loading.{Binary, IsOfReading, Reads};
 ghost use Rattle.ms_run.specs.Reporting.{Delivers, Did, IsFound, Makes};
 ghost use Rattle.ms_run.specs.declared.status.Status.{Status};
 ghost use Rattle.ms_run.specs.Observed.{reported, shelved};
 
 use crate::fetch::fetch;
 use crate::lines::written_line;
-use crate::loading::{read_binary, read_text};
+use crate::loading::{LoadFault, read_binary, read_text};
 use crate::report::{answer, answer_fault, write_and_answer};
 use crate::status::Status;
 use ms_bin_write::BinFault;
+use ms_module::Module;
 use ms_outside::{Shelf, Sink, Source};
 use std::alloc::Global;
 

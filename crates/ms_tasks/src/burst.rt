@@ -73,14 +73,13 @@ pub(crate) fn burst<G: Gaps, T: Tagged, I: Source, O: Sink>(
     }
     let mut left = most;
     while left > 0 {
-        let (quiet, rest) = run_quietly(store, task, left - 1);
-        match quiet {
-            Stretch::Paused => left = rest,
-            Stretch::Ended => {
+        match run_quietly(store, task, left - 1) {
+            (Stretch::Paused, rest) => left = rest,
+            (Stretch::Ended, rest) => {
                 log.count(most - (rest + 1));
                 return (Halt::Ended, rest + 1);
             }
-            Stretch::Memory => return (Halt::Memory, rest + 1),
+            (Stretch::Memory, rest) => return (Halt::Memory, rest + 1),
         }
         match step(store, task, input, out) {
             Stepped::On(None) => {}

@@ -12,7 +12,7 @@ returns-in-Ok-clause-did g c =
     let bytes = c.in-Ok.bytes.items in
     let has = bytes_more (Holds s.old) (IsFound s) (held_found s) name bytes c.in-Ok.ensures.bytes in
     makes_later _ _ _ _ _ _ _ _ _ _ _ _ _ _ _ (OnFile (IsFound s) name (Disassembles c.args.target.now)) (Disassembles c.args.target.now) bytes (λ status line file does. on_file bytes has does)
-    c.in-Ok.ensures.untouched c.dis_bytes.ensures.reads c.dis_bytes.result (rw c.as_slice.ensures.value at c.dis_bytes.ensures.makes)
+    c.in-Ok.ensures.untouched c.dis_bytes.ensures.reads c.dis_bytes.result c.dis_bytes.ensures.makes
 
 pub returns-in-Err-clause-did : goal.returns-in-Err-clause-did
 returns-in-Err-clause-did g c =
