@@ -18,6 +18,7 @@ use ms_task::{CallFault, Task};
 use ms_types::ValType;
 
 /// `block`.
+#[inline(always)]
 pub(crate) fn block<G: Gaps, T: Tagged>(
     store: &Store<G, T>,
     task: &mut Task,
@@ -36,6 +37,7 @@ pub(crate) fn block<G: Gaps, T: Tagged>(
 }
 
 /// `loop`, which stands before `next`.
+#[inline(always)]
 pub(crate) fn begin_loop<G: Gaps, T: Tagged>(
     store: &Store<G, T>,
     task: &mut Task,
@@ -55,6 +57,7 @@ pub(crate) fn begin_loop<G: Gaps, T: Tagged>(
 }
 
 /// `if`.
+#[inline(always)]
 pub(crate) fn if_else<G: Gaps, T: Tagged>(
     store: &Store<G, T>,
     task: &mut Task,
@@ -75,6 +78,7 @@ pub(crate) fn if_else<G: Gaps, T: Tagged>(
 
 /// `br`.
 #[tactic(auto, using(crate::proofs::Branches::br_can, crate::proofs::Branches::br_does))]
+#[inline(always)]
 pub(crate) fn br<G: Gaps, T: Tagged>(
     store: &Store<G, T>,
     task: &mut Task,
@@ -91,6 +95,7 @@ pub(crate) fn br<G: Gaps, T: Tagged>(
 }
 
 /// `br_if`.
+#[inline(always)]
 pub(crate) fn br_if<G: Gaps, T: Tagged>(
     store: &Store<G, T>,
     task: &mut Task,
@@ -107,6 +112,7 @@ pub(crate) fn br_if<G: Gaps, T: Tagged>(
 
 /// `return`.
 #[tactic(auto, using(crate::proofs::Branches::return_can, crate::proofs::Branches::return_does))]
+#[inline(always)]
 pub(crate) fn return_<G: Gaps, T: Tagged>(
     store: &Store<G, T>,
     task: &mut Task,

@@ -15,7 +15,6 @@ use ms_tagged::Tagged;
 use ms_task::Task;
 
 /// A numeric instruction.
-#[inline(always)]
 pub(crate) fn numeric<G: Gaps, T: Tagged>(
     store: &Store<G, T>,
     task: &mut Task,
@@ -37,6 +36,7 @@ pub(crate) fn numeric<G: Gaps, T: Tagged>(
 }
 
 /// An instruction on the linear memory.
+#[inline(always)]
 pub(crate) fn linear<G: Gaps, T: Tagged>(
     store: &mut Store<G, T>,
     task: &mut Task,

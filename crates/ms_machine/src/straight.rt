@@ -14,9 +14,31 @@ use crate::fault::Fault;
 use crate::store::Store;
 use crate::{control, memory, plain};
 use ms_live::Gaps;
-use ms_module::{Instr, Linear};
+use ms_module::{Instr, Linear, Numeric};
 use ms_tagged::Tagged;
 use ms_task::{CallFault, Task};
+
+/// Carries out a numeric instruction, or says that it traps; then nothing has changed.
+#[inline(always)]
+fn numeric<G: Gaps, T: Tagged>(
+    store: &Store<G, T>,
+    task: &mut Task,
+    i: Numeric,
+    next: usize,
+) -> bool
+    requires { Can (instr.Numeric i) next store.now task.old }
+    ensures on { IsTrue result → Carries (instr.Numeric i) next store.now task.old task.new }
+    ensures off { result ≡ false → task.new ≡ task.old }
+{
+    let _ = store;
+    match ms_operate::numeric(i, &mut task.operands) {
+        Ok(()) => {
+            task.go_to(next);
+            true
+        }
+        Err(_) => false,
+    }
+}
 
 /// Carries out an instruction that stays within its sequence, behind which the task goes on at `next`, or says that it
 /// didn't; then nothing has changed.
@@ -41,7 +63,7 @@ fn carry_straight<G: Gaps, T: Tagged>(
         Instr::GlobalGet(x) => plain::global_get(store, task, x, next).is_ok(),
         Instr::I32Const(n) => plain::i32_const(store, task, n, next).is_ok(),
         Instr::I64Const(n) => plain::i64_const(store, task, n, next).is_ok(),
-        Instr::Numeric(i) => memory::numeric(store, task, i, next).is_ok(),
+        Instr::Numeric(i) => numeric(store, task, i, next),
         _ => false,
     }
 }
@@ -150,6 +172,12 @@ fn turn<G: Gaps, T: Tagged>(
     ensures turned { DoesTurn result instr.now next store.now task.old task.new }
     ensures on { result ≡ Turned.On → IsTrue more }
 {
+    if carry_straight(store, task, instr, next) {
+        if more {
+            return Turned::On;
+        }
+        return leave(store, task);
+    }
     match *instr {
         Instr::Block { .. }
         | Instr::Loop { .. }
@@ -171,22 +199,16 @@ fn turn<G: Gaps, T: Tagged>(
         },
         Instr::GlobalSet(x) => Turned::Global(x),
         Instr::Linear(i) => Turned::Linear(i),
-        _ => {
-            if !carry_straight(store, task, instr, next) {
-                return Turned::Not;
-            }
-            if more {
-                return Turned::On;
-            }
-            leave(store, task)
-        }
+        _ => Turned::Not,
     }
 }
 
 /// What instructions in a row came to.
 #[derive(Clone, Copy)]
 pub(crate) enum Met {
-    /// No steps are left, or the next one is another's.
+    /// The task goes on elsewhere, or no steps are left.
+    Elsewhere,
+    /// The next instruction is another's.
     Paused,
     /// The task has ended.
     Ended,
@@ -198,36 +220,34 @@ pub(crate) enum Met {
     Memory,
 }
 
-/// Carries out the next instructions of a task, at most so many, as long as they take the store as it is. It gives how many
-/// are left.
+/// Carries out the next instructions of a task, at most so many, up to the first one that leads elsewhere, or that doesn't
+/// take the store as it is. It gives how many are left.
 #[inline(always)]
-fn go<G: Gaps, T: Tagged>(store: &Store<G, T>, task: &mut Task, most: u64) -> (Met, u64)
+fn go_straight<G: Gaps, T: Tagged>(store: &Store<G, T>, task: &mut Task, most: u64) -> (Met, u64)
+    requires some { 0 < most }
     requires store { StoreTyped (outline_of store.now) }
     requires task { TaskTyped (outline_of store.now) (thread_of store.now.funcs task.old) }
     requires going { (thread_of store.now.funcs task.old).work ≢ [] }
     ensures left { result.1 ≤ most }
     ensures met { DoesMeet result.0 result.1 most store.now (thread_of store.now.funcs task.old) task.new }
 {
-    let mut left = most;
-    let mut code = task.code(&store.funcs);
-    let mut place = task.place();
-    while left > 0 {
+    let code = task.code(&store.funcs);
+    let start = task.place();
+    let stop = start + (code.len() - start).min(most as usize);
+    let mut place = start;
+    while place < stop {
         let next = place + 1;
-        match turn(store, task, &code[place], next, next < code.len()) {
+        match turn(store, task, &code[place], next, next < stop) {
             Turned::On => place = next,
-            Turned::Elsewhere => {
-                code = task.code(&store.funcs);
-                place = task.place();
-            }
-            Turned::Ended => return (Met::Ended, left - 1),
-            Turned::Linear(i) => return (Met::Linear(i, next), left),
-            Turned::Global(x) => return (Met::Global(x, next), left),
-            Turned::Not => return (Met::Paused, left),
-            Turned::Memory => return (Met::Memory, left),
+            Turned::Elsewhere => return (Met::Elsewhere, most - (next - start) as u64),
+            Turned::Ended => return (Met::Ended, most - (next - start) as u64),
+            Turned::Linear(i) => return (Met::Linear(i, next), most - (place - start) as u64),
+            Turned::Global(x) => return (Met::Global(x, next), most - (place - start) as u64),
+            Turned::Not => return (Met::Paused, most - (place - start) as u64),
+            Turned::Memory => return (Met::Memory, most - (place - start) as u64),
         }
-        left -= 1;
     }
-    (Met::Paused, 0)
+    (Met::Paused, most - (place - start) as u64)
 }
 
 /// What came of an instruction that changes the store.
@@ -317,8 +337,12 @@ fn go_quietly<G: Gaps, T: Tagged>(
 {
     let mut left = most;
     while left > 0 {
-        let (met, rest) = go(store, task, left);
+        let (met, rest) = go_straight(store, task, left);
         let worked = match met {
+            Met::Elsewhere => {
+                left = rest;
+                continue;
+            }
             Met::Paused => return (Stretch::Paused, rest),
             Met::Ended => return (Stretch::Ended, rest),
             Met::Memory => return (Stretch::Memory, rest),
