@@ -88,6 +88,10 @@ fn write_uses(alloc: Global, module: &Module, out: &mut Vec<u8>) -> Result<(), A
     write_lines(alloc, module.fills.as_slice(), out)
 }
 
+/// How much room a text has at first. An allocator gives so much as pages of their own, which take memory once they are written,
+/// and grow without a copy.
+const ROOM: usize = 0x20_0000;
+
 /// Writes a module as text, the same for the same module. The one error is want of memory.
 ///
 /// With at most 500 blocks in one another in each body, and 50,000 locals in each function, the text is read as the module.
@@ -98,7 +102,7 @@ pub fn write(alloc: Global, module: &Module) -> Result<Vec<u8>, AllocError>
     // It then spells no other module.
     ensures only { IfOk result (λ text. (other : Module) → KeepsLimits «module».now → TextSpells text.items other → other ≡ «module».now) }
 {
-    let mut out = Vec::new(alloc);
+    let mut out = Vec::with_capacity(alloc, ROOM)?;
     write_opened(Word::Module, &mut out)?;
     write_parts(alloc, module, &mut out)?;
     write_uses(alloc, module, &mut out)?;
