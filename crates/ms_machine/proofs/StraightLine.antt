@@ -1,9 +1,10 @@
 -- Steps in a row of which the outside and the segment memory see nothing.
-use Rattle.std.proofs.Common.{◌≡◌, ◌≢◌, ◌<◌, ◌≤◌, ◌+◌, ℕ, zero, suc, false, List, [], ◌∷◌, ◌++◌, Some, None, drop, get_or, length, length-drop, min, refl, sym, ap, subst, ◌∙◌, arith}
+use Rattle.std.proofs.Common.{◌≡◌, ◌≢◌, ◌<◌, ◌+◌, ℕ, zero, suc, false, List, [], ◌∷◌, ◌++◌, Some, None, drop, get_or, length, length-drop, refl, sym, ap, subst, ◌∙◌, arith}
 use Rattle.ms_module.specs.declared.instr.Instr.{Instr}
 use Rattle.ms_task.specs.Control.{exit_ended, exited as exited_thread}
 use Rattle.ms_task.specs.Thread.{Activation, Begins, Do, Item, Label, Thread, sequence, thread, with_first}
 use Rattle.ms_task.specs.View.{at_next, before, frame_of, outer_of, rest_at, thread_of}
+use Rattle.ms_task.specs.declared.func.FuncInst.{FuncInst}
 use Rattle.ms_task.specs.declared.task.Task.{Task}
 use Rattle.ms_task.proofs.Items.{begins_past}
 use Rattle.ms_task.proofs.Places.{held, held_before}
@@ -18,6 +19,7 @@ use Rattle.ms_machine.specs.Step.{Next, act, exited, first, step_of}
 use Rattle.ms_machine.specs.Store.{Store}
 use Rattle.ms_machine.specs.Typing.{StoreTyped, TaskTyped, outline_of}
 use Rattle.ms_machine.proofs.Moving.{move_keeps, move_stays_typed, move_unstuck}
+use Rattle.ms_machine.proofs.TypedSteps.{begins_well}
 
 -- ---- one behind the other
 
@@ -128,8 +130,11 @@ met_here s t0 n left next t t' i j steps some going here is same =
     subst (λ (x : Task). GoesQuietly s t0 n s (thread_of s.funcs x) × (0 < left) × ((thread_of s.funcs x).work ≢ []) × IsNext j next s x) (sym same)
     (steps, some, going, subst (λ k. IsNext k next s t) is here)
 
-pub least_of : (a b n : ℕ) → n ≡ min a b → (n ≤ a) × (n ≤ b)
-least_of a b n is = (omega (arith, is), omega (arith, is))
+-- the next sequence, wherever it is
+pub begins_there : (s : Store) (funcs : List FuncInst) (t0 : Thread) (n : ℕ) (t : Task) → funcs ≡ s.funcs → GoesQuietly s t0 n s (thread_of s.funcs t) → StoreTyped (outline_of s) → TaskTyped (outline_of s) t0 → (thread_of s.funcs t).work ≢ [] → Begins (thread_of funcs t).work
+begins_there s funcs t0 n t same steps store task going =
+    subst (λ (fs : List FuncInst). Begins (thread_of fs t).work) (sym same)
+    (begins_well (outline_of s) (thread_of s.funcs t) (quietly_typed s s t0 (thread_of s.funcs t) n steps store task).1 going)
 
 -- ---- an instruction that changes the store, behind others
 

@@ -67,7 +67,6 @@ DoesTurn turns.Memory i next s t t' = Unit {0}
 
 -- several of them, of which so many are left of so many
 abbrev pub DoesMeet : Met → (left most : ℕ) → Store → Thread → Task → Type 0
-DoesMeet mets.Elsewhere left most s t t' = GoesQuietly s t (most - left) s (thread_of s.funcs t') × ((thread_of s.funcs t').work ≢ []) × (left < most)
 DoesMeet mets.Paused left most s t t' = GoesQuietly s t (most - left) s (thread_of s.funcs t') × ((thread_of s.funcs t').work ≢ [])
 DoesMeet mets.Ended left most s t t' = GoesQuietly s t (most - left) s (thread_of s.funcs t') × ((thread_of s.funcs t').work ≡ [])
 DoesMeet (mets.Linear i next) left most s t t' = GoesQuietly s t (most - left) s (thread_of s.funcs t') × (0 < left) × ((thread_of s.funcs t').work ≢ []) × IsNext (instr.Linear i) next s t'

@@ -172,12 +172,6 @@ fn turn<G: Gaps, T: Tagged>(
     ensures turned { DoesTurn result instr.now next store.now task.old task.new }
     ensures on { result ≡ Turned.On → IsTrue more }
 {
-    if carry_straight(store, task, instr, next) {
-        if more {
-            return Turned::On;
-        }
-        return leave(store, task);
-    }
     match *instr {
         Instr::Block { .. }
         | Instr::Loop { .. }
@@ -199,16 +193,22 @@ fn turn<G: Gaps, T: Tagged>(
         },
         Instr::GlobalSet(x) => Turned::Global(x),
         Instr::Linear(i) => Turned::Linear(i),
-        _ => Turned::Not,
+        _ => {
+            if !carry_straight(store, task, instr, next) {
+                return Turned::Not;
+            }
+            if more {
+                return Turned::On;
+            }
+            leave(store, task)
+        }
     }
 }
 
 /// What instructions in a row came to.
 #[derive(Clone, Copy)]
 pub(crate) enum Met {
-    /// The task goes on elsewhere, or no steps are left.
-    Elsewhere,
-    /// The next instruction is another's.
+    /// No steps are left, or the next one is another's.
     Paused,
     /// The task has ended.
     Ended,
@@ -220,34 +220,36 @@ pub(crate) enum Met {
     Memory,
 }
 
-/// Carries out the next instructions of a task, at most so many, up to the first one that leads elsewhere, or that doesn't
-/// take the store as it is. It gives how many are left.
+/// Carries out the next instructions of a task, at most so many, as long as they take the store as it is. It gives how many
+/// are left.
 #[inline(always)]
-fn go_straight<G: Gaps, T: Tagged>(store: &Store<G, T>, task: &mut Task, most: u64) -> (Met, u64)
-    requires some { 0 < most }
+fn go<G: Gaps, T: Tagged>(store: &Store<G, T>, task: &mut Task, most: u64) -> (Met, u64)
     requires store { StoreTyped (outline_of store.now) }
     requires task { TaskTyped (outline_of store.now) (thread_of store.now.funcs task.old) }
     requires going { (thread_of store.now.funcs task.old).work ≢ [] }
     ensures left { result.1 ≤ most }
     ensures met { DoesMeet result.0 result.1 most store.now (thread_of store.now.funcs task.old) task.new }
 {
-    let code = task.code(&store.funcs);
-    let start = task.place();
-    let stop = start + (code.len() - start).min(most as usize);
-    let mut place = start;
-    while place < stop {
+    let mut left = most;
+    let mut code = task.code(&store.funcs);
+    let mut place = task.place();
+    while left > 0 {
         let next = place + 1;
-        match turn(store, task, &code[place], next, next < stop) {
+        match turn(store, task, &code[place], next, next < code.len()) {
             Turned::On => place = next,
-            Turned::Elsewhere => return (Met::Elsewhere, most - (next - start) as u64),
-            Turned::Ended => return (Met::Ended, most - (next - start) as u64),
-            Turned::Linear(i) => return (Met::Linear(i, next), most - (place - start) as u64),
-            Turned::Global(x) => return (Met::Global(x, next), most - (place - start) as u64),
-            Turned::Not => return (Met::Paused, most - (place - start) as u64),
-            Turned::Memory => return (Met::Memory, most - (place - start) as u64),
+            Turned::Elsewhere => {
+                code = task.code(&store.funcs);
+                place = task.place();
+            }
+            Turned::Ended => return (Met::Ended, left - 1),
+            Turned::Linear(i) => return (Met::Linear(i, next), left),
+            Turned::Global(x) => return (Met::Global(x, next), left),
+            Turned::Not => return (Met::Paused, left),
+            Turned::Memory => return (Met::Memory, left),
         }
+        left -= 1;
     }
-    (Met::Paused, most - (place - start) as u64)
+    (Met::Paused, 0)
 }
 
 /// What came of an instruction that changes the store.
@@ -337,12 +339,8 @@ fn go_quietly<G: Gaps, T: Tagged>(
 {
     let mut left = most;
     while left > 0 {
-        let (met, rest) = go_straight(store, task, left);
+        let (met, rest) = go(store, task, left);
         let worked = match met {
-            Met::Elsewhere => {
-                left = rest;
-                continue;
-            }
             Met::Paused => return (Stretch::Paused, rest),
             Met::Ended => return (Stretch::Ended, rest),
             Met::Memory => return (Stretch::Memory, rest),
@@ -364,6 +362,7 @@ fn go_quietly<G: Gaps, T: Tagged>(
 ///
 /// The task stays well typed, and handles that fit go on fitting. Where memory has run out nothing is said of the store and
 /// the task.
+#[inline(never)]
 #[tactic(auto, using(crate::proofs::StraightLine::halted_typed, crate::proofs::StraightLine::halted_fits, crate::proofs::StraightLine::halted_segments))]
 pub fn run_quietly<G: Gaps, T: Tagged>(
     store: &mut Store<G, T>,

@@ -188,6 +188,7 @@ impl Task {
     }
 
     /// Branches at an operand that is not 0.
+    #[inline(always)]
     pub fn branch_if(&mut self, funcs: &[FuncInst], label: u32, next: usize)
         requires { br_if_on label (at_next funcs.now self.old next) ≢ Stuck }
         ensures { To (thread_of funcs.now self.new) ≡ br_if_on label (at_next funcs.now self.old next) }

@@ -9,14 +9,14 @@ use Rattle.ms_machine.proofs.StraightLine.{quietly_trans, quietly_typed, worked_
 use Rattle.ms_machine.proofs.straight.go_quietly.Goals as goal
 use Rattle.ms_machine.proofs.straight.go_quietly.Goals.{in-Linear, in-Global}
 
-pub go_straight-met-requires-clause-store : goal.go_straight-met-requires-clause-store
-go_straight-met-requires-clause-store g c =
+pub go-met-requires-clause-store : goal.go-met-requires-clause-store
+go-met-requires-clause-store g c =
     let s0 = c.args.store.now in
     let l = c.loop-left in
     subst StoreTyped (sym (quietly_typed s0 l.store (thread_of s0.funcs c.args.task.now) (thread_of l.store.funcs l.task) (c.args.most - l.left) l.invariant.steps c.requires.store c.requires.task).0) c.requires.store
 
-pub go_straight-met-requires-clause-task : goal.go_straight-met-requires-clause-task
-go_straight-met-requires-clause-task g c =
+pub go-met-requires-clause-task : goal.go-met-requires-clause-task
+go-met-requires-clause-task g c =
     let s0 = c.args.store.now in
     let l = c.loop-left in
     (quietly_typed s0 l.store (thread_of s0.funcs c.args.task.now) (thread_of l.store.funcs l.task) (c.args.most - l.left) l.invariant.steps c.requires.store c.requires.task).1
@@ -28,11 +28,11 @@ returns-in-Paused-clause-steps g c =
     let l = c.loop-left in
     let s = l.store in
     let t = thread_of s.funcs l.task in
-    let u = thread_of s.funcs c.go_straight-met.new.task in
-    let rest = c.go_straight-met.result.1 in
+    let u = thread_of s.funcs c.go-met.new.task in
+    let rest = c.go-met.result.1 in
     let room = l.invariant.left in
-    let less = c.go_straight-met.ensures.left in
-    let met = subst (λ (m : Met). DoesMeet m rest l.left s t c.go_straight-met.new.task) c.in-Paused.is c.go_straight-met.ensures.met in
+    let less = c.go-met.ensures.left in
+    let met = subst (λ (m : Met). DoesMeet m rest l.left s t c.go-met.new.task) c.in-Paused.is c.go-met.ensures.met in
     (quietly_trans s0 s s (c.args.most - l.left) (l.left - rest) (c.args.most - rest) t0 t u l.invariant.steps met.0 (omega (arith, room, less)), met.1)
 
 pub returns-in-Ended-clause-steps : goal.returns-in-Ended-clause-steps
@@ -42,11 +42,11 @@ returns-in-Ended-clause-steps g c =
     let l = c.loop-left in
     let s = l.store in
     let t = thread_of s.funcs l.task in
-    let u = thread_of s.funcs c.go_straight-met.new.task in
-    let rest = c.go_straight-met.result.1 in
+    let u = thread_of s.funcs c.go-met.new.task in
+    let rest = c.go-met.result.1 in
     let room = l.invariant.left in
-    let less = c.go_straight-met.ensures.left in
-    let met = subst (λ (m : Met). DoesMeet m rest l.left s t c.go_straight-met.new.task) c.in-Ended.is c.go_straight-met.ensures.met in
+    let less = c.go-met.ensures.left in
+    let met = subst (λ (m : Met). DoesMeet m rest l.left s t c.go-met.new.task) c.in-Ended.is c.go-met.ensures.met in
     (quietly_trans s0 s s (c.args.most - l.left) (l.left - rest) (c.args.most - rest) t0 t u l.invariant.steps met.0 (omega (arith, room, less)), met.1)
 
 pub returns-in-Ended-worked-clause-steps : goal.returns-in-Ended-worked-clause-steps
@@ -56,18 +56,18 @@ returns-in-Ended-worked-clause-steps g c =
     let l = c.loop-left in
     let s = l.store in
     let t = thread_of s.funcs l.task in
-    let u = thread_of s.funcs c.go_straight-met.new.task in
-    let rest = c.go_straight-met.result.1 in
+    let u = thread_of s.funcs c.go-met.new.task in
+    let rest = c.go-met.result.1 in
     let room = l.invariant.left in
-    let less = c.go_straight-met.ensures.left in
+    let less = c.go-met.ensures.left in
     elim c.match-met.branch [
       | in-Linear w ↦
-          let met = subst (λ (m : Met). DoesMeet m rest l.left s t c.go_straight-met.new.task) w.in-Linear.is c.go_straight-met.ensures.met in
+          let met = subst (λ (m : Met). DoesMeet m rest l.left s t c.go-met.new.task) w.in-Linear.is c.go-met.ensures.met in
           let some = met.1 in
           let work = subst (λ (q : Worked). DoesWork q s u w.linear-worked.new.store (thread_of w.linear-worked.new.store.funcs w.linear-worked.new.task)) (sym w.worked-is ∙ c.in-Ended-worked.is) w.linear-worked.ensures in
           worked_on s0 s w.linear-worked.new.store c.match-met.store t0 t u w.linear-worked.new.task c.match-met.task (c.args.most - l.left) (l.left - rest) (c.args.most - (rest - 1)) l.invariant.steps met.0 met.2 w.store-is w.task-is (λ (w : List Item). w ≡ []) work (omega (arith, room, less, some))
       | in-Global w ↦
-          let met = subst (λ (m : Met). DoesMeet m rest l.left s t c.go_straight-met.new.task) w.in-Global.is c.go_straight-met.ensures.met in
+          let met = subst (λ (m : Met). DoesMeet m rest l.left s t c.go-met.new.task) w.in-Global.is c.go-met.ensures.met in
           let some = met.1 in
           let work = subst (λ (q : Worked). DoesWork q s u w.global-worked.new.store (thread_of w.global-worked.new.store.funcs w.global-worked.new.task)) (sym w.worked-is ∙ c.in-Ended-worked.is) w.global-worked.ensures in
           worked_on s0 s w.global-worked.new.store c.match-met.store t0 t u w.global-worked.new.task c.match-met.task (c.args.most - l.left) (l.left - rest) (c.args.most - (rest - 1)) l.invariant.steps met.0 met.2 w.store-is w.task-is (λ (w : List Item). w ≡ []) work (omega (arith, room, less, some))
@@ -80,18 +80,18 @@ returns-in-Not-clause-steps g c =
     let l = c.loop-left in
     let s = l.store in
     let t = thread_of s.funcs l.task in
-    let u = thread_of s.funcs c.go_straight-met.new.task in
-    let rest = c.go_straight-met.result.1 in
+    let u = thread_of s.funcs c.go-met.new.task in
+    let rest = c.go-met.result.1 in
     let room = l.invariant.left in
-    let less = c.go_straight-met.ensures.left in
+    let less = c.go-met.ensures.left in
     elim c.match-met.branch [
       | in-Linear w ↦
-          let met = subst (λ (m : Met). DoesMeet m rest l.left s t c.go_straight-met.new.task) w.in-Linear.is c.go_straight-met.ensures.met in
+          let met = subst (λ (m : Met). DoesMeet m rest l.left s t c.go-met.new.task) w.in-Linear.is c.go-met.ensures.met in
           let some = met.1 in
           let work = subst (λ (q : Worked). DoesWork q s u w.linear-worked.new.store (thread_of w.linear-worked.new.store.funcs w.linear-worked.new.task)) (sym w.worked-is ∙ c.in-Not.is) w.linear-worked.ensures in
           worked_not s0 s w.linear-worked.new.store c.match-met.store t0 t u w.linear-worked.new.task c.match-met.task (c.args.most - l.left) (l.left - rest) (c.args.most - rest) l.invariant.steps met.0 met.2 w.store-is w.task-is work (omega (arith, room, less, some))
       | in-Global w ↦
-          let met = subst (λ (m : Met). DoesMeet m rest l.left s t c.go_straight-met.new.task) w.in-Global.is c.go_straight-met.ensures.met in
+          let met = subst (λ (m : Met). DoesMeet m rest l.left s t c.go-met.new.task) w.in-Global.is c.go-met.ensures.met in
           let some = met.1 in
           let work = subst (λ (q : Worked). DoesWork q s u w.global-worked.new.store (thread_of w.global-worked.new.store.funcs w.global-worked.new.task)) (sym w.worked-is ∙ c.in-Not.is) w.global-worked.ensures in
           worked_not s0 s w.global-worked.new.store c.match-met.store t0 t u w.global-worked.new.task c.match-met.task (c.args.most - l.left) (l.left - rest) (c.args.most - rest) l.invariant.steps met.0 met.2 w.store-is w.task-is work (omega (arith, room, less, some))
@@ -104,39 +104,21 @@ loop-left-preserved g c =
     let l = c.loop-left in
     let s = l.store in
     let t = thread_of s.funcs l.task in
-    let u = thread_of s.funcs c.go_straight-met.new.task in
-    let rest = c.go_straight-met.result.1 in
+    let u = thread_of s.funcs c.go-met.new.task in
+    let rest = c.go-met.result.1 in
     let room = l.invariant.left in
-    let less = c.go_straight-met.ensures.left in
+    let less = c.go-met.ensures.left in
     elim c.match-met.branch [
       | in-Linear w ↦
-          let met = subst (λ (m : Met). DoesMeet m rest l.left s t c.go_straight-met.new.task) w.in-Linear.is c.go_straight-met.ensures.met in
+          let met = subst (λ (m : Met). DoesMeet m rest l.left s t c.go-met.new.task) w.in-Linear.is c.go-met.ensures.met in
           let some = met.1 in
           let work = subst (λ (q : Worked). DoesWork q s u w.linear-worked.new.store (thread_of w.linear-worked.new.store.funcs w.linear-worked.new.task)) (sym w.worked-is ∙ c.in-On.is) w.linear-worked.ensures in
           let all = worked_on s0 s w.linear-worked.new.store c.match-met.store t0 t u w.linear-worked.new.task c.match-met.task (c.args.most - l.left) (l.left - rest) (c.args.most - (rest - 1)) l.invariant.steps met.0 met.2 w.store-is w.task-is (λ (w : List Item). w ≢ []) work (omega (arith, room, less, some)) in
           record { steps = all.0; left = omega (arith, room, less); going = all.1 }
       | in-Global w ↦
-          let met = subst (λ (m : Met). DoesMeet m rest l.left s t c.go_straight-met.new.task) w.in-Global.is c.go_straight-met.ensures.met in
+          let met = subst (λ (m : Met). DoesMeet m rest l.left s t c.go-met.new.task) w.in-Global.is c.go-met.ensures.met in
           let some = met.1 in
           let work = subst (λ (q : Worked). DoesWork q s u w.global-worked.new.store (thread_of w.global-worked.new.store.funcs w.global-worked.new.task)) (sym w.worked-is ∙ c.in-On.is) w.global-worked.ensures in
           let all = worked_on s0 s w.global-worked.new.store c.match-met.store t0 t u w.global-worked.new.task c.match-met.task (c.args.most - l.left) (l.left - rest) (c.args.most - (rest - 1)) l.invariant.steps met.0 met.2 w.store-is w.task-is (λ (w : List Item). w ≢ []) work (omega (arith, room, less, some)) in
           record { steps = all.0; left = omega (arith, room, less); going = all.1 }
     ]
-
-pub loop-left-preserved-in-Elsewhere : goal.loop-left-preserved-in-Elsewhere
-loop-left-preserved-in-Elsewhere g c =
-    let s0 = c.args.store.now in
-    let t0 = thread_of s0.funcs c.args.task.now in
-    let l = c.loop-left in
-    let s = l.store in
-    let t = thread_of s.funcs l.task in
-    let u = thread_of s.funcs c.go_straight-met.new.task in
-    let rest = c.go_straight-met.result.1 in
-    let room = l.invariant.left in
-    let less = c.go_straight-met.ensures.left in
-    let met = subst (λ (m : Met). DoesMeet m rest l.left s t c.go_straight-met.new.task) c.in-Elsewhere.is c.go_straight-met.ensures.met in
-    record {
-      steps = quietly_trans s0 s s (c.args.most - l.left) (l.left - rest) (c.args.most - rest) t0 t u l.invariant.steps met.0 (omega (arith, room, less));
-      left = omega (arith, room, less);
-      going = met.1;
-    }

@@ -1,0 +1,19 @@
+use Rattle.std.proofs.Common.{◌≡◌, ◌≢◌, ◌-◌, ◌*◌, ◌^◌, ◌<◌, ◌≤◌, [], length}
+use Rattle.ms_machine.specs.StraightLine.{GoesQuietly}
+use Rattle.ms_task.specs.Thread.{sequence}
+use Rattle.ms_task.specs.View.{thread_of}
+use Rattle.ms_machine.proofs.straight.go.Given as goal
+
+abbrev pub invariant-loop-left : goal.invariant-loop-left
+invariant-loop-left g l = record {
+  steps : GoesQuietly l.store (thread_of l.store.funcs l.fn.task) (l.most - l.left) l.store (thread_of l.store.funcs l.task);
+  left : l.left ≤ l.most;
+  going : (thread_of l.store.funcs l.task).work ≢ [];
+  code : l.code ≡ sequence l.store.funcs l.task.function l.task.sequence;
+  place : l.place ≡ l.task.place;
+  within : l.place < length l.code;
+  far : length l.code * 16 < 2 ^ 63;
+}
+
+abbrev pub decreases-loop-left : goal.decreases-loop-left
+decreases-loop-left g l = l.left
