@@ -1,6 +1,6 @@
 //! That reading succeeds with ample memory. What is read, and each fault with its place, is proved.
 
-use super::*;
+use ms_bin_read::read;
 use std::test::Fail;
 
 /// The types `[] -> [i32]` and `[] -> []`, a function of each, a table, a memory, a global of 9, the export of function 0, a

@@ -1,9 +1,11 @@
 //! That writing succeeds with ample memory. Which bytes are written is proved.
 
-use super::*;
-use ms_module::{Builder, Code, Export, ExportDesc, Instr, Locals, Name, Opening};
-use ms_types::{FuncType, ValType};
-use std::alloc::AllocError;
+use ms_bin_write::write;
+use ms_module::{
+    Builder, Code, Export, ExportDesc, Func, Instr, Locals, Module, Name, Opening,
+};
+use ms_types::{FuncType, ValType, Vector};
+use std::alloc::{AllocError, Global};
 use std::test::Fail;
 
 /// The type `[] -> [i32]`, a function of it, its export as `main`, and its code: three locals in two runs, and an `if`.

@@ -1,6 +1,6 @@
 //! A cursor over a slice with ample bytes, and at its end.
 
-use super::*;
+use ms_bytes::Cursor;
 
 #[test]
 fn goes_from_left_to_right(rt: HostRuntime) {

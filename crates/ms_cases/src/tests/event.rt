@@ -1,6 +1,6 @@
 //! That printing succeeds with ample memory. Which texts are those of which events is proved.
 
-use crate::Event;
+use ms_event::Event;
 use std::test::Fail;
 
 #[test]

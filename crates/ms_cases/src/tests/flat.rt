@@ -1,7 +1,8 @@
 //! That a walk succeeds with ample memory. Which items it gives is proved.
 
-use super::*;
-use ms_module::Builder;
+use ms_flat::Walk;
+use ms_module::{Builder, Instr, Opening};
+use ms_types::ValType;
 use std::test::Fail;
 
 #[test]

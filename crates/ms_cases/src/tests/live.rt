@@ -2,8 +2,8 @@
 
 ghost use Rattle.std.specs.Prelude.{◌≤◌, All};
 
-use crate::{Gaps, ListGaps, Live, MOST_LIVE, TreeGaps};
 use ms_handle::Kind;
+use ms_live::{Gaps, ListGaps, Live, MOST_LIVE, TreeGaps};
 use std::alloc::Global;
 use std::process::Abort;
 use std::test::Fail;

@@ -1,6 +1,6 @@
 //! The builder of bodies with ample memory.
 
-use super::*;
+use ms_module::{BrTable, Builder, Instr, Name, Opening, Targets};
 use ms_types::{ValType, Vector};
 use std::test::Fail;
 

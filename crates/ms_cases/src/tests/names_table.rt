@@ -1,6 +1,6 @@
 //! A table of names with ample memory.
 
-use super::*;
+use ms_names::{NameTable, Seen};
 use std::test::Fail;
 
 #[test]

@@ -1,6 +1,8 @@
 //! Vectors from outside. What each operation gives is proved for all numbers.
 
-use crate::*;
+use ms_num::{
+    Arith, add, clz, div_s, extend, lt_s, mul, narrow, popcnt, rem_s, rem_u, rotl, rotr, shr_s,
+};
 
 #[test]
 fn outside_vectors(rt: HostRuntime) {

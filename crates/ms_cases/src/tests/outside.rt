@@ -1,6 +1,6 @@
 //! Sources, sinks and shelves that fail in the middle.
 
-use crate::{
+use ms_outside::{
     Fetched, FileShelf, Got, MemShelf, MemSink, MemSource, Put, Shelf, Sink, Source, StdSink,
     StdSource, SureShelf, SureSink, SureSource,
 };

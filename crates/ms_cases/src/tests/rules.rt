@@ -1,7 +1,7 @@
 //! That the context of a module is made with ample memory. What it has is proved.
 
-use super::*;
 use ms_module::{Import, ImportDesc, Module, Name};
+use ms_rules::Context;
 use ms_types::{FuncType, Vector};
 use std::alloc::{AllocError, Global};
 use std::test::Fail;

@@ -6,10 +6,11 @@ ghost use Rattle.ms_task.specs.Control.{Stuck, call_on, if_on};
 ghost use Rattle.ms_task.specs.View.{at_next};
 ghost use Rattle.ms_task.specs.declared.func.FuncInst.{FuncInst};
 
-use super::*;
-use crate::control::CallFault;
+use ms_linear::Value;
 use ms_module::{Builder, Code, Instr, Locals, Opening};
+use ms_task::{FuncInst, Task};
 use ms_types::{FuncType, SharedType, ValType, Vector};
+use std::alloc::{AllocError, Global};
 use std::test::Fail;
 
 /// A body that is a block with one instruction.

@@ -1,6 +1,6 @@
 //! That reading succeeds with ample memory. What is read, and each fault with its place, is proved.
 
-use super::*;
+use ms_text_read::read;
 use std::test::Fail;
 
 /// A field of each kind, both forms of tables and memories, inline exports and imports, identifiers of each index space.

@@ -1,7 +1,7 @@
 //! A small module as text, with ample memory.
 
-use crate::write;
 use ms_module::{Builder, Export, ExportDesc, Func, Instr, Locals, Module, Name};
+use ms_text_write::write;
 use ms_types::{FuncType, ValType, Vector};
 use std::alloc::{AllocError, Global};
 use std::test::Fail;

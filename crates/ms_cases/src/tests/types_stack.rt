@@ -1,6 +1,6 @@
 //! A stack with ample memory.
 
-use super::*;
+use ms_types::Stack;
 use std::test::Fail;
 
 #[test]

@@ -1,6 +1,6 @@
 //! Lines of words, and what the rules of the command line make of each.
 
-use super::{Request, WordsFault, parse_words, usage};
+use ms_words::{Request, WordsFault, parse_words, usage};
 
 /// Words that are taken, and what they ask for.
 struct Taken {
