@@ -2,6 +2,7 @@
 
 mod bin_read;
 mod bin_write;
+mod bodies;
 mod bytes;
 mod event;
 mod flat;

@@ -1,7 +1,7 @@
 use Rattle.std.proofs.Common.{◌==◌, ap, get_or, length, ◌∙◌}
 use Rattle.std.proofs.lemmas.Option.{slice_get-get_or}
 use Rattle.ms_task.proofs.Tested.{none_there}
-use Rattle.ms_task.proofs.task.tests.can_start.Goals as goal
+use Rattle.ms_cases.proofs.tests.task.can_start.Goals as goal
 
 pub returns : goal.returns
 returns c = λ h.
