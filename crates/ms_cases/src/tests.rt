@@ -1,8 +1,7 @@
-//! Tests, a file a crate.
+//! Tests, a file a crate, and what they share.
 
 mod bin_read;
 mod bin_write;
-mod bodies;
 mod bytes;
 mod event;
 mod flat;
@@ -23,6 +22,7 @@ mod operate;
 mod outside;
 mod rules;
 mod segment;
+mod shared;
 mod task;
 mod text_lex;
 mod text_read;

@@ -1,6 +1,6 @@
 //! That writing succeeds with ample memory. Which bytes are written is proved.
 
-use super::bodies::{Part, body, gives, main_export, module, one};
+use super::shared::{Part, body, gives, main_export, module, one};
 use ms_bin_write::write;
 use ms_module::{Func, Locals, Module, Opening};
 use ms_types::{ValType, Vector};

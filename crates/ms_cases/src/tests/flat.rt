@@ -1,16 +1,15 @@
 //! That a walk succeeds with ample memory. Which items it gives is proved.
 
-use super::bodies::{Part, body};
+use super::shared::{Part, body, text_of};
 use ms_flat::Walk;
 use ms_module::Opening;
 use ms_types::ValType;
 use std::alloc::Global;
 use std::test::Fail;
 
-/// What the next step of a walk gives, printed.
 fn next_text(alloc: Global, walk: &mut Walk<'_>) -> Result<String, Fail> {
     let step = walk.next()?;
-    Ok(format!(in alloc; "{step:?}")?)
+    text_of(alloc, &step)
 }
 
 #[test]

@@ -1,11 +1,24 @@
 //! The builder of bodies with ample memory.
 
-use super::bodies::{Part, add_all, finish};
+use super::shared::{Part, add_all, finish, text_of};
 use ms_module::{BrTable, Builder, Code, Name, Opening, Targets};
 use ms_types::{ValType, Vector};
 use std::alloc::Global;
 use std::process::Abort;
 use std::test::Fail;
+
+fn expect_sequence<R: Abort>(
+    rt: &R,
+    alloc: Global,
+    code: &Code,
+    number: usize,
+    wanted: &str,
+) -> Result<(), Fail> {
+    assert!(rt; number < code.len());
+    let text = text_of(alloc, &code.sequence(number))?;
+    assert_eq!(rt; text.as_str(), wanted);
+    Ok(())
+}
 
 /// The body has these sequences, as they are printed.
 fn expect_sequences<R: Abort>(
@@ -16,9 +29,7 @@ fn expect_sequences<R: Abort>(
 ) -> Result<(), Fail> {
     assert_eq!(rt; code.len(), wanted.len());
     for (number, wanted) in wanted.iter().enumerate() {
-        assert!(rt; number < code.len());
-        let text = format!(in alloc; "{:?}", code.sequence(number))?;
-        assert_eq!(rt; text.as_str(), *wanted);
+        expect_sequence(rt, alloc, code, number, wanted)?;
     }
     Ok(())
 }

@@ -1,5 +1,6 @@
 //! Sources, sinks and shelves that fail in the middle.
 
+use super::shared::text_of;
 use ms_outside::{
     Fetched, FileShelf, Got, MemShelf, MemSink, MemSource, Put, Shelf, Sink, Source, StdSink,
     StdSource, SureShelf, SureSink, SureSource, SystemDisk,
@@ -122,12 +123,10 @@ fn sink_in_memory(rt: HostRuntime) -> Result<(), Fail> {
     Ok(())
 }
 
-/// What a write to a shelf gives.
 fn put_on<S: Shelf>(alloc: Global, shelf: &mut S, name: &str, bytes: &[u8]) -> Put {
     shelf.write(alloc, name, bytes)
 }
 
-/// What a read from a shelf gives, printed.
 fn read_from<S: Shelf>(
     alloc: Global,
     shelf: &mut S,
@@ -135,7 +134,7 @@ fn read_from<S: Shelf>(
     limit: u32,
 ) -> Result<String, Fail> {
     let fetched = shelf.read(alloc, name, limit);
-    Ok(format!(in alloc; "{fetched:?}")?)
+    text_of(alloc, &fetched)
 }
 
 /// Each row is what is written to a name, the answer, what it then has, and the faults of writes.

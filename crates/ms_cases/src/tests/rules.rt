@@ -1,6 +1,6 @@
 //! That the context of a module is made with ample memory. What it has is proved.
 
-use super::bodies::{gives, module, one};
+use super::shared::{gives, module, one};
 use ms_module::{Import, ImportDesc, Module, Name};
 use ms_rules::Context;
 use ms_types::Vector;
@@ -15,17 +15,15 @@ fn import(alloc: Global) -> Result<Import, AllocError> {
     })
 }
 
+fn imports(alloc: Global) -> Result<Vector<Import>, AllocError> {
+    one(alloc, import(alloc)?)
+}
+
 /// A module with a type, and an imported function of it.
 fn with_import(alloc: Global) -> Result<Module, AllocError> {
-    let imports = one(alloc, import(alloc)?)?;
+    let imports = imports(alloc)?;
     let sigs = one(alloc, gives(alloc, Vector::new(alloc)))?;
-    Ok(module(
-        alloc,
-        sigs,
-        imports,
-        Vector::new(alloc),
-        Vector::new(alloc),
-    ))
+    Ok(module(alloc, sigs, imports, Vector::new(alloc), Vector::new(alloc)))
 }
 
 #[test]

@@ -6,7 +6,7 @@ ghost use Rattle.ms_task.specs.Control.{Stuck, call_on, if_on};
 ghost use Rattle.ms_task.specs.View.{at_next};
 ghost use Rattle.ms_task.specs.declared.func.FuncInst.{FuncInst};
 
-use super::bodies::{Part, body, gives};
+use super::shared::{Part, body, gives};
 use ms_linear::Value;
 use ms_module::{Locals, Opening};
 use ms_task::{FuncInst, Task};
@@ -31,13 +31,19 @@ fn func<R: Abort>(rt: &R, alloc: Global) -> Result<FuncInst, AllocError> {
     })
 }
 
+fn has_no_parameters(ty: &SharedType) -> bool
+    ensures { IsTrue result → ty.now.params ≡ [] }
+{
+    ty.params().is_empty()
+}
+
 fn can_start(funcs: &[FuncInst], address: u32) -> bool
     ensures { IsTrue result → (g : FuncInst) × (slice_get funcs.now address ≡ Some g) × (g.ty.params ≡ []) }
 {
     if address as usize >= funcs.len() {
         return false;
     }
-    funcs[address as usize].ty.params().is_empty()
+    has_no_parameters(&funcs[address as usize].ty)
 }
 
 fn can_choose(task: &Task, next: usize) -> bool

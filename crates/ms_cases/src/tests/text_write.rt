@@ -1,6 +1,6 @@
 //! A small module as text, with ample memory.
 
-use super::bodies::{Part, body, gives, main_export, module, one};
+use super::shared::{Part, body, gives, main_export, module, one};
 use ms_module::{Func, Locals, Module};
 use ms_text_write::write;
 use ms_types::{ValType, Vector};
@@ -8,7 +8,6 @@ use std::alloc::{AllocError, Global};
 use std::process::Abort;
 use std::test::Fail;
 
-/// A function which gives 7.
 fn func<R: Abort>(rt: &R, alloc: Global) -> Result<Func, AllocError> {
     Ok(Func {
         sig: 0,
@@ -17,7 +16,7 @@ fn func<R: Abort>(rt: &R, alloc: Global) -> Result<Func, AllocError> {
     })
 }
 
-/// A module that exports it.
+/// A module that exports a function which gives 7.
 fn seven<R: Abort>(rt: &R, alloc: Global) -> Result<Module, AllocError> {
     let funcs = one(alloc, func(rt, alloc)?)?;
     let sigs = one(alloc, gives(alloc, one(alloc, ValType::I32)?))?;

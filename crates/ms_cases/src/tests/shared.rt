@@ -1,9 +1,11 @@
-//! Bodies and modules that tests are made of.
+//! What tests share: bodies, modules, and how a value is printed.
 
 use ms_module::{Builder, Code, Export, ExportDesc, Func, Import, Instr, Module, Name, Opening};
 use ms_types::{FuncType, ValType, Vector};
 use std::alloc::{AllocError, Global};
+use std::fmt::Debug;
 use std::process::Abort;
+use std::test::Fail;
 
 /// What is added to a body.
 #[derive(Clone, Copy)]
@@ -17,7 +19,7 @@ pub enum Part {
     Close,
 }
 
-/// Adds a part. A `Turn` stands where one may, and only an open block is closed.
+/// Adds a part. A `Turn` begins the second sequence of an `if`.
 pub fn add<R: Abort>(rt: &R, body: &mut Builder, part: Part) -> Result<(), AllocError> {
     match part {
         Part::Open(opening, ty) => body.open(opening, ty),
@@ -37,7 +39,6 @@ pub fn add<R: Abort>(rt: &R, body: &mut Builder, part: Part) -> Result<(), Alloc
     }
 }
 
-/// Adds parts one after the other.
 pub fn add_all<R: Abort>(rt: &R, body: &mut Builder, parts: &[Part]) -> Result<(), AllocError> {
     for part in parts {
         add(rt, body, *part)?;
@@ -45,7 +46,7 @@ pub fn add_all<R: Abort>(rt: &R, body: &mut Builder, parts: &[Part]) -> Result<(
     Ok(())
 }
 
-/// The body that is made of these parts, which close each block.
+/// The body, no block of which is open.
 pub fn finish<R: Abort>(rt: &R, body: Builder) -> Code {
     assert!(rt; body.depth() == 0);
     body.finish()
@@ -58,7 +59,9 @@ pub fn body<R: Abort>(rt: &R, alloc: Global, parts: &[Part]) -> Result<Code, All
 }
 
 pub fn one<T: Drop>(alloc: Global, item: T) -> Result<Vector<T>, AllocError> {
-    Ok(Vector::from_vec(vec![in alloc; item]?))
+    let mut items = Vector::new(alloc);
+    items.push(item)?;
+    Ok(items)
 }
 
 /// The type of a function without parameters.
@@ -97,4 +100,23 @@ pub fn module(
         fills: Vector::new(alloc),
         start: None,
     }
+}
+
+/// How many types, imports, functions, tables, memories, globals, exports, elements and pieces of data a module has.
+pub fn counts(module: &Module) -> [usize; 9] {
+    [
+        module.sigs.len(),
+        module.imports.len(),
+        module.funcs.len(),
+        module.tables.len(),
+        module.memories.len(),
+        module.globals.len(),
+        module.exports.len(),
+        module.elements.len(),
+        module.fills.len(),
+    ]
+}
+
+pub fn text_of<T: Debug>(alloc: Global, value: &T) -> Result<String, Fail> {
+    Ok(format!(in alloc; "{value:?}")?)
 }
