@@ -235,6 +235,12 @@ fn source_over_a_reader_that_fails(rt: HostRuntime) {
     }
 }
 
+fn expect_slow_put<R: Abort>(rt: &R, writer: &mut Slow, piece: &[u8], answer: Put, faults: u64) {
+    let mut sink = StdSink::new(writer);
+    assert_eq!(rt; sink.put(piece), answer);
+    assert_eq!(rt; sink.faults(), faults);
+}
+
 #[test]
 fn sink_over_writers_that_fail(rt: HostRuntime) -> Result<(), Fail> {
     let long = vec![in rt.alloc(); 7u8; 20_000]?;
@@ -255,10 +261,12 @@ fn sink_over_writers_that_fail(rt: HostRuntime) -> Result<(), Fail> {
             at_end,
             flushes,
         };
-        let mut sink = StdSink::new(&mut writer);
-        assert_eq!(rt; sink.put(piece), answer, "room {room}, then {at_end:?}");
-        assert_eq!(rt; sink.faults(), faults);
-        assert_eq!(rt; writer.held.as_slice(), held);
+        expect_slow_put(&rt, &mut writer, piece, answer, faults);
+        assert_eq!(rt;
+            writer.held.as_slice(),
+            held,
+            "room {room}, then {at_end:?}"
+        );
     }
     Ok(())
 }

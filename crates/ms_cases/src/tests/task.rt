@@ -61,16 +61,21 @@ fn can_call(task: &Task, funcs: &[FuncInst], address: u32, next: usize) -> bool
     funcs[address as usize].ty.params().len() <= task.operands.len()
 }
 
+/// Opens a block, and one arm of an `if`.
+fn open<R: Abort>(rt: &R, task: &mut Task, funcs: &[FuncInst]) -> Result<(), AllocError> {
+    task.block(1, None, 1, false)?;
+    task.operands.push(Value::I32(1))?;
+    assert!(rt; can_choose(task, 1));
+    task.if_else(funcs, 1, None, None, 1)
+}
+
 #[test]
 fn begins_opens_and_calls(rt: HostRuntime) -> Result<(), Fail> {
     let funcs = [func(&rt, rt.alloc())?];
     assert!(rt; can_start(&funcs, 0));
     let mut task = Task::start(rt.alloc(), &funcs, 0)?;
     assert!(rt; !task.has_ended(&funcs));
-    task.block(1, None, 1, false)?;
-    task.operands.push(Value::I32(1))?;
-    assert!(rt; can_choose(&task, 1));
-    task.if_else(&funcs, 1, None, None, 1)?;
+    open(&rt, &mut task, &funcs)?;
     assert!(rt; can_call(&task, &funcs, 0, 1));
     assert_eq!(rt; task.call(&funcs, 0, 1), Ok(()));
     assert_eq!(rt; task.frames.len(), 1);
