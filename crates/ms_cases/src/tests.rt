@@ -1,4 +1,4 @@
-//! Tests, a file a crate.
+//! Tests, a file a crate, and what they share.
 
 mod bin_read;
 mod bin_write;
@@ -22,10 +22,11 @@ mod operate;
 mod outside;
 mod rules;
 mod segment;
+mod shared;
 mod task;
+mod text_lex;
 mod text_read;
-mod text_read_spaces;
-mod text_read_tokens;
+mod text_space;
 mod text_write;
 mod types_stack;
 mod types_types;

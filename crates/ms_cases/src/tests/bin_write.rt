@@ -1,9 +1,11 @@
 //! That writing succeeds with ample memory. Which bytes are written is proved.
 
-use super::*;
-use ms_module::{Builder, Code, Export, ExportDesc, Instr, Locals, Name, Opening};
-use ms_types::{FuncType, ValType};
-use std::alloc::AllocError;
+use super::shared::{Part, body, gives, main_export, module, one};
+use ms_bin_write::write;
+use ms_module::{Func, Locals, Module, Opening};
+use ms_types::{ValType, Vector};
+use std::alloc::{AllocError, Global};
+use std::process::Abort;
 use std::test::Fail;
 
 /// The type `[] -> [i32]`, a function of it, its export as `main`, and its code: three locals in two runs, and an `if`.
@@ -26,66 +28,31 @@ fn locals(alloc: Global) -> Result<Locals, AllocError> {
     Ok(locals)
 }
 
-fn body(alloc: Global) -> Result<Code, AllocError> {
-    let mut builder = Builder::new(alloc)?;
-    builder.open(Opening::If, None)?;
-    builder.add(Instr::I32Const(-1))?;
-    if builder.depth() > 0 {
-        builder.close()?;
-    }
-    builder.add(Instr::Return)?;
-    if builder.depth() > 0 {
-        return Err(AllocError);
-    }
-    Ok(builder.finish())
-}
-
-fn sigs(alloc: Global) -> Result<Vector<FuncType>, AllocError> {
-    let mut results = Vector::new(alloc);
-    results.push(ValType::I32)?;
-    let mut sigs = Vector::new(alloc);
-    sigs.push(FuncType {
-        params: Vector::new(alloc),
-        results,
-    })?;
-    Ok(sigs)
-}
-
-fn funcs(alloc: Global) -> Result<Vector<Func>, AllocError> {
-    let mut funcs = Vector::new(alloc);
-    funcs.push(Func {
+fn func<R: Abort>(rt: &R, alloc: Global) -> Result<Func, AllocError> {
+    let parts = [
+        Part::Open(Opening::If, None),
+        Part::Const(-1),
+        Part::Close,
+        Part::Return,
+    ];
+    Ok(Func {
         sig: 0,
         locals: locals(alloc)?,
-        body: body(alloc)?,
-    })?;
-    Ok(funcs)
+        body: body(rt, alloc, &parts)?,
+    })
 }
 
-fn exports(alloc: Global) -> Result<Vector<Export>, AllocError> {
-    let mut exports = Vector::new(alloc);
-    exports.push(Export {
-        name: Name::new(alloc, "main")?,
-        desc: ExportDesc::Func(0),
-    })?;
-    Ok(exports)
+fn function<R: Abort>(rt: &R, alloc: Global) -> Result<Module, AllocError> {
+    let funcs = one(alloc, func(rt, alloc)?)?;
+    let sigs = one(alloc, gives(alloc, one(alloc, ValType::I32)?))?;
+    let exports = one(alloc, main_export(alloc)?)?;
+    Ok(module(alloc, sigs, Vector::new(alloc), funcs, exports))
 }
 
 #[test]
 fn writes_a_function(rt: HostRuntime) -> Result<(), Fail> {
-    let alloc = rt.alloc();
-    let module = Module {
-        sigs: sigs(alloc)?,
-        imports: Vector::new(alloc),
-        funcs: funcs(alloc)?,
-        tables: Vector::new(alloc),
-        memories: Vector::new(alloc),
-        globals: Vector::new(alloc),
-        exports: exports(alloc)?,
-        elements: Vector::new(alloc),
-        fills: Vector::new(alloc),
-        start: None,
-    };
-    let bytes = write(alloc, &module)?;
+    let module = function(&rt, rt.alloc())?;
+    let bytes = write(rt.alloc(), &module)?;
     assert_eq!(rt; bytes.as_slice(), MODULE.as_slice());
     Ok(())
 }

@@ -1,7 +1,21 @@
 //! That printing succeeds with ample memory. Which texts are those of which events is proved.
 
-use crate::Event;
+use ms_event::Event;
+use std::alloc::{AllocError, Global};
+use std::process::Abort;
 use std::test::Fail;
+
+fn expect_event<R: Abort>(
+    rt: &R,
+    alloc: Global,
+    event: &Event,
+    text: &str,
+) -> Result<(), AllocError> {
+    let printed = event.print(alloc)?;
+    assert_eq!(rt; printed.as_slice(), text.as_bytes(), "printed {text}");
+    assert_eq!(rt; Event::parse(text.as_bytes()), Some(*event), "read {text}");
+    Ok(())
+}
 
 #[test]
 fn texts_and_events(rt: HostRuntime) -> Result<(), Fail> {
@@ -27,9 +41,7 @@ fn texts_and_events(rt: HostRuntime) -> Result<(), Fail> {
         (Event::Free { id: 0 }, "free 0"),
     ];
     for (event, text) in &table {
-        let printed = event.print(rt.alloc())?;
-        assert_eq!(rt; printed.as_slice(), text.as_bytes(), "printed {text}");
-        assert_eq!(rt; Event::parse(text.as_bytes()), Some(*event), "read {text}");
+        expect_event(&rt, rt.alloc(), event, text)?;
     }
     assert_eq!(rt; Event::parse(b"free 01"), None);
     Ok(())

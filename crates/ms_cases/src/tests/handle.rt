@@ -1,6 +1,6 @@
 //! Vectors from outside. What each operation gives is proved for all handles.
 
-use crate::{Apart, Handle, add, diff, eq, is_null, slice};
+use ms_handle::{Apart, Handle, add, diff, eq, is_null, slice};
 
 /// A handle with the bound from 16 to 56.
 const WHOLE: Handle = Handle::Good {

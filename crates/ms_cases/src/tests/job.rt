@@ -1,6 +1,6 @@
 //! Texts with their answers, with ample memory.
 
-use crate::{Job, JobFault, SchedFault, parse, schedule};
+use ms_job::{Job, JobFault, SchedFault, parse, schedule};
 use std::test::Fail;
 
 /// Whether a text is answered so: its fault, or none.

@@ -1,6 +1,7 @@
 //! Vectors from outside. Which bytes spell which number is proved.
 
-use super::*;
+use ms_bytes::Cursor;
+use ms_leb::{Leb, read_s, read_u};
 
 #[test]
 fn outside_vectors(rt: HostRuntime) {

@@ -1,6 +1,6 @@
 //! Vectors from outside. Which bytes are written is proved.
 
-use super::*;
+use ms_leb::{write_s, write_u};
 use std::test::Fail;
 
 #[test]

@@ -1,6 +1,7 @@
 //! That a memory is made and grows with ample memory. What each call does is proved.
 
-use super::*;
+use ms_linear::{Linear, Outside};
+use ms_types::Limits;
 use std::test::Fail;
 
 #[test]

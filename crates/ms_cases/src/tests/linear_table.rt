@@ -1,7 +1,8 @@
 //! That a table is made with ample memory. Where a call through it goes is proved.
 
-use super::*;
-use ms_types::Vector;
+use ms_linear::{CallTrap, Entry, FuncRef, Table, target};
+use ms_types::{FuncType, Limits, SharedType, ValType, Vector};
+use std::alloc::{AllocError, Global};
 use std::test::Fail;
 
 /// A function type of one parameter.

@@ -2,9 +2,9 @@
 
 ghost use Rattle.std.specs.Prelude.{◌≤◌, All};
 
-use crate::{Gaps, ListGaps, Live, MOST_LIVE, TreeGaps};
 use ms_handle::Kind;
-use std::alloc::Global;
+use ms_live::{Gaps, ListGaps, Live, MOST_LIVE, TreeGaps};
+use std::alloc::{AllocError, Global};
 use std::process::Abort;
 use std::test::Fail;
 
@@ -17,6 +17,31 @@ struct Memory<G: Gaps> {
 }
 
 impl<G: Gaps> Memory<G> {
+    fn new(alloc: Global, capacity: u32) -> Result<Self, AllocError> {
+        Ok(Memory {
+            gaps: G::new(alloc, capacity)?,
+            newest: 0,
+        })
+    }
+
+    fn count(&self) -> u32 {
+        self.gaps.count()
+    }
+
+    fn place(&self, size: u32) -> Option<u32> {
+        self.gaps.place(size)
+    }
+
+    fn find(&self, id: u64) -> Option<Live> {
+        self.gaps.find(id)
+    }
+
+    /// The live segment with `i` older ones. There is one.
+    fn nth<R: Abort>(&self, rt: &R, i: usize) -> Live {
+        assert!(rt; i < self.gaps.count() as usize);
+        self.gaps.nth(i as u32)
+    }
+
     /// A segment of this size becomes live. Gives its base, or none where there is no place.
     fn enter<R: Abort>(&mut self, rt: &R, size: u32) -> Option<u32> {
         assert!(rt; self.gaps.count() < MOST_LIVE);
@@ -59,10 +84,7 @@ fn run<G: Gaps, R: Abort>(
     steps: &[Step],
     live: &[u64],
 ) -> Result<(), Fail> {
-    let mut memory = Memory {
-        gaps: G::new(alloc, capacity)?,
-        newest: 0,
-    };
+    let mut memory: Memory<G> = Memory::new(alloc, capacity)?;
     for step in steps {
         match *step {
             Step::Enter(size, base) => {
@@ -73,28 +95,31 @@ fn run<G: Gaps, R: Abort>(
                 );
             }
             Step::Full(size) => {
-                assert_eq!(rt; memory.gaps.place(size), None, "{step:?} at {capacity}");
+                assert_eq!(rt; memory.place(size), None, "{step:?} at {capacity}");
             }
             Step::Leave(id) => memory.leave(rt, id),
         }
     }
-    lists(rt, &memory.gaps, memory.newest, live);
+    lists(rt, &memory, live);
     Ok(())
 }
 
+/// The live segment with `i` older ones has this identity, and is found by it.
+fn is_nth<G: Gaps, R: Abort>(rt: &R, memory: &Memory<G>, i: usize, id: u64) {
+    let segment = memory.nth(rt, i);
+    assert_eq!(rt; segment.id, id);
+    assert_eq!(rt; memory.find(id), Some(segment), "identity {id}");
+}
+
 /// Of the identities up to the newest, these and no others are live, in this order.
-fn lists<G: Gaps, R: Abort>(rt: &R, gaps: &G, newest: u64, live: &[u64]) {
-    assert_eq!(rt; gaps.count() as usize, live.len());
-    let mut older = 0;
-    for id in 1..=newest {
-        let found = gaps.find(id);
-        if live.contains(&id) {
-            assert!(rt; older < gaps.count());
-            assert_eq!(rt; found, Some(gaps.nth(older)), "identity {id}");
-            assert_eq!(rt; gaps.nth(older).id, id);
-            older += 1;
-        } else {
-            assert_eq!(rt; found, None, "identity {id}");
+fn lists<G: Gaps, R: Abort>(rt: &R, memory: &Memory<G>, live: &[u64]) {
+    assert_eq!(rt; memory.count() as usize, live.len());
+    for (i, id) in live.iter().enumerate() {
+        is_nth(rt, memory, i, *id);
+    }
+    for id in 1..=memory.newest {
+        if !live.contains(&id) {
+            assert_eq!(rt; memory.find(id), None, "identity {id}");
         }
     }
 }
@@ -203,65 +228,79 @@ fn first_fit(rt: HostRuntime) -> Result<(), Fail> {
 }
 
 /// As many segments as may be live at once, each of no bytes.
-fn fill<G: Gaps, R: Abort>(rt: &R, alloc: Global) -> Result<(), Fail> {
-    let mut memory = Memory {
-        gaps: G::new(alloc, 16)?,
-        newest: 0,
-    };
+fn fill<G: Gaps, R: Abort>(rt: &R, memory: &mut Memory<G>) {
     for _i in 0..MOST_LIVE {
         assert_eq!(rt; memory.enter(rt, 0), Some(0));
     }
-    assert_eq!(rt; memory.gaps.count(), 65_536);
-    assert_eq!(rt; memory.gaps.place(16), Some(0));
-    assert_eq!(rt; memory.gaps.place(17), None);
-    assert_eq!(rt; memory.gaps.find(65_537), None);
-    let last = memory.gaps.find(65_536);
-    assert!(rt; 65_535 < memory.gaps.count());
-    assert_eq!(rt; last, Some(memory.gaps.nth(65_535)));
+    assert_eq!(rt; memory.count(), 65_536);
+    assert_eq!(rt; memory.find(65_537), None);
+    is_nth(rt, memory, 65_535, 65_536);
+}
+
+/// Behind them there is room for 16 bytes, once one has ended.
+fn use_room<G: Gaps, R: Abort>(rt: &R, memory: &mut Memory<G>) {
+    assert_eq!(rt; memory.place(16), Some(0));
+    assert_eq!(rt; memory.place(17), None);
     memory.leave(rt, 1);
-    assert_eq!(rt; memory.gaps.count(), 65_535);
+    assert_eq!(rt; memory.count(), 65_535);
     assert_eq!(rt; memory.enter(rt, 16), Some(0));
-    assert_eq!(rt; memory.gaps.place(1), None);
+    assert_eq!(rt; memory.place(1), None);
+}
+
+fn fill_and_use<G: Gaps, R: Abort>(rt: &R, alloc: Global) -> Result<(), Fail> {
+    let mut memory: Memory<G> = Memory::new(alloc, 16)?;
+    fill(rt, &mut memory);
+    use_room(rt, &mut memory);
     Ok(())
 }
 
 #[test]
 fn most_live(rt: HostRuntime) -> Result<(), Fail> {
-    fill::<ListGaps, HostRuntime>(&rt, rt.alloc())?;
-    fill::<TreeGaps, HostRuntime>(&rt, rt.alloc())
+    fill_and_use::<ListGaps, HostRuntime>(&rt, rt.alloc())?;
+    fill_and_use::<TreeGaps, HostRuntime>(&rt, rt.alloc())
+}
+
+fn end_in_both<R: Abort>(
+    rt: &R,
+    list: &mut Memory<ListGaps>,
+    trees: &mut Memory<TreeGaps>,
+    i: usize,
+) {
+    let segment = list.nth(rt, i);
+    assert_eq!(rt; trees.nth(rt, i), segment);
+    assert_eq!(rt; trees.find(segment.id), Some(segment));
+    list.leave(rt, segment.id);
+    trees.leave(rt, segment.id);
+    assert_eq!(rt; trees.find(segment.id), None);
+}
+
+/// A segment ends or begins in both, by the draw.
+fn turn_both<R: Abort>(
+    rt: &R,
+    list: &mut Memory<ListGaps>,
+    trees: &mut Memory<TreeGaps>,
+    draw: u32,
+) {
+    let count = list.count();
+    assert_eq!(rt; trees.count(), count);
+    if count > 0 && draw % 5 < 2 {
+        end_in_both(rt, list, trees, (draw % count) as usize);
+    } else {
+        let size = draw / 8 % 90;
+        assert_eq!(rt; trees.enter(rt, size), list.enter(rt, size));
+    }
 }
 
 /// Makes the same calls on a list and on trees, and compares each answer.
 fn both<R: Abort>(rt: &R, alloc: Global, capacity: u32) -> Result<(), Fail> {
-    let mut list = Memory {
-        gaps: ListGaps::new(alloc, capacity)?,
-        newest: 0,
-    };
-    let mut trees = Memory {
-        gaps: TreeGaps::new(alloc, capacity)?,
-        newest: 0,
-    };
+    let mut list: Memory<ListGaps> = Memory::new(alloc, capacity)?;
+    let mut trees: Memory<TreeGaps> = Memory::new(alloc, capacity)?;
     let mut seed = u64::from(capacity);
-    for turn in 0..300u32 {
+    for _turn in 0..300 {
         seed = seed
             .wrapping_mul(6_364_136_223_846_793_005)
             .wrapping_add(1_442_695_040_888_963_407);
-        let draw = ((seed >> 33) % 65_536) as u32;
-        let count = list.gaps.count();
-        assert_eq!(rt; trees.gaps.count(), count, "turn {turn}");
-        if count > 0 && draw % 5 < 2 {
-            let i = draw % count;
-            assert!(rt; i < trees.gaps.count());
-            let segment = list.gaps.nth(i);
-            assert_eq!(rt; trees.gaps.nth(i), segment, "turn {turn}");
-            assert_eq!(rt; trees.gaps.find(segment.id), Some(segment));
-            list.leave(rt, segment.id);
-            trees.leave(rt, segment.id);
-            assert_eq!(rt; trees.gaps.find(segment.id), None);
-        } else {
-            let size = draw / 8 % 90;
-            assert_eq!(rt; trees.enter(rt, size), list.enter(rt, size), "turn {turn}");
-        }
+        turn_both(rt, &mut list, &mut trees, (seed >> 33) as u32 % 65_536);
     }
     Ok(())
 }

@@ -2,7 +2,8 @@
 
 ghost use Rattle.std.specs.Prelude.{◌+◌, ◌<◌, ◌^◌, IsTrue, length};
 
-use super::*;
+use ms_module::Locals;
+use ms_types::ValType;
 use std::test::Fail;
 
 fn has_room(locals: &Locals, count: u32) -> bool

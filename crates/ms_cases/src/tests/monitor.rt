@@ -1,7 +1,7 @@
 //! Traces that were judged by hand, each with the event that is rejected, counted from 1.
 
-use crate::{JudgeFault, Monitor, TraceFault, Verdict, judge, parse_trace, print_trace};
 use ms_event::Event;
+use ms_monitor::{JudgeFault, Monitor, TraceFault, Verdict, judge, parse_trace, print_trace};
 use std::alloc::{AllocError, Global};
 use std::test::Fail;
 

@@ -1,6 +1,6 @@
 //! Bytes that are UTF-8, and others.
 
-use super::*;
+use ms_names::utf8;
 
 /// Characters of one and of four bytes, one that is cut off, and half of a pair.
 #[test]

@@ -6,8 +6,10 @@ ghost use Rattle.ms_linear.specs.Memory.{Memory};
 ghost use Rattle.ms_operate.specs.Memories.{linear_on};
 ghost use Rattle.ms_operate.specs.Effects.{Stuck};
 
-use super::*;
-use ms_types::Limits;
+use ms_linear::{Linear as LinearMemory, Value};
+use ms_module::Linear;
+use ms_operate::linear;
+use ms_types::{Limits, Stack};
 use std::alloc::{AllocError, Global};
 use std::process::Abort;
 use std::test::Fail;

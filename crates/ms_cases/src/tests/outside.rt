@@ -1,10 +1,14 @@
 //! Sources, sinks and shelves that fail in the middle.
 
-use crate::{
+use super::shared::text_of;
+use ms_outside::{
     Fetched, FileShelf, Got, MemShelf, MemSink, MemSource, Put, Shelf, Sink, Source, StdSink,
-    StdSource, SureShelf, SureSink, SureSource,
+    StdSource, SureShelf, SureSink, SureSource, SystemDisk,
 };
+use std::alloc::{AllocError, AllocGlobal, Global};
 use std::io::{ErrorKind, Read, Write};
+use std::process::Abort;
+use std::rt::Files;
 use std::test::Fail;
 use std::{env, fs, io, process};
 
@@ -96,45 +100,91 @@ fn source_in_memory(rt: HostRuntime) -> Result<(), Fail> {
     Ok(())
 }
 
+/// Each row is the piece, the answer, what is then held, and the faults.
+fn expect_puts<R: Abort>(rt: &R, sink: &mut MemSink, rows: &[(&[u8], Put, &[u8], u64)]) {
+    for (piece, answer, held, faults) in rows {
+        assert_eq!(rt; sink.put(piece), *answer);
+        assert_eq!(rt; sink.held(), *held);
+        assert_eq!(rt; sink.faults(), *faults);
+    }
+}
+
 #[test]
 fn sink_in_memory(rt: HostRuntime) -> Result<(), Fail> {
     let mut sink = MemSink::new(rt.alloc(), 2)?;
     sink.fail_at(2)?;
-    let pieces = [1, 2, 3, 4];
-    // the numbers of the first and the last byte put, the answer, how many bytes are then held, and the faults
-    let puts = [
-        (0, 1, Put::Done, 1, 0),
-        (1, 3, Put::Failed, 1, 1),
-        (1, 4, Put::Done, 4, 1),
-        (4, 4, Put::Done, 4, 1),
+    let rows = [
+        (b"a".as_slice(), Put::Done, b"a".as_slice(), 0),
+        (b"bc", Put::Failed, b"a", 1),
+        (b"bcd", Put::Done, b"abcd", 1),
+        (b"", Put::Done, b"abcd", 1),
     ];
-    for (from, to, answer, held, faults) in puts {
-        assert!(rt; from <= to && to <= 4 && held <= 4);
-        assert_eq!(rt; sink.put(&pieces[from..to]), answer);
-        assert_eq!(rt; sink.held(), &pieces[..held]);
-        assert_eq!(rt; sink.faults(), faults);
+    expect_puts(&rt, &mut sink, &rows);
+    Ok(())
+}
+
+fn put_on<S: Shelf>(alloc: Global, shelf: &mut S, name: &str, bytes: &[u8]) -> Put {
+    shelf.write(alloc, name, bytes)
+}
+
+fn read_from<S: Shelf>(
+    alloc: Global,
+    shelf: &mut S,
+    name: &str,
+    limit: u32,
+) -> Result<String, Fail> {
+    let fetched = shelf.read(alloc, name, limit);
+    text_of(alloc, &fetched)
+}
+
+/// Each row is what is written to a name, the answer, what it then has, and the faults of writes.
+fn expect_writes<R: Abort>(
+    rt: &R,
+    alloc: Global,
+    shelf: &mut MemShelf,
+    rows: &[(&str, &[u8], Put, &[u8], u64)],
+) {
+    for (name, bytes, answer, kept, faults) in rows {
+        assert_eq!(rt; put_on(alloc, shelf, name, bytes), *answer);
+        assert_eq!(rt; shelf.get(name), Some(*kept));
+        assert_eq!(rt; shelf.write_faults(), *faults);
+    }
+}
+
+/// Each row is a name, the limit, the answer, and the faults of reads of this name.
+fn expect_reads<R: Abort>(
+    rt: &R,
+    alloc: Global,
+    shelf: &mut MemShelf,
+    rows: &[(&str, u32, &str, u64)],
+) -> Result<(), Fail> {
+    for (name, limit, answer, faults) in rows {
+        let text = read_from(alloc, shelf, name, *limit)?;
+        assert_eq!(rt; text.as_str(), *answer, "{name} within {limit}");
+        assert_eq!(rt; shelf.read_faults(name), *faults);
     }
     Ok(())
 }
 
-#[test]
-fn shelf_in_memory(rt: HostRuntime) -> Result<(), Fail> {
-    let mut shelf = MemShelf::new(rt.alloc());
-    shelf.add(rt.alloc(), "a b", [1].to_vec(rt.alloc())?)?;
+/// A shelf with one file, whose second read and second write fail.
+fn scripted_shelf(alloc: Global) -> Result<MemShelf, AllocError> {
+    let bytes = [1].to_vec(alloc)?;
+    let mut shelf = MemShelf::new(alloc);
+    shelf.add(alloc, "a b", bytes)?;
     shelf.fail_read_at(2)?;
     shelf.fail_write_at(2)?;
-    // what is written to the name, the answer, what it then has, and the faults of writes
+    Ok(shelf)
+}
+
+#[test]
+fn shelf_in_memory(rt: HostRuntime) -> Result<(), Fail> {
+    let mut shelf = scripted_shelf(rt.alloc())?;
     let writes = [
         ("a b", b"123".as_slice(), Put::Done, b"123".as_slice(), 0),
         ("a b", b"4", Put::Failed, b"123", 1),
         ("long", b"1234", Put::Done, b"1234", 1),
     ];
-    for (name, bytes, answer, kept, faults) in writes {
-        assert_eq!(rt; shelf.write(rt.alloc(), name, bytes), answer);
-        assert_eq!(rt; shelf.get(name), Some(kept));
-        assert_eq!(rt; shelf.write_faults(), faults);
-    }
-    // the limit, the answer, and the faults of reads of this name
+    expect_writes(&rt, rt.alloc(), &mut shelf, &writes);
     let reads = [
         ("a b", 3, "Bytes([49, 50, 51])", 0),
         ("a b", 3, "Failed", 1),
@@ -144,28 +194,26 @@ fn shelf_in_memory(rt: HostRuntime) -> Result<(), Fail> {
         ("long", 3, "TooLong", 0),
         ("long", 4, "Bytes([49, 50, 51, 52])", 0),
     ];
-    for (name, limit, answer, faults) in reads {
-        let fetched = shelf.read(rt.alloc(), name, limit);
-        let text = format!(in rt.alloc(); "{fetched:?}")?;
-        assert_eq!(rt; text.as_str(), answer, "{name} within {limit}");
-        assert_eq!(rt; shelf.read_faults(name), faults);
-    }
-    Ok(())
+    expect_reads(&rt, rt.alloc(), &mut shelf, &reads)
 }
 
 #[test]
-fn objects_that_never_fail(rt: HostRuntime) -> Result<(), Fail> {
+fn source_and_sink_that_never_fail(rt: HostRuntime) -> Result<(), Fail> {
     let mut source = SureSource::new([7].to_vec(rt.alloc())?);
     assert_eq!(rt; source.take(), Got::Byte(7));
     assert_eq!(rt; source.take(), Got::End);
     let mut sink = SureSink::new(rt.alloc(), 1)?;
     assert_eq!(rt; sink.put(b"abc"), Put::Done);
     assert_eq!(rt; sink.held(), b"abc".as_slice());
+    Ok(())
+}
+
+#[test]
+fn shelf_that_never_fails(rt: HostRuntime) -> Result<(), Fail> {
     let mut shelf = SureShelf::new(rt.alloc());
-    assert_eq!(rt; shelf.write(rt.alloc(), "a", b"1"), Put::Done);
+    assert_eq!(rt; put_on(rt.alloc(), &mut shelf, "a", b"1"), Put::Done);
     for (name, answer) in [("a", "Bytes([49])"), ("b", "Bytes([])")] {
-        let fetched = shelf.read(rt.alloc(), name, 1);
-        let text = format!(in rt.alloc(); "{fetched:?}")?;
+        let text = read_from(rt.alloc(), &mut shelf, name, 1)?;
         assert_eq!(rt; text.as_str(), answer);
     }
     Ok(())
@@ -185,6 +233,12 @@ fn source_over_a_reader_that_fails(rt: HostRuntime) {
         assert_eq!(rt; source.take(), got);
         assert_eq!(rt; source.faults(), faults);
     }
+}
+
+fn expect_slow_put<R: Abort>(rt: &R, writer: &mut Slow, piece: &[u8], answer: Put, faults: u64) {
+    let mut sink = StdSink::new(writer);
+    assert_eq!(rt; sink.put(piece), answer);
+    assert_eq!(rt; sink.faults(), faults);
 }
 
 #[test]
@@ -207,12 +261,73 @@ fn sink_over_writers_that_fail(rt: HostRuntime) -> Result<(), Fail> {
             at_end,
             flushes,
         };
-        let mut sink = StdSink::new(&mut writer);
-        assert_eq!(rt; sink.put(piece), answer, "room {room}, then {at_end:?}");
-        assert_eq!(rt; sink.faults(), faults);
-        assert_eq!(rt; writer.held.as_slice(), held);
+        expect_slow_put(&rt, &mut writer, piece, answer, faults);
+        assert_eq!(rt;
+            writer.held.as_slice(),
+            held,
+            "room {room}, then {at_end:?}"
+        );
     }
     Ok(())
+}
+
+/// Writes each piece to a path in turn, and reads it back.
+fn expect_pieces<R: Abort + AllocGlobal + Files, S: Shelf>(
+    rt: &R,
+    shelf: &mut S,
+    path: &str,
+    pieces: &[&[u8]],
+) -> Result<(), Fail> {
+    for bytes in pieces {
+        assert_eq!(rt; put_on(rt.alloc(), shelf, path, bytes), Put::Done);
+        assert_eq!(rt; fs::read(rt, path)?.as_slice(), *bytes);
+        match shelf.read(rt.alloc(), path, 20_000) {
+            Fetched::Bytes(read) => assert_eq!(rt; read.as_slice(), *bytes),
+            fetched => assert!(rt; false, "{fetched:?}"),
+        }
+    }
+    Ok(())
+}
+
+/// Each row is a path, the limit, the answer, and the faults of all reads.
+fn expect_files<R: Abort + Files>(
+    rt: &R,
+    alloc: Global,
+    shelf: &mut FileShelf<SystemDisk<&R>>,
+    rows: &[(&str, u32, &str, u64)],
+) -> Result<(), Fail> {
+    for (path, limit, answer, faults) in rows {
+        let text = read_from(alloc, shelf, path, *limit)?;
+        assert_eq!(rt; text.as_str(), *answer, "{path} within {limit}");
+        assert_eq!(rt; shelf.read_faults(), *faults);
+    }
+    Ok(())
+}
+
+/// Writes and reads a file at this path, and tries the path of a folder and one where no file can be.
+fn try_files<R: Abort + AllocGlobal + Files>(
+    rt: &R,
+    path: &str,
+    folder: &str,
+    missing: &str,
+) -> Result<(), Fail> {
+    let long = vec![in rt.alloc(); 7u8; 20_000]?;
+    let mut shelf = FileShelf::new(rt);
+    expect_pieces(rt, &mut shelf, path, &[long.as_slice(), b"", b"abc"])?;
+    assert_eq!(rt;
+        put_on(rt.alloc(), &mut shelf, missing, b"abc"),
+        Put::Failed
+    );
+    assert_eq!(rt; shelf.write_faults(), 1);
+    let reads = [
+        (path, 3, "Bytes([97, 98, 99])", 0),
+        (path, 2, "TooLong", 0),
+        (path, 0, "TooLong", 0),
+        (missing, 9, "Failed", 1),
+        (folder, 9, "Failed", 2),
+        (path, u32::MAX, "Bytes([97, 98, 99])", 2),
+    ];
+    expect_files(rt, rt.alloc(), &mut shelf, &reads)
 }
 
 #[test]
@@ -222,35 +337,7 @@ fn shelf_of_files(rt: HostRuntime) -> Result<(), Fail> {
     let folder = env::temp_dir(&rt)?;
     let path = folder.join(rt.alloc(), name.as_str())?;
     let missing = path.join(rt.alloc(), "missing")?;
-    let long = vec![in rt.alloc(); 7u8; 20_000]?;
-    let mut shelf = FileShelf::new(&rt);
-    for bytes in [long.as_slice(), b"", b"abc"] {
-        assert_eq!(rt; shelf.write(rt.alloc(), path.as_str(), bytes), Put::Done);
-        assert_eq!(rt; fs::read(&rt, path.as_str())?.as_slice(), bytes);
-        match shelf.read(rt.alloc(), path.as_str(), 20_000) {
-            Fetched::Bytes(read) => assert_eq!(rt; read.as_slice(), bytes),
-            fetched => assert!(rt; false, "{fetched:?}"),
-        }
-    }
-    assert_eq!(rt;
-        shelf.write(rt.alloc(), missing.as_str(), b"abc"),
-        Put::Failed
-    );
-    assert_eq!(rt; shelf.write_faults(), 1);
-    let reads = [
-        (path.as_str(), 3, "Bytes([97, 98, 99])", 0),
-        (path.as_str(), 2, "TooLong", 0),
-        (path.as_str(), 0, "TooLong", 0),
-        (missing.as_str(), 9, "Failed", 1),
-        (folder.as_str(), 9, "Failed", 2),
-        (path.as_str(), u32::MAX, "Bytes([97, 98, 99])", 2),
-    ];
-    for (name, limit, answer, faults) in reads {
-        let fetched = shelf.read(rt.alloc(), name, limit);
-        let text = format!(in rt.alloc(); "{fetched:?}")?;
-        assert_eq!(rt; text.as_str(), answer, "{name} within {limit}");
-        assert_eq!(rt; shelf.read_faults(), faults);
-    }
+    try_files(&rt, path.as_str(), folder.as_str(), missing.as_str())?;
     fs::remove_file(&rt, path.as_str())?;
     Ok(())
 }

@@ -1,8 +1,9 @@
 //! That the context of a module is made with ample memory. What it has is proved.
 
-use super::*;
+use super::shared::{gives, module, one};
 use ms_module::{Import, ImportDesc, Module, Name};
-use ms_types::{FuncType, Vector};
+use ms_rules::Context;
+use ms_types::Vector;
 use std::alloc::{AllocError, Global};
 use std::test::Fail;
 
@@ -14,29 +15,20 @@ fn import(alloc: Global) -> Result<Import, AllocError> {
     })
 }
 
+fn imports(alloc: Global) -> Result<Vector<Import>, AllocError> {
+    one(alloc, import(alloc)?)
+}
+
 /// A module with a type, and an imported function of it.
-fn module(alloc: Global) -> Result<Module, AllocError> {
-    let ty = FuncType {
-        params: Vector::new(alloc),
-        results: Vector::new(alloc),
-    };
-    Ok(Module {
-        sigs: Vector::from_vec(vec![in alloc; ty]?),
-        imports: Vector::from_vec(vec![in alloc; import(alloc)?]?),
-        funcs: Vector::new(alloc),
-        tables: Vector::new(alloc),
-        memories: Vector::new(alloc),
-        globals: Vector::new(alloc),
-        exports: Vector::new(alloc),
-        elements: Vector::new(alloc),
-        fills: Vector::new(alloc),
-        start: None,
-    })
+fn with_import(alloc: Global) -> Result<Module, AllocError> {
+    let imports = imports(alloc)?;
+    let sigs = one(alloc, gives(alloc, Vector::new(alloc)))?;
+    Ok(module(alloc, sigs, imports, Vector::new(alloc), Vector::new(alloc)))
 }
 
 #[test]
 fn imports_are_there(rt: HostRuntime) -> Result<(), Fail> {
-    let module = module(rt.alloc())?;
+    let module = with_import(rt.alloc())?;
     let context = Context::of(rt.alloc(), &module)?;
     assert_eq!(rt; context.funcs_len(), 1);
     assert!(rt; context.func(0).is_some());

@@ -1,10 +1,10 @@
 //! That the segment memory over its two parts begins with ample memory, in each of the forms that these have. What each call
 //! does is proved.
 
-use crate::{SegTrap, Segments};
 use ms_event::Event;
 use ms_handle::Kind;
 use ms_live::{Gaps, ListGaps, TreeGaps};
+use ms_segment::{SegTrap, Segments};
 use ms_tagged::{ByteTags, Granules, Tagged};
 use std::alloc::{AllocError, Global};
 use std::process::Abort;

@@ -1,6 +1,6 @@
 //! Vectors with ample memory, and with none.
 
-use super::*;
+use ms_types::{FuncType, ValType, Vector};
 use std::test::Fail;
 
 #[test]

@@ -1,6 +1,8 @@
 //! Lines of words, and what the rules of the command line make of each.
 
-use super::{Request, WordsFault, parse_words, usage};
+use ms_words::{Request, WordsFault, parse_words, usage};
+use std::alloc::Global;
+use std::process::Abort;
 
 /// Words that are taken, and what they ask for.
 struct Taken {
@@ -187,22 +189,29 @@ const REFUSED: [&[&str]; 46] = [
     &["mswasm", "check", "--a"],
 ];
 
-#[test]
-fn words_ask_or_are_refused(rt: HostRuntime) {
-    let alloc = rt.alloc();
-    for (at, line) in TAKEN.iter().enumerate() {
+fn expect_taken<R: Abort>(rt: &R, alloc: Global, rows: &[Taken]) {
+    for (at, line) in rows.iter().enumerate() {
         assert_eq!(rt;
             parse_words(alloc, line.words),
             Ok(line.request),
             "line {at}"
         );
     }
-    for (at, words) in REFUSED.iter().enumerate() {
+}
+
+fn expect_refused<R: Abort>(rt: &R, alloc: Global, rows: &[&[&str]]) {
+    for (at, words) in rows.iter().enumerate() {
         assert_eq!(rt;
             parse_words(alloc, words),
             Err(WordsFault::Refused),
             "line {at}"
         );
     }
+}
+
+#[test]
+fn words_ask_or_are_refused(rt: HostRuntime) {
+    expect_taken(&rt, rt.alloc(), &TAKEN);
+    expect_refused(&rt, rt.alloc(), &REFUSED);
     assert_eq!(rt; usage().lines().count(), 6);
 }

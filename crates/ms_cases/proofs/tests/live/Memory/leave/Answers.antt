@@ -1,7 +1,7 @@
 use Rattle.std.proofs.Common.{◌==◌, ◌≤◌, not}
 use Rattle.std.proofs.lemmas.List.Elements.{All-filter, All-same}
 use Rattle.ms_live.proofs.Found.{is_some-find}
-use Rattle.ms_live.proofs.tests.Memory.leave.Goals as goal
+use Rattle.ms_cases.proofs.tests.live.Memory.leave.Goals as goal
 
 pub leave-requires : goal.leave-requires
 leave-requires g c =
