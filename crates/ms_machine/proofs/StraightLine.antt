@@ -1,6 +1,15 @@
 -- Steps in a row of which the outside and the segment memory see nothing.
-use Rattle.std.proofs.Common.{◌≡◌, ◌≢◌, ◌<◌, ◌+◌, ℕ, zero, suc, false, List, [], ◌∷◌, ◌++◌, Some, None, drop, get_or, length, length-drop, refl, sym, ap, subst, ◌∙◌, arith}
+use Rattle.std.proofs.Common.{◌≡◌, ◌≢◌, ◌<◌, ◌+◌, ℕ, zero, suc, Bool, false, List, [], ◌∷◌, ◌++◌, Option, Some, None, drop, get_or, length, length-drop, slice_get, refl, sym, ap, subst, ◌∙◌, arith}
+use Rattle.ms_event.specs.declared.event.Event.{Event}
+use Rattle.ms_linear.specs.declared.global.GlobalInst.{GlobalInst}
+use Rattle.ms_linear.specs.declared.value.Value.{Value}
+use Rattle.ms_linear.specs.Memory.{Memory as LinearMemory}
+use Rattle.ms_module.specs.declared.access.Linear.{Linear as LinearInstr}
 use Rattle.ms_module.specs.declared.instr.Instr.{Instr}
+use Rattle.ms_module.specs.declared.instr.Instr.TheVariants as instr
+use Rattle.ms_operate.specs.Effects as effects
+use Rattle.ms_operate.specs.Effects.{Effect}
+use Rattle.ms_operate.specs.Memories.{linear_on}
 use Rattle.ms_task.specs.Control.{exit_ended, exited as exited_thread}
 use Rattle.ms_task.specs.Thread.{Activation, Begins, Do, Item, Label, Thread, sequence, thread, with_first}
 use Rattle.ms_task.specs.View.{at_next, before, frame_of, outer_of, rest_at, thread_of}
@@ -8,15 +17,15 @@ use Rattle.ms_task.specs.declared.func.FuncInst.{FuncInst}
 use Rattle.ms_task.specs.declared.task.Task.{Task}
 use Rattle.ms_task.proofs.Items.{begins_past}
 use Rattle.ms_task.proofs.Places.{held, held_before}
-use Rattle.ms_machine.specs.StraightLine.{DoesTurn, GoesQuietly, IsCalm, IsHalted, IsNext, StepsQuietly}
+use Rattle.ms_machine.specs.StraightLine.{DoesTurn, GoesQuietly, IsCalm, IsHalted, IsMet, IsNext, StepsQuietly}
 use Rattle.ms_machine.specs.declared.straight.Turned.TheVariants as turns
 use Rattle.ms_machine.specs.declared.straight.Stretch.{Stretch}
 use Rattle.ms_machine.specs.declared.straight.Stretch.TheVariants as stretches
 use Rattle.ms_machine.specs.Doing.{Carries}
 use Rattle.ms_machine.specs.Holding.{StoreFits, ThreadFits}
 use Rattle.ms_machine.specs.Moves.{Goes, move_for, move_on}
-use Rattle.ms_machine.specs.Step.{Next, act, exited, first, step_of}
-use Rattle.ms_machine.specs.Store.{Store}
+use Rattle.ms_machine.specs.Step.{Next, Outcome, act, exited, first, in_memory, linear, on_memory, on_top, set_global, set_global_at, step_of}
+use Rattle.ms_machine.specs.Store.{Store, global_address, instance_of, memory_address}
 use Rattle.ms_machine.specs.Typing.{StoreTyped, TaskTyped, outline_of}
 use Rattle.ms_machine.proofs.Moving.{move_keeps, move_stays_typed, move_unstuck}
 use Rattle.ms_machine.proofs.TypedSteps.{begins_well}
@@ -124,11 +133,58 @@ carried_on s t t' i next here (acts, at) within =
 pub going_at : (s : Store) (t : Task) → t.place < length (sequence s.funcs t.function t.sequence) → (thread_of s.funcs t).work ≢ []
 going_at s t within = begins_going (thread_of s.funcs t).work (begins_at s (outer_of s.funcs t) t.function t.sequence t.place within)
 
+-- ---- the same where the instruction changes the store
+
+abbrev work_after : Outcome → List Item
+work_after (Next s t e) = t.work
+work_after _ = []
+
+module _ (s s' : Store) (t u : Thread) (e : Option Event) where
+  in_memory_behind : (a : ℕ) (f : Effect) → in_memory s t a f ≡ Next s' u e → u.work ≡ t.work
+  in_memory_behind a (effects.Gives vs m) is = sym (ap work_after is)
+  in_memory_behind a (effects.Trap trap) is = cc
+  in_memory_behind a effects.Stuck is = cc
+
+  on_memory_behind : (j : LinearInstr) (a : ℕ) (m : Option LinearMemory) → on_memory s t j a m ≡ Next s' u e → u.work ≡ t.work
+  on_memory_behind j a None is = cc
+  on_memory_behind j a (Some m) is = in_memory_behind a (linear_on j m t.operands) is
+
+  linear_at_behind : (j : LinearInstr) (a : Option ℕ) → linear s t j a ≡ Next s' u e → u.work ≡ t.work
+  linear_at_behind j None is = cc
+  linear_at_behind j (Some a) is = on_memory_behind j a (slice_get s.memories a) is
+
+  -- what was behind an instruction on the linear memory is then left to do
+  pub linear_behind : (j : LinearInstr) → act s (instr.Linear j) t ≡ Next s' u e → u.work ≡ t.work
+  linear_behind j is = linear_at_behind j (memory_address (instance_of s t.frame)) is
+
+  set_at_behind : (a : ℕ) (g : Option GlobalInst) (v : Value) (vs : List Value) → set_global_at s t a g v vs ≡ Next s' u e → u.work ≡ t.work
+  set_at_behind a None v vs is = cc
+  set_at_behind a (Some g) v vs is = sym (ap work_after is)
+
+  set_behind : (a : Option ℕ) (v : Value) (vs : List Value) → set_global s t a v vs ≡ Next s' u e → u.work ≡ t.work
+  set_behind None v vs is = cc
+  set_behind (Some a) v vs is = set_at_behind a (slice_get s.globals a) v vs is
+
+  set_top_behind : (x : ℕ) (vs : List Value) → on_top vs (λ v vs. set_global s t (global_address (instance_of s t.frame) x) v vs) ≡ Next s' u e → u.work ≡ t.work
+  set_top_behind x [] is = cc
+  set_top_behind x (v ∷ vs) is = set_behind (global_address (instance_of s t.frame) x) v vs is
+
+  -- and behind one that sets a global
+  pub global_behind : (x : ℕ) → act s (instr.GlobalSet x) t ≡ Next s' u e → u.work ≡ t.work
+  global_behind x is = set_top_behind x t.operands is
+
+-- another one stands behind it
+pub worked_behind : (s s' : Store) (t t' : Task) (i : Instr) (next : ℕ) → IsNext i next s t → act s i (at_next s.funcs t next) ≡ Next s' (thread_of s'.funcs t') None → (thread_of s'.funcs t').work ≡ (at_next s.funcs t next).work → next < length (sequence s.funcs t.function t.sequence) → (step_of s (thread_of s.funcs t) ≡ Next s' (thread_of s'.funcs t') None) × ((thread_of s'.funcs t').work ≢ [])
+worked_behind s s' t t' i next here acts behind within =
+    let u = thread_of s'.funcs t' in
+    let begins = subst Begins (sym behind) (begins_at s (outer_of s.funcs t) t.function t.sequence next within) in
+    (leaves s s' (thread_of s.funcs t) (at_next s.funcs t next) u u i here.0 acts (sym (exits_none u begins)), begins_going u.work begins)
+
 -- the instruction is another's
-pub met_here : (s : Store) (t0 : Thread) (n left next : ℕ) (t t' : Task) (i j : Instr) → GoesQuietly s t0 n s (thread_of s.funcs t) → 0 < left → (thread_of s.funcs t).work ≢ [] → IsNext i next s t → i ≡ j → t' ≡ t → GoesQuietly s t0 n s (thread_of s.funcs t') × (0 < left) × ((thread_of s.funcs t').work ≢ []) × IsNext j next s t'
-met_here s t0 n left next t t' i j steps some going here is same =
-    subst (λ (x : Task). GoesQuietly s t0 n s (thread_of s.funcs x) × (0 < left) × ((thread_of s.funcs x).work ≢ []) × IsNext j next s x) (sym same)
-    (steps, some, going, subst (λ k. IsNext k next s t) is here)
+pub met_here : (s : Store) (t0 : Thread) (n left next : ℕ) (more : Bool) (t t' : Task) (i j : Instr) → GoesQuietly s t0 n s (thread_of s.funcs t) → 0 < left → IsMet i next more s t → i ≡ j → t' ≡ t → GoesQuietly s t0 n s (thread_of s.funcs t') × (0 < left) × IsMet j next more s t'
+met_here s t0 n left next more t t' i j steps some met is same =
+    subst (λ (x : Task). GoesQuietly s t0 n s (thread_of s.funcs x) × (0 < left) × IsMet j next more s x) (sym same)
+    (steps, some, subst (λ k. IsMet k next more s t) is met)
 
 -- the next sequence, wherever it is
 pub begins_there : (s : Store) (funcs : List FuncInst) (t0 : Thread) (n : ℕ) (t : Task) → funcs ≡ s.funcs → GoesQuietly s t0 n s (thread_of s.funcs t) → StoreTyped (outline_of s) → TaskTyped (outline_of s) t0 → (thread_of s.funcs t).work ≢ [] → Begins (thread_of funcs t).work

@@ -1,10 +1,11 @@
 -- Steps in a row of which the outside and the segment memory see nothing.
-use Rattle.std.specs.Prelude.{◌≡◌, ◌≢◌, ◌<◌, ◌-◌, ℕ, zero, suc, [], None}
+use Rattle.std.specs.Prelude.{◌≡◌, ◌≢◌, ◌<◌, ◌-◌, ◌*◌, ◌^◌, ℕ, zero, suc, Bool, List, [], length, IsTrue, None}
 use Rattle.ms_module.specs.declared.instr.Instr.{Instr}
 use Rattle.ms_module.specs.declared.instr.Instr.TheVariants as instr
 use Rattle.ms_task.specs.Control.{exited}
-use Rattle.ms_task.specs.Thread.{Thread, with_first}
+use Rattle.ms_task.specs.Thread.{Thread, sequence, with_first}
 use Rattle.ms_task.specs.View.{IsAt, at_next, thread_of}
+use Rattle.ms_task.specs.declared.func.FuncInst.{FuncInst}
 use Rattle.ms_task.specs.declared.task.Task.{Task}
 use Rattle.ms_machine.specs.Doing.{Can}
 use Rattle.ms_machine.specs.Step.{Next, act, step_of}
@@ -51,26 +52,34 @@ DoesCall calls.Memory i next s t t' = Unit {0}
 abbrev pub IsNext : Instr → ℕ → Store → Task → Type 0
 IsNext i next s t = (thread_of s.funcs t ≡ with_first i (at_next s.funcs t next)) × Can i next s t
 
-abbrev pub DoesLeave : Turned → Thread → Thread → Type 0
-DoesLeave turns.Elsewhere t t' = (t' ≡ exited t) × (t'.work ≢ [])
-DoesLeave turns.Ended t t' = (t' ≡ exited t) × (t'.work ≡ [])
-DoesLeave _ t t' = ⊥
+-- a task goes on in this sequence, which is a slice of memory
+abbrev pub IsIn : List Instr → List FuncInst → Task → Type 0
+IsIn code funcs t = (code ≡ sequence funcs t.function t.sequence) × (t.place < length code) × ((thread_of funcs t).work ≢ []) × (length code * 16 < 2 ^ 63)
+
+abbrev pub DoesLeave : Turned → List FuncInst → Thread → Task → Type 0
+DoesLeave (turns.Elsewhere code) funcs t t' = (thread_of funcs t' ≡ exited t) × IsIn code.now funcs t'
+DoesLeave turns.Ended funcs t t' = (thread_of funcs t' ≡ exited t) × ((thread_of funcs t').work ≡ [])
+DoesLeave _ funcs t t' = ⊥
 
 abbrev pub DoesTurn : Turned → Instr → ℕ → Store → Task → Task → Type 0
 DoesTurn turns.On i next s t t' = StepsQuietly s (thread_of s.funcs t) s (thread_of s.funcs t') × IsAt t next t'
-DoesTurn turns.Elsewhere i next s t t' = StepsQuietly s (thread_of s.funcs t) s (thread_of s.funcs t') × ((thread_of s.funcs t').work ≢ [])
+DoesTurn (turns.Elsewhere code) i next s t t' = StepsQuietly s (thread_of s.funcs t) s (thread_of s.funcs t') × IsIn code.now s.funcs t'
 DoesTurn turns.Ended i next s t t' = StepsQuietly s (thread_of s.funcs t) s (thread_of s.funcs t') × ((thread_of s.funcs t').work ≡ [])
 DoesTurn (turns.Linear j) i next s t t' = (i ≡ instr.Linear j) × (t' ≡ t)
 DoesTurn (turns.Global x) i next s t t' = (i ≡ instr.GlobalSet x) × (t' ≡ t)
 DoesTurn turns.Not i next s t t' = t' ≡ t
 DoesTurn turns.Memory i next s t t' = Unit {0}
 
+-- the next instruction is this one, behind which another may be known to stand
+abbrev pub IsMet : Instr → ℕ → Bool → Store → Task → Type 0
+IsMet i next more s t = ((thread_of s.funcs t).work ≢ []) × IsNext i next s t × (IsTrue more → next < length (sequence s.funcs t.function t.sequence))
+
 -- several of them, of which so many are left of so many
 abbrev pub DoesMeet : Met → (left most : ℕ) → Store → Thread → Task → Type 0
 DoesMeet mets.Paused left most s t t' = GoesQuietly s t (most - left) s (thread_of s.funcs t') × ((thread_of s.funcs t').work ≢ [])
 DoesMeet mets.Ended left most s t t' = GoesQuietly s t (most - left) s (thread_of s.funcs t') × ((thread_of s.funcs t').work ≡ [])
-DoesMeet (mets.Linear i next) left most s t t' = GoesQuietly s t (most - left) s (thread_of s.funcs t') × (0 < left) × ((thread_of s.funcs t').work ≢ []) × IsNext (instr.Linear i) next s t'
-DoesMeet (mets.Global x next) left most s t t' = GoesQuietly s t (most - left) s (thread_of s.funcs t') × (0 < left) × ((thread_of s.funcs t').work ≢ []) × IsNext (instr.GlobalSet x) next s t'
+DoesMeet (mets.Linear i next more) left most s t t' = GoesQuietly s t (most - left) s (thread_of s.funcs t') × (0 < left) × IsMet (instr.Linear i) next more s t'
+DoesMeet (mets.Global x next more) left most s t t' = GoesQuietly s t (most - left) s (thread_of s.funcs t') × (0 < left) × IsMet (instr.GlobalSet x) next more s t'
 DoesMeet mets.Memory left most s t t' = Unit {0}
 
 -- ---- an instruction that changes the store

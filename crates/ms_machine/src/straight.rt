@@ -127,11 +127,11 @@ fn call<G: Gaps, T: Tagged>(store: &Store<G, T>, task: &mut Task, x: u32, next: 
 
 /// What came of an instruction.
 #[derive(Clone, Copy)]
-pub(crate) enum Turned {
+pub(crate) enum Turned<'a> {
     /// It was carried out, and the task goes on behind it in the same sequence.
     On,
-    /// It was carried out, and the task has more to do.
-    Elsewhere,
+    /// It was carried out, and the task goes on in this sequence.
+    Elsewhere(&'a [Instr]),
     /// It was carried out, and the task has ended.
     Ended,
     /// It works on the linear memory. Nothing has changed.
@@ -146,26 +146,71 @@ pub(crate) enum Turned {
 
 /// Exits the blocks and calls that are at their ends.
 #[inline(always)]
-fn leave<G: Gaps, T: Tagged>(store: &Store<G, T>, task: &mut Task) -> Turned
-    ensures { DoesLeave result (thread_of store.now.funcs task.old) (thread_of store.now.funcs task.new) }
+fn leave<'a, G: Gaps, T: Tagged>(store: &'a Store<G, T>, task: &mut Task) -> Turned<'a>
+    ensures { DoesLeave result store.now.funcs (thread_of store.now.funcs task.old) task.new }
 {
-    if task.exit_ended(&store.funcs) {
-        Turned::Ended
+    match task.resume(&store.funcs) {
+        Some(code) => Turned::Elsewhere(code),
+        None => Turned::Ended,
+    }
+}
+
+/// An instruction that stays within its sequence, behind which the task goes on at `next`, where `more` says that another
+/// one stands.
+#[inline(always)]
+fn straight<'a, G: Gaps, T: Tagged>(
+    store: &'a Store<G, T>,
+    task: &mut Task,
+    instr: &Instr,
+    next: usize,
+    more: bool,
+) -> Turned<'a>
+    requires next { IsNext instr.now next store.now task.old }
+    requires more { IsTrue more → next < length (sequence store.now.funcs task.old.function task.old.sequence) }
+    ensures turned { DoesTurn result instr.now next store.now task.old task.new }
+    ensures on { result ≡ Turned.On → IsTrue more }
+{
+    if !carry_straight(store, task, instr, next) {
+        return Turned::Not;
+    }
+    if more {
+        return Turned::On;
+    }
+    leave(store, task)
+}
+
+/// A jump, behind which the task goes on at `next` where it doesn't lead elsewhere.
+#[inline(always)]
+fn leap<'a, G: Gaps, T: Tagged>(
+    store: &'a Store<G, T>,
+    task: &mut Task,
+    instr: &Instr,
+    next: usize,
+) -> Turned<'a>
+    requires before { before store.now.funcs task.old next ≡ Some instr.now }
+    requires next { IsNext instr.now next store.now task.old }
+    ensures turned { DoesTurn result instr.now next store.now task.old task.new }
+    ensures off { result ≢ Turned.On }
+{
+    if jump(store, task, instr, next) {
+        leave(store, task)
     } else {
-        Turned::Elsewhere
+        Turned::Memory
     }
 }
 
 /// Carries out an instruction that takes the store as it is, behind which the task goes on at `next`, where `more` says
 /// that another one stands; or it says what the instruction is.
+///
+/// Each has an arm of its own, so that one jump of the processor leads to its code.
 #[inline(always)]
-fn turn<G: Gaps, T: Tagged>(
-    store: &Store<G, T>,
+fn turn<'a, G: Gaps, T: Tagged>(
+    store: &'a Store<G, T>,
     task: &mut Task,
     instr: &Instr,
     next: usize,
     more: bool,
-) -> Turned
+) -> Turned<'a>
     requires before { before store.now.funcs task.old next ≡ Some instr.now }
     requires next { IsNext instr.now next store.now task.old }
     requires more { IsTrue more → next < length (sequence store.now.funcs task.old.function task.old.sequence) }
@@ -173,35 +218,31 @@ fn turn<G: Gaps, T: Tagged>(
     ensures on { result ≡ Turned.On → IsTrue more }
 {
     match *instr {
-        Instr::Block { .. }
-        | Instr::Loop { .. }
-        | Instr::If { .. }
-        | Instr::Br(_)
-        | Instr::BrIf(_)
-        | Instr::BrTable(_)
-        | Instr::Return => {
-            if jump(store, task, instr, next) {
-                leave(store, task)
-            } else {
-                Turned::Memory
-            }
-        }
+        Instr::Nop => straight(store, task, instr, next, more),
+        Instr::Drop => straight(store, task, instr, next, more),
+        Instr::Select => straight(store, task, instr, next, more),
+        Instr::LocalGet(_) => straight(store, task, instr, next, more),
+        Instr::LocalSet(_) => straight(store, task, instr, next, more),
+        Instr::LocalTee(_) => straight(store, task, instr, next, more),
+        Instr::GlobalGet(_) => straight(store, task, instr, next, more),
+        Instr::I32Const(_) => straight(store, task, instr, next, more),
+        Instr::I64Const(_) => straight(store, task, instr, next, more),
+        Instr::Numeric(_) => straight(store, task, instr, next, more),
+        Instr::Block { .. } => leap(store, task, instr, next),
+        Instr::Loop { .. } => leap(store, task, instr, next),
+        Instr::If { .. } => leap(store, task, instr, next),
+        Instr::Br(_) => leap(store, task, instr, next),
+        Instr::BrIf(_) => leap(store, task, instr, next),
+        Instr::BrTable(_) => leap(store, task, instr, next),
+        Instr::Return => leap(store, task, instr, next),
         Instr::Call(x) => match call(store, task, x, next) {
             Called::Made => leave(store, task),
             Called::Not => Turned::Not,
             Called::Memory => Turned::Memory,
         },
-        Instr::GlobalSet(x) => Turned::Global(x),
         Instr::Linear(i) => Turned::Linear(i),
-        _ => {
-            if !carry_straight(store, task, instr, next) {
-                return Turned::Not;
-            }
-            if more {
-                return Turned::On;
-            }
-            leave(store, task)
-        }
+        Instr::GlobalSet(x) => Turned::Global(x),
+        _ => Turned::Not,
     }
 }
 
@@ -212,10 +253,11 @@ pub(crate) enum Met {
     Paused,
     /// The task has ended.
     Ended,
-    /// The next instruction works on the linear memory; behind it the task goes on at this place.
-    Linear(Linear, usize),
-    /// The next instruction sets the global of this index; behind it the task goes on at this place.
-    Global(u32, usize),
+    /// The next instruction works on the linear memory; behind it the task goes on at this place, where another instruction
+    /// may be known to stand.
+    Linear(Linear, usize, bool),
+    /// The next instruction sets the global of this index, in the same way.
+    Global(u32, usize, bool),
     /// Memory has run out.
     Memory,
 }
@@ -237,13 +279,13 @@ fn go<G: Gaps, T: Tagged>(store: &Store<G, T>, task: &mut Task, most: u64) -> (M
         let next = place + 1;
         match turn(store, task, &code[place], next, next < code.len()) {
             Turned::On => place = next,
-            Turned::Elsewhere => {
-                code = task.code(&store.funcs);
+            Turned::Elsewhere(there) => {
+                code = there;
                 place = task.place();
             }
             Turned::Ended => return (Met::Ended, left - 1),
-            Turned::Linear(i) => return (Met::Linear(i, next), left),
-            Turned::Global(x) => return (Met::Global(x, next), left),
+            Turned::Linear(i) => return (Met::Linear(i, next, next < code.len()), left),
+            Turned::Global(x) => return (Met::Global(x, next, next < code.len()), left),
             Turned::Not => return (Met::Paused, left),
             Turned::Memory => return (Met::Memory, left),
         }
@@ -266,19 +308,24 @@ pub(crate) enum Worked {
 }
 
 /// Carries out an instruction on the linear memory, behind which the task goes on at `next`, and exits the blocks and calls
-/// that are then at their ends.
+/// that are then at their ends: none where `more` says that another instruction stands there.
 #[inline(always)]
 fn linear<G: Gaps, T: Tagged>(
     store: &mut Store<G, T>,
     task: &mut Task,
     i: Linear,
     next: usize,
+    more: bool,
 ) -> Worked
-    requires { IsNext (instr.Linear i) next store.old task.old }
+    requires next { IsNext (instr.Linear i) next store.old task.old }
+    requires more { IsTrue more → next < length (sequence store.old.funcs task.old.function task.old.sequence) }
     ensures { DoesWork result store.old (thread_of store.old.funcs task.old) store.new (thread_of store.new.funcs task.new) }
 {
     match memory::linear(store, task, i, next) {
         Ok(_) => {
+            if more {
+                return Worked::On;
+            }
             if task.exit_ended(&store.funcs) {
                 return Worked::Ended;
             }
@@ -296,12 +343,17 @@ fn global<G: Gaps, T: Tagged>(
     task: &mut Task,
     x: u32,
     next: usize,
+    more: bool,
 ) -> Worked
-    requires { IsNext (instr.GlobalSet x) next store.old task.old }
+    requires next { IsNext (instr.GlobalSet x) next store.old task.old }
+    requires more { IsTrue more → next < length (sequence store.old.funcs task.old.function task.old.sequence) }
     ensures { DoesWork result store.old (thread_of store.old.funcs task.old) store.new (thread_of store.new.funcs task.new) }
 {
     match plain::global_set(store, task, x, next) {
         Ok(_) => {
+            if more {
+                return Worked::On;
+            }
             if task.exit_ended(&store.funcs) {
                 return Worked::Ended;
             }
@@ -344,8 +396,8 @@ fn go_quietly<G: Gaps, T: Tagged>(
             Met::Paused => return (Stretch::Paused, rest),
             Met::Ended => return (Stretch::Ended, rest),
             Met::Memory => return (Stretch::Memory, rest),
-            Met::Linear(i, next) => linear(store, task, i, next),
-            Met::Global(x, next) => global(store, task, x, next),
+            Met::Linear(i, next, more) => linear(store, task, i, next, more),
+            Met::Global(x, next, more) => global(store, task, x, next, more),
         };
         match worked {
             Worked::On => left = rest - 1,

@@ -36,7 +36,7 @@ pub(crate) fn integer(w: Width, n: u64) -> Value
 }
 
 /// The value of the number that a load has read.
-#[inline]
+#[inline(always)]
 pub fn value_of(op: LoadOp, number: u64) -> Value
     requires { number < 256 ^ load_bytes op }
     ensures { result ≡ access.value_of op number }
@@ -55,7 +55,7 @@ pub fn value_of(op: LoadOp, number: u64) -> Value
 }
 
 /// The number that a store writes, of a value of its type.
-#[inline]
+#[inline(always)]
 pub fn number_for(op: StoreOp, value: Value) -> u64
     requires { number_of (access.width_of op) value ≢ None }
     ensures { number_of (access.width_of op) value ≡ Some result }
@@ -64,6 +64,7 @@ pub fn number_for(op: StoreOp, value: Value) -> u64
 }
 
 /// The width of the value that a store takes.
+#[inline(always)]
 fn width_of(op: StoreOp) -> Width
     ensures { result ≡ access.width_of op }
 {

@@ -12,6 +12,7 @@ use ms_module::{Linear, LoadOp, MemArg, StoreOp, Width};
 use ms_types::Stack;
 
 /// Carries out an instruction on the linear memory. Where it stops the program, or memory runs out, nothing has changed.
+#[inline(always)]
 pub fn linear(
     i: Linear,
     memory: &mut LinearMemory,
@@ -29,7 +30,37 @@ pub fn linear(
 }
 
 /// A load from the address that is the topmost operand.
+///
+/// The operations are told apart here, so that each is a constant in what is done with it.
+#[inline(always)]
 fn load(
+    op: LoadOp,
+    arg: MemArg,
+    memory: &LinearMemory,
+    operands: &mut Stack<Value>,
+) -> Result<(), Fault>
+    requires { linear_on (Load op arg) memory.now operands.old ≢ Stuck }
+    ensures { DoesInMemory (linear_on (Load op arg) memory.now operands.old) operands.old operands.new memory.now memory.now result }
+{
+    match op {
+        LoadOp::I32Load => load_by(LoadOp::I32Load, arg, memory, operands),
+        LoadOp::I64Load => load_by(LoadOp::I64Load, arg, memory, operands),
+        LoadOp::I32Load8S => load_by(LoadOp::I32Load8S, arg, memory, operands),
+        LoadOp::I32Load8U => load_by(LoadOp::I32Load8U, arg, memory, operands),
+        LoadOp::I32Load16S => load_by(LoadOp::I32Load16S, arg, memory, operands),
+        LoadOp::I32Load16U => load_by(LoadOp::I32Load16U, arg, memory, operands),
+        LoadOp::I64Load8S => load_by(LoadOp::I64Load8S, arg, memory, operands),
+        LoadOp::I64Load8U => load_by(LoadOp::I64Load8U, arg, memory, operands),
+        LoadOp::I64Load16S => load_by(LoadOp::I64Load16S, arg, memory, operands),
+        LoadOp::I64Load16U => load_by(LoadOp::I64Load16U, arg, memory, operands),
+        LoadOp::I64Load32S => load_by(LoadOp::I64Load32S, arg, memory, operands),
+        LoadOp::I64Load32U => load_by(LoadOp::I64Load32U, arg, memory, operands),
+    }
+}
+
+/// The same, by one operation.
+#[inline(always)]
+fn load_by(
     op: LoadOp,
     arg: MemArg,
     memory: &LinearMemory,
@@ -48,8 +79,31 @@ fn load(
     }
 }
 
-/// A store of the topmost operand to the address that is below it.
+/// A store of the topmost operand to the address that is below it, with the operations told apart in the same way.
+#[inline(always)]
 fn store(
+    op: StoreOp,
+    arg: MemArg,
+    memory: &mut LinearMemory,
+    operands: &mut Stack<Value>,
+) -> Result<(), Fault>
+    requires { linear_on (Store op arg) memory.old operands.old ≢ Stuck }
+    ensures { DoesInMemory (linear_on (Store op arg) memory.old operands.old) operands.old operands.new memory.old memory.new result }
+{
+    match op {
+        StoreOp::I32Store => store_by(StoreOp::I32Store, arg, memory, operands),
+        StoreOp::I64Store => store_by(StoreOp::I64Store, arg, memory, operands),
+        StoreOp::I32Store8 => store_by(StoreOp::I32Store8, arg, memory, operands),
+        StoreOp::I32Store16 => store_by(StoreOp::I32Store16, arg, memory, operands),
+        StoreOp::I64Store8 => store_by(StoreOp::I64Store8, arg, memory, operands),
+        StoreOp::I64Store16 => store_by(StoreOp::I64Store16, arg, memory, operands),
+        StoreOp::I64Store32 => store_by(StoreOp::I64Store32, arg, memory, operands),
+    }
+}
+
+/// The same, by one operation.
+#[inline(always)]
+fn store_by(
     op: StoreOp,
     arg: MemArg,
     memory: &mut LinearMemory,

@@ -21,12 +21,12 @@ pub no_function : (funcs : List FuncInst) (f s : ℕ) → length funcs ≤ f →
 unfolding sequence
 no_function funcs f s h = ap (λ o. sequence_at (body_in o) s) (slice_get_past funcs f h)
 
-no_sequence : (ss : List (List Instr)) (s : ℕ) → length ss ≤ s → sequence_at ss s ≡ []
+pub no_sequence : (ss : List (List Instr)) (s : ℕ) → length ss ≤ s → sequence_at ss s ≡ []
 no_sequence [] s h = refl
 no_sequence (is ∷ ss) zero h = absurd (omega (arith, h))
 no_sequence (is ∷ ss) (suc s) h = no_sequence ss s (omega (arith, h))
 
-drop_is_nil : {X : Type 0} (n : ℕ) (xs : List X) → drop n xs ≡ [] → length xs ≤ n
+pub drop_is_nil : {X : Type 0} (n : ℕ) (xs : List X) → drop n xs ≡ [] → length xs ≤ n
 drop_is_nil n xs e = omega (arith, length-drop n xs, ap length e)
 
 -- ---- nothing follows

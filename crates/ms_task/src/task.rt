@@ -1,6 +1,6 @@
 //! A task, the start of one, and the places of instructions.
 
-ghost use Rattle.std.specs.Prelude.{◌≡◌, ◌↔◌, ℕ, List, [], ◌∷◌, ◌<◌, Some, IfOk, IsTrue, drop, length, nat_lt, slice_get};
+ghost use Rattle.std.specs.Prelude.{◌≡◌, ◌≢◌, ◌↔◌, ℕ, ◌*◌, ◌^◌, ◌<◌, List, [], ◌∷◌, Some, IfOk, IfSome, IsTrue, MatchOption, drop, length, nat_lt, slice_get};
 ghost use Rattle.ms_task.specs.Control.{deepest, exited, started};
 ghost use Rattle.ms_task.specs.Thread.{Begins, depth_of, sequence, with_first};
 ghost use Rattle.ms_task.specs.View.{IsAt, at_next, before, frame_of, items_of, exit_one, thread_of};
@@ -132,28 +132,51 @@ impl Task {
         ensures thread { thread_of funcs.now self.new ≡ exited (thread_of funcs.now self.old) }
         ensures ended { IsTrue result ↔ ((thread_of funcs.now self.new).work ≡ []) }
     {
-        while self.is_at_end(funcs) {
+        self.resume(funcs).is_none()
+    }
+
+    /// Exits blocks and calls that are at their ends, and gives the sequence in which the next instruction then stands, or
+    /// nothing where nothing is left to do.
+    #[inline(always)]
+    pub fn resume<'a>(&mut self, funcs: &'a [FuncInst]) -> Option<&'a [Instr]>
+        ensures thread { thread_of funcs.now self.new ≡ exited (thread_of funcs.now self.old) }
+        ensures code { MatchOption result
+            ((thread_of funcs.now self.new).work ≡ [])
+            (λ code. (code.now ≡ sequence funcs.now self.new.function self.new.sequence) × (self.new.place < length code.now) × ((thread_of funcs.now self.new).work ≢ [])) }
+        ensures small { IfSome result (λ code. length code.now * 16 < 2 ^ 63) }
+    {
+        let mut code = self.current(funcs);
+        while self.place >= code.len() {
             if self.marks.is_empty() {
-                return true;
+                return None;
             }
             let mark = self.marks.pop();
             self.go_on_behind(mark);
+            code = self.current(funcs);
         }
-        false
+        Some(code)
+    }
+
+    /// The current sequence. It has no instructions where there is no such function or sequence.
+    #[inline(always)]
+    fn current<'a>(&self, funcs: &'a [FuncInst]) -> &'a [Instr]
+        ensures { result.now ≡ sequence funcs.now self.now.function self.now.sequence }
+    {
+        if self.function >= funcs.len() {
+            return &[];
+        }
+        let body = &funcs[self.function].body;
+        if self.sequence >= body.len() {
+            return &[];
+        }
+        body.sequence(self.sequence)
     }
 
     /// Whether the current sequence has ended.
     fn is_at_end(&self, funcs: &[FuncInst]) -> bool
         ensures { IsTrue result ↔ (drop self.now.place (sequence funcs.now self.now.function self.now.sequence) ≡ []) }
     {
-        if self.function >= funcs.len() {
-            return true;
-        }
-        let body = &funcs[self.function].body;
-        if self.sequence >= body.len() {
-            return true;
-        }
-        self.place >= body.sequence(self.sequence).len()
+        self.place >= self.current(funcs).len()
     }
 
     /// Goes on behind a block or call.

@@ -1,11 +1,9 @@
-use Rattle.std.proofs.Common.{◌≡◌, ◌-◌, ◌+◌, ◌*◌, ◌^◌, ◌<◌, ◌∙◌, Bor, List, length, suc, refl, sym, ap, subst, arith}
+use Rattle.std.proofs.Common.{◌≡◌, ◌-◌, ◌+◌, ◌*◌, ◌^◌, ◌<◌, ◌∙◌, Bor, List, length, IsTrue, nat_lt, refl, suc, sym, ap, subst, arith}
 use Rattle.std.proofs.lemmas.Bool.{ltb-true}
 use Rattle.ms_module.specs.declared.instr.Instr.{Instr}
 use Rattle.ms_task.specs.Thread.{sequence}
 use Rattle.ms_task.specs.View.{thread_of}
-use Rattle.ms_task.specs.declared.func.FuncInst.{FuncInst}
-use Rattle.ms_machine.specs.Store.{Store}
-use Rattle.ms_machine.proofs.StraightLine.{before_next, begins_there, going_at, is_next, met_here, quietly_on, quietly_typed}
+use Rattle.ms_machine.proofs.StraightLine.{before_next, going_at, is_next, met_here, quietly_on, quietly_typed}
 use Rattle.ms_machine.proofs.straight.go.Goals as goal
 use Rattle.ms_machine.proofs.straight.go.Goals.{in-On, in-Elsewhere}
 
@@ -29,17 +27,6 @@ turn-requires-clause-next g c =
     let typed = quietly_typed s s (thread_of s.funcs c.args.task.now) (thread_of s.funcs l.task) (c.args.most - l.left) v.steps c.requires.store c.requires.task in
     is_next s l.code.now l.task l.place c.index-code-place.result v.code v.place v.within c.index-code-place.is c.requires.store typed.1 v.going
 
-pub code-code-requires-in-Elsewhere : goal.code-code-requires-in-Elsewhere
-code-code-requires-in-Elsewhere g c =
-    let s = c.args.store.now in
-    let l = c.loop-left in
-    let v = l.invariant in
-    let t' = c.turn.new.task in
-    let n = c.args.most - l.left in
-    let t0 = thread_of s.funcs c.args.task.now in
-    let steps = quietly_on s s s n (suc n) t0 (thread_of s.funcs l.task) (thread_of s.funcs t') v.steps v.going c.in-Elsewhere.ensures.turned.0 refl in
-    begins_there s c.deref-in-Elsewhere.result.now t0 (suc n) t' (c.deref-in-Elsewhere.ensures.value ∙ ap (λ (x : Store). x.funcs) c.store.view_is) steps c.requires.store c.requires.task c.in-Elsewhere.ensures.turned.1
-
 pub returns-in-Linear-clause-met : goal.returns-in-Linear-clause-met
 returns-in-Linear-clause-met g c =
     let s = c.args.store.now in
@@ -47,7 +34,8 @@ returns-in-Linear-clause-met g c =
     let v = l.invariant in
     let typed = quietly_typed s s (thread_of s.funcs c.args.task.now) (thread_of s.funcs l.task) (c.args.most - l.left) v.steps c.requires.store c.requires.task in
     let here = is_next s l.code.now l.task l.place c.index-code-place.result v.code v.place v.within c.index-code-place.is c.requires.store typed.1 v.going in
-    met_here s (thread_of s.funcs c.args.task.now) (c.args.most - l.left) l.left (l.place + 1) l.task c.turn.new.task c.index-code-place.result _ v.steps c.loop-left-test.true v.going here c.in-Linear.ensures.turned.0 c.in-Linear.ensures.turned.1
+    let behind : IsTrue (nat_lt (l.place + 1) (length l.code.now)) → l.place + 1 < length (sequence s.funcs l.task.function l.task.sequence) = λ yes. subst (λ (is : List Instr). l.place + 1 < length is) v.code (ltb-true (l.place + 1) (length l.code.now) yes) in
+    met_here s (thread_of s.funcs c.args.task.now) (c.args.most - l.left) l.left (l.place + 1) (nat_lt (l.place + 1) (length l.code.now)) l.task c.turn.new.task c.index-code-place.result _ v.steps c.loop-left-test.true (v.going, here, behind) c.in-Linear.ensures.turned.0 c.in-Linear.ensures.turned.1
 
 pub returns-in-Global-clause-met : goal.returns-in-Global-clause-met
 returns-in-Global-clause-met g c =
@@ -56,7 +44,8 @@ returns-in-Global-clause-met g c =
     let v = l.invariant in
     let typed = quietly_typed s s (thread_of s.funcs c.args.task.now) (thread_of s.funcs l.task) (c.args.most - l.left) v.steps c.requires.store c.requires.task in
     let here = is_next s l.code.now l.task l.place c.index-code-place.result v.code v.place v.within c.index-code-place.is c.requires.store typed.1 v.going in
-    met_here s (thread_of s.funcs c.args.task.now) (c.args.most - l.left) l.left (l.place + 1) l.task c.turn.new.task c.index-code-place.result _ v.steps c.loop-left-test.true v.going here c.in-Global.ensures.turned.0 c.in-Global.ensures.turned.1
+    let behind : IsTrue (nat_lt (l.place + 1) (length l.code.now)) → l.place + 1 < length (sequence s.funcs l.task.function l.task.sequence) = λ yes. subst (λ (is : List Instr). l.place + 1 < length is) v.code (ltb-true (l.place + 1) (length l.code.now) yes) in
+    met_here s (thread_of s.funcs c.args.task.now) (c.args.most - l.left) l.left (l.place + 1) (nat_lt (l.place + 1) (length l.code.now)) l.task c.turn.new.task c.index-code-place.result _ v.steps c.loop-left-test.true (v.going, here, behind) c.in-Global.ensures.turned.0 c.in-Global.ensures.turned.1
 
 pub loop-left-preserved : goal.loop-left-preserved
 loop-left-preserved g c =
@@ -86,18 +75,18 @@ loop-left-preserved g c =
             far = subst (λ (is : List Instr). length is * 16 < 2 ^ 63) (sym codes) v.far;
           }
       | in-Elsewhere w ↦
-          let funcs = w.deref-in-Elsewhere.ensures.value ∙ ap (λ (x : Store). x.funcs) c.store.view_is in
-          let found = w.code-code-in-Elsewhere in
-          let codes : c.match-turn.code.now ≡ found.result.now = ap (λ (b : Bor (List Instr)). b.now) w.code-is in
+          let there = w.in-Elsewhere.ensures.turned.1 in
+          let code = w.in-Elsewhere.there.now in
+          let codes : c.match-turn.code.now ≡ code = ap (λ (b : Bor (List Instr)). b.now) w.code-is in
           let places = w.place-is ∙ w.place-place-in-Elsewhere.ensures in
-          let far : length found.result.now * 16 < 2 ^ 63 = omega arith in
+          let far : length code * 16 < 2 ^ 63 = there.3 in
           record {
             steps = quietly_on s s s n (c.args.most - (l.left - 1)) t0 (thread_of s.funcs l.task) (thread_of s.funcs t') v.steps v.going w.in-Elsewhere.ensures.turned.0 count;
             left = omega (arith, room);
-            going = w.in-Elsewhere.ensures.turned.1;
-            code = codes ∙ (found.ensures.code ∙ ap (λ (fs : List FuncInst). sequence fs t'.function t'.sequence) funcs);
+            going = there.2;
+            code = codes ∙ there.0;
             place = places;
-            within = subst (λ n. n < length c.match-turn.code.now) (sym places) (subst (λ (is : List Instr). t'.place < length is) (sym codes) found.ensures.within);
+            within = subst (λ n. n < length c.match-turn.code.now) (sym places) (subst (λ (is : List Instr). t'.place < length is) (sym codes) there.1);
             far = subst (λ (is : List Instr). length is * 16 < 2 ^ 63) (sym codes) far;
           }
     ]

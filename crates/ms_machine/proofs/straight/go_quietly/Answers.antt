@@ -65,12 +65,12 @@ returns-in-Ended-worked-clause-steps g c =
           let met = subst (λ (m : Met). DoesMeet m rest l.left s t c.go-met.new.task) w.in-Linear.is c.go-met.ensures.met in
           let some = met.1 in
           let work = subst (λ (q : Worked). DoesWork q s u w.linear-worked.new.store (thread_of w.linear-worked.new.store.funcs w.linear-worked.new.task)) (sym w.worked-is ∙ c.in-Ended-worked.is) w.linear-worked.ensures in
-          worked_on s0 s w.linear-worked.new.store c.match-met.store t0 t u w.linear-worked.new.task c.match-met.task (c.args.most - l.left) (l.left - rest) (c.args.most - (rest - 1)) l.invariant.steps met.0 met.2 w.store-is w.task-is (λ (w : List Item). w ≡ []) work (omega (arith, room, less, some))
+          worked_on s0 s w.linear-worked.new.store c.match-met.store t0 t u w.linear-worked.new.task c.match-met.task (c.args.most - l.left) (l.left - rest) (c.args.most - (rest - 1)) l.invariant.steps met.0 met.2.0 w.store-is w.task-is (λ (w : List Item). w ≡ []) work (omega (arith, room, less, some))
       | in-Global w ↦
           let met = subst (λ (m : Met). DoesMeet m rest l.left s t c.go-met.new.task) w.in-Global.is c.go-met.ensures.met in
           let some = met.1 in
           let work = subst (λ (q : Worked). DoesWork q s u w.global-worked.new.store (thread_of w.global-worked.new.store.funcs w.global-worked.new.task)) (sym w.worked-is ∙ c.in-Ended-worked.is) w.global-worked.ensures in
-          worked_on s0 s w.global-worked.new.store c.match-met.store t0 t u w.global-worked.new.task c.match-met.task (c.args.most - l.left) (l.left - rest) (c.args.most - (rest - 1)) l.invariant.steps met.0 met.2 w.store-is w.task-is (λ (w : List Item). w ≡ []) work (omega (arith, room, less, some))
+          worked_on s0 s w.global-worked.new.store c.match-met.store t0 t u w.global-worked.new.task c.match-met.task (c.args.most - l.left) (l.left - rest) (c.args.most - (rest - 1)) l.invariant.steps met.0 met.2.0 w.store-is w.task-is (λ (w : List Item). w ≡ []) work (omega (arith, room, less, some))
     ]
 
 pub returns-in-Not-clause-steps : goal.returns-in-Not-clause-steps
@@ -89,12 +89,12 @@ returns-in-Not-clause-steps g c =
           let met = subst (λ (m : Met). DoesMeet m rest l.left s t c.go-met.new.task) w.in-Linear.is c.go-met.ensures.met in
           let some = met.1 in
           let work = subst (λ (q : Worked). DoesWork q s u w.linear-worked.new.store (thread_of w.linear-worked.new.store.funcs w.linear-worked.new.task)) (sym w.worked-is ∙ c.in-Not.is) w.linear-worked.ensures in
-          worked_not s0 s w.linear-worked.new.store c.match-met.store t0 t u w.linear-worked.new.task c.match-met.task (c.args.most - l.left) (l.left - rest) (c.args.most - rest) l.invariant.steps met.0 met.2 w.store-is w.task-is work (omega (arith, room, less, some))
+          worked_not s0 s w.linear-worked.new.store c.match-met.store t0 t u w.linear-worked.new.task c.match-met.task (c.args.most - l.left) (l.left - rest) (c.args.most - rest) l.invariant.steps met.0 met.2.0 w.store-is w.task-is work (omega (arith, room, less, some))
       | in-Global w ↦
           let met = subst (λ (m : Met). DoesMeet m rest l.left s t c.go-met.new.task) w.in-Global.is c.go-met.ensures.met in
           let some = met.1 in
           let work = subst (λ (q : Worked). DoesWork q s u w.global-worked.new.store (thread_of w.global-worked.new.store.funcs w.global-worked.new.task)) (sym w.worked-is ∙ c.in-Not.is) w.global-worked.ensures in
-          worked_not s0 s w.global-worked.new.store c.match-met.store t0 t u w.global-worked.new.task c.match-met.task (c.args.most - l.left) (l.left - rest) (c.args.most - rest) l.invariant.steps met.0 met.2 w.store-is w.task-is work (omega (arith, room, less, some))
+          worked_not s0 s w.global-worked.new.store c.match-met.store t0 t u w.global-worked.new.task c.match-met.task (c.args.most - l.left) (l.left - rest) (c.args.most - rest) l.invariant.steps met.0 met.2.0 w.store-is w.task-is work (omega (arith, room, less, some))
     ]
 
 pub loop-left-preserved : goal.loop-left-preserved
@@ -113,12 +113,12 @@ loop-left-preserved g c =
           let met = subst (λ (m : Met). DoesMeet m rest l.left s t c.go-met.new.task) w.in-Linear.is c.go-met.ensures.met in
           let some = met.1 in
           let work = subst (λ (q : Worked). DoesWork q s u w.linear-worked.new.store (thread_of w.linear-worked.new.store.funcs w.linear-worked.new.task)) (sym w.worked-is ∙ c.in-On.is) w.linear-worked.ensures in
-          let all = worked_on s0 s w.linear-worked.new.store c.match-met.store t0 t u w.linear-worked.new.task c.match-met.task (c.args.most - l.left) (l.left - rest) (c.args.most - (rest - 1)) l.invariant.steps met.0 met.2 w.store-is w.task-is (λ (w : List Item). w ≢ []) work (omega (arith, room, less, some)) in
+          let all = worked_on s0 s w.linear-worked.new.store c.match-met.store t0 t u w.linear-worked.new.task c.match-met.task (c.args.most - l.left) (l.left - rest) (c.args.most - (rest - 1)) l.invariant.steps met.0 met.2.0 w.store-is w.task-is (λ (w : List Item). w ≢ []) work (omega (arith, room, less, some)) in
           record { steps = all.0; left = omega (arith, room, less); going = all.1 }
       | in-Global w ↦
           let met = subst (λ (m : Met). DoesMeet m rest l.left s t c.go-met.new.task) w.in-Global.is c.go-met.ensures.met in
           let some = met.1 in
           let work = subst (λ (q : Worked). DoesWork q s u w.global-worked.new.store (thread_of w.global-worked.new.store.funcs w.global-worked.new.task)) (sym w.worked-is ∙ c.in-On.is) w.global-worked.ensures in
-          let all = worked_on s0 s w.global-worked.new.store c.match-met.store t0 t u w.global-worked.new.task c.match-met.task (c.args.most - l.left) (l.left - rest) (c.args.most - (rest - 1)) l.invariant.steps met.0 met.2 w.store-is w.task-is (λ (w : List Item). w ≢ []) work (omega (arith, room, less, some)) in
+          let all = worked_on s0 s w.global-worked.new.store c.match-met.store t0 t u w.global-worked.new.task c.match-met.task (c.args.most - l.left) (l.left - rest) (c.args.most - (rest - 1)) l.invariant.steps met.0 met.2.0 w.store-is w.task-is (λ (w : List Item). w ≢ []) work (omega (arith, room, less, some)) in
           record { steps = all.0; left = omega (arith, room, less); going = all.1 }
     ]

@@ -1,5 +1,5 @@
 use Rattle.ms_machine.proofs.StraightLine.{carried_on}
-use Rattle.ms_machine.proofs.straight.turn.Goals as goal
+use Rattle.ms_machine.proofs.straight.straight.Goals as goal
 
 pub returns-then-more-clause-turned : goal.returns-then-more-clause-turned
 returns-then-more-clause-turned g c =
