@@ -12,7 +12,7 @@ use Rattle.ms_machine.specs.Step.{Next, Stuck, act, moved}
 use Rattle.ms_machine.specs.Store.{Store}
 
 -- from any place of the sequence
-branch_from : (funcs : List FuncInst) (t : Task) (l next : ℕ) → branch l (frame_of t) t.operands (at_next funcs t next).work ≡ branch l (frame_of t) t.operands (outer_of funcs t)
+pub branch_from : (funcs : List FuncInst) (t : Task) (l next : ℕ) → branch l (frame_of t) t.operands (at_next funcs t next).work ≡ branch l (frame_of t) t.operands (outer_of funcs t)
 branch_from funcs t l next = branch_past l (frame_of t) t.operands (drop next (sequence funcs t.function t.sequence)) (outer_of funcs t)
 
 return_from : (funcs : List FuncInst) (t : Task) (next : ℕ) → return_on t.operands (at_next funcs t next).work ≡ return_on t.operands (outer_of funcs t)

@@ -1,5 +1,5 @@
 -- Steps in a row of which the outside and the segment memory see nothing.
-use Rattle.std.proofs.Common.{◌≡◌, ◌≢◌, ◌<◌, ◌+◌, ℕ, zero, suc, Bool, false, List, [], ◌∷◌, ◌++◌, Option, Some, None, drop, get_or, length, length-drop, slice_get, refl, sym, ap, subst, ◌∙◌, arith}
+use Rattle.std.proofs.Common.{◌≡◌, ◌≢◌, ◌<◌, ◌+◌, ◌*◌, ◌^◌, Bor, IfSome, MatchOption, ℕ, zero, suc, Bool, false, List, [], ◌∷◌, ◌++◌, Option, Some, None, drop, get_or, length, length-drop, slice_get, refl, sym, ap, subst, ◌∙◌, arith}
 use Rattle.ms_event.specs.declared.event.Event.{Event}
 use Rattle.ms_linear.specs.declared.global.GlobalInst.{GlobalInst}
 use Rattle.ms_linear.specs.declared.value.Value.{Value}
@@ -10,21 +10,21 @@ use Rattle.ms_module.specs.declared.instr.Instr.TheVariants as instr
 use Rattle.ms_operate.specs.Effects as effects
 use Rattle.ms_operate.specs.Effects.{Effect}
 use Rattle.ms_operate.specs.Memories.{linear_on}
-use Rattle.ms_task.specs.Control.{exit_ended, exited as exited_thread}
+use Rattle.ms_task.specs.Control.{Moved, Repeats, exit_ended, exited as exited_thread}
 use Rattle.ms_task.specs.Thread.{Activation, Begins, Do, Item, Label, Thread, sequence, thread, with_first}
 use Rattle.ms_task.specs.View.{at_next, before, frame_of, outer_of, rest_at, thread_of}
 use Rattle.ms_task.specs.declared.func.FuncInst.{FuncInst}
 use Rattle.ms_task.specs.declared.task.Task.{Task}
 use Rattle.ms_task.proofs.Items.{begins_past}
 use Rattle.ms_task.proofs.Places.{held, held_before}
-use Rattle.ms_machine.specs.StraightLine.{DoesTurn, GoesQuietly, IsCalm, IsHalted, IsMet, IsNext, StepsQuietly}
+use Rattle.ms_machine.specs.StraightLine.{DoesAgain, DoesTurn, GoesQuietly, IsCalm, IsHalted, IsMet, IsNext, StepsQuietly}
 use Rattle.ms_machine.specs.declared.straight.Turned.TheVariants as turns
 use Rattle.ms_machine.specs.declared.straight.Stretch.{Stretch}
 use Rattle.ms_machine.specs.declared.straight.Stretch.TheVariants as stretches
 use Rattle.ms_machine.specs.Doing.{Carries}
 use Rattle.ms_machine.specs.Holding.{StoreFits, ThreadFits}
 use Rattle.ms_machine.specs.Moves.{Goes, move_for, move_on}
-use Rattle.ms_machine.specs.Step.{Next, Outcome, act, exited, first, in_memory, linear, on_memory, on_top, set_global, set_global_at, step_of}
+use Rattle.ms_machine.specs.Step.{Next, Outcome, act, exited, first, in_memory, linear, moved, on_memory, on_top, set_global, set_global_at, step_of}
 use Rattle.ms_machine.specs.Store.{Store, global_address, instance_of, memory_address}
 use Rattle.ms_machine.specs.Typing.{StoreTyped, TaskTyped, outline_of}
 use Rattle.ms_machine.proofs.Moving.{move_keeps, move_stays_typed, move_unstuck}
@@ -132,6 +132,29 @@ carried_on s t t' i next here (acts, at) within =
 -- a task that begins a sequence there goes on in it
 pub going_at : (s : Store) (t : Task) → t.place < length (sequence s.funcs t.function t.sequence) → (thread_of s.funcs t).work ≢ []
 going_at s t within = begins_going (thread_of s.funcs t).work (begins_at s (outer_of s.funcs t) t.function t.sequence t.place within)
+
+-- ---- a branch to a loop, and the loop once more
+
+-- what the code says of it, over these functions
+abbrev RepeatsIn : List FuncInst → Moved → List Instr → Task → Type 0
+RepeatsIn funcs m code t' = Repeats funcs m (thread_of funcs t') × (code ≡ sequence funcs t'.function t'.sequence) × (t'.place < length code)
+
+module _ (s : Store) (t t' : Task) (i : Instr) (next : ℕ) (here : IsNext i next s t) (m : List FuncInst → Moved) (acts : act s i (at_next s.funcs t next) ≡ moved s (m s.funcs)) where
+  repeated_in : (code : List Instr) → RepeatsIn s.funcs (m s.funcs) code t' → length code * 16 < 2 ^ 63 → DoesAgain code s (thread_of s.funcs t) t'
+  repeated_in code ((ty, b, u, branched, entered), same, within) small =
+      let loop = instr.Loop ty b in
+      let t0 = thread_of s.funcs t in
+      let t1 = with_first loop u in
+      let t2 = thread_of s.funcs t' in
+      let begins = begins_at s (outer_of s.funcs t') t'.function t'.sequence t'.place (subst (λ (is : List Instr). t'.place < length is) same within) in
+      let first : step_of s t0 ≡ Next s t1 None = stays s t0 (at_next s.funcs t next) t1 i here.0 (acts ∙ ap (moved s) branched) (tt {0}) in
+      let second : step_of s t1 ≡ Next s t2 None = stays s t1 u t2 loop refl (ap (moved s) (sym entered)) begins in
+      let going : t0.work ≢ [] = subst (λ (x : Thread). x.work ≢ []) (sym here.0) (begins_going (with_first i (at_next s.funcs t next)).work (tt {0})) in
+      ((s, t1, (s, t0, (refl, refl), going, (first, refl)), begins_going t1.work (tt {0}), (second, refl)), (same, within, begins_going t2.work begins, small))
+
+  pub repeated : (funcs : List FuncInst) (o : Option (Bor (List Instr))) → funcs ≡ s.funcs → MatchOption o (t' ≡ t) (λ code. RepeatsIn funcs (m funcs) code.now t') → IfSome o (λ code. length code.now * 16 < 2 ^ 63) → MatchOption o (t' ≡ t) (λ code. DoesAgain code.now s (thread_of s.funcs t) t')
+  repeated funcs None same as-before small = as-before
+  repeated funcs (Some code) same does small = repeated_in code.now (subst (λ (fs : List FuncInst). RepeatsIn fs (m fs) code.now t') same does) small
 
 -- ---- the same where the instruction changes the store
 

@@ -61,9 +61,18 @@ DoesLeave (turns.Elsewhere code) funcs t t' = (thread_of funcs t' ≡ exited t) 
 DoesLeave turns.Ended funcs t t' = (thread_of funcs t' ≡ exited t) × ((thread_of funcs t').work ≡ [])
 DoesLeave _ funcs t t' = ⊥
 
+-- two steps, behind which a task goes on in this sequence
+abbrev pub DoesAgain : List Instr → Store → Thread → Task → Type 0
+DoesAgain code s t t' = GoesQuietly s t 2 s (thread_of s.funcs t') × IsIn code s.funcs t'
+
+abbrev pub IsAgain : Turned → Type 0
+IsAgain (turns.Again code) = Unit {0}
+IsAgain _ = ⊥
+
 abbrev pub DoesTurn : Turned → Instr → ℕ → Store → Task → Task → Type 0
 DoesTurn turns.On i next s t t' = StepsQuietly s (thread_of s.funcs t) s (thread_of s.funcs t') × IsAt t next t'
 DoesTurn (turns.Elsewhere code) i next s t t' = StepsQuietly s (thread_of s.funcs t) s (thread_of s.funcs t') × IsIn code.now s.funcs t'
+DoesTurn (turns.Again code) i next s t t' = DoesAgain code.now s (thread_of s.funcs t) t'
 DoesTurn turns.Ended i next s t t' = StepsQuietly s (thread_of s.funcs t) s (thread_of s.funcs t') × ((thread_of s.funcs t').work ≡ [])
 DoesTurn (turns.Linear j) i next s t t' = (i ≡ instr.Linear j) × (t' ≡ t)
 DoesTurn (turns.Global x) i next s t t' = (i ≡ instr.GlobalSet x) × (t' ≡ t)

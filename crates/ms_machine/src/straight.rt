@@ -1,7 +1,7 @@
 //! Steps in a row that tell nothing: all but those that work on segments, call the host, or go through a table.
 
-ghost use Rattle.std.specs.Prelude.{◌≡◌, ◌≢◌, ◌<◌, ◌≤◌, ◌-◌, [], None, false, length, IsTrue, Some};
-ghost use Rattle.ms_machine.specs.StraightLine.{DoesCall, DoesLeave, DoesMeet, DoesTurn, DoesWork, IsCalm, IsHalted, IsNext};
+ghost use Rattle.std.specs.Prelude.{◌≡◌, ◌≢◌, ◌<◌, ◌≤◌, ◌-◌, [], None, false, length, IsTrue, MatchOption, Some};
+ghost use Rattle.ms_machine.specs.StraightLine.{DoesAgain, DoesCall, DoesLeave, DoesMeet, DoesTurn, DoesWork, IsAgain, IsCalm, IsHalted, IsNext};
 ghost use Rattle.ms_machine.specs.Doing.{Can, Carries};
 ghost use Rattle.ms_machine.specs.Holding.{StoreFits, ThreadFits};
 ghost use Rattle.ms_machine.specs.Step.{Next, act};
@@ -132,6 +132,8 @@ pub(crate) enum Turned<'a> {
     On,
     /// It was carried out, and the task goes on in this sequence.
     Elsewhere(&'a [Instr]),
+    /// It was carried out, and behind it a loop was begun again: two steps. The task goes on in this sequence.
+    Again(&'a [Instr]),
     /// It was carried out, and the task has ended.
     Ended,
     /// It works on the linear memory. Nothing has changed.
@@ -169,6 +171,7 @@ fn straight<'a, G: Gaps, T: Tagged>(
     requires more { IsTrue more → next < length (sequence store.now.funcs task.old.function task.old.sequence) }
     ensures turned { DoesTurn result instr.now next store.now task.old task.new }
     ensures on { result ≡ Turned.On → IsTrue more }
+    ensures once { ¬ IsAgain result }
 {
     if !carry_straight(store, task, instr, next) {
         return Turned::Not;
@@ -191,6 +194,7 @@ fn leap<'a, G: Gaps, T: Tagged>(
     requires next { IsNext instr.now next store.now task.old }
     ensures turned { DoesTurn result instr.now next store.now task.old task.new }
     ensures off { result ≢ Turned.On }
+    ensures once { ¬ IsAgain result }
 {
     if jump(store, task, instr, next) {
         leave(store, task)
@@ -199,8 +203,51 @@ fn leap<'a, G: Gaps, T: Tagged>(
     }
 }
 
+/// A branch to a loop, which is begun again; `None` where the instruction isn't one, and nothing has changed.
+#[inline(always)]
+fn repeat<'a, G: Gaps, T: Tagged>(
+    store: &'a Store<G, T>,
+    task: &mut Task,
+    instr: &Instr,
+    next: usize,
+) -> Option<&'a [Instr]>
+    requires { IsNext instr.now next store.now task.old }
+    ensures { MatchOption result (task.new ≡ task.old) (λ code. DoesAgain code.now store.now (thread_of store.now.funcs task.old) task.new) }
+{
+    match *instr {
+        Instr::Br(label) => task.repeat(&store.funcs, label),
+        Instr::BrIf(label) => task.repeat_if(&store.funcs, label, next),
+        _ => None,
+    }
+}
+
+/// A branch. Where `two` steps may be made, one to a loop begins it again.
+#[inline(always)]
+fn branch<'a, G: Gaps, T: Tagged>(
+    store: &'a Store<G, T>,
+    task: &mut Task,
+    instr: &Instr,
+    next: usize,
+    two: bool,
+) -> Turned<'a>
+    requires before { before store.now.funcs task.old next ≡ Some instr.now }
+    requires next { IsNext instr.now next store.now task.old }
+    ensures turned { DoesTurn result instr.now next store.now task.old task.new }
+    ensures off { result ≢ Turned.On }
+    ensures again { IsAgain result → IsTrue two }
+{
+    if !two {
+        return leap(store, task, instr, next);
+    }
+    match repeat(store, task, instr, next) {
+        Some(code) => Turned::Again(code),
+        None => leap(store, task, instr, next),
+    }
+}
+
 /// Carries out an instruction that takes the store as it is, behind which the task goes on at `next`, where `more` says
-/// that another one stands; or it says what the instruction is.
+/// that another one stands, or two of them, where `two` says that so many may be carried out; or it says what the
+/// instruction is.
 ///
 /// Each has an arm of its own, so that one jump of the processor leads to its code.
 #[inline(always)]
@@ -210,12 +257,14 @@ fn turn<'a, G: Gaps, T: Tagged>(
     instr: &Instr,
     next: usize,
     more: bool,
+    two: bool,
 ) -> Turned<'a>
     requires before { before store.now.funcs task.old next ≡ Some instr.now }
     requires next { IsNext instr.now next store.now task.old }
     requires more { IsTrue more → next < length (sequence store.now.funcs task.old.function task.old.sequence) }
     ensures turned { DoesTurn result instr.now next store.now task.old task.new }
     ensures on { result ≡ Turned.On → IsTrue more }
+    ensures again { IsAgain result → IsTrue two }
 {
     match *instr {
         Instr::Nop => straight(store, task, instr, next, more),
@@ -231,8 +280,8 @@ fn turn<'a, G: Gaps, T: Tagged>(
         Instr::Block { .. } => leap(store, task, instr, next),
         Instr::Loop { .. } => leap(store, task, instr, next),
         Instr::If { .. } => leap(store, task, instr, next),
-        Instr::Br(_) => leap(store, task, instr, next),
-        Instr::BrIf(_) => leap(store, task, instr, next),
+        Instr::Br(_) => branch(store, task, instr, next, two),
+        Instr::BrIf(_) => branch(store, task, instr, next, two),
         Instr::BrTable(_) => leap(store, task, instr, next),
         Instr::Return => leap(store, task, instr, next),
         Instr::Call(x) => match call(store, task, x, next) {
@@ -277,11 +326,16 @@ fn go<G: Gaps, T: Tagged>(store: &Store<G, T>, task: &mut Task, most: u64) -> (M
     let mut place = task.place();
     while left > 0 {
         let next = place + 1;
-        match turn(store, task, &code[place], next, next < code.len()) {
+        match turn(store, task, &code[place], next, next < code.len(), left > 1) {
             Turned::On => place = next,
             Turned::Elsewhere(there) => {
                 code = there;
                 place = task.place();
+            }
+            Turned::Again(there) => {
+                code = there;
+                place = task.place();
+                left -= 1;
             }
             Turned::Ended => return (Met::Ended, left - 1),
             Turned::Linear(i) => return (Met::Linear(i, next, next < code.len()), left),

@@ -4,4 +4,5 @@ pub mod Items
 pub mod Kept
 mod Branches
 mod Calls
+mod Repeats
 mod Tested

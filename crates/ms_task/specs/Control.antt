@@ -1,5 +1,5 @@
 -- Control instructions (WebAssembly 1.0, 4.4.5), and what follows them.
-use Rattle.std.specs.Prelude.{ℕ, zero, suc, ◌-◌, List, [], ◌∷◌, ◌++◌, nat_le, nat_lt, if◌then◌else◌, length, map, take, drop, reverse, slice_get, unwrap_or, Option, Some, None}
+use Rattle.std.specs.Prelude.{◌≡◌, ℕ, zero, suc, ◌-◌, List, [], ◌∷◌, ◌++◌, nat_le, nat_lt, if◌then◌else◌, length, map, take, drop, reverse, slice_get, unwrap_or, Option, Some, None}
 use Rattle.ms_types.specs.declared.types.ValType.{ValType}
 use Rattle.ms_linear.specs.declared.value.Value.{Value}
 use Rattle.ms_linear.specs.declared.value.Value.TheVariants.{I32}
@@ -7,7 +7,7 @@ use Rattle.ms_linear.specs.Values.{default_of}
 use Rattle.ms_module.specs.declared.instr.Instr.{Instr}
 use Rattle.ms_module.specs.declared.instr.Instr.TheVariants.{Loop}
 use Rattle.ms_task.specs.declared.func.FuncInst.{FuncInst}
-use Rattle.ms_task.specs.Thread.{Activation, Do, Frame, Item, Label, Thread, depth_of, dos, result_of, sequence, thread}
+use Rattle.ms_task.specs.Thread.{Activation, Do, Frame, Item, Label, Thread, depth_of, dos, result_of, sequence, thread, with_first}
 
 -- where a control instruction leads
 pub data Moved : Type 0 where
@@ -94,6 +94,10 @@ block_on funcs s keeps g t = To (thread t.frame t.operands (dos (sequence funcs 
 -- a branch to a loop keeps nothing and begins it again
 abbrev pub loop_on : List FuncInst → Option ValType → ℕ → Thread → Moved
 loop_on funcs ty s t = block_on funcs s None (Some (Loop ty s)) t
+
+-- where a branch to a loop leads, with the loop that it begins again: two steps
+abbrev pub Repeats : List FuncInst → Moved → Thread → Type 0
+Repeats funcs branched t' = (ty : Option ValType) × (s : ℕ) × (t : Thread) × (branched ≡ To (with_first (Loop ty s) t)) × (To t' ≡ loop_on funcs ty s t)
 
 abbrev pub else_on : List FuncInst → Option ℕ → Option ValType → Thread → Moved
 else_on funcs None r t = To t

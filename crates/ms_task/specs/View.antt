@@ -1,10 +1,13 @@
 -- The code's task as a thread: a place in a sequence stands for what follows it.
-use Rattle.std.specs.Prelude.{◌≡◌, ℕ, zero, suc, ◌-◌, List, [], ◌∷◌, ◌++◌, Bool, true, false, take, drop, slice_get, Option, None}
+use Rattle.std.specs.Prelude.{◌≡◌, ◌<◌, ◌*◌, ◌^◌, ℕ, zero, suc, ◌-◌, List, [], ◌∷◌, ◌++◌, Bool, true, false, length, take, drop, slice_get, Option, Some, None}
 use Rattle.ms_linear.specs.declared.value.Value.{Value}
+use Rattle.ms_types.specs.declared.types.ValType.{ValType}
 use Rattle.ms_module.specs.declared.instr.Instr.{Instr}
+use Rattle.ms_module.specs.declared.instr.Instr.TheVariants.{Loop}
 use Rattle.ms_task.specs.declared.func.FuncInst.{FuncInst}
 use Rattle.ms_task.specs.declared.marks.Mark.{Mark}
 use Rattle.ms_task.specs.declared.marks.Mark.TheVariants as marks
+use Rattle.ms_task.specs.declared.repeat.Again.{Again}
 use Rattle.ms_task.specs.declared.task.Task.{Task}
 use Rattle.ms_task.specs.Thread.{Activation, Do, Frame, Item, Label, Thread, dos, sequence, thread}
 
@@ -59,3 +62,9 @@ exit_one fr vs [] = thread fr vs []
 exit_one fr vs (Do i ∷ w) = thread fr vs (Do i ∷ w)
 exit_one fr vs (Label k h g ∷ w) = thread fr vs w
 exit_one fr vs (Activation k h caller ∷ w) = thread caller vs w
+
+-- The label of this number is that of a loop with such a sequence, which is a slice of memory and not empty.
+abbrev pub IsLoop : List FuncInst → Task → ℕ → Again → Type 0
+IsLoop funcs t l a =
+    (s next : ℕ) × (ty : Option ValType) × (ms : List Mark) × (drop l t.marks ≡ marks.Label None a.height s next true ∷ ms) × (again_at true next (sequence funcs t.function s) ≡ Some (Loop ty a.body))
+    × (a.code.now ≡ sequence funcs t.function a.body) × (0 < length a.code.now) × (length a.code.now * 16 < 2 ^ 63)

@@ -8,6 +8,7 @@ mod control;
 mod frames;
 mod func;
 mod marks;
+mod repeat;
 mod task;
 
 pub use control::CallFault;

@@ -139,6 +139,13 @@ impl Marks {
         mark
     }
 
+    pub fn get(&self, n: usize) -> Mark
+        requires { n < length self.now }
+        ensures { slice_get self.now n ≡ Some result }
+    {
+        self.items.get(n)
+    }
+
     /// Drops the innermost marks, which are of blocks.
     pub fn cut(&mut self, n: usize)
         requires { n ≤ labels_in self.old }

@@ -157,19 +157,28 @@ impl Task {
         Some(code)
     }
 
-    /// The current sequence. It has no instructions where there is no such function or sequence.
+    /// The current sequence.
     #[inline(always)]
     fn current<'a>(&self, funcs: &'a [FuncInst]) -> &'a [Instr]
         ensures { result.now ≡ sequence funcs.now self.now.function self.now.sequence }
+    {
+        self.sequence_at(funcs, self.sequence)
+    }
+
+    /// The sequence of this number of the current function. It has no instructions where there is no such function or
+    /// sequence.
+    #[inline(always)]
+    pub(crate) fn sequence_at<'a>(&self, funcs: &'a [FuncInst], number: usize) -> &'a [Instr]
+        ensures { result.now ≡ sequence funcs.now self.now.function number }
     {
         if self.function >= funcs.len() {
             return &[];
         }
         let body = &funcs[self.function].body;
-        if self.sequence >= body.len() {
+        if number >= body.len() {
             return &[];
         }
-        body.sequence(self.sequence)
+        body.sequence(number)
     }
 
     /// Whether the current sequence has ended.

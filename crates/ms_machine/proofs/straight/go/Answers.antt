@@ -1,11 +1,11 @@
-use Rattle.std.proofs.Common.{◌≡◌, ◌-◌, ◌+◌, ◌*◌, ◌^◌, ◌<◌, ◌∙◌, Bor, List, length, IsTrue, nat_lt, refl, suc, sym, ap, subst, arith}
+use Rattle.std.proofs.Common.{◌≡◌, ◌-◌, ◌+◌, ◌*◌, ◌^◌, ◌<◌, ◌∙◌, Bor, List, length, IsTrue, nat_lt, refl, sym, ap, subst, arith}
 use Rattle.std.proofs.lemmas.Bool.{ltb-true}
 use Rattle.ms_module.specs.declared.instr.Instr.{Instr}
 use Rattle.ms_task.specs.Thread.{sequence}
 use Rattle.ms_task.specs.View.{thread_of}
-use Rattle.ms_machine.proofs.StraightLine.{before_next, going_at, is_next, met_here, quietly_on, quietly_typed}
+use Rattle.ms_machine.proofs.StraightLine.{before_next, going_at, is_next, met_here, quietly_on, quietly_trans, quietly_typed}
 use Rattle.ms_machine.proofs.straight.go.Goals as goal
-use Rattle.ms_machine.proofs.straight.go.Goals.{in-On, in-Elsewhere}
+use Rattle.ms_machine.proofs.straight.go.Goals.{in-On, in-Elsewhere, in-Again}
 
 pub overflow_add-next : goal.overflow_add-next
 overflow_add-next g c = let v = c.loop-left.invariant in omega (arith, v.within, v.far)
@@ -57,7 +57,6 @@ loop-left-preserved g c =
     let t0 = thread_of s.funcs c.args.task.now in
     let some = c.loop-left-test.true in
     let room = v.left in
-    let count : c.args.most - (l.left - 1) ≡ suc n = omega (arith, some, room) in
     elim c.match-turn.branch [
       | in-On w ↦
           let at = w.in-On.ensures.turned.1 in
@@ -66,8 +65,8 @@ loop-left-preserved g c =
           let within = ltb-true (l.place + 1) (length l.code.now) (w.in-On.ensures.on refl) in
           let inside = subst (λ n. n < length l.code.now) (sym at.2) within in
           record {
-            steps = quietly_on s s s n (c.args.most - (l.left - 1)) t0 (thread_of s.funcs l.task) (thread_of s.funcs t') v.steps v.going w.in-On.ensures.turned.0 count;
-            left = omega (arith, room);
+            steps = quietly_on s s s n (c.args.most - (c.match-turn.left - 1)) t0 (thread_of s.funcs l.task) (thread_of s.funcs t') v.steps v.going w.in-On.ensures.turned.0 (omega (arith, some, room, w.left-is));
+            left = omega (arith, some, room, w.left-is);
             going = going_at s t' (subst (λ (is : List Instr). t'.place < length is) same inside);
             code = codes ∙ same;
             place = w.place-is ∙ sym at.2;
@@ -81,12 +80,27 @@ loop-left-preserved g c =
           let places = w.place-is ∙ w.place-place-in-Elsewhere.ensures in
           let far : length code * 16 < 2 ^ 63 = there.3 in
           record {
-            steps = quietly_on s s s n (c.args.most - (l.left - 1)) t0 (thread_of s.funcs l.task) (thread_of s.funcs t') v.steps v.going w.in-Elsewhere.ensures.turned.0 count;
-            left = omega (arith, room);
+            steps = quietly_on s s s n (c.args.most - (c.match-turn.left - 1)) t0 (thread_of s.funcs l.task) (thread_of s.funcs t') v.steps v.going w.in-Elsewhere.ensures.turned.0 (omega (arith, some, room, w.left-is));
+            left = omega (arith, some, room, w.left-is);
             going = there.2;
             code = codes ∙ there.0;
             place = places;
             within = subst (λ n. n < length c.match-turn.code.now) (sym places) (subst (λ (is : List Instr). t'.place < length is) (sym codes) there.1);
             far = subst (λ (is : List Instr). length is * 16 < 2 ^ 63) (sym codes) far;
+          }
+      | in-Again w ↦
+          let there = w.in-Again.ensures.turned.1 in
+          let code = w.in-Again.there.now in
+          let codes : c.match-turn.code.now ≡ code = ap (λ (b : Bor (List Instr)). b.now) w.code-is in
+          let places = w.place-is ∙ w.place-place-in-Again.ensures in
+          let two = ltb-true 1 l.left (w.in-Again.ensures.again (tt {0})) in
+          record {
+            steps = quietly_trans s s s n 2 (c.args.most - (c.match-turn.left - 1)) t0 (thread_of s.funcs l.task) (thread_of s.funcs t') v.steps w.in-Again.ensures.turned.0 (omega (arith, room, two, w.left-is));
+            left = omega (arith, room, two, w.left-is);
+            going = there.2;
+            code = codes ∙ there.0;
+            place = places;
+            within = subst (λ n. n < length c.match-turn.code.now) (sym places) (subst (λ (is : List Instr). t'.place < length is) (sym codes) there.1);
+            far = subst (λ (is : List Instr). length is * 16 < 2 ^ 63) (sym codes) there.3;
           }
     ]
