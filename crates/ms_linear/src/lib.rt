@@ -7,10 +7,12 @@
 mod global;
 mod memory;
 mod number;
+mod operands;
 mod table;
 mod value;
 
 pub use global::GlobalInst;
 pub use memory::{Linear, MOST_PAGES, Outside, PAGE};
+pub use operands::{Cell, Operands};
 pub use table::{CallTrap, Entry, FuncRef, MOST_ENTRIES, Table, target};
 pub use value::Value;

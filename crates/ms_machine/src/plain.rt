@@ -96,10 +96,10 @@ pub(crate) fn select<G: Gaps, T: Tagged>(
     let Value::I32(n) = task.operands.get(0) else {
         unreachable!()
     };
-    let other = task.operands.get(1);
+    let other = task.operands.cell(1);
     task.operands.cut(2);
     if n == 0 {
-        task.operands.set_top(other);
+        task.operands.set_top_cell(other);
     }
     task.go_to(next);
     Ok(None)
@@ -117,8 +117,8 @@ pub(crate) fn local_get<G: Gaps, T: Tagged>(
     ensures stays { Stays task.old next task.new result }
 {
     let _ = store;
-    let value = task.frames.get(x as usize);
-    match task.operands.push(value) {
+    let cell = task.frames.get(x as usize);
+    match task.operands.push_cell(cell) {
         Ok(()) => {
             task.go_to(next);
             Ok(None)
@@ -139,8 +139,8 @@ pub(crate) fn local_set<G: Gaps, T: Tagged>(
     ensures stays { Stays task.old next task.new result }
 {
     let _ = store;
-    let value = task.operands.get(0);
-    task.frames.set(x as usize, value);
+    let cell = task.operands.cell(0);
+    task.frames.set(x as usize, cell);
     task.operands.cut(1);
     task.go_to(next);
     Ok(None)
@@ -158,8 +158,8 @@ pub(crate) fn local_tee<G: Gaps, T: Tagged>(
     ensures stays { Stays task.old next task.new result }
 {
     let _ = store;
-    let kept = task.operands.get(0);
-    task.frames.set(x as usize, kept);
+    let cell = task.operands.cell(0);
+    task.frames.set(x as usize, cell);
     task.go_to(next);
     Ok(None)
 }

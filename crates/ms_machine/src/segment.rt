@@ -11,20 +11,19 @@ use crate::fault::{Fault, of_segment};
 use ms_event::Event;
 use ms_handle::{Handle, Kind, add, diff, eq, slice};
 use ms_host::TrapKind;
-use ms_linear::Value;
+use ms_linear::{Operands, Value};
 use ms_live::Gaps;
 use ms_module::{LoadOp, Segment, StoreOp};
 use ms_operate::{number_for, value_of};
 use ms_segment::Segments;
 use ms_tagged::Tagged;
-use ms_types::Stack;
 
 /// Carries out an instruction on handles and segments. Where it stops the program nothing has changed, and where memory runs
 /// out the segment memory is as before.
 pub(crate) fn segment<G: Gaps, T: Tagged>(
     i: Segment,
     segments: &mut Segments<G, T>,
-    operands: &mut Stack<Value>,
+    operands: &mut Operands,
 ) -> Result<Option<Event>, Fault>
     requires there { segment_on i segments.old operands.old ≢ Stuck }
     requires few { segments.old.made < 2 ^ 63 }
@@ -50,7 +49,7 @@ pub(crate) fn segment<G: Gaps, T: Tagged>(
 /// `handle.null`.
 fn null<G: Gaps, T: Tagged>(
     segments: &Segments<G, T>,
-    operands: &mut Stack<Value>,
+    operands: &mut Operands,
 ) -> Result<Option<Event>, Fault>
     ensures { DoesInSegments (segment_on instr.Null segments.now operands.old) operands.old operands.new segments.now segments.now result }
 {
@@ -65,7 +64,7 @@ fn null<G: Gaps, T: Tagged>(
 fn new<G: Gaps, T: Tagged>(
     kind: Kind,
     segments: &mut Segments<G, T>,
-    operands: &mut Stack<Value>,
+    operands: &mut Operands,
 ) -> Result<Option<Event>, Fault>
     requires there { segment_on (instr.New kind) segments.old operands.old ≢ Stuck }
     requires few { segments.old.made < 2 ^ 63 }
@@ -83,7 +82,7 @@ fn new<G: Gaps, T: Tagged>(
 fn free<G: Gaps, T: Tagged>(
     kind: Kind,
     segments: &mut Segments<G, T>,
-    operands: &mut Stack<Value>,
+    operands: &mut Operands,
 ) -> Result<Option<Event>, Fault>
     requires there { segment_on (instr.Free kind) segments.old operands.old ≢ Stuck }
     requires fit { Each (Fits segments.old) operands.old }
@@ -105,7 +104,7 @@ fn free<G: Gaps, T: Tagged>(
 fn add_to<G: Gaps, T: Tagged>(
     scale: u32,
     segments: &Segments<G, T>,
-    operands: &mut Stack<Value>,
+    operands: &mut Operands,
 ) -> Result<Option<Event>, Fault>
     requires there { segment_on (instr.Add scale) segments.now operands.old ≢ Stuck }
     requires fit { Each (Fits segments.now) operands.old }
@@ -156,7 +155,7 @@ fn event_of_slice(handle: Handle, part: Handle) -> Option<Event>
 /// `handle.slice`.
 fn slice_of<G: Gaps, T: Tagged>(
     segments: &Segments<G, T>,
-    operands: &mut Stack<Value>,
+    operands: &mut Operands,
 ) -> Result<Option<Event>, Fault>
     requires there { segment_on instr.Slice segments.now operands.old ≢ Stuck }
     requires fit { Each (Fits segments.now) operands.old }
@@ -178,7 +177,7 @@ fn slice_of<G: Gaps, T: Tagged>(
 /// `handle.eq`.
 fn are_equal<G: Gaps, T: Tagged>(
     segments: &Segments<G, T>,
-    operands: &mut Stack<Value>,
+    operands: &mut Operands,
 ) -> Result<Option<Event>, Fault>
     requires there { segment_on instr.Eq segments.now operands.old ≢ Stuck }
     requires fit { Each (Fits segments.now) operands.old }
@@ -196,7 +195,7 @@ fn are_equal<G: Gaps, T: Tagged>(
 /// `handle.is_null`.
 fn is_null<G: Gaps, T: Tagged>(
     segments: &Segments<G, T>,
-    operands: &mut Stack<Value>,
+    operands: &mut Operands,
 ) -> Result<Option<Event>, Fault>
     requires there { segment_on instr.IsNull segments.now operands.old ≢ Stuck }
     ensures { DoesInSegments (segment_on instr.IsNull segments.now operands.old) operands.old operands.new segments.now segments.now result }
@@ -212,7 +211,7 @@ fn is_null<G: Gaps, T: Tagged>(
 /// `handle.diff`.
 fn difference<G: Gaps, T: Tagged>(
     segments: &Segments<G, T>,
-    operands: &mut Stack<Value>,
+    operands: &mut Operands,
 ) -> Result<Option<Event>, Fault>
     requires there { segment_on instr.Diff segments.now operands.old ≢ Stuck }
     requires fit { Each (Fits segments.now) operands.old }
@@ -235,7 +234,7 @@ fn difference<G: Gaps, T: Tagged>(
 /// `handle.load`.
 fn load_handle<G: Gaps, T: Tagged>(
     segments: &mut Segments<G, T>,
-    operands: &mut Stack<Value>,
+    operands: &mut Operands,
 ) -> Result<Option<Event>, Fault>
     requires there { segment_on instr.LoadHandle segments.old operands.old ≢ Stuck }
     requires fit { Each (Fits segments.old) operands.old }
@@ -256,7 +255,7 @@ fn load_handle<G: Gaps, T: Tagged>(
 /// `handle.store`.
 fn store_handle<G: Gaps, T: Tagged>(
     segments: &mut Segments<G, T>,
-    operands: &mut Stack<Value>,
+    operands: &mut Operands,
 ) -> Result<Option<Event>, Fault>
     requires there { segment_on instr.StoreHandle segments.old operands.old ≢ Stuck }
     requires fit { Each (Fits segments.old) operands.old }
@@ -278,7 +277,7 @@ fn store_handle<G: Gaps, T: Tagged>(
 fn load<G: Gaps, T: Tagged>(
     op: LoadOp,
     segments: &mut Segments<G, T>,
-    operands: &mut Stack<Value>,
+    operands: &mut Operands,
 ) -> Result<Option<Event>, Fault>
     requires there { segment_on (instr.Load op) segments.old operands.old ≢ Stuck }
     requires fit { Each (Fits segments.old) operands.old }
@@ -300,7 +299,7 @@ fn load<G: Gaps, T: Tagged>(
 fn store<G: Gaps, T: Tagged>(
     op: StoreOp,
     segments: &mut Segments<G, T>,
-    operands: &mut Stack<Value>,
+    operands: &mut Operands,
 ) -> Result<Option<Event>, Fault>
     requires there { segment_on (instr.Store op) segments.old operands.old ≢ Stuck }
     requires fit { Each (Fits segments.old) operands.old }

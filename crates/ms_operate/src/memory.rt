@@ -7,16 +7,15 @@ ghost use Rattle.ms_operate.specs.Effects.{DoesInMemory, Stuck};
 
 use crate::access::{number, number_for, value_of};
 use crate::trap::{Fault, Trap};
-use ms_linear::{Linear as LinearMemory, Value};
+use ms_linear::{Linear as LinearMemory, Operands, Value};
 use ms_module::{Linear, LoadOp, MemArg, StoreOp, Width};
-use ms_types::Stack;
 
 /// Carries out an instruction on the linear memory. Where it stops the program, or memory runs out, nothing has changed.
 #[inline(always)]
 pub fn linear(
     i: Linear,
     memory: &mut LinearMemory,
-    operands: &mut Stack<Value>,
+    operands: &mut Operands,
 ) -> Result<(), Fault>
     requires { linear_on i memory.old operands.old ≢ Stuck }
     ensures { DoesInMemory (linear_on i memory.old operands.old) operands.old operands.new memory.old memory.new result }
@@ -37,7 +36,7 @@ fn load(
     op: LoadOp,
     arg: MemArg,
     memory: &LinearMemory,
-    operands: &mut Stack<Value>,
+    operands: &mut Operands,
 ) -> Result<(), Fault>
     requires { linear_on (Load op arg) memory.now operands.old ≢ Stuck }
     ensures { DoesInMemory (linear_on (Load op arg) memory.now operands.old) operands.old operands.new memory.now memory.now result }
@@ -64,7 +63,7 @@ fn load_by(
     op: LoadOp,
     arg: MemArg,
     memory: &LinearMemory,
-    operands: &mut Stack<Value>,
+    operands: &mut Operands,
 ) -> Result<(), Fault>
     requires { linear_on (Load op arg) memory.now operands.old ≢ Stuck }
     ensures { DoesInMemory (linear_on (Load op arg) memory.now operands.old) operands.old operands.new memory.now memory.now result }
@@ -85,7 +84,7 @@ fn store(
     op: StoreOp,
     arg: MemArg,
     memory: &mut LinearMemory,
-    operands: &mut Stack<Value>,
+    operands: &mut Operands,
 ) -> Result<(), Fault>
     requires { linear_on (Store op arg) memory.old operands.old ≢ Stuck }
     ensures { DoesInMemory (linear_on (Store op arg) memory.old operands.old) operands.old operands.new memory.old memory.new result }
@@ -107,7 +106,7 @@ fn store_by(
     op: StoreOp,
     arg: MemArg,
     memory: &mut LinearMemory,
-    operands: &mut Stack<Value>,
+    operands: &mut Operands,
 ) -> Result<(), Fault>
     requires { linear_on (Store op arg) memory.old operands.old ≢ Stuck }
     ensures { DoesInMemory (linear_on (Store op arg) memory.old operands.old) operands.old operands.new memory.old memory.new result }
@@ -124,7 +123,7 @@ fn store_by(
 }
 
 /// `memory.size` on the operands.
-fn size(memory: &LinearMemory, operands: &mut Stack<Value>) -> Result<(), Fault>
+fn size(memory: &LinearMemory, operands: &mut Operands) -> Result<(), Fault>
     ensures { DoesInMemory (linear_on Size memory.now operands.old) operands.old operands.new memory.now memory.now result }
 {
     match operands.push(Value::I32(memory.len())) {
@@ -134,7 +133,7 @@ fn size(memory: &LinearMemory, operands: &mut Stack<Value>) -> Result<(), Fault>
 }
 
 /// `memory.grow` on the operands.
-fn grow(memory: &mut LinearMemory, operands: &mut Stack<Value>) -> Result<(), Fault>
+fn grow(memory: &mut LinearMemory, operands: &mut Operands) -> Result<(), Fault>
     requires { linear_on Grow memory.old operands.old ≢ Stuck }
     ensures { DoesInMemory (linear_on Grow memory.old operands.old) operands.old operands.new memory.old memory.new result }
 {

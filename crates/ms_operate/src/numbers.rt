@@ -10,19 +10,18 @@ ghost use Rattle.ms_operate.specs.Outcomes.{Does, Gives, Stuck};
 
 use crate::access::{integer, number};
 use crate::trap::Trap;
-use ms_linear::Value;
+use ms_linear::{Operands, Value};
 use ms_module::{BinOp, Numeric, RelOp, UnOp, Width};
 use ms_num::{
     Arith, add, and, clz, ctz, div_s, div_u, eq, extend, ge_s, ge_u, gt_s, gt_u, le_s, le_u, lt_s,
     lt_u, mul, narrow, ne, or, popcnt, rem_s, rem_u, rotl, rotr, shl, shr_s, shr_u, sub, xor,
 };
-use ms_types::Stack;
 
 /// Carries out a numeric instruction on the operands. Where it stops the program the operands are as before.
 ///
 /// The widths are told apart here, so that each is a constant in what is done with it.
 #[inline(always)]
-pub fn numeric(i: Numeric, operands: &mut Stack<Value>) -> Result<(), Trap>
+pub fn numeric(i: Numeric, operands: &mut Operands) -> Result<(), Trap>
     requires { numeric_on i operands.old ≢ Stuck }
     ensures { Does (numeric_on i operands.old) operands.old operands.new result }
 {
@@ -121,7 +120,7 @@ fn trap_of(error: Arith) -> Trap
 
 /// `eqz` on the operands.
 #[inline(always)]
-fn test(w: Width, operands: &mut Stack<Value>)
+fn test(w: Width, operands: &mut Operands)
     requires { numeric_on (Eqz w) operands.old ≢ Stuck }
     ensures { numeric_on (Eqz w) operands.old ≡ Gives operands.new }
 {
@@ -131,7 +130,7 @@ fn test(w: Width, operands: &mut Stack<Value>)
 
 /// An operation on the topmost operand.
 #[inline(always)]
-fn on_one(w: Width, op: UnOp, operands: &mut Stack<Value>)
+fn on_one(w: Width, op: UnOp, operands: &mut Operands)
     requires { numeric_on (Unary w op) operands.old ≢ Stuck }
     ensures { numeric_on (Unary w op) operands.old ≡ Gives operands.new }
 {
@@ -141,7 +140,7 @@ fn on_one(w: Width, op: UnOp, operands: &mut Stack<Value>)
 
 /// An operation on the two topmost operands.
 #[inline(always)]
-fn on_two(w: Width, op: BinOp, operands: &mut Stack<Value>) -> Result<(), Trap>
+fn on_two(w: Width, op: BinOp, operands: &mut Operands) -> Result<(), Trap>
     requires { numeric_on (Binary w op) operands.old ≢ Stuck }
     ensures { Does (numeric_on (Binary w op) operands.old) operands.old operands.new result }
 {
@@ -159,7 +158,7 @@ fn on_two(w: Width, op: BinOp, operands: &mut Stack<Value>) -> Result<(), Trap>
 
 /// A comparison of the two topmost operands.
 #[inline(always)]
-fn compare_two(w: Width, op: RelOp, operands: &mut Stack<Value>)
+fn compare_two(w: Width, op: RelOp, operands: &mut Operands)
     requires { numeric_on (Compare w op) operands.old ≢ Stuck }
     ensures { numeric_on (Compare w op) operands.old ≡ Gives operands.new }
 {
@@ -172,7 +171,7 @@ fn compare_two(w: Width, op: RelOp, operands: &mut Stack<Value>)
 
 /// `i32.wrap_i64` on the operands.
 #[inline(always)]
-fn wrap(operands: &mut Stack<Value>)
+fn wrap(operands: &mut Operands)
     requires { numeric_on Wrap operands.old ≢ Stuck }
     ensures { numeric_on Wrap operands.old ≡ Gives operands.new }
 {
@@ -182,7 +181,7 @@ fn wrap(operands: &mut Stack<Value>)
 
 /// `i64.extend_i32_s` on the operands.
 #[inline(always)]
-fn extend_signed(operands: &mut Stack<Value>)
+fn extend_signed(operands: &mut Operands)
     requires { numeric_on ExtendS operands.old ≢ Stuck }
     ensures { numeric_on ExtendS operands.old ≡ Gives operands.new }
 {
@@ -192,7 +191,7 @@ fn extend_signed(operands: &mut Stack<Value>)
 
 /// `i64.extend_i32_u` on the operands.
 #[inline(always)]
-fn extend_unsigned(operands: &mut Stack<Value>)
+fn extend_unsigned(operands: &mut Operands)
     requires { numeric_on ExtendU operands.old ≢ Stuck }
     ensures { numeric_on ExtendU operands.old ≡ Gives operands.new }
 {

@@ -12,9 +12,9 @@ use crate::frames::Frames;
 use crate::func::FuncInst;
 use crate::marks::Mark;
 use crate::task::Task;
-use ms_linear::Value;
+use ms_linear::{Cell, Operands, Value};
 use ms_module::{BrTable, Locals};
-use ms_types::{Stack, ValType};
+use ms_types::ValType;
 use std::alloc::AllocError;
 
 /// How many calls may be open at once.
@@ -38,16 +38,16 @@ impl From<AllocError> for CallFault {
 }
 
 /// Keeps the topmost operand, or none, and the lowest ones.
-fn keep_operands(operands: &mut Stack<Value>, keeps: Option<ValType>, height: usize)
+fn keep_operands(operands: &mut Operands, keeps: Option<ValType>, height: usize)
     requires { keep keeps height operands.old ≢ None }
     ensures { Some operands.new ≡ keep keeps height operands.old }
 {
     match keeps {
         None => operands.cut(operands.len() - height),
         Some(_) => {
-            let value = operands.get(0);
+            let cell = operands.cell(0);
             operands.cut(operands.len() - 1 - height);
-            operands.set_top(value);
+            operands.set_top_cell(cell);
         }
     }
 }
@@ -60,17 +60,13 @@ fn resume_at(again: bool, next: usize) -> usize
 }
 
 /// Moves the arguments, of which the last is topmost, to the new frame's locals.
-fn take_arguments(
-    operands: &mut Stack<Value>,
-    frames: &mut Frames,
-    n: usize,
-) -> Result<(), AllocError>
+fn take_arguments(operands: &mut Operands, frames: &mut Frames, n: usize) -> Result<(), AllocError>
     requires { n ≤ length operands.old }
     ensures operands { OnOk result (operands.new ≡ drop n operands.old) }
     ensures frames { OnOk result (frames.new ≡ (frames.old.0, frames.old.1 ++ reverse (take n operands.old))) }
 {
     for i in 0..n {
-        frames.add(operands.get(n - 1 - i))?;
+        frames.add(operands.cell(n - 1 - i))?;
     }
     operands.cut(n);
     Ok(())
@@ -82,7 +78,7 @@ pub(crate) fn add_locals(frames: &mut Frames, types: &Locals) -> Result<(), Allo
 {
     let mut from = 0;
     for run in types.runs() {
-        frames.add_many(Value::default_of(run.ty), run.end - from)?;
+        frames.add_many(Cell::of(Value::default_of(run.ty)), run.end - from)?;
         from = run.end;
     }
     Ok(())

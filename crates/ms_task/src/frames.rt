@@ -4,14 +4,14 @@
 
 ghost use Rattle.std.specs.Prelude.{◌≡◌, ℕ, ◌+◌, ◌<◌, ◌≤◌, [], ◌∷◌, ◌++◌, length, drop, replicate, take, slice_get, slice_set, OnOk, OnErr, Some};
 
-use ms_linear::Value;
+use ms_linear::Cell;
 use std::alloc::{AllocError, Global};
 use std::marker::Model;
 
 /// The locals of the kept frames, and those of the current frame.
 #[derive(Drop)]
 pub struct Frames {
-    items: Vec<Value>,
+    items: Vec<Cell>,
     base: usize,
 }
 
@@ -36,7 +36,7 @@ impl Frames {
         }
     }
 
-    pub fn get(&self, i: usize) -> Value
+    pub fn get(&self, i: usize) -> Cell
         requires { i < length self.now.1 }
         ensures { slice_get self.now.1 i ≡ Some result }
     {
@@ -49,7 +49,7 @@ impl Frames {
         self.items.len() - self.base
     }
 
-    pub fn set(&mut self, i: usize, v: Value)
+    pub fn set(&mut self, i: usize, v: Cell)
         requires { i < length self.old.1 }
         ensures { self.new ≡ (self.old.0, slice_set self.old.1 i v) }
     {
@@ -57,7 +57,7 @@ impl Frames {
         self.items[at] = v;
     }
 
-    pub fn add(&mut self, v: Value) -> Result<(), AllocError>
+    pub fn add(&mut self, v: Cell) -> Result<(), AllocError>
         ensures ok { OnOk result (self.new ≡ (self.old.0, self.old.1 ++ v ∷ [])) }
         ensures err { OnErr result (self.new ≡ self.old) }
     {
@@ -66,7 +66,7 @@ impl Frames {
     }
 
     /// The same value so many times.
-    pub fn add_many(&mut self, v: Value, n: u32) -> Result<(), AllocError>
+    pub fn add_many(&mut self, v: Cell, n: u32) -> Result<(), AllocError>
         ensures { OnOk result (self.new ≡ (self.old.0, self.old.1 ++ replicate n v)) }
     {
         self.items.resize(self.items.len() + n as usize, v)?;

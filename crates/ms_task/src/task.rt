@@ -10,9 +10,8 @@ use crate::control::{DEEPEST, add_locals};
 use crate::frames::Frames;
 use crate::func::FuncInst;
 use crate::marks::{Mark, Marks};
-use ms_linear::Value;
+use ms_linear::Operands;
 use ms_module::Instr;
-use ms_types::Stack;
 use std::alloc::{AllocError, Global};
 
 /// A task: the place of its next instruction, its operands, the locals of its frames, and its open blocks and calls.
@@ -24,7 +23,7 @@ pub struct Task {
     pub(crate) sequence: usize,
     pub(crate) place: usize,
     /// The operands, the last one topmost.
-    pub operands: Stack<Value>,
+    pub operands: Operands,
     /// The locals of the current frame, over those of its callers.
     pub frames: Frames,
     pub(crate) marks: Marks,
@@ -57,7 +56,7 @@ impl Task {
             function: address as usize,
             sequence: 0,
             place: 0,
-            operands: Stack::new(alloc),
+            operands: Operands::new(alloc),
             frames,
             marks,
         };

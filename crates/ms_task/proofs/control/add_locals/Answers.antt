@@ -28,7 +28,7 @@ loop-run-preserved c =
     record {
       kept = ap (λ (x : List Value × List Value). x.0) more ∙ v.kept;
       added = ap (λ (x : List Value × List Value). x.1 ++ map default_of (types_of run.end (drop (at + 1) runs))) more
-          ∙ (locals_more runs at l.from run no_run c.default_of.result l.frames.1 c.loop-run-test.true refl c.default_of.ensures ∙ v.added);
+          ∙ (locals_more runs at l.from run no_run c.of.result l.frames.1 c.loop-run-test.true refl (c.of.ensures ∙ c.default_of.ensures) ∙ v.added);
       rise = (rises_on runs at l.from run no_run c.loop-run-test.true refl v.rise).1;
     }
 
