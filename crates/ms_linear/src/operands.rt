@@ -1,6 +1,9 @@
 //! Values as operands and locals keep them.
 
 ghost use Rattle.std.specs.Prelude.{◌≡◌, ◌<◌, ◌≤◌, [], ◌∷◌, drop, length, slice_get, OnErr, OnOk, Some};
+ghost use Rattle.ms_linear.specs.Values.{type_of};
+ghost use Rattle.ms_linear.specs.declared.value.Value.TheVariants as values;
+ghost use Rattle.ms_types.specs.declared.types.ValType.TheVariants as types;
 
 use crate::value::Value;
 use ms_handle::Handle;
@@ -72,6 +75,46 @@ impl Cell {
             },
         };
         Cell { kept }
+    }
+
+    /// The cell of an integer of 32 bits.
+    #[inline(always)]
+    pub fn of_i32(n: u32) -> Cell
+        ensures { result ≡ values.I32 n }
+    {
+        Cell { kept: Kept::I32(n) }
+    }
+
+    /// The cell of an integer of 64 bits.
+    #[inline(always)]
+    pub fn of_i64(n: u64) -> Cell
+        ensures { result ≡ values.I64 n }
+    {
+        Cell { kept: Kept::I64(n) }
+    }
+
+    /// The integer of 32 bits that is in the cell.
+    #[inline(always)]
+    pub fn i32(self) -> u32
+        requires { type_of self ≡ types.I32 }
+        ensures { self ≡ values.I32 result }
+    {
+        match self.kept {
+            Kept::I32(n) => n,
+            _ => unreachable!(),
+        }
+    }
+
+    /// The integer of 64 bits that is in the cell.
+    #[inline(always)]
+    pub fn i64(self) -> u64
+        requires { type_of self ≡ types.I64 }
+        ensures { self ≡ values.I64 result }
+    {
+        match self.kept {
+            Kept::I64(n) => n,
+            _ => unreachable!(),
+        }
     }
 
     /// The value of the cell.

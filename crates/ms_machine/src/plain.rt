@@ -7,7 +7,7 @@ ghost use Rattle.ms_module.specs.declared.instr.Instr.TheVariants as instr;
 use crate::fault::Fault;
 use crate::store::Store;
 use ms_event::Event;
-use ms_linear::Value;
+use ms_linear::{Cell, Value};
 use ms_live::Gaps;
 use ms_tagged::Tagged;
 use ms_task::Task;
@@ -37,7 +37,7 @@ pub(crate) fn i32_const<G: Gaps, T: Tagged>(
     ensures stays { Stays task.old next task.new result }
 {
     let _ = store;
-    match task.operands.push(Value::I32(n.cast_unsigned())) {
+    match task.operands.push_cell(Cell::of_i32(n.cast_unsigned())) {
         Ok(()) => {
             task.go_to(next);
             Ok(None)
@@ -57,7 +57,7 @@ pub(crate) fn i64_const<G: Gaps, T: Tagged>(
     ensures stays { Stays task.old next task.new result }
 {
     let _ = store;
-    match task.operands.push(Value::I64(n.cast_unsigned())) {
+    match task.operands.push_cell(Cell::of_i64(n.cast_unsigned())) {
         Ok(()) => {
             task.go_to(next);
             Ok(None)

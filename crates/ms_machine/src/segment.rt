@@ -288,7 +288,7 @@ fn load<G: Gaps, T: Tagged>(
     };
     match segments.load(handle, op.bytes()) {
         Ok((number, event)) => {
-            operands.set_top(value_of(op, number));
+            operands.set_top_cell(value_of(op, number));
             Ok(Some(event))
         }
         Err(trap) => Err(Fault::Trap(of_segment(trap))),
@@ -308,7 +308,7 @@ fn store<G: Gaps, T: Tagged>(
     let Value::Handle(handle) = operands.get(1) else {
         unreachable!()
     };
-    let number = number_for(op, operands.get(0));
+    let number = number_for(op, operands.cell(0));
     match segments.store(handle, op.bytes(), number) {
         Ok(event) => {
             operands.cut(2);

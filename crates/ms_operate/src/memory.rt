@@ -12,11 +12,7 @@ use ms_module::{Linear, LoadOp, MemArg, StoreOp, Width};
 
 /// Carries out an instruction on the linear memory. Where it stops the program, or memory runs out, nothing has changed.
 #[inline(always)]
-pub fn linear(
-    i: Linear,
-    memory: &mut LinearMemory,
-    operands: &mut Operands,
-) -> Result<(), Fault>
+pub fn linear(i: Linear, memory: &mut LinearMemory, operands: &mut Operands) -> Result<(), Fault>
     requires { linear_on i memory.old operands.old ≢ Stuck }
     ensures { DoesInMemory (linear_on i memory.old operands.old) operands.old operands.new memory.old memory.new result }
 {
@@ -68,10 +64,10 @@ fn load_by(
     requires { linear_on (Load op arg) memory.now operands.old ≢ Stuck }
     ensures { DoesInMemory (linear_on (Load op arg) memory.now operands.old) operands.old operands.new memory.now memory.now result }
 {
-    let base = number(Width::W32, operands.get(0));
+    let base = number(Width::W32, operands.cell(0));
     match memory.load(base + u64::from(arg.offset), op.bytes()) {
         Ok(n) => {
-            operands.set_top(value_of(op, n));
+            operands.set_top_cell(value_of(op, n));
             Ok(())
         }
         Err(_) => Err(Fault::Trap(Trap::Linear)),
@@ -111,8 +107,8 @@ fn store_by(
     requires { linear_on (Store op arg) memory.old operands.old ≢ Stuck }
     ensures { DoesInMemory (linear_on (Store op arg) memory.old operands.old) operands.old operands.new memory.old memory.new result }
 {
-    let value = number_for(op, operands.get(0));
-    let base = number(Width::W32, operands.get(1));
+    let value = number_for(op, operands.cell(0));
+    let base = number(Width::W32, operands.cell(1));
     match memory.store(base + u64::from(arg.offset), op.bytes(), value) {
         Ok(()) => {
             operands.cut(2);

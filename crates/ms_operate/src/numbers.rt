@@ -10,7 +10,7 @@ ghost use Rattle.ms_operate.specs.Outcomes.{Does, Gives, Stuck};
 
 use crate::access::{integer, number};
 use crate::trap::Trap;
-use ms_linear::{Operands, Value};
+use ms_linear::{Cell, Operands};
 use ms_module::{BinOp, Numeric, RelOp, UnOp, Width};
 use ms_num::{
     Arith, add, and, clz, ctz, div_s, div_u, eq, extend, ge_s, ge_u, gt_s, gt_u, le_s, le_u, lt_s,
@@ -124,8 +124,8 @@ fn test(w: Width, operands: &mut Operands)
     requires { numeric_on (Eqz w) operands.old ≢ Stuck }
     ensures { numeric_on (Eqz w) operands.old ≡ Gives operands.new }
 {
-    let a = number(w, operands.get(0));
-    operands.set_top(Value::I32(u32::from(a == 0)));
+    let a = number(w, operands.cell(0));
+    operands.set_top_cell(Cell::of_i32(u32::from(a == 0)));
 }
 
 /// An operation on the topmost operand.
@@ -134,8 +134,8 @@ fn on_one(w: Width, op: UnOp, operands: &mut Operands)
     requires { numeric_on (Unary w op) operands.old ≢ Stuck }
     ensures { numeric_on (Unary w op) operands.old ≡ Gives operands.new }
 {
-    let a = number(w, operands.get(0));
-    operands.set_top(integer(w, unary(op, w.bits(), a)));
+    let a = number(w, operands.cell(0));
+    operands.set_top_cell(integer(w, unary(op, w.bits(), a)));
 }
 
 /// An operation on the two topmost operands.
@@ -144,12 +144,12 @@ fn on_two(w: Width, op: BinOp, operands: &mut Operands) -> Result<(), Trap>
     requires { numeric_on (Binary w op) operands.old ≢ Stuck }
     ensures { Does (numeric_on (Binary w op) operands.old) operands.old operands.new result }
 {
-    let b = number(w, operands.get(0));
-    let a = number(w, operands.get(1));
+    let b = number(w, operands.cell(0));
+    let a = number(w, operands.cell(1));
     match binary(op, w.bits(), a, b) {
         Ok(n) => {
             operands.pop();
-            operands.set_top(integer(w, n));
+            operands.set_top_cell(integer(w, n));
             Ok(())
         }
         Err(error) => Err(trap_of(error)),
@@ -162,11 +162,11 @@ fn compare_two(w: Width, op: RelOp, operands: &mut Operands)
     requires { numeric_on (Compare w op) operands.old ≢ Stuck }
     ensures { numeric_on (Compare w op) operands.old ≡ Gives operands.new }
 {
-    let b = number(w, operands.get(0));
-    let a = number(w, operands.get(1));
+    let b = number(w, operands.cell(0));
+    let a = number(w, operands.cell(1));
     let answer = compare(op, w.bits(), a, b);
     operands.pop();
-    operands.set_top(Value::I32(answer as u32));
+    operands.set_top_cell(Cell::of_i32(answer as u32));
 }
 
 /// `i32.wrap_i64` on the operands.
@@ -175,8 +175,8 @@ fn wrap(operands: &mut Operands)
     requires { numeric_on Wrap operands.old ≢ Stuck }
     ensures { numeric_on Wrap operands.old ≡ Gives operands.new }
 {
-    let a = number(Width::W64, operands.get(0));
-    operands.set_top(Value::I32(narrow(32, a) as u32));
+    let a = number(Width::W64, operands.cell(0));
+    operands.set_top_cell(Cell::of_i32(narrow(32, a) as u32));
 }
 
 /// `i64.extend_i32_s` on the operands.
@@ -185,8 +185,8 @@ fn extend_signed(operands: &mut Operands)
     requires { numeric_on ExtendS operands.old ≢ Stuck }
     ensures { numeric_on ExtendS operands.old ≡ Gives operands.new }
 {
-    let a = number(Width::W32, operands.get(0));
-    operands.set_top(Value::I64(extend(32, 64, true, a)));
+    let a = number(Width::W32, operands.cell(0));
+    operands.set_top_cell(Cell::of_i64(extend(32, 64, true, a)));
 }
 
 /// `i64.extend_i32_u` on the operands.
@@ -195,6 +195,6 @@ fn extend_unsigned(operands: &mut Operands)
     requires { numeric_on ExtendU operands.old ≢ Stuck }
     ensures { numeric_on ExtendU operands.old ≡ Gives operands.new }
 {
-    let a = number(Width::W32, operands.get(0));
-    operands.set_top(Value::I64(a));
+    let a = number(Width::W32, operands.cell(0));
+    operands.set_top_cell(Cell::of_i64(a));
 }

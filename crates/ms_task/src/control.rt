@@ -60,6 +60,7 @@ fn resume_at(again: bool, next: usize) -> usize
 }
 
 /// Moves the arguments, of which the last is topmost, to the new frame's locals.
+#[inline(always)]
 fn take_arguments(operands: &mut Operands, frames: &mut Frames, n: usize) -> Result<(), AllocError>
     requires { n ≤ length operands.old }
     ensures operands { OnOk result (operands.new ≡ drop n operands.old) }
@@ -222,6 +223,7 @@ impl Task {
 
     /// Calls the function of an address, behind which the work goes on at `next`. Where that would be too deep nothing
     /// has changed.
+    #[inline(always)]
     pub fn call(&mut self, funcs: &[FuncInst], address: u32, next: usize) -> Result<(), CallFault>
         requires { call_on funcs.now address (at_next funcs.now self.old next) ≢ Stuck }
         ensures ok { OnOk result (To (thread_of funcs.now self.new) ≡ call_on funcs.now address (at_next funcs.now self.old next)) }
