@@ -71,7 +71,7 @@ fn define(f: &mut Function, slots: Vec<CType>, body: Box<Stmt>)
     ensures { function_of f.new ≡ words.defined (function_of f.old) (types_in slots.items) (stmt_of body.value) }
 {
     f.slots = slots;
-    f.body = Some(Box::into_inner(body));
+    drop(mem::replace(&mut f.body, Some(Box::into_inner(body))));
 }
 
 /// Gives a function among others its slots and its body.

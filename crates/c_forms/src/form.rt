@@ -1,11 +1,12 @@
 //! What an expression is before it is used, and how it is used (C11, 6.3).
 
 ghost use Rattle.std.specs.Prelude.{◌≡◌, IfOk, Some};
-ghost use Rattle.c_types.specs.Types.{integer, pointer, scalar_of, type_of};
+ghost use Rattle.c_types.specs.Types.{integer, pointer, scalar_of, struct, type_of};
 ghost use Rattle.c_typed.specs.Tree as to;
 ghost use Rattle.c_typed.specs.Views.{expr_of, place_of};
 ghost use Rattle.c_forms.specs.Forms as words;
 ghost use Rattle.c_forms.specs.FormViews.{boxed_expr, form_of, integer_pair, place_pair, value_pair};
+ghost use Rattle.c_check_types.specs.State.{followed, given, pure};
 ghost use Rattle.c_check_types.specs.Views.{Answers, Gives, state_of};
 
 use c_check_types::{Checker, Stop, same_integer, same_type};
@@ -341,26 +342,34 @@ pub fn pointer_from<'a>(
     ensures { Answers boxed_expr (words.assigned_to (pointer (type_of t.now)) (form_of f.entry)) (state_of checker.old) (state_of checker.new) result }
 {
     match f {
-        Form::Allocation(e) => {
-            checker.size_of(t)?;
-            Ok(boxed(checker.alloc, Expr::Malloc(t.share()?, e))?)
-        }
-        Form::Place(p, u) => {
-            let v = operand(checker, Form::Place(p, u))?;
-            to_pointer(checker.alloc, t, v)
-        }
-        Form::Value(e, u) => to_pointer(checker.alloc, t, Form::Value(e, u)),
-        Form::Designator(e, u) => {
-            let v = operand(checker, Form::Designator(e, u))?;
-            to_pointer(checker.alloc, t, v)
-        }
-        Form::Text(bytes) => {
-            let v = operand(checker, Form::Text(bytes))?;
-            to_pointer(checker.alloc, t, v)
-        }
-        Form::Zero(u) => to_pointer(checker.alloc, t, Form::Zero(u)),
-        Form::Null => to_pointer(checker.alloc, t, Form::Null),
+        Form::Allocation(e) => allocated(checker, t, e),
+        Form::Place(p, u) => operand_to_pointer(checker, t, Form::Place(p, u)),
+        Form::Value(e, u) => operand_to_pointer(checker, t, Form::Value(e, u)),
+        Form::Designator(e, u) => operand_to_pointer(checker, t, Form::Designator(e, u)),
+        Form::Text(bytes) => operand_to_pointer(checker, t, Form::Text(bytes)),
+        Form::Zero(u) => operand_to_pointer(checker, t, Form::Zero(u)),
+        Form::Null => operand_to_pointer(checker, t, Form::Null),
     }
+}
+
+/// Malloc's call as a pointer to a type with a size.
+fn allocated<'a>(checker: &mut Checker<'a>, t: &CType, e: Box<Expr>) -> Result<Box<Expr>, Stop>
+    ensures { Answers boxed_expr (words.allocated (type_of t.now) (expr_of e.value)) (state_of checker.old) (state_of checker.new) result }
+{
+    checker.size_of(t)?;
+    Ok(boxed(checker.alloc, Expr::Malloc(t.share()?, e))?)
+}
+
+/// An operand as a pointer to a type.
+fn operand_to_pointer<'a>(
+    checker: &mut Checker<'a>,
+    t: &CType,
+    f: Form<'a>,
+) -> Result<Box<Expr>, Stop>
+    ensures { Answers boxed_expr (λ s. followed (words.operand (form_of f.entry) s) (λ v. given (words.to_pointer (type_of t.now) v))) (state_of checker.old) (state_of checker.new) result }
+{
+    let v = operand(checker, f)?;
+    to_pointer(checker.alloc, t, v)
 }
 
 /// A form that is thrown away (C11, 6.3.2.2).
@@ -369,22 +378,10 @@ pub fn thrown_away<'a>(checker: &mut Checker<'a>, f: Form<'a>) -> Result<Box<Exp
 {
     match f {
         Form::Place(p, t) => place_thrown_away(checker, p, t),
-        Form::Value(e, t) => {
-            let v = value_of(checker, Form::Value(e, t))?;
-            Ok(v.0)
-        }
-        Form::Designator(e, t) => {
-            let v = value_of(checker, Form::Designator(e, t))?;
-            Ok(v.0)
-        }
-        Form::Text(bytes) => {
-            let v = value_of(checker, Form::Text(bytes))?;
-            Ok(v.0)
-        }
-        Form::Zero(t) => {
-            let v = value_of(checker, Form::Zero(t))?;
-            Ok(v.0)
-        }
+        Form::Value(e, t) => value_thrown_away(checker, Form::Value(e, t)),
+        Form::Designator(e, t) => value_thrown_away(checker, Form::Designator(e, t)),
+        Form::Text(bytes) => value_thrown_away(checker, Form::Text(bytes)),
+        Form::Zero(t) => value_thrown_away(checker, Form::Zero(t)),
         Form::Null => Err(Stop::NoTyping),
         Form::Allocation(_) => Err(Stop::NoTyping),
     }
@@ -398,23 +395,28 @@ fn place_thrown_away<'a>(
     ensures { Answers boxed_expr (words.thrown_away (words.place (place_of p.value) (type_of t))) (state_of checker.old) (state_of checker.new) result }
 {
     match t {
-        CType::Struct(n) => {
-            checker.size_of(&CType::Struct(n))?;
-            Ok(boxed(checker.alloc, Expr::Visit(p))?)
-        }
-        CType::Int(t) => {
-            let v = value_of(checker, Form::Place(p, CType::Int(t)))?;
-            Ok(v.0)
-        }
-        CType::Pointer(t) => {
-            let v = value_of(checker, Form::Place(p, CType::Pointer(t)))?;
-            Ok(v.0)
-        }
-        CType::Array(t, n) => {
-            let v = value_of(checker, Form::Place(p, CType::Array(t, n)))?;
-            Ok(v.0)
-        }
+        CType::Struct(n) => visited(checker, p, n),
+        CType::Int(t) => value_thrown_away(checker, Form::Place(p, CType::Int(t))),
+        CType::Pointer(t) => value_thrown_away(checker, Form::Place(p, CType::Pointer(t))),
+        CType::Array(t, n) => value_thrown_away(checker, Form::Place(p, CType::Array(t, n))),
         CType::Void => Err(Stop::NoTyping),
         CType::Function(_) => Err(Stop::NoTyping),
     }
+}
+
+/// A struct's place that is thrown away; the struct has a size.
+fn visited<'a>(checker: &mut Checker<'a>, p: Box<Place>, n: u32) -> Result<Box<Expr>, Stop>
+    ensures { Answers boxed_expr (words.thrown_away (words.place (place_of p.value) (struct n))) (state_of checker.old) (state_of checker.new) result }
+{
+    checker.size_of(&CType::Struct(n))?;
+    Ok(boxed(checker.alloc, Expr::Visit(p))?)
+}
+
+/// The value of a form that is thrown away, without its type.
+fn value_thrown_away<'a>(checker: &mut Checker<'a>, f: Form<'a>) -> Result<Box<Expr>, Stop>
+    ensures { Answers boxed_expr (λ s. followed (words.value_of (form_of f.entry) s) (λ v. pure v.0)) (state_of checker.old) (state_of checker.new) result }
+{
+    let (e, t) = value_of(checker, f)?;
+    drop(t);
+    Ok(e)
 }

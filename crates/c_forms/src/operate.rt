@@ -46,10 +46,7 @@ fn int_plus<'a>(
     let (b, u) = y;
     match u {
         CType::Int(u) => Ok(arithmetic(checker.alloc, BinaryOp::Add, x, (b, u))?),
-        CType::Pointer(u) => {
-            let u = u.share()?;
-            moved_by(checker, x, (b, u))
-        }
+        CType::Pointer(u) => moved_by(checker, x, (b, u)),
         CType::Void => Err(Stop::NoTyping),
         CType::Struct(_) => Err(Stop::NoTyping),
         CType::Array(_, _) => Err(Stop::NoTyping),
@@ -67,10 +64,7 @@ fn pointer_plus<'a>(
 {
     let (b, u) = y;
     match u {
-        CType::Int(u) => {
-            let t = x.1.share()?;
-            moved(checker, false, (x.0, t), (b, u))
-        }
+        CType::Int(u) => moved(checker, false, x, (b, u)),
         CType::Void => Err(Stop::NoTyping),
         CType::Struct(_) => Err(Stop::NoTyping),
         CType::Pointer(_) => Err(Stop::NoTyping),
@@ -125,14 +119,10 @@ fn pointer_minus<'a>(
 ) -> Result<Form<'a>, Stop>
     ensures { Answers form_of (words.minus (expr_of x.0.value, pointer (type_of x.1.value)) (value_pair y)) (state_of checker.old) (state_of checker.new) result }
 {
-    let t = x.1.share()?;
     let (b, u) = y;
     match u {
-        CType::Int(u) => moved(checker, true, (x.0, t), (b, u)),
-        CType::Pointer(u) => {
-            let u = u.share()?;
-            difference(checker, (x.0, t), (b, u))
-        }
+        CType::Int(u) => moved(checker, true, x, (b, u)),
+        CType::Pointer(u) => difference(checker, x, (b, u)),
         CType::Void => Err(Stop::NoTyping),
         CType::Struct(_) => Err(Stop::NoTyping),
         CType::Array(_, _) => Err(Stop::NoTyping),

@@ -1,11 +1,14 @@
 //! Operators on pointers (C11, 6.5.6, 6.5.8 and 6.5.9).
 
 ghost use Rattle.std.specs.Prelude.{◌≡◌, false, IfOk};
+ghost use Rattle.c_types.specs.declared.integers.IntType.TheVariants.{LongLong};
 ghost use Rattle.c_types.specs.Types.{pointer, type_of};
+ghost use Rattle.c_typed.specs.Tree as to;
 ghost use Rattle.c_typed.specs.Views.{expr_of};
 ghost use Rattle.c_check_types.specs.Views.{Answers, Gives, state_of};
+ghost use Rattle.c_forms.specs.Forms as forms;
 ghost use Rattle.c_forms.specs.Operations as words;
-ghost use Rattle.c_forms.specs.FormViews.{form_of, integer_pair, value_pair};
+ghost use Rattle.c_forms.specs.FormViews.{form_of, integer_pair};
 
 use crate::form::{Form, at_type};
 use c_check_types::{Checker, Stop, same_type};
@@ -18,42 +21,65 @@ use std::rc::Rc;
 pub fn moved<'a>(
     checker: &mut Checker<'a>,
     back: bool,
-    p: (Box<Expr>, CType),
+    p: (Box<Expr>, Rc<CType>),
     i: (Box<Expr>, IntType),
 ) -> Result<Form<'a>, Stop>
-    ensures { Answers form_of (words.moved back (value_pair p) (integer_pair i)) (state_of checker.old) (state_of checker.new) result }
+    ensures { Answers form_of (words.moved back (expr_of p.0.value, type_of p.1.value) (integer_pair i)) (state_of checker.old) (state_of checker.new) result }
+{
+    checker.size_of(&p.1)?;
+    Ok(move_of(checker.alloc, back, p, i)?)
+}
+
+/// A pointer to what has a size, on, or back, by an integer.
+fn move_of<'a>(
+    alloc: Global,
+    back: bool,
+    p: (Box<Expr>, Rc<CType>),
+    i: (Box<Expr>, IntType),
+) -> Result<Form<'a>, AllocError>
+    ensures { IfOk result (λ f. form_of f ≡ forms.value (to.move (type_of p.1.value) back (expr_of p.0.value) (forms.at_type i.1 LongLong (expr_of i.0.value))) (pointer (type_of p.1.value))) }
 {
     let (p, t) = p;
     let (i, u) = i;
-    checker.size_of(&t)?;
-    let i = at_type(checker.alloc, u, IntType::LongLong, i)?;
-    let e = boxed(checker.alloc, Expr::Move(t.share()?, back, p, i))?;
-    Ok(Form::Value(e, CType::Pointer(Rc::new(checker.alloc, t)?)))
+    let i = at_type(alloc, u, IntType::LongLong, i)?;
+    let e = boxed(alloc, Expr::Move(t.share()?, back, p, i))?;
+    Ok(Form::Value(e, CType::Pointer(t)))
 }
 
 /// A pointer on by an integer that stands first.
 pub fn moved_by<'a>(
     checker: &mut Checker<'a>,
     i: (Box<Expr>, IntType),
-    p: (Box<Expr>, CType),
+    p: (Box<Expr>, Rc<CType>),
 ) -> Result<Form<'a>, Stop>
-    ensures { Answers form_of (words.moved_by (integer_pair i) (value_pair p)) (state_of checker.old) (state_of checker.new) result }
+    ensures { Answers form_of (words.moved_by (integer_pair i) (expr_of p.0.value, type_of p.1.value)) (state_of checker.old) (state_of checker.new) result }
+{
+    checker.size_of(&p.1)?;
+    Ok(move_by_of(checker.alloc, i, p)?)
+}
+
+/// A pointer to what has a size, on by an integer that stands first.
+fn move_by_of<'a>(
+    alloc: Global,
+    i: (Box<Expr>, IntType),
+    p: (Box<Expr>, Rc<CType>),
+) -> Result<Form<'a>, AllocError>
+    ensures { IfOk result (λ f. form_of f ≡ forms.value (to.move_by (type_of p.1.value) (forms.at_type i.1 LongLong (expr_of i.0.value)) (expr_of p.0.value)) (pointer (type_of p.1.value))) }
 {
     let (p, t) = p;
     let (i, u) = i;
-    checker.size_of(&t)?;
-    let i = at_type(checker.alloc, u, IntType::LongLong, i)?;
-    let e = boxed(checker.alloc, Expr::MoveBy(t.share()?, i, p))?;
-    Ok(Form::Value(e, CType::Pointer(Rc::new(checker.alloc, t)?)))
+    let i = at_type(alloc, u, IntType::LongLong, i)?;
+    let e = boxed(alloc, Expr::MoveBy(t.share()?, i, p))?;
+    Ok(Form::Value(e, CType::Pointer(t)))
 }
 
 /// The difference of two pointers, in elements.
 pub fn difference<'a>(
     checker: &mut Checker<'a>,
-    p: (Box<Expr>, CType),
-    q: (Box<Expr>, CType),
+    p: (Box<Expr>, Rc<CType>),
+    q: (Box<Expr>, Rc<CType>),
 ) -> Result<Form<'a>, Stop>
-    ensures { Answers form_of (words.difference (value_pair p) (value_pair q)) (state_of checker.old) (state_of checker.new) result }
+    ensures { Answers form_of (words.difference (expr_of p.0.value, type_of p.1.value) (expr_of q.0.value, type_of q.1.value)) (state_of checker.old) (state_of checker.new) result }
 {
     let (p, t) = p;
     let (q, u) = q;
@@ -61,7 +87,7 @@ pub fn difference<'a>(
         return Err(Stop::NoTyping);
     }
     checker.size_of(&t)?;
-    let e = boxed(checker.alloc, Expr::Difference(t, p, q))?;
+    let e = boxed(checker.alloc, Expr::Difference(t.share()?, p, q))?;
     Ok(Form::Value(e, CType::Int(IntType::LongLong)))
 }
 
