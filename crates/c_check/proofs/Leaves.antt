@@ -33,7 +33,7 @@ use Rattle.c_laws.proofs.Integers.{same-integer, same-type, zero-fits}
 use Rattle.c_laws.proofs.Growth.{place-grown, statement-grown}
 use Rattle.c_laws.proofs.Forms.{none-does, assigned_to-does, sized-led_to}
 use Rattle.c_laws.proofs.Expressions.{typing-does, as_assigned-does, a_place-does}
-use Rattle.c_check.specs.Initialisers.{is_known, pointer_constant, static_value, leaf, string_value, scalar_value, single_value, inside, elements, members, from_place, copied_from, initialised}
+use Rattle.c_initialisers.specs.Initialisers.{is_known, pointer_constant, static_value, leaf, string_value, scalar_value, single_value, inside, elements, members, from_place, copied_from, initialised}
 
 -- ---- numbers
 

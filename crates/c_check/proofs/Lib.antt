@@ -1,7 +1,6 @@
 pub mod Computed
 pub mod Trees
 pub mod Items
-pub mod Values
 pub mod Alone
 pub mod Leaves
 pub mod Stated

@@ -20,7 +20,7 @@ use Rattle.c_check_types.specs.Types.{Derived, whole, lengthless, whole_type, Pa
 use Rattle.c_declare.specs.Functions.{enters_parameters, is_declared_alone, result_in, with_body}
 use Rattle.c_declare.specs.Initials.{variable_type}
 use Rattle.c_declare.specs.Structs.{outer}
-use Rattle.c_check.specs.Initialisers.{initialised}
+use Rattle.c_initialisers.specs.Initialisers.{initialised}
 use Rattle.c_check.specs.Statements.{scope_of, items, nothing_done, is_missing}
 
 -- ---- declarations at file scope

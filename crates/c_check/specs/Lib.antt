@@ -1,4 +1,3 @@
-pub mod Initialisers
 pub mod Statements
 pub mod Declarations
 pub mod Units

@@ -20,7 +20,7 @@ use Rattle.c_check_types.specs.Types.{Derived, whole, lengthless, specified, dec
 use Rattle.c_typed.specs.Parts.{sequence}
 use Rattle.c_declare.specs.Initials.{variable_type}
 use Rattle.c_check_exprs.specs.Expressions.{a_condition, as_assigned, performed, typing}
-use Rattle.c_check.specs.Initialisers.{initialised}
+use Rattle.c_initialisers.specs.Initialisers.{initialised}
 
 -- what is declared, and what is done there
 pub record Declaring : Type 0 where

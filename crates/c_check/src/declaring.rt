@@ -8,9 +8,9 @@ ghost use Rattle.c_check_types.specs.Views.{Answers, Gives, derived_of, name_of,
 ghost use Rattle.c_check.specs.Statements as words;
 ghost use Rattle.c_check.specs.Views.{declaring_of};
 
-use crate::initialiser::initialised;
 use c_check_types::{Checker, Derived, Stop};
 use c_declare::{declares_function, enters_local, variable_type};
+use c_initialisers::initialised;
 use c_tree::{Init, Initialiser, Inits, SpecifierNode};
 use c_typed::{Path, Stmt, Variable, add, scope};
 use c_types::CType;

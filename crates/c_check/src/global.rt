@@ -8,9 +8,9 @@ ghost use Rattle.c_check_types.specs.Views.{Answers, derived_of, state_of};
 ghost use Rattle.c_check.specs.Declarations as words;
 
 use crate::declaring::is_missing;
-use crate::initialiser::initialised;
 use c_check_types::{Checker, Derived, Stop};
 use c_declare::{declares_function, enters_global, variable_type};
+use c_initialisers::initialised;
 use c_tree::{Init, Initialiser};
 use c_typed::{Made, Path, Stmt, Variable};
 use c_types::CType;

@@ -5,7 +5,7 @@ ghost use Rattle.c_types.specs.Types.{type_of};
 ghost use Rattle.c_typed.specs.Views.{boxed_step, stmt_of};
 ghost use Rattle.c_tree.specs.Statements as tree;
 ghost use Rattle.c_check_types.specs.Views.{Answers, state_of};
-ghost use Rattle.c_forms.specs.FormViews.{boxed_expr};
+ghost use Rattle.c_typed.specs.FormViews.{boxed_expr};
 ghost use Rattle.c_check.specs.Statements as words;
 ghost use Rattle.c_check.specs.Views.{boxed_stmt, declaring_of, item_rule};
 

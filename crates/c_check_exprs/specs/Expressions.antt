@@ -36,7 +36,8 @@ use Rattle.c_check_types.specs.Operators.{operator_of}
 use Rattle.c_check_types.specs.Constants.{constant_type, constant_bits, character_bits}
 use Rattle.c_check_types.specs.Types.{size_of, type_name}
 use Rattle.c_forms.specs.Forms as form
-use Rattle.c_forms.specs.Operations.{promoted_value, arithmetic, shift, sum, minus, order, equality, choice}
+use Rattle.c_typed.specs.Forms.{promoted_value, arithmetic, shift}
+use Rattle.c_operators.specs.Operations.{sum, minus, order, equality, choice}
 use Rattle.c_forms.specs.Forms.{Form, place, value, designator, text, zero, allocation, operand, value_of, integer_of, pointer_of, place_of, at_type, condition_of, assigned_to, thrown_away}
 
 -- ---- names (6.5.1)

@@ -5,12 +5,12 @@ ghost use Rattle.c_types.specs.Types.{integer, pointer, type_of};
 ghost use Rattle.c_typed.specs.Views.{expr_of, place_of};
 ghost use Rattle.c_check_types.specs.Views.{Answers, state_of};
 ghost use Rattle.c_check_exprs.specs.Expressions as words;
-ghost use Rattle.c_forms.specs.FormViews.{form_of, integer_pair, place_pair};
+ghost use Rattle.c_typed.specs.FormViews.{form_of, integer_pair, place_pair};
 
 use c_check_types::{Checker, Operator, Stop, same_type};
-use c_forms::{Form, as_place, assigned_to, at_type, integer_of};
+use c_forms::{as_place, assigned_to, integer_of};
 use c_tree::{AssignOp, StepOp};
-use c_typed::{BinaryOp, Expr, Place, boxed};
+use c_typed::{BinaryOp, Expr, Form, Place, at_type, boxed};
 use c_types::{CType, IntType};
 use std::rc::Rc;
 

@@ -8,13 +8,13 @@ ghost use Rattle.c_typed.specs.Tree as to;
 ghost use Rattle.c_typed.specs.Views.{expr_of};
 ghost use Rattle.c_check_types.specs.Views.{Answers, Gives, state_of};
 ghost use Rattle.c_check_exprs.specs.Expressions as words;
-ghost use Rattle.c_forms.specs.Forms as forms;
-ghost use Rattle.c_forms.specs.FormViews.{boxed_expr, form_of};
+ghost use Rattle.c_typed.specs.Forms as forms;
+ghost use Rattle.c_typed.specs.FormViews.{boxed_expr, form_of};
 ghost use Rattle.c_check_exprs.specs.Views.{exprs_in};
 
 use c_check_types::{Checker, Stop};
-use c_forms::{Form, assigned_to, at_type, integer_of, operand, thrown_away};
-use c_typed::{Expr, boxed};
+use c_forms::{assigned_to, integer_of, operand, thrown_away};
+use c_typed::{Expr, Form, at_type, boxed};
 use c_types::{CType, IntType, Scalar, Signature};
 use std::alloc::{AllocError, Global};
 use std::rc::Rc;

@@ -8,7 +8,7 @@ ghost use Rattle.c_tree.specs.Tree as tree;
 ghost use Rattle.c_check_types.specs.TypeEquality.{tys_of};
 ghost use Rattle.c_check_types.specs.declared.operators.Operator.TheVariants.{And, Equality, Or};
 ghost use Rattle.c_check_types.specs.Views.{Answers, state_of};
-ghost use Rattle.c_forms.specs.FormViews.{boxed_expr, form_of, integer_pair, place_pair, value_pair};
+ghost use Rattle.c_typed.specs.FormViews.{boxed_expr, form_of, integer_pair, place_pair, value_pair};
 ghost use Rattle.c_check_exprs.specs.Expressions as words;
 ghost use Rattle.c_check_exprs.specs.Views.{exprs_in};
 
@@ -22,11 +22,11 @@ use c_check_types::{
     operator_of,
 };
 use c_forms::{
-    Form, arithmetic, as_place, assigned_to, choice, condition_of, equality, integer_of, minus,
-    operand, order, pointer_of, shift, sum, thrown_away, value_of,
+    as_place, assigned_to, condition_of, integer_of, operand, pointer_of, thrown_away, value_of,
 };
+use c_operators::{choice, equality, minus, order, sum};
 use c_tree::{Args, Expr as Written, ExprNode, Infix};
-use c_typed::{Expr, Made, Place, RelOp, Sized, UnaryOp, boxed};
+use c_typed::{Expr, Form, Made, Place, RelOp, Sized, UnaryOp, arithmetic, boxed, shift};
 use c_types::{CType, IntType, Signature};
 use std::alloc::{AllocError, Global};
 use std::mem;

@@ -1,8 +1,8 @@
 //! Typing of C's expressions (C11, 6.5): from what was written to typed expressions.
 //!
 //! Each form of an expression has a rule in `specs/`, which gives what the expression is or has no answer; conversions,
-//! decays, readings and tests become nodes. It stands on `c_forms`, what an expression is before it is used, and
-//! `c_check_types`, names, types and constant expressions. Read `specs/Expressions.antt` first.
+//! decays, readings and tests become nodes. It stands on `c_forms` and `c_operators`, what uses and operators make of
+//! expressions, and `c_check_types`, names, types and constant expressions. Read `specs/Expressions.antt` first.
 #![tactic(auto)]
 
 mod assign;

@@ -6,15 +6,15 @@ ghost use Rattle.c_types.specs.Types.{struct, type_of};
 ghost use Rattle.c_typed.specs.Views.{place_of};
 ghost use Rattle.c_check_types.specs.Views.{Answers, Gives, state_of};
 ghost use Rattle.c_check_exprs.specs.Expressions as words;
-ghost use Rattle.c_forms.specs.FormViews.{form_of, integer_pair, value_pair};
+ghost use Rattle.c_typed.specs.FormViews.{form_of, integer_pair, value_pair};
 ghost use Rattle.c_check_exprs.specs.Views.{numbered_type};
 
 use crate::name::type_at;
 use crate::unary::place_at;
 use c_check_types::{Checker, Stop};
-use c_forms::{Form, as_place, at_type, pointer_of};
+use c_forms::{as_place, pointer_of};
 use c_tree::Access;
-use c_typed::{Expr, Place, boxed};
+use c_typed::{Expr, Form, Place, at_type, boxed};
 use c_types::{CType, IntType, Structs};
 
 /// The type of a struct's member, by its number.

@@ -7,12 +7,11 @@ ghost use Rattle.c_types.specs.Views.{types_in};
 ghost use Rattle.c_check_types.specs.Scopes as scopes;
 ghost use Rattle.c_check_types.specs.Views.{Answers, Gives, scopes_of, state_of};
 ghost use Rattle.c_check_exprs.specs.Expressions as words;
-ghost use Rattle.c_forms.specs.FormViews.{form_of};
-ghost use Rattle.c_forms.specs.Forms as forms;
+ghost use Rattle.c_typed.specs.FormViews.{form_of};
+ghost use Rattle.c_typed.specs.Forms as forms;
 
 use c_check_types::{Checker, Entity, LibraryName, Scope, Stop, entity_in, library};
-use c_forms::Form;
-use c_typed::{Expr, Place, Variable, boxed};
+use c_typed::{Expr, Form, Place, Variable, boxed};
 use c_types::{CType, IntType};
 use std::alloc::{AllocError, Global};
 use std::collections::LinkedList;

@@ -6,12 +6,12 @@ ghost use Rattle.c_typed.specs.Tree as to;
 ghost use Rattle.c_typed.specs.Views.{expr_of, sized_of};
 ghost use Rattle.c_check_types.specs.Views.{Answers, state_of};
 ghost use Rattle.c_check_exprs.specs.Expressions as words;
-ghost use Rattle.c_forms.specs.Forms as forms;
-ghost use Rattle.c_forms.specs.FormViews.{form_of};
+ghost use Rattle.c_typed.specs.Forms as forms;
+ghost use Rattle.c_typed.specs.FormViews.{form_of};
 
 use c_check_types::{Checker, Stop};
-use c_forms::{Form, condition_of, integer_of, pointer_of, promoted_value, zero_of};
-use c_typed::{Expr, Place, Sized, UnaryOp, boxed};
+use c_forms::{condition_of, integer_of, pointer_of};
+use c_typed::{Expr, Form, Place, Sized, UnaryOp, boxed, promoted_value, zero_of};
 use c_types::{CType, IntType};
 use std::alloc::{AllocError, Global};
 use std::rc::Rc;

@@ -1,25 +1,7 @@
 -- When types are the same (C11, 6.2.7): structs by their tags, arrays with their lengths, functions with their parameters.
-use Rattle.std.specs.Prelude.{ℕ, ◌&&◌, ◌==◌, Bool, true, false, List, [], ◌∷◌}
-use Rattle.c_types.specs.declared.integers.IntType.{IntType}
-use Rattle.c_types.specs.declared.integers.IntType.TheVariants.{Char, SignedChar, UnsignedChar, Short, UnsignedShort, Int, UnsignedInt, Long, UnsignedLong, LongLong, UnsignedLongLong}
+use Rattle.std.specs.Prelude.{◌&&◌, ◌==◌, Bool, true, false, List, [], ◌∷◌}
+pub use Rattle.c_types.specs.Integers.{index_of, same_integer}
 use Rattle.c_types.specs.Types.{Ty, void, integer, struct, pointer, array, function, Tys, no_types, types}
-
--- a number for each integer type
-abbrev pub index_of : IntType → ℕ
-index_of Char = 0
-index_of SignedChar = 1
-index_of UnsignedChar = 2
-index_of Short = 3
-index_of UnsignedShort = 4
-index_of Int = 5
-index_of UnsignedInt = 6
-index_of Long = 7
-index_of UnsignedLong = 8
-index_of LongLong = 9
-index_of UnsignedLongLong = 10
-
-abbrev pub same_integer : IntType → IntType → Bool
-same_integer t u = index_of t == index_of u
 
 abbrev mutual
   pub same_type : Ty → Ty → Bool

@@ -502,22 +502,16 @@ pub fn cast(t: IntType, x: Constant) -> Constant
     }
 }
 
-/// The bits at which a type's numbers begin to be negative, where it has such.
-fn half(t: IntType) -> u64
-    ensures { result ≡ 2 ^ (bits t - 1) }
+/// The bits at which the numbers of a signed type of `w` bits begin to be negative.
+fn half(w: u8) -> u64
+    requires { IsBits w }
+    ensures { result ≡ 2 ^ (w - 1) }
 {
-    match t {
-        IntType::Char => 0x80,
-        IntType::SignedChar => 0x80,
-        IntType::UnsignedChar => 0x80,
-        IntType::Short => 0x8000,
-        IntType::UnsignedShort => 0x8000,
-        IntType::Int => 0x8000_0000,
-        IntType::UnsignedInt => 0x8000_0000,
-        IntType::Long => 0x8000_0000,
-        IntType::UnsignedLong => 0x8000_0000,
-        IntType::LongLong => 0x8000_0000_0000_0000,
-        IntType::UnsignedLongLong => 0x8000_0000_0000_0000,
+    match w {
+        8 => 0x80,
+        16 => 0x8000,
+        32 => 0x8000_0000,
+        _ => 0x8000_0000_0000_0000,
     }
 }
 
@@ -529,7 +523,7 @@ pub fn natural(c: Constant) -> Option<u64>
         return None;
     };
     if c.ty.is_signed() {
-        if a < half(c.ty) { Some(a) } else { None }
+        if a < half(width(c.ty)) { Some(a) } else { None }
     } else {
         Some(a)
     }

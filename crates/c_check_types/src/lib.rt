@@ -27,4 +27,4 @@ pub use fault::Stop;
 pub use names::Names;
 pub use operators::{Operator, operator_of};
 pub use prelude::{LibraryName, library};
-pub use types::{function_type, measured, same_integer, same_type};
+pub use types::{function_type, measured, same_type};

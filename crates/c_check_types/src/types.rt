@@ -8,19 +8,12 @@ ghost use Rattle.c_check_types.specs.TypeEquality as words;
 ghost use Rattle.c_check_types.specs.TypeEquality.{tys_of};
 ghost use Rattle.c_check_types.specs.Types.{limited, measured, most_bytes, so_many};
 
-use c_types::{CType, IntType, Signature, Structs, size};
+use c_types::{CType, Signature, Structs, same_integer, size};
 use std::alloc::{AllocError, Global};
 use std::rc::Rc;
 
 /// The most bytes of a type, and the most elements of an array.
 const MOST_BYTES: u64 = 0x4000_0000;
-
-/// Whether two integer types are one type.
-pub fn same_integer(t: IntType, u: IntType) -> bool
-    ensures { result ≡ words.same_integer t u }
-{
-    t as u8 == u as u8
-}
 
 /// Whether two types are the same (C11, 6.2.7).
 #[cycle(same)]

@@ -5,9 +5,9 @@ ghost use Rattle.c_types.specs.Types.{type_of};
 ghost use Rattle.c_check_types.specs.Views.{Answers, derived_of, name_of, state_of};
 ghost use Rattle.c_declare.specs.Initials as words;
 
-use c_check_types::{Checker, Derived, Stop, same_integer};
+use c_check_types::{Checker, Derived, Stop};
 use c_tree::{Expr as Written, ExprNode, Initialiser, InitialiserNode, Initialisers, UnaryOp};
-use c_types::{CType, IntType};
+use c_types::{CType, IntType, same_integer};
 
 /// An expression without its parentheses.
 pub fn bare<'a>(e: &'a Written) -> &'a Written

@@ -1,4 +1,4 @@
--- What an expression is before it is used (C11, 6.3.2.1, 6.3.2.3), and how it is used.
+-- How an expression is used (C11, 6.3.2.1, 6.3.2.3).
 use Rattle.std.specs.Prelude.{ℕ, ◌+◌, nat_le, List, [], ◌∷◌, ◌++◌, Option, Some, None, if◌then◌else◌}
 use Rattle.c_types.specs.declared.integers.IntType.{IntType}
 use Rattle.c_types.specs.declared.integers.IntType.TheVariants.{Char}
@@ -7,24 +7,10 @@ use Rattle.c_types.specs.Integers.{bits}
 use Rattle.c_types.specs.Types.{Ty, integer, struct, pointer, array, is_function, scalar_of}
 use Rattle.c_typed.specs.Tree as to
 use Rattle.c_typed.specs.Tree.{Expr, Place}
+pub use Rattle.c_typed.specs.Forms.{Form, place, value, designator, text, zero, null, allocation, at_type, null_of}
 use Rattle.c_check_types.specs.State.{Rule, ◌>>=◌, ◌>>◌, pure, none, given, state, change}
 use Rattle.c_check_types.specs.TypeEquality.{same_integer, same_type}
 use Rattle.c_check_types.specs.Types.{size_of}
-
-pub data Form : Type 0 where
-  place : Place → Ty → Form
-  -- a value of an integer type or a pointer type, or a void expression
-  value : Expr → Ty → Form
-  -- a function, by a pointer to it, and its type
-  designator : Expr → Ty → Form
-  -- a string literal
-  text : List ℕ → Form
-  -- the integer constant 0, which is a null constant, too
-  zero : IntType → Form
-  -- NULL
-  null : Form
-  -- a call of malloc with this argument
-  allocation : Expr → Form
 
 -- ---- values (6.3.2.1)
 
@@ -95,10 +81,6 @@ struct_number _ = None
 
 -- ---- conversions (6.3.1)
 
--- an integer at a type
-abbrev pub at_type : (from to : IntType) → Expr → Expr
-at_type t u e = if same_integer t u then e else to.convert t u e
-
 -- Conditions are integers or pointers; those of 32 bits or fewer are tested as they are.
 abbrev pub condition : Expr × Ty → Option Expr
 condition (e, integer t) = Some (if nat_le (bits t) 32 then e else to.truth (scalars.Int t) e)
@@ -109,9 +91,6 @@ abbrev pub condition_of : Form → Rule Expr
 condition_of f = do
   v ← value_of f
   given (condition v)
-
-abbrev pub null_of : Ty → Expr
-null_of t = if is_function t then to.no_function else to.null
 
 -- ---- as if by assignment (6.5.16.1)
 

@@ -1,78 +1,19 @@
-//! What an expression is before it is used, and how it is used (C11, 6.3).
+//! How an expression is used (C11, 6.3).
 
 ghost use Rattle.std.specs.Prelude.{◌≡◌, IfOk, Some};
 ghost use Rattle.c_types.specs.Types.{integer, pointer, scalar_of, struct, type_of};
 ghost use Rattle.c_typed.specs.Tree as to;
 ghost use Rattle.c_typed.specs.Views.{expr_of, place_of};
 ghost use Rattle.c_forms.specs.Forms as words;
-ghost use Rattle.c_forms.specs.FormViews.{boxed_expr, form_of, integer_pair, place_pair, value_pair};
+ghost use Rattle.c_typed.specs.FormViews.{boxed_expr, form_of, integer_pair, place_pair, value_pair};
 ghost use Rattle.c_check_types.specs.State.{followed, given, pure};
 ghost use Rattle.c_check_types.specs.Views.{Answers, Gives, state_of};
 
-use c_check_types::{Checker, Stop, same_integer, same_type};
-use c_typed::{Expr, Made, Place, boxed};
+use c_check_types::{Checker, Stop, same_type};
+use c_typed::{Expr, Form, Made, Place, at_type, boxed, null_at, pointer_scalar, zero_of};
 use c_types::{CType, IntType, Scalar};
 use std::alloc::{AllocError, Global};
 use std::rc::Rc;
-
-/// What an expression is before it is used.
-#[derive(Drop)]
-pub enum Form<'a> {
-    Place(Box<Place>, CType),
-    /// A value of an integer type or a pointer type, or a void expression.
-    Value(Box<Expr>, CType),
-    /// A function, by a pointer to it, and its type.
-    Designator(Box<Expr>, CType),
-    /// A string literal.
-    Text(&'a [u8]),
-    /// The integer constant 0, which is a null constant, too.
-    Zero(IntType),
-    /// `NULL`.
-    Null,
-    /// A call of malloc with this argument.
-    Allocation(Box<Expr>),
-}
-
-/// An integer at a type (C11, 6.3.1.3).
-pub fn at_type(
-    alloc: Global,
-    from: IntType,
-    to: IntType,
-    e: Box<Expr>,
-) -> Result<Box<Expr>, AllocError>
-    ensures { IfOk result (λ r. expr_of r.value ≡ words.at_type from to (expr_of e.value)) }
-{
-    if same_integer(from, to) {
-        Ok(e)
-    } else {
-        boxed(alloc, Expr::Convert(from, to, e))
-    }
-}
-
-/// The null pointer to a type (C11, 6.3.2.3).
-pub fn null_of(t: &CType) -> Expr
-    ensures { expr_of result ≡ words.null_of (type_of t.now) }
-{
-    if t.is_function() {
-        Expr::NoFunction
-    } else {
-        Expr::Null
-    }
-}
-
-/// The null pointer to a type, in a box.
-pub fn null_at(alloc: Global, t: &CType) -> Result<Box<Expr>, AllocError>
-    ensures { IfOk result (λ r. expr_of r.value ≡ words.null_of (type_of t.now)) }
-{
-    boxed(alloc, null_of(t))
-}
-
-/// The number 0 of a type, in a box.
-pub fn zero_of(alloc: Global, t: IntType) -> Result<Box<Expr>, AllocError>
-    ensures { IfOk result (λ r. expr_of r.value ≡ to.number t 0) }
-{
-    boxed(alloc, Expr::Number(t, 0))
-}
 
 /// A value with its type; NULL has none.
 fn plain(alloc: Global, f: Form) -> Result<(Box<Expr>, CType), Stop>
@@ -155,17 +96,6 @@ fn integer_condition(alloc: Global, e: Box<Expr>, t: IntType) -> Result<Box<Expr
         Ok(e)
     } else {
         boxed(alloc, Expr::Truth(Scalar::Int(t), e))
-    }
-}
-
-/// What a pointer to a type is.
-pub fn pointer_scalar(t: &CType) -> Scalar
-    ensures { Some result ≡ scalar_of (pointer (type_of t.now)) }
-{
-    if t.is_function() {
-        Scalar::Function
-    } else {
-        Scalar::Pointer
     }
 }
 

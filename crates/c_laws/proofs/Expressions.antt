@@ -14,7 +14,7 @@ use Rattle.c_check_types.specs.Scopes.{library}
 use Rattle.c_check_types.specs.Constants.{constant_type, constant_bits, character_bits}
 use Rattle.c_check_types.specs.Operators.{operator_of}
 use Rattle.c_forms.specs.Forms.{value, text}
-use Rattle.c_forms.specs.Operations.{choice}
+use Rattle.c_operators.specs.Operations.{choice}
 use Rattle.c_check_exprs.specs.Expressions.{exprs_of, a_place, a_condition, as_assigned, performed, step_operator, assign_operator, called_library, constant_form, typing, sole, arguments}
 use Rattle.c_well_typed.specs.Types.{IsType, AreParameters}
 use Rattle.c_well_typed.specs.Expressions.{Context, HasType, HaveTypes}

@@ -31,7 +31,8 @@ use Rattle.c_check_types.specs.Constants.{constant_type, constant_bits, characte
 use Rattle.c_check_types.specs.Types.{measured}
 use Rattle.c_forms.specs.Forms as form
 use Rattle.c_forms.specs.Forms.{Form, place, value, designator, text, zero, allocation, operand, at_type}
-use Rattle.c_forms.specs.Operations.{promoted_value, arithmetic, shift, order, equality}
+use Rattle.c_typed.specs.Forms.{promoted_value, arithmetic, shift}
+use Rattle.c_operators.specs.Operations.{order, equality}
 use Rattle.c_check_exprs.specs.Expressions.{function_type, entity_form, name_form, operating, led_to, deref, address, plus, signed as sign_of, negated, size, size_of_value, unevaluated, member_named, member_in, member, element, constant_form}
 use Rattle.c_well_typed.specs.Types.{MayBeLedTo, IsType, IsObject}
 use Rattle.c_well_typed.specs.Expressions.{IsPlace, IsMember}

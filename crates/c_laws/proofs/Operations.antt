@@ -15,7 +15,8 @@ use Rattle.c_check_types.specs.TypeEquality.{same_type}
 use Rattle.c_check_types.specs.Types.{size_of}
 use Rattle.c_forms.specs.Forms as form
 use Rattle.c_forms.specs.Forms.{Form, value, zero, at_type, null_of}
-use Rattle.c_forms.specs.Operations.{promoted_value, at_one_type, arithmetic, shift, compared, moved, moved_by, difference, equal_pointers, sum, minus, ordered_pointers, order, Both, integers, pointers, voids, beside, equality_of, equality, chosen, choice_of, choice}
+use Rattle.c_typed.specs.Forms.{promoted_value, at_one_type, arithmetic, shift, compared}
+use Rattle.c_operators.specs.Operations.{moved, moved_by, difference, equal_pointers, sum, minus, ordered_pointers, order, Both, integers, pointers, voids, beside, equality_of, equality, chosen, choice_of, choice}
 use Rattle.c_well_typed.specs.Types.{IsValue, IsType}
 use Rattle.c_well_typed.specs.Expressions.{HasType, IsCondition, IsPromoted}
 use Rattle.c_laws.proofs.States.{context, Good, Quiet, Does}

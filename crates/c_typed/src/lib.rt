@@ -6,6 +6,8 @@
 #![tactic(auto)]
 
 mod build;
+mod form;
+mod integers;
 mod make;
 mod ops;
 mod path;
@@ -15,7 +17,9 @@ mod unit;
 pub use build::{
     add, assign, copy, fill, if_else, loop_of, perform, return_value, scope, while_loop,
 };
-pub use make::{boxed, discarded, number};
+pub use form::Form;
+pub use integers::{arithmetic, compared, promoted_value, shift};
+pub use make::{at_type, boxed, discarded, null_at, null_of, number, pointer_scalar, zero_of};
 pub use ops::{BinaryOp, RelOp, UnaryOp, Variable};
 pub use path::Path;
 pub use tree::{Expr, Place, Sized, Stmt};

@@ -1,5 +1,5 @@
 -- Integer types (C11, 6.2.5): their ranks, widths and signs, and the conversions among them.
-use Rattle.std.specs.Prelude.{ℕ, ◌&&◌, Bool, true, false, if◌then◌else◌, nat_lt, nat_le}
+use Rattle.std.specs.Prelude.{ℕ, ◌&&◌, ◌==◌, Bool, true, false, if◌then◌else◌, nat_lt, nat_le}
 use Rattle.c_types.specs.declared.integers.IntType.{IntType}
 use Rattle.c_types.specs.declared.integers.IntType.TheVariants.{Char, SignedChar, UnsignedChar, Short, UnsignedShort, Int, UnsignedInt, Long, UnsignedLong, LongLong, UnsignedLongLong}
 
@@ -53,6 +53,25 @@ unsigned_of t = t
 abbrev pub holds : IntType → IntType → Bool
 holds t u =
     if is_signed u then is_signed t && nat_le (bits u) (bits t) else (if is_signed t then nat_lt (bits u) (bits t) else nat_le (bits u) (bits t))
+
+-- ---- which type it is
+
+-- a number for each integer type
+abbrev pub index_of : IntType → ℕ
+index_of Char = 0
+index_of SignedChar = 1
+index_of UnsignedChar = 2
+index_of Short = 3
+index_of UnsignedShort = 4
+index_of Int = 5
+index_of UnsignedInt = 6
+index_of Long = 7
+index_of UnsignedLong = 8
+index_of LongLong = 9
+index_of UnsignedLongLong = 10
+
+abbrev pub same_integer : IntType → IntType → Bool
+same_integer t u = index_of t == index_of u
 
 -- ---- conversions
 

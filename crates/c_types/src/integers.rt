@@ -1,7 +1,7 @@
 //! Integer types and their conversions.
 
 ghost use Rattle.std.specs.Prelude.{◌≡◌};
-ghost use Rattle.c_types.specs.Integers.{bits, common, greater, holds, is_signed, of_both_signs, promoted, rank, unsigned_of};
+ghost use Rattle.c_types.specs.Integers.{bits, common, greater, holds, is_signed, of_both_signs, promoted, rank, same_integer, unsigned_of};
 
 /// An integer type (C11, 6.2.5). The three types of a character differ; a plain `char` is signed.
 #[derive(Clone, Copy, Debug, PartialEq, Eq)]
@@ -112,6 +112,13 @@ impl IntType {
             _ => greater(left, right),
         }
     }
+}
+
+/// Whether two integer types are one type.
+pub fn same_integer(t: IntType, u: IntType) -> bool
+    ensures { result ≡ same_integer t u }
+{
+    t as u8 == u as u8
 }
 
 /// Of two types of one sign, the one of greater rank.

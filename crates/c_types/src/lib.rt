@@ -11,6 +11,6 @@ mod layout;
 mod structs;
 mod types;
 
-pub use integers::IntType;
+pub use integers::{IntType, same_integer};
 pub use structs::{Structs, align, offset, size};
 pub use types::{CType, Scalar, Signature};

@@ -8,7 +8,7 @@ use Rattle.c_check_types.proofs.Rows.{function_is}
 use Rattle.c_check_types.specs.TypeEquality.{tys_of}
 use Rattle.c_check_types.specs.Views.{Answers, state_of}
 use Rattle.c_check_exprs.specs.Expressions.{arguments, called, sole, typing}
-use Rattle.c_forms.specs.FormViews.{form_of}
+use Rattle.c_typed.specs.FormViews.{form_of}
 use Rattle.c_check_types.proofs.Rules.{answered}
 use Rattle.c_check_exprs.proofs.Arguments.{differ, one_falls, sole_is, sole_isnt}
 use Rattle.c_check_exprs.proofs.expression.+typing.Goals as goal

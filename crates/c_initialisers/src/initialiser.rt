@@ -5,15 +5,15 @@ ghost use Rattle.c_types.specs.Types.{integer, type_of};
 ghost use Rattle.c_typed.specs.Views.{list_of, path_place};
 ghost use Rattle.c_tree.specs.Tree as tree;
 ghost use Rattle.c_check_types.specs.Views.{Answers, Gives, state_of};
-ghost use Rattle.c_forms.specs.FormViews.{boxed_expr, form_of, place_pair};
-ghost use Rattle.c_check.specs.Initialisers as words;
+ghost use Rattle.c_typed.specs.FormViews.{boxed_expr, form_of, place_pair};
+ghost use Rattle.c_initialisers.specs.Initialisers as words;
 
 use c_check_exprs::{member_type, typed_as, typed_place, typing};
 use c_check_types::{Checker, Stop, same_type, value_at};
 use c_declare::{bare, fills, is_address, is_reference};
-use c_forms::{Form, pointer_from};
+use c_forms::pointer_from;
 use c_tree::{Expr as Written, Initialiser, InitialiserNode, Initialisers};
-use c_typed::{Expr, Path, Place, Stmt, add, assign, boxed, copy, fill};
+use c_typed::{Expr, Form, Path, Place, Stmt, add, assign, boxed, copy, fill};
 use c_types::{CType, IntType};
 use std::alloc::Global;
 

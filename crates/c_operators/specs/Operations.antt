@@ -1,8 +1,8 @@
--- Operators on values and on operands (C11, 6.5.5 to 6.5.9, 6.5.15).
+-- Operators on values and on operands (C11, 6.5.6, 6.5.8, 6.5.9, 6.5.15).
 use Rattle.std.specs.Prelude.{Bool, true, false, Option, Some, None, if◌then◌else◌}
 use Rattle.c_types.specs.declared.integers.IntType.{IntType}
 use Rattle.c_types.specs.declared.integers.IntType.TheVariants.{Int, LongLong}
-use Rattle.c_types.specs.Integers.{promoted, common}
+use Rattle.c_types.specs.Integers.{common}
 use Rattle.c_types.specs.Types.{Ty, void, integer, pointer, is_function, scalar_of}
 use Rattle.c_typed.specs.declared.ops.BinaryOp.{BinaryOp}
 use Rattle.c_typed.specs.declared.ops.BinaryOp.TheVariants as ops
@@ -13,30 +13,8 @@ use Rattle.c_typed.specs.Tree.{Expr}
 use Rattle.c_check_types.specs.State.{Rule, ◌>>=◌, ◌>>◌, pure, none, only_if, and_then}
 use Rattle.c_check_types.specs.TypeEquality.{same_type}
 use Rattle.c_check_types.specs.Types.{size_of}
-use Rattle.c_forms.specs.Forms as form
-use Rattle.c_forms.specs.Forms.{Form, value, zero, at_type, null_of}
-
--- ---- operators on integers
-
-abbrev pub promoted_value : Expr × IntType → Expr
-promoted_value (e, t) = at_type t (promoted t) e
-
--- both operands at one type
-abbrev pub at_one_type : BinaryOp → IntType → Expr × IntType → Expr × IntType → Form
-at_one_type op c (a, t) (b, u) =
-    value (to.binary op c (at_type t c a) (at_type u c b)) (integer c)
-
--- at their common type (6.3.1.8)
-abbrev pub arithmetic : BinaryOp → Expr × IntType → Expr × IntType → Form
-arithmetic op x y = at_one_type op (common x.1 y.1) x y
-
--- at the promoted type of the left one (6.5.7)
-abbrev pub shift : BinaryOp → Expr × IntType → Expr × IntType → Form
-shift op x y = at_one_type op (promoted x.1) x y
-
-abbrev pub compared : RelOp → Expr × IntType → Expr × IntType → Form
-compared op (a, t) (b, u) =
-    let c = common t u in value (to.compare op c (at_type t c a) (at_type u c b)) (integer Int)
+use Rattle.c_typed.specs.Forms as form
+use Rattle.c_typed.specs.Forms.{Form, value, zero, at_type, null_of, arithmetic, compared}
 
 -- ---- operators on pointers (6.5.6, 6.5.8, 6.5.9)
 

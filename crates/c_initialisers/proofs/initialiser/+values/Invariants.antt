@@ -3,8 +3,8 @@ use Rattle.c_types.specs.Types.{type_of}
 use Rattle.c_tree.specs.InitialiserViews.{initialisers_of, initialiser_nodes, initialisers_nodes}
 use Rattle.c_typed.specs.Views.{list_of, path_place}
 use Rattle.c_check_types.specs.Views.{state_of}
-use Rattle.c_check.specs.Initialisers.{elements, members}
-use Rattle.c_check.proofs.initialiser.+values.Given as goal
+use Rattle.c_initialisers.specs.Initialisers.{elements, members}
+use Rattle.c_initialisers.proofs.initialiser.+values.Given as goal
 
 abbrev pub invariant-elements-loop-i : goal.invariant-elements-loop-i
 invariant-elements-loop-i l =

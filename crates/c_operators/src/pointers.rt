@@ -6,13 +6,12 @@ ghost use Rattle.c_types.specs.Types.{pointer, type_of};
 ghost use Rattle.c_typed.specs.Tree as to;
 ghost use Rattle.c_typed.specs.Views.{expr_of};
 ghost use Rattle.c_check_types.specs.Views.{Answers, Gives, state_of};
-ghost use Rattle.c_forms.specs.Forms as forms;
-ghost use Rattle.c_forms.specs.Operations as words;
-ghost use Rattle.c_forms.specs.FormViews.{form_of, integer_pair};
+ghost use Rattle.c_typed.specs.Forms as forms;
+ghost use Rattle.c_operators.specs.Operations as words;
+ghost use Rattle.c_typed.specs.FormViews.{form_of, integer_pair};
 
-use crate::form::{Form, at_type};
 use c_check_types::{Checker, Stop, same_type};
-use c_typed::{Expr, RelOp, boxed};
+use c_typed::{Expr, Form, RelOp, at_type, boxed};
 use c_types::{CType, IntType};
 use std::alloc::{AllocError, Global};
 use std::rc::Rc;

@@ -1,8 +1,8 @@
 use Rattle.std.proofs.Common.{◌<◌, subst, arith}
 use Rattle.c_tree.specs.Tree.{Initialisers}
 use Rattle.c_tree.specs.InitialiserViews.{initialiser_nodes, initialisers_nodes}
-use Rattle.c_check.proofs.Values.{one_falls}
-use Rattle.c_check.proofs.initialiser.+values.Goals as goal
+use Rattle.c_initialisers.proofs.Values.{one_falls}
+use Rattle.c_initialisers.proofs.initialiser.+values.Goals as goal
 
 pub elements-element-requires : goal.elements-element-requires
 elements-element-requires n c =

@@ -2,11 +2,13 @@
 
 ghost use Rattle.std.specs.Prelude.{◌≡◌, IfOk};
 ghost use Rattle.c_typed.specs.Views.{expr_of};
-ghost use Rattle.c_forms.specs.Operations as words;
-ghost use Rattle.c_forms.specs.FormViews.{form_of, integer_pair};
+ghost use Rattle.c_typed.specs.Forms as words;
+ghost use Rattle.c_typed.specs.FormViews.{form_of, integer_pair};
 
-use crate::form::{Form, at_type};
-use c_typed::{BinaryOp, Expr, RelOp, boxed};
+use crate::form::Form;
+use crate::make::{at_type, boxed};
+use crate::ops::{BinaryOp, RelOp};
+use crate::tree::Expr;
 use c_types::{CType, IntType};
 use std::alloc::{AllocError, Global};
 

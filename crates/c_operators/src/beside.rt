@@ -3,13 +3,13 @@
 ghost use Rattle.c_types.specs.Types.{integer, pointer, type_of, void as type_void};
 ghost use Rattle.c_typed.specs.Views.{expr_of};
 ghost use Rattle.c_check_types.specs.Views.{Gives};
-ghost use Rattle.c_forms.specs.Forms as forms;
-ghost use Rattle.c_forms.specs.FormViews.{both_of, form_of};
-ghost use Rattle.c_forms.specs.Operations as words;
+ghost use Rattle.c_typed.specs.Forms as forms;
+ghost use Rattle.c_typed.specs.FormViews.{form_of};
+ghost use Rattle.c_operators.specs.Views.{both_of};
+ghost use Rattle.c_operators.specs.Operations as words;
 
-use crate::form::{Form, null_at, zero_of};
 use c_check_types::{Stop, same_type};
-use c_typed::Expr;
+use c_typed::{Expr, Form, null_at, zero_of};
 use c_types::{CType, IntType};
 use std::alloc::Global;
 use std::rc::Rc;

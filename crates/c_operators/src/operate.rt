@@ -4,14 +4,12 @@ ghost use Rattle.std.specs.Prelude.{◌≡◌};
 ghost use Rattle.c_types.specs.Types.{integer, pointer, type_of};
 ghost use Rattle.c_typed.specs.Views.{expr_of};
 ghost use Rattle.c_check_types.specs.Views.{Answers, Gives, state_of};
-ghost use Rattle.c_forms.specs.Operations as words;
-ghost use Rattle.c_forms.specs.FormViews.{form_of, value_pair};
+ghost use Rattle.c_operators.specs.Operations as words;
+ghost use Rattle.c_typed.specs.FormViews.{form_of, value_pair};
 
-use crate::form::Form;
-use crate::integers::{arithmetic, compared};
 use crate::pointers::{difference, moved, moved_by, ordered_pointers};
 use c_check_types::{Checker, Stop};
-use c_typed::{BinaryOp, Expr, RelOp};
+use c_typed::{BinaryOp, Expr, Form, RelOp, arithmetic, compared};
 use c_types::{CType, IntType};
 use std::alloc::Global;
 use std::rc::Rc;
