@@ -6,7 +6,7 @@ ghost use Rattle.ms_bin_grammar.specs.Numbers.{vec};
 ghost use Rattle.ms_bin_grammar.specs.Types.{table_type};
 ghost use Rattle.ms_bin_grammar.specs.Module.{custom, funcs, has_more, module_of, nothing_yet, section};
 ghost use Rattle.ms_bin_grammar.specs.Bounds.{usual};
-ghost use Rattle.ms_bin_read.specs.Readers.{Reads};
+ghost use Rattle.ms_bin_read.specs.Readers.{Reads, Turns};
 
 use crate::funcs::funcs_of;
 use crate::items::{Item, bounded, byte_of, ended, sized_of};
@@ -18,6 +18,7 @@ use ms_bytes::Cursor;
 use ms_module::{Func, Module};
 use ms_types::{Limits, Vector};
 use std::alloc::Global;
+use std::mem;
 
 /// Goes over a custom section's name and the bytes behind it.
 #[tactic(auto, unfolding(ms_bin_grammar::specs::Module::custom))]
@@ -59,6 +60,35 @@ fn sized_tables_of(alloc: Global, c: &mut Cursor) -> Result<Vector<Limits>, Read
     let tables = tables_of(alloc, &mut inside)?;
     ended(&inside)?;
     Ok(tables)
+}
+
+/// Reads an item, whose size stands before it, into this place.
+fn read_into<T: Item>(place: &mut T, alloc: Global, c: &mut Cursor) -> Result<(), ReadFault>
+    ensures { Turns place.new c.old c.new result ((sized T.format).read c.old.end c.old.left) }
+{
+    *place = sized_of(alloc, c)?;
+    Ok(())
+}
+
+/// Reads the table section into this place.
+fn tables_into(place: &mut Vector<Limits>, alloc: Global, c: &mut Cursor) -> Result<(), ReadFault>
+    ensures { Turns place.new c.old c.new result ((sized (vec table_type)).read c.old.end c.old.left) }
+{
+    *place = sized_tables_of(alloc, c)?;
+    Ok(())
+}
+
+/// Reads the code section, for functions of these types, into this place.
+fn funcs_into(
+    place: &mut Vector<Func>,
+    sigs: &[u32],
+    alloc: Global,
+    c: &mut Cursor,
+) -> Result<(), ReadFault>
+    ensures { Turns place.new c.old c.new result ((sized (funcs usual sigs.now)).read c.old.end c.old.left) }
+{
+    *place = sized_funcs_of(alloc, sigs, c)?;
+    Ok(())
 }
 
 /// No section so far.
@@ -127,24 +157,26 @@ impl Steps for Sections {
     fn step(&mut self, alloc: Global, c: &mut Cursor) -> Result<(), ReadFault> {
         let at = c.at();
         let id = byte_of(c)?;
-        match id {
-            0 => return sized_custom_of(c),
-            1 if self.last < 1 => self.sigs = sized_of(alloc, c)?,
-            2 if self.last < 2 => self.imports = sized_of(alloc, c)?,
-            3 if self.last < 3 => self.indices = sized_of(alloc, c)?,
-            4 if self.last < 4 => self.tables = sized_tables_of(alloc, c)?,
-            5 if self.last < 5 => self.memories = sized_of(alloc, c)?,
-            6 if self.last < 6 => self.globals = sized_of(alloc, c)?,
-            7 if self.last < 7 => self.exports = sized_of(alloc, c)?,
-            8 if self.last < 8 => self.start = Some(sized_of(alloc, c)?),
-            9 if self.last < 9 => self.elements = sized_of(alloc, c)?,
-            10 if self.last < 10 => {
-                self.funcs = sized_funcs_of(alloc, self.indices.as_slice(), c)?;
-            }
-            11 if self.last < 11 => self.fills = sized_of(alloc, c)?,
-            _ => return Err(ReadFault::Malformed { at }),
+        if id == 0 {
+            return sized_custom_of(c);
         }
-        self.last = id;
-        Ok(())
+        let last = mem::replace(&mut self.last, id);
+        match id {
+            1 if last < 1 => read_into(&mut self.sigs, alloc, c),
+            2 if last < 2 => read_into(&mut self.imports, alloc, c),
+            3 if last < 3 => read_into(&mut self.indices, alloc, c),
+            4 if last < 4 => tables_into(&mut self.tables, alloc, c),
+            5 if last < 5 => read_into(&mut self.memories, alloc, c),
+            6 if last < 6 => read_into(&mut self.globals, alloc, c),
+            7 if last < 7 => read_into(&mut self.exports, alloc, c),
+            8 if last < 8 => {
+                self.start = Some(sized_of(alloc, c)?);
+                Ok(())
+            }
+            9 if last < 9 => read_into(&mut self.elements, alloc, c),
+            10 if last < 10 => funcs_into(&mut self.funcs, self.indices.as_slice(), alloc, c),
+            11 if last < 11 => read_into(&mut self.fills, alloc, c),
+            _ => Err(ReadFault::Malformed { at }),
+        }
     }
 }

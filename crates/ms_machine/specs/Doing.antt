@@ -5,6 +5,7 @@ use Rattle.ms_host.specs.declared.host.Host.{Host}
 use Rattle.ms_host.specs.declared.host.Host.TheVariants as hosts
 use Rattle.ms_linear.specs.declared.value.Value.{Value}
 use Rattle.ms_module.specs.declared.instr.Instr.{Instr}
+use Rattle.ms_module.specs.declared.instr.Instr.TheVariants as instr
 use Rattle.ms_segment.specs.Memory.{Memory}
 use Rattle.ms_operate.specs.declared.trap.Fault.{Fault as OperateFault}
 use Rattle.ms_operate.specs.declared.trap.Fault.TheVariants as operate
@@ -71,6 +72,14 @@ Stays t next t' (Err fault) = t' ≡ t
 -- The instruction was carried out so, on the store as it is.
 abbrev pub Carries : Instr → ℕ → Store → Task → Task → Type 0
 Carries i next s t t' = (act s i (at_next s.funcs t next) ≡ Next s (thread_of s.funcs t') None) × IsAt t next t'
+
+-- ---- those that leave the store as it is
+
+abbrev pub LeavesStore : Instr → Type 0
+LeavesStore (instr.GlobalSet x) = ⊥
+LeavesStore (instr.Linear i) = ⊥
+LeavesStore (instr.Segment i) = ⊥
+LeavesStore _ = Unit {0}
 
 -- ---- the same with a word on what follows
 

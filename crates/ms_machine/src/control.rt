@@ -1,13 +1,14 @@
 //! Control instructions on the store (WebAssembly 1.0, 4.4.5).
 
-ghost use Rattle.std.specs.Prelude.{◌≡◌, ◌≢◌, ◌<◌, None, Some, length, slice_get};
+ghost use Rattle.std.specs.Prelude.{◌≡◌, ◌≢◌, ◌<◌, Some, length, slice_get};
 ghost use Rattle.ms_machine.specs.Doing.{Can, DoesInstr, DoesOutcome, IsQuiet, TellsNone};
 ghost use Rattle.ms_machine.specs.Step.{Stuck, asks, called, host_in, popped, table_trap};
-ghost use Rattle.ms_machine.specs.Store.{Store as Spec, func_address, instance_of};
+ghost use Rattle.ms_machine.specs.Store.{Store as Spec};
 ghost use Rattle.ms_module.specs.declared.instr.Instr.TheVariants as instr;
-ghost use Rattle.ms_task.specs.View.{at_next, before, frame_of, thread_of};
+ghost use Rattle.ms_task.specs.View.{at_next, before, thread_of};
 
 use crate::fault::Fault;
+use crate::lookup::{func_address, func_type, table};
 use crate::store::Store;
 use ms_event::Event;
 use ms_host::{Host, TrapKind};
@@ -155,14 +156,6 @@ fn ask_by_table(task: &mut Task, host: Host, next: usize) -> Result<Option<Event
     }
 }
 
-/// The address of the function of an index.
-pub(crate) fn address_of<G: Gaps, T: Tagged>(store: &Store<G, T>, task: &Task, x: u32) -> u32
-    requires { func_address (instance_of store.now (frame_of task.now)) x ≢ None }
-    ensures { func_address (instance_of store.now (frame_of task.now)) x ≡ Some result }
-{
-    store.instance(task.function()).funcs.as_slice()[x as usize]
-}
-
 /// `call`.
 pub(crate) fn call<G: Gaps, T: Tagged>(
     store: &Store<G, T>,
@@ -173,7 +166,7 @@ pub(crate) fn call<G: Gaps, T: Tagged>(
     requires { Can (instr.Call x) next store.now task.old }
     ensures { DoesInstr (instr.Call x) next store.now task.old store.now task.new result }
 {
-    let address = address_of(store, task, x);
+    let address = func_address(store, task, x);
     if let Some(host) = store.host(address) {
         return ask(task, host, next);
     }
@@ -218,18 +211,12 @@ pub(crate) fn call_indirect<G: Gaps, T: Tagged>(
     requires { Can (instr.CallIndirect x) next store.now task.old }
     ensures { DoesInstr (instr.CallIndirect x) next store.now task.old store.now task.new result }
 {
-    let instance = store.instance(task.function());
-    let Some(address) = instance.table else {
-        unreachable!()
-    };
+    let table = table(store, task);
+    let ty = func_type(store, task, x);
     let Value::I32(i) = task.operands.get(0) else {
         unreachable!()
     };
-    match target(
-        &store.tables[address as usize],
-        i,
-        instance.types.as_slice()[x as usize].ty(),
-    ) {
+    match target(table, i, ty) {
         Ok(func) => { call_at(store, task, func.address, next) }
         Err(trap) => Err(Fault::Trap(of_target(trap))),
     }

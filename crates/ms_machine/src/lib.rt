@@ -10,6 +10,7 @@ mod control;
 mod externs;
 mod fault;
 mod hosting;
+mod lookup;
 mod machine;
 mod memory;
 mod plain;

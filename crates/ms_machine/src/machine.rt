@@ -1,13 +1,13 @@
 //! One step of a task.
 
-ghost use Rattle.std.specs.Prelude.{◌≡◌, ◌≢◌, ℕ, ◌+◌, ◌<◌, ◌≤◌, ◌^◌, ◌++◌, List, [], ◌∷◌, length, IfOk, IsTrue, Option, None};
+ghost use Rattle.std.specs.Prelude.{◌≡◌, ◌≢◌, ℕ, ◌+◌, ◌<◌, ◌≤◌, ◌^◌, ◌++◌, List, [], ◌∷◌, length, IfOk, IsTrue, Option, None, Some};
 ghost use Rattle.ms_handle.specs.declared.handle.Handle.{Handle};
 ghost use Rattle.ms_machine.specs.Accesses.{counted_all};
-ghost use Rattle.ms_machine.specs.Doing.{DoesFirst, with_more};
+ghost use Rattle.ms_machine.specs.Doing.{Can, DoesFirst, LeavesStore, with_more};
 ghost use Rattle.ms_machine.specs.Holding.{Each, Fits, StoreFits, ThreadFits};
 ghost use Rattle.ms_machine.specs.Moves as moves;
 ghost use Rattle.ms_machine.specs.Moves.{move_for};
-ghost use Rattle.ms_machine.specs.Step.{Stuck, begin};
+ghost use Rattle.ms_machine.specs.Step.{Stuck, act, begin};
 ghost use Rattle.ms_machine.specs.Running.{with_event};
 ghost use Rattle.ms_machine.specs.Safety.{Sound};
 ghost use Rattle.ms_machine.specs.Stepped.{CountsInput, CountsOut, DoesStep, IsWell, event_of};
@@ -15,7 +15,7 @@ ghost use Rattle.ms_machine.specs.Typing.{StoreTyped, TaskTyped, outline_of};
 ghost use Rattle.ms_segment.specs.Memory.{IsFit};
 ghost use Rattle.ms_event.specs.declared.event.Event.{Event};
 ghost use Rattle.ms_task.specs.Thread.{Begins, Thread};
-ghost use Rattle.ms_task.specs.View.{thread_of};
+ghost use Rattle.ms_task.specs.View.{at_next, before, thread_of};
 
 use crate::fault::Fault;
 use crate::hosting::ask_host;
@@ -44,23 +44,24 @@ fn and_more(
     }
 }
 
-/// Carries out the first instruction. It says `true` only where another instruction is then the first thing left to do.
+/// Carries out an instruction that leaves the store as it is, behind which the task goes on at `next`, where `more` says that
+/// another one stands. It says `true` only where that one is then the first thing left to do.
 #[inline(always)]
-fn perform<G: Gaps, T: Tagged>(
-    store: &mut Store<G, T>,
+fn carry_out<G: Gaps, T: Tagged>(
+    store: &Store<G, T>,
     task: &mut Task,
+    instr: &Instr,
+    next: usize,
+    more: bool,
 ) -> Result<(Option<Event>, bool), Fault>
-    requires begins { Begins (thread_of store.old.funcs task.old).work }
-    requires can { begin store.old (thread_of store.old.funcs task.old) ≢ Stuck }
-    requires few { store.old.segments.made < 2 ^ 63 }
-    requires fit { Each (Fits store.old.segments) task.old.operands }
-    ensures done { DoesFirst (begin store.old (thread_of store.old.funcs task.old)) store.old (thread_of store.old.funcs task.old) store.new (thread_of store.new.funcs task.new) result }
-    ensures more { IfOk result (λ x. IsTrue x.1 → Begins (thread_of store.new.funcs task.new).work) }
+    requires still { LeavesStore instr.now }
+    requires before { before store.now.funcs task.old next ≡ Some instr.now }
+    requires can { Can instr.now next store.now task.old }
+    requires more { IsTrue more → Begins (at_next store.now.funcs task.old next).work }
+    ensures done { DoesFirst (act store.now instr.now (at_next store.now.funcs task.old next)) store.now (thread_of store.now.funcs task.old) store.now (thread_of store.now.funcs task.new) result }
+    ensures more { IfOk result (λ x. IsTrue x.1 → Begins (thread_of store.now.funcs task.new).work) }
 {
-    let fetched = task.fetch(&store.funcs);
-    let next = fetched.next;
-    let more = fetched.more;
-    match *fetched.instr {
+    match *instr {
         Instr::Unreachable => Err(Fault::Trap(TrapKind::Unreachable)),
         Instr::Nop => and_more(plain::nop(store, task, next), more),
         Instr::Block { ty, body } => and_more(control::block(store, task, ty, body, next), false),
@@ -86,12 +87,37 @@ fn perform<G: Gaps, T: Tagged>(
         Instr::LocalSet(x) => and_more(plain::local_set(store, task, x, next), more),
         Instr::LocalTee(x) => and_more(plain::local_tee(store, task, x, next), more),
         Instr::GlobalGet(x) => and_more(plain::global_get(store, task, x, next), more),
-        Instr::GlobalSet(x) => and_more(plain::global_set(store, task, x, next), more),
         Instr::I32Const(n) => and_more(plain::i32_const(store, task, n, next), more),
         Instr::I64Const(n) => and_more(plain::i64_const(store, task, n, next), more),
         Instr::Numeric(i) => and_more(memory::numeric(store, task, i, next), more),
+        Instr::GlobalSet(_) => unreachable!(),
+        Instr::Linear(_) => unreachable!(),
+        Instr::Segment(_) => unreachable!(),
+    }
+}
+
+/// Carries out the first instruction. It says `true` only where another instruction is then the first thing left to do.
+#[inline(always)]
+fn perform<G: Gaps, T: Tagged>(
+    store: &mut Store<G, T>,
+    task: &mut Task,
+) -> Result<(Option<Event>, bool), Fault>
+    requires begins { Begins (thread_of store.old.funcs task.old).work }
+    requires can { begin store.old (thread_of store.old.funcs task.old) ≢ Stuck }
+    requires few { store.old.segments.made < 2 ^ 63 }
+    requires fit { Each (Fits store.old.segments) task.old.operands }
+    ensures done { DoesFirst (begin store.old (thread_of store.old.funcs task.old)) store.old (thread_of store.old.funcs task.old) store.new (thread_of store.new.funcs task.new) result }
+    ensures more { IfOk result (λ x. IsTrue x.1 → Begins (thread_of store.new.funcs task.new).work) }
+{
+    let here: &Store<G, T> = store;
+    let fetched = task.fetch(&here.funcs);
+    let next = fetched.next;
+    let more = fetched.more;
+    match *fetched.instr {
+        Instr::GlobalSet(x) => and_more(plain::global_set(store, task, x, next), more),
         Instr::Linear(i) => and_more(memory::linear(store, task, i, next), more),
         Instr::Segment(i) => and_more(memory::segment(store, task, i, next), more),
+        _ => carry_out(here, task, fetched.instr, next, more),
     }
 }
 
@@ -138,7 +164,6 @@ fn advance<G: Gaps, T: Tagged, I: Source, O: Sink>(
 /// them, and after `Memory`, the store is as before and the task is not to be run again; the output then has the byte of this
 /// step at most, and the input is as before.
 #[inline(always)]
-#[tactic(auto, using(crate::proofs::Moving::move_unstuck, crate::proofs::TypedSteps::begins_well, crate::proofs::Moving::does_step_typed, crate::proofs::Moving::does_step_fits))]
 pub fn step<G: Gaps, T: Tagged, I: Source, O: Sink>(
     store: &mut Store<G, T>,
     task: &mut Task,

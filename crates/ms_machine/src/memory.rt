@@ -6,6 +6,7 @@ ghost use Rattle.ms_machine.specs.Holding.{Each, Fits};
 ghost use Rattle.ms_module.specs.declared.instr.Instr.TheVariants as instr;
 
 use crate::fault::{Fault, of_fault, of_operate};
+use crate::lookup::memory_address;
 use crate::segment;
 use crate::store::Store;
 use ms_event::Event;
@@ -48,9 +49,7 @@ pub(crate) fn linear<G: Gaps, T: Tagged>(
     ensures tells { TellsNone result }
     ensures segments { store.new.segments ≡ store.old.segments }
 {
-    let Some(address) = store.instance(task.function()).memory else {
-        unreachable!()
-    };
+    let address = memory_address(store, task);
     let memory = &mut store.memories[address as usize];
     match ms_operate::linear(i, memory, &mut task.operands) {
         Ok(()) => {}

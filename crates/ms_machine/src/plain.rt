@@ -5,6 +5,7 @@ ghost use Rattle.ms_machine.specs.Doing.{Can, DoesInstr, Stays, TellsNone};
 ghost use Rattle.ms_module.specs.declared.instr.Instr.TheVariants as instr;
 
 use crate::fault::Fault;
+use crate::lookup::{global, global_address};
 use crate::store::Store;
 use ms_event::Event;
 use ms_linear::{Cell, Value};
@@ -175,8 +176,7 @@ pub(crate) fn global_get<G: Gaps, T: Tagged>(
     ensures does { DoesInstr (instr.GlobalGet x) next store.now task.old store.now task.new result }
     ensures stays { Stays task.old next task.new result }
 {
-    let address = store.instance(task.function()).globals.as_slice()[x as usize];
-    let value = store.globals[address as usize].value;
+    let value = global(store, task, x).value;
     match task.operands.push(value) {
         Ok(()) => {
             task.go_to(next);
@@ -198,9 +198,8 @@ pub(crate) fn global_set<G: Gaps, T: Tagged>(
     ensures tells { TellsNone result }
     ensures segments { store.new.segments ≡ store.old.segments }
 {
-    let address = store.instance(task.function()).globals.as_slice()[x as usize];
-    let value = task.operands.get(0);
-    store.globals[address as usize].value = value;
+    let address = global_address(store, task, x);
+    store.set_global(address, task.operands.get(0));
     task.operands.cut(1);
     task.go_to(next);
     Ok(None)

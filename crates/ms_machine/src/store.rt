@@ -1,11 +1,11 @@
 //! The store and its instances.
 
-ghost use Rattle.std.specs.Prelude.{◌≡◌, ◌≢◌, None, Some, slice_get};
+ghost use Rattle.std.specs.Prelude.{◌≡◌, ◌≢◌, MatchOption, None, Some, slice_get, slice_set};
 ghost use Rattle.ms_machine.specs.Step.{host_in};
-ghost use Rattle.ms_machine.specs.Store.{at, number_of_instance};
+ghost use Rattle.ms_machine.specs.Store.{at, number_of_instance, with_globals};
 
 use ms_host::Host;
-use ms_linear::{GlobalInst, Linear, Table};
+use ms_linear::{GlobalInst, Linear, Table, Value};
 use ms_live::Gaps;
 use ms_module::Export;
 use ms_segment::Segments;
@@ -103,6 +103,14 @@ impl<G: Gaps, T: Tagged> Store<G, T> {
             globals,
             segments,
         }
+    }
+
+    /// Gives the global of an address a value.
+    pub(crate) fn set_global(&mut self, address: u32, value: Value)
+        requires { slice_get self.old.globals address ≢ None }
+        ensures { MatchOption (slice_get self.old.globals address) ⊥ (λ g. self.new ≡ with_globals self.old (slice_set self.old.globals address (record { value = value; mutable = g.mutable }))) }
+    {
+        self.globals[address as usize].value = value;
     }
 
     /// The instance of the function of an address.

@@ -11,6 +11,7 @@ ghost use Rattle.ms_task.specs.Thread.{sequence};
 ghost use Rattle.ms_task.specs.View.{at_next, before, thread_of};
 
 use crate::fault::Fault;
+use crate::lookup::func_address;
 use crate::store::Store;
 use crate::{control, memory, plain};
 use ms_live::Gaps;
@@ -114,7 +115,7 @@ fn call<G: Gaps, T: Tagged>(store: &Store<G, T>, task: &mut Task, x: u32, next: 
     requires { Can (instr.Call x) next store.now task.old }
     ensures { DoesCall result (instr.Call x) next store.now task.old task.new }
 {
-    let address = control::address_of(store, task, x);
+    let address = func_address(store, task, x);
     if store.host(address).is_some() {
         return Called::Not;
     }

@@ -80,13 +80,3 @@ freed-live m (handles.Good named base size offset) kind id is =
     let end = ended_if (live_of m named) base size offset kind id is in
     let same : named ≡ id = sym (eqb-true _ _ (find-Some (λ (t : Live). t.id == named) m.live end.0 end.1).1) ∙ end.2 in
     subst (λ n. contains_id n m.live ≡ true) same (sym (is_some-find (λ (t : Live). t.id == named) m.live) ∙ ap is_some end.1)
-
--- ---- what is found decides
-
-pub access-at : (m : Memory) (h : Handle) (id base size : ℕ) (offset : ℤ) (width : ℕ) (o : Option Live) → h ≡ handles.Good id base size offset → live_of m id ≡ o → access m h width ≡ accessed_if o base size offset width
-access-at m h id base size offset width o is found =
-    ap (λ (x : Handle). access m x width) is ∙ ap (λ (x : Option Live). accessed_if x base size offset width) found
-
-pub freed-at : (m : Memory) (h : Handle) (id base size : ℕ) (offset : ℤ) (kind : Kind) (o : Option Live) → h ≡ handles.Good id base size offset → live_of m id ≡ o → freed m h kind ≡ ends_if o base size offset kind
-freed-at m h id base size offset kind o is found =
-    ap (λ (x : Handle). freed m x kind) is ∙ ap (λ (x : Option Live). ends_if x base size offset kind) found

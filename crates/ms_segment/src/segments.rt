@@ -3,8 +3,9 @@
 ghost use Rattle.std.specs.Prelude.{◌≡◌, ◌+◌, ◌<◌, ◌≤◌, ◌^◌, ℕ, List, [], Some, IfOk, MatchResult, length, pos, replicate, slice_get};
 ghost use Rattle.ms_handle.specs.declared.handle.Handle.{Handle};
 ghost use Rattle.ms_live.specs.Place.{IsPlace};
+ghost use Rattle.ms_live.specs.declared.gaps.Live.{Live as LiveSegment};
 ghost use Rattle.ms_tagged.specs.Bytes.{Data, IsWidth, data_of, pieces, range, shown_at};
-ghost use Rattle.ms_segment.specs.Memory.{Frees, IsFit, IsSound, LoadsHandle, Makes, Stores, access, after_load, freed, handle_access, loaded, risen};
+ghost use Rattle.ms_segment.specs.Memory.{Frees, IsFit, IsSound, LoadsHandle, Makes, Stores, access, after_load, freed, handle_access, live_of, loaded, risen};
 ghost use Rattle.ms_segment.specs.Calls as call;
 ghost use Rattle.ms_segment.specs.Calls.{DoesChange};
 ghost use Rattle.ms_segment.specs.Parts.{IsPlaceIn, access_of, entered};
@@ -225,6 +226,14 @@ impl<G: Gaps, T: Tagged> Segments<G, T> {
         )
     }
 
+    /// The live segment of an identity, if there is one.
+    fn found(&self, id: u64) -> Option<Live>
+        ensures live { result ≡ live_of self.now id }
+        ensures within { (s : LiveSegment) → result ≡ Some s → s.base + s.size < 2 ^ 32 }
+    {
+        self.gaps.find(id)
+    }
+
     /// The identity of the segment that a handle and a kind end.
     fn ending(&self, h: Handle, kind: Kind) -> Result<u64, SegTrap>
         ensures { result ≡ freed self.now h kind }
@@ -237,7 +246,7 @@ impl<G: Gaps, T: Tagged> Segments<G, T> {
                 base,
                 length,
                 offset,
-            } => match self.gaps.find(id) {
+            } => match self.found(id) {
                 Some(segment) => end_of(segment, base, length, offset, kind),
                 None => Err(SegTrap::Freed),
             },
@@ -257,7 +266,7 @@ impl<G: Gaps, T: Tagged> Segments<G, T> {
                 base,
                 length,
                 offset,
-            } => match self.gaps.find(id) {
+            } => match self.found(id) {
                 Some(segment) => access_in(segment, base, length, offset, width),
                 None => Err(SegTrap::Freed),
             },

@@ -1,6 +1,6 @@
 //! The constant expressions of a module: first values of globals, and places of elements and fills.
 
-ghost use Rattle.std.specs.Prelude.{◌≡◌, ◌↔◌, All, IsTrue};
+ghost use Rattle.std.specs.Prelude.{◌≡◌, ◌↔◌, ◌<◌, All, IsTrue};
 ghost use Rattle.ms_rules.specs.Context.{context_of, imported_globals};
 ghost use Rattle.ms_valid.specs.Heads.{ElementIn, ExpressionsTyped, FillIn, GlobalIn};
 
@@ -58,14 +58,16 @@ fn imported_globals<'a>(module: &Module, context: &'a Context) -> &'a [GlobalTyp
 fn is_element_typed(context: &Context, element: &Element) -> bool
     ensures { IsTrue result ↔ ElementIn context.now element.now }
 {
-    let count = context.funcs_len();
     (element.table as usize) < context.tables().len()
         && is_constant(context.globals(), ValType::I32, &element.offset)
-        && element
-            .funcs
-            .as_slice()
-            .iter()
-            .all(|f| (*f as usize) < count)
+        && are_within(context.funcs_len(), element.funcs.as_slice())
+}
+
+/// Whether each index is below a count.
+fn are_within(count: usize, indices: &[u32]) -> bool
+    ensures { IsTrue result ↔ All (λ i. i < count) indices.now }
+{
+    indices.iter().all(|i| (*i as usize) < count)
 }
 
 #[tactic(auto, unfolding(crate::specs::Heads::FillIn))]

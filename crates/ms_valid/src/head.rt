@@ -1,15 +1,16 @@
 //! Whether a module meets every rule but those on the bodies of functions (WebAssembly 1.0, 3.4).
 
-ghost use Rattle.std.specs.Prelude.{◌≡◌, ◌↔◌, IfOk, IsTrue};
+ghost use Rattle.std.specs.Prelude.{◌≡◌, ◌↔◌, ◌<◌, All, IfOk, IsTrue};
 ghost use Rattle.ms_rules.specs.Context.{context_of};
-ghost use Rattle.ms_rules.specs.Modules.{Head, ImportTyped};
+ghost use Rattle.ms_rules.specs.Modules.{Head, ImportTyped, MemoryTyped, SigTyped, TableTyped};
 ghost use Rattle.ms_valid.specs.Heads.{DeclarationsTyped, IndicesTyped, PartsTyped, StartIn};
 
 use crate::exports::{are_names_distinct, is_export_typed};
 use crate::expressions::are_expressions_typed;
 use crate::limits::{is_memory_typed, is_sig_typed, is_table_typed};
-use ms_module::{ImportDesc, Module};
+use ms_module::{Func, Import, ImportDesc, Module};
 use ms_rules::Context;
+use ms_types::{FuncType, Limits};
 use std::alloc::{AllocError, Global};
 
 /// Whether a module is well typed but for the bodies of its functions.
@@ -38,28 +39,42 @@ fn are_parts_typed(module: &Module, context: &Context) -> bool
 fn are_declarations_typed(module: &Module) -> bool
     ensures { IsTrue result ↔ DeclarationsTyped «module».now }
 {
-    let count = module.sigs.len();
-    module.sigs.as_slice().iter().all(is_sig_typed)
-        && module
-            .imports
-            .as_slice()
-            .iter()
-            .all(|i| is_import_typed(module, i.desc))
-        && module
-            .funcs
-            .as_slice()
-            .iter()
-            .all(|f| (f.sig as usize) < count)
-        && module
-            .tables
-            .as_slice()
-            .iter()
-            .all(|limits| is_table_typed(*limits))
-        && module
-            .memories
-            .as_slice()
-            .iter()
-            .all(|limits| is_memory_typed(*limits))
+    are_sigs_typed(module.sigs.as_slice())
+        && are_imports_typed(module, module.imports.as_slice())
+        && are_funcs_typed(module.sigs.len(), module.funcs.as_slice())
+        && are_tables_typed(module.tables.as_slice())
+        && are_memories_typed(module.memories.as_slice())
+}
+
+fn are_sigs_typed(sigs: &[FuncType]) -> bool
+    ensures { IsTrue result ↔ All SigTyped sigs.now }
+{
+    sigs.iter().all(is_sig_typed)
+}
+
+fn are_imports_typed(module: &Module, imports: &[Import]) -> bool
+    ensures { IsTrue result ↔ All (λ i. ImportTyped «module».now i.desc) imports.now }
+{
+    imports.iter().all(|i| is_import_typed(module, i.desc))
+}
+
+/// Whether each function has one of so many types.
+fn are_funcs_typed(sigs: usize, funcs: &[Func]) -> bool
+    ensures { IsTrue result ↔ All (λ f. f.sig < sigs) funcs.now }
+{
+    funcs.iter().all(|f| (f.sig as usize) < sigs)
+}
+
+fn are_tables_typed(tables: &[Limits]) -> bool
+    ensures { IsTrue result ↔ All TableTyped tables.now }
+{
+    tables.iter().all(|limits| is_table_typed(*limits))
+}
+
+fn are_memories_typed(memories: &[Limits]) -> bool
+    ensures { IsTrue result ↔ All MemoryTyped memories.now }
+{
+    memories.iter().all(|limits| is_memory_typed(*limits))
 }
 
 fn is_import_typed(module: &Module, desc: ImportDesc) -> bool

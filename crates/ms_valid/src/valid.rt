@@ -68,10 +68,18 @@ fn judge(alloc: Global, module: &Module) -> Result<(), Refusal>
     ensures { MatchResult result (λ _. WellTyped «module».now) (DoesRefuse «module».now) }
 {
     let context = Context::of(alloc, module)?;
-    if !is_head_typed(alloc, module, &context)? {
+    judge_in(alloc, &context, module)
+}
+
+/// The same in the module's context.
+fn judge_in(alloc: Global, context: &Context, module: &Module) -> Result<(), Refusal>
+    requires { context.now ≡ context_of «module».now }
+    ensures { MatchResult result (λ _. WellTyped «module».now) (DoesRefuse «module».now) }
+{
+    if !is_head_typed(alloc, module, context)? {
         return Err(Refusal::Invalid { part: Part::Head });
     }
-    match first_untyped(alloc, &context, module.funcs.as_slice())? {
+    match first_untyped(alloc, context, module.funcs.as_slice())? {
         None => Ok(()),
         Some(number) => Err(at_function(context.funcs_len() - module.funcs.len() + number)),
     }
@@ -99,6 +107,17 @@ fn first_untyped(
     ensures { IfOk result (IsFirstUntypedOf context.now funcs.now) }
 {
     let mut checker = Checker::new(alloc);
+    first_untyped_by(&mut checker, context, funcs)
+}
+
+/// The same by a checker.
+fn first_untyped_by(
+    checker: &mut Checker,
+    context: &Context,
+    funcs: &[Func],
+) -> Result<Option<usize>, AllocError>
+    ensures { IfOk result (IsFirstUntypedOf context.now funcs.now) }
+{
     for (number, func) in funcs.iter().enumerate() {
         if !checker.is_func_typed(context, func)? {
             return Ok(Some(number));

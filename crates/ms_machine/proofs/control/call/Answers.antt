@@ -10,4 +10,4 @@ returns-in-Some g c =
     let s = c.args.store.now in
     let t = at_next s.funcs c.args.task.now c.args.next in
     subst (λ (o : Outcome). DoesOutcome o s (thread_of s.funcs c.args.task.now) s (thread_of s.funcs c.ask.new.task) c.ask.result)
-    (call_asks s t c.args.x c.address_of-address.result c.in-Some.host c.address_of-address.ensures c.in-Some.ensures) (c.ask.ensures s)
+    (call_asks s t c.args.x c.func_address-address.result c.in-Some.host c.func_address-address.ensures c.in-Some.ensures) (c.ask.ensures s)

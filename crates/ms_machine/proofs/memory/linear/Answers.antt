@@ -8,9 +8,9 @@ pub returns-in-Err-clause-does : goal.returns-in-Err-clause-does
 returns-in-Err-clause-does g c =
     let s = c.args.store.now in
     let old = c.args.task.now in
-    rw c.of_fault.ensures (linear_fails _ s c.args.i c.function.result c.in-Some.address c.instance.result.now c.index_mut-memory.result.now c.linear.new.memory (at_next s.funcs old c.args.next) (λ funcs. thread_of funcs old) (λ funcs. thread (frame_of old) c.linear.new.operands (thread_of funcs old).work) c.linear.new.operands c.in-Err.fault c.store.view_is c.function.ensures c.instance.ensures c.in-Some.is c.requires c.index_mut-memory.ensures.value c.in-Err.ensures (λ funcs same. ap (λ vs. thread (frame_of old) vs (thread_of funcs old).work) same))
+    rw c.of_fault.ensures (linear_fails _ s c.args.i c.memory_address-address.result c.index_mut-memory.result.now c.linear.new.memory (at_next s.funcs old c.args.next) (λ funcs. thread_of funcs old) (λ funcs. thread (frame_of old) c.linear.new.operands (thread_of funcs old).work) c.linear.new.operands c.in-Err.fault c.store.view_is c.memory_address-address.ensures c.requires c.index_mut-memory.ensures.value c.in-Err.ensures (λ funcs same. ap (λ vs. thread (frame_of old) vs (thread_of funcs old).work) same))
 
 pub returns-clause-does : goal.returns-clause-does
 returns-clause-does g c =
     let s = c.args.store.now in
-    linear_does _ s c.args.i c.function.result c.in-Some.address c.instance.result.now c.index_mut-memory.result.now c.linear.new.memory (λ funcs. at_next funcs c.args.task.now c.args.next) (λ funcs. thread_of funcs c.go_to.new.self) c.linear.new.operands c.store.view_is c.function.ensures c.instance.ensures c.in-Some.is c.requires c.index_mut-memory.ensures.value c.in-Ok.ensures c.go_to.ensures.thread
+    linear_does _ s c.args.i c.memory_address-address.result c.index_mut-memory.result.now c.linear.new.memory (λ funcs. at_next funcs c.args.task.now c.args.next) (λ funcs. thread_of funcs c.go_to.new.self) c.linear.new.operands c.store.view_is c.memory_address-address.ensures c.requires c.index_mut-memory.ensures.value c.in-Ok.ensures c.go_to.ensures.thread

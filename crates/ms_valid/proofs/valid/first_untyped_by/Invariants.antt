@@ -1,5 +1,5 @@
 use Rattle.ms_valid.specs.Untyped.{AreTypedBelow}
-use Rattle.ms_valid.proofs.valid.first_untyped.Given as goal
+use Rattle.ms_valid.proofs.valid.first_untyped_by.Given as goal
 
 abbrev pub invariant-loop-number : goal.invariant-loop-number
 invariant-loop-number l = AreTypedBelow l.context l.funcs l.number
