@@ -11,7 +11,8 @@ ghost use Rattle.ms_run.specs.Reporting.{Grows, HasWritten, Holds};
 ghost use Rattle.ms_run.specs.declared.status.Status.{Status};
 ghost use Rattle.ms_words.specs.Asked.{asked_of, is_taken};
 ghost use Rattle.ms_tool.specs.Responding.{Responds};
-ghost use Rattle.ms_tool.specs.Top.{AsksJob, AsksRun, FlowsFor, Gives, IsAnswer, IsCutOff, IsFaulty, IsOutFault, IsPutFault, IsStarved, IsTarget, IsUnwritten, Stays};
+ghost use Rattle.ms_tool.specs.Top.{AsksJob, AsksRun, FlowsFor, Gives, IsAnswer, IsCutOff, IsFaulty, IsOutFault};
+ghost use Rattle.ms_tool.specs.Top.{IsPutFault, IsStarved, IsTarget, IsUnwritten, Stays};
 ghost use Rattle.ms_run.specs.Observed.{flowed, reported, shelved};
 
 use ms_outside::{Shelf, Sink, Source};
@@ -20,8 +21,8 @@ use ms_words::{Request, WordsFault, parse_words, usage};
 use std::alloc::Global;
 
 /// Does what the words of the command line ask for, of which the first is the program's name: `exec` reads a file from
-/// the shelf, validates the module that it spells and runs it; `run` does so with the modules and the tasks that a job names;
-/// `check` validates a module; `asm` and `dis` write it in the other form; `judge` judges the trace of a run.
+/// the shelf, validates the module that it spells and runs it; `run` does so with the modules and the tasks that a job
+/// names; `check` validates a module; `asm` and `dis` write it in the other form; `judge` judges the trace of a run.
 ///
 /// The line of what came of it goes to the report. `input` and `out` are those of the module that is run.
 pub fn tool<F: Shelf, I: Source, O: Sink, R: Sink>(
@@ -32,9 +33,9 @@ pub fn tool<F: Shelf, I: Source, O: Sink, R: Sink>(
     out: &mut O,
     report: &mut R,
 ) -> Status
-    // The status is the one that the table of answers gives for the words, the file and what the input gives. The report
-    // has grown by exactly its line, exactly its file was written, and the input and the output are as the run leaves
-    // them. A read fault is one only where the count of reads of that file rose, or that of the input.
+    // The status is the one that the table of answers gives for the words, the file and what the input gives. The
+    // report has grown by exactly its line, exactly its file was written, and the input and the output are as the run
+    // leaves them. A read fault is one only where the count of reads of that file rose, or that of the input.
     ensures answer { IsPutFault result ⊎ IsAnswer
         (shelved F.files F.read_faults F.write_faults shelf.old shelf.new)
         (map (λ w. w.now) words.now)
@@ -46,9 +47,9 @@ pub fn tool<F: Shelf, I: Source, O: Sink, R: Sink>(
     ensures usage { result ≡ Status.Usage → is_taken (map (λ w. w.now) words.now) ≡ false }
     ensures refused { is_taken (map (λ w. w.now) words.now) ≡ false → (result ≡ Status.Usage) ⊎ IsPutFault result }
 
-    // A write fault is one only where the count of the report rose, or that of the shelf's writes, or that of the output.
-    // The report has then a first part of an answer's line, the file being written; or nothing, and the file a first part
-    // of its bytes at most.
+    // A write fault is one only where the count of the report rose, or that of the shelf's writes, or that of the
+    // output. The report has then a first part of an answer's line, the file being written; or nothing, and the file a
+    // first part of its bytes at most.
     ensures write_fault { result ≡ Status.WriteFault → IsCutOff
         (shelved F.files F.read_faults F.write_faults shelf.old shelf.new)
         (map (λ w. w.now) words.now)
@@ -76,13 +77,14 @@ pub fn tool<F: Shelf, I: Source, O: Sink, R: Sink>(
     // runs out. An input that tells its bytes gives these.
     ensures complete { (known : Files) (ran : Input → Option Run) (status : Status) (line : List ℕ) (file : Option File)
         → F.files shelf.old ≡ Some known
-        → ((given : Input) → MayGive (I.left input.old) given → Gives (map (λ w. w.now) words.now) (Holds (Some known)) given (ran given) status line file)
+        → ((given : Input) → MayGive (I.left input.old) given
+        → Gives (map (λ w. w.now) words.now) (Holds (Some known)) given (ran given) status line file)
         → ((result ≡ status) × Grows (reported R.held R.faults report.old report.new) line
         × HasWritten (shelved F.files F.read_faults F.write_faults shelf.old shelf.new) file) ⊎ IsFaulty result }
 
-    // Where the words ask for a run and it has come to an end, this is a run of all modules that link, by the job's tasks, schedule
-    // and budget: the status, the report, the file of the trace, the input and the output are its own; and its allocations, slices,
-    // reads, writes and frees are a trace that the colour monitor accepts.
+    // Where the words ask for a run and it has come to an end, this is a run of all modules that link, by the job's
+    // tasks, schedule and budget: the status, the report, the file of the trace, the input and the output are its own;
+    // and its allocations, slices, reads, writes and frees are a trace that the colour monitor accepts.
     ensures safe { AsksRun (asked_of (map (λ w. w.now) words.now)) → IsEnd result → (job : Job)
         × AsksJob (Holds (F.files shelf.old)) (asked_of (map (λ w. w.now) words.now)) job
         × RanSafely
@@ -99,12 +101,13 @@ pub fn tool<F: Shelf, I: Source, O: Sink, R: Sink>(
     ensures outs { O.faults out.old < O.faults out.new → IsPutFault result }
 
     // All files stay but the one that the words name to be written, or the job for its trace.
-    ensures files { (name : List ℕ) → ¬ IsTarget (Holds (F.files shelf.old)) (asked_of (map (λ w. w.now) words.now)) name
+    ensures files { (name : List ℕ)
+        → ¬ IsTarget (Holds (F.files shelf.old)) (asked_of (map (λ w. w.now) words.now)) name
         → Stays (shelved F.files F.read_faults F.write_faults shelf.old shelf.new) name }
 
-    // The input and the output are as before, but for a run: after its end the output has grown by exactly its bytes, and
-    // the input has lost exactly those that it takes; after a fault the output has got a front of them, and the input
-    // has lost no others.
+    // The input and the output are as before, but for a run: after its end the output has grown by exactly its bytes,
+    // and the input has lost exactly those that it takes; after a fault the output has got a front of them, and the
+    // input has lost no others.
     ensures flows { (given : Input) × MayGive (I.left input.old) given × FlowsFor
         (shelved F.files F.read_faults F.write_faults shelf.old shelf.new)
         (asked_of (map (λ w. w.now) words.now)) given
