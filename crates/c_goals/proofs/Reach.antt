@@ -13,15 +13,15 @@ use Rattle.c_rows.specs.declared.value.Value.{Value}
 use Rattle.c_rows.specs.declared.value.Value.TheVariants as values
 use Rattle.c_rows.specs.declared.frame.Frame.{Frame}
 use Rattle.c_rows.specs.Classes.{mark_of, is}
-use Rattle.c_rows.specs.Table.{joined, opens, begins, stuck, turn, rests, symbols, build, first_frame, with_part, with_rest, made, expects, State, opened, Move, takes, goes, stops, resumes, turned, step, settle}
-use Rattle.c_rows.specs.Meaning.{written, Val, value_of, Parts, onto, written_rest, Stands, lowest, Reaches, here, taking, going, settling}
-use Rattle.c_goals.proofs.States.{Moves, moves, Settles, settles}
+use Rattle.c_rows.specs.Table.{joined, opens, begins, stuck, turn, rests, symbols, build, first_frame, with_part, with_rest, made, expects, State, opened, Move, takes, goes, stops, resumes, turned, step, end_step}
+use Rattle.c_rows.specs.Meaning.{written, Val, value_of, Parts, onto, written_rest, Stands, lowest, Reaches, here, taking, going, ending}
+use Rattle.c_goals.proofs.States.{Moves, moves, EndSteps, end_steps}
 
 pub followed : (s t u : State) (ws vs us : List Word) → Reaches s ws t vs → Reaches t vs u us → Reaches s ws u us
 followed _ _ u _ _ us (here s ws) b = b
 followed _ _ u _ _ us (taking s t x w ws vs e a) b = taking s t u w ws us e (followed t x u ws vs us a b)
 followed _ _ u _ _ us (going s t x w ws vs e a) b = going s t u w ws us e (followed t x u (w ∷ ws) vs us a b)
-followed _ _ u _ _ us (settling s t x vs e a) b = settling s t u us e (followed t x u [] vs us a b)
+followed _ _ u _ _ us (ending s t x vs e a) b = ending s t u us e (followed t x u [] vs us a b)
 
 abbrev pub st : Kind → Value → List Frame → State
 st K v fs = record { goal = made K v; waiting = fs }
@@ -40,7 +40,7 @@ IsStuck K v [] = Unit {0}
 IsStuck K v (w ∷ ws) = turn K v w ≡ stuck
 
 pub rests_reach : (K : Kind) (v u : Value) (f : Frame) (fs : List Frame) (ws : List Word) → rests K v ≡ Some u → IsStuck K v ws → Reaches (st K v (f ∷ fs)) ws (opened (with_part f u) f.rest fs) ws
-rests_reach K v u f fs [] r s = let t = opened (with_part f u) f.rest fs in settling (st K v (f ∷ fs)) t t [] (ap (λ o. resumes o (f ∷ fs)) r) (here t [])
+rests_reach K v u f fs [] r s = let t = opened (with_part f u) f.rest fs in ending (st K v (f ∷ fs)) t t [] (ap (λ o. resumes o (f ∷ fs)) r) (here t [])
 rests_reach K v u f fs (w ∷ ws) r s =
     let t = opened (with_part f u) f.rest fs in
     going (st K v (f ∷ fs)) t t w ws (w ∷ ws) (ap (λ x. turned K v (f ∷ fs) x) s ∙ ap (λ o. resumes o (f ∷ fs)) r) (here t (w ∷ ws))
@@ -100,7 +100,7 @@ row_begun K v r fs w ws y q s e a =
 -- ---- runs lead to one state
 
 abbrev pub IsEnd : State → List Word → Type 0
-IsEnd s [] = settle s.goal s.waiting ≡ stops
+IsEnd s [] = end_step s.goal s.waiting ≡ stops
 IsEnd s (w ∷ ws) = step s.goal s.waiting w ≡ stops
 
 after_taking : (s t b : State) (w : Word) (ws vs : List Word) → Reaches s (w ∷ ws) b vs → IsEnd b vs → step s.goal s.waiting w ≡ takes t → Reaches t ws b vs
@@ -119,9 +119,9 @@ after_going s t b w ws vs (going _ u _ _ _ _ j x) e i =
     let k : u ≡ t = cc in
     subst P k x
 
-after_settling : (s t b : State) (vs : List Word) → Reaches s [] b vs → IsEnd b vs → settle s.goal s.waiting ≡ goes t → Reaches t [] b vs
-after_settling s t _ _ (here _ _) e i = cc
-after_settling s t b vs (settling _ u _ _ j x) e i =
+after_end_step : (s t b : State) (vs : List Word) → Reaches s [] b vs → IsEnd b vs → end_step s.goal s.waiting ≡ goes t → Reaches t [] b vs
+after_end_step s t _ _ (here _ _) e i = cc
+after_end_step s t b vs (ending _ u _ _ j x) e i =
     let P : State → Type 0 = λ z. Reaches z [] b vs in
     let k : u ≡ t = cc in
     subst P k x
@@ -131,7 +131,7 @@ pub meets : (s a b : State) (ws us vs : List Word) → Reaches s ws a us → Rea
 meets _ _ b _ _ vs (here s ws) y e = y
 meets _ a b _ us vs (taking s t _ w ws _ i x) y e = meets t a b ws us vs x (after_taking s t b w ws vs y e i) e
 meets _ a b _ us vs (going s t _ w ws _ i x) y e = meets t a b (w ∷ ws) us vs x (after_going s t b w ws vs y e i) e
-meets _ a b _ us vs (settling s t _ _ i x) y e = meets t a b [] us vs x (after_settling s t b vs y e i) e
+meets _ a b _ us vs (ending s t _ _ i x) y e = meets t a b [] us vs x (after_end_step s t b vs y e i) e
 
 -- an end leads nowhere else
 pub record Same (a b : State) (us vs : List Word) : Type 0 where
@@ -142,7 +142,7 @@ pub end_stays : (a b : State) (us vs : List Word) → Reaches a us b vs → IsEn
 end_stays _ _ _ _ (here s ws) e = record { states = refl; words = refl }
 end_stays a b _ vs (taking _ t _ w ws _ i x) e = cc
 end_stays a b _ vs (going _ t _ w ws _ i x) e = cc
-end_stays a b _ vs (settling _ t _ _ i x) e = cc
+end_stays a b _ vs (ending _ t _ _ i x) e = cc
 
 -- the least height doesn't fall on the way
 pub rises_on : (s t : State) (ws vs front : List Word) → Reaches s ws t vs → Stands s.goal s.waiting front → lowest s.goal s.waiting ≤ lowest t.goal t.waiting
@@ -155,7 +155,7 @@ rises_on _ u _ vs front (going s t _ w ws _ i x) h =
     let P : Move → Type 0 = λ m. Moves s.goal s.waiting front w m in
     let m = subst P i (moves s.goal s.waiting front w h) in
     omega (arith, m.rises, rises_on t u (w ∷ ws) vs front x m.stands)
-rises_on _ u _ vs front (settling s t _ _ i x) h =
-    let P : Move → Type 0 = λ m. Settles s.goal s.waiting front m in
-    let m = subst P i (settles s.goal s.waiting front h) in
+rises_on _ u _ vs front (ending s t _ _ i x) h =
+    let P : Move → Type 0 = λ m. EndSteps s.goal s.waiting front m in
+    let m = subst P i (end_steps s.goal s.waiting front h) in
     omega (arith, m.rises, rises_on t u [] vs front x m.stands)

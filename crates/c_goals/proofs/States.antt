@@ -17,7 +17,7 @@ use Rattle.c_rows.specs.declared.value.Value.{Value}
 use Rattle.c_rows.specs.declared.value.Value.TheVariants as values
 use Rattle.c_rows.specs.declared.frame.Frame.{Frame}
 use Rattle.c_rows.specs.Classes.{mark_of, is}
-use Rattle.c_rows.specs.Table.{Turn, joined, opens, begins, stuck, turn, rests, symbols, build, height, least, rise, first_frame, with_part, with_rest, Goal, made, expects, State, opened, Move, takes, goes, stops, resumes, turned, step, settle}
+use Rattle.c_rows.specs.Table.{Turn, joined, opens, begins, stuck, turn, rests, symbols, build, height, least, rise, first_frame, with_part, with_rest, Goal, made, expects, State, opened, Move, takes, goes, stops, resumes, turned, step, end_step}
 use Rattle.c_rows.specs.Meaning.{written, Val, value_of, IsStart, IsHand, Parts, onto, written_rest, highest, leasts, Text, Framed, AreStarts, Leads, bottom, waits, Stands, over, overs, lowest}
 use Rattle.c_goals.proofs.Words.{word_is}
 use Rattle.c_goals.proofs.Turns.{Turns, Opened, turns, right_small}
@@ -173,19 +173,19 @@ moves (made K v) fs front w s = turn_moves K v fs front w (turn K v w) s (turns 
 moves (expects p f) fs front w s = said_moves p f fs front w (is p w) s (λ e. word_is p w e)
 
 -- the step where no word follows
-abbrev pub Settles : Goal → List Frame → List Word → Move → Type 0
-Settles g fs front (takes t) = Unit {0}
-Settles g fs front (goes t) = Moved g fs front t
-Settles g fs front stops = Unit {0}
+abbrev pub EndSteps : Goal → List Frame → List Word → Move → Type 0
+EndSteps g fs front (takes t) = Unit {0}
+EndSteps g fs front (goes t) = Moved g fs front t
+EndSteps g fs front stops = Unit {0}
 
-settle_by : (K : Kind) (v : Value) (fs : List Frame) (front : List Word) (o : Option Value) → Stands (made K v) fs front → Rests K v o → Settles (made K v) fs front (resumes o fs)
-settle_by K v fs front None s r = tt
-settle_by K v [] front (Some u) s r = tt
-settle_by K v (f ∷ fs) front (Some u) s r = resumed K v u f fs s.outer s.inner front s.leads r s.holds.1 s.same
+end_step_by : (K : Kind) (v : Value) (fs : List Frame) (front : List Word) (o : Option Value) → Stands (made K v) fs front → Rests K v o → EndSteps (made K v) fs front (resumes o fs)
+end_step_by K v fs front None s r = tt
+end_step_by K v [] front (Some u) s r = tt
+end_step_by K v (f ∷ fs) front (Some u) s r = resumed K v u f fs s.outer s.inner front s.leads r s.holds.1 s.same
 
-pub settles : (g : Goal) (fs : List Frame) (front : List Word) → Stands g fs front → Settles g fs front (settle g fs)
-settles (made K v) fs front s = settle_by K v fs front (rests K v) s (rested K v s.holds.0)
-settles (expects p f) fs front s = tt
+pub end_steps : (g : Goal) (fs : List Frame) (front : List Word) → Stands g fs front → EndSteps g fs front (end_step g fs)
+end_steps (made K v) fs front s = end_step_by K v fs front (rests K v) s (rested K v s.holds.0)
+end_steps (expects p f) fs front s = tt
 
 -- ---- each state can be completed, at its least height
 

@@ -14,10 +14,10 @@ use Rattle.c_tree.specs.declared.external.ExternalForm.{ExternalForm}
 use Rattle.c_tree.specs.Grammar.{spell_outer, spell_form, FitsOuter, FitsForm}
 use Rattle.c_rows.specs.declared.kind.Kind.TheVariants as kinds
 use Rattle.c_rows.specs.declared.value.Value.TheVariants as values
-use Rattle.c_rows.specs.Table.{made, State, stops, step, settle}
-use Rattle.c_rows.specs.Meaning.{Text, Leads, bottom, Stands, lowest, first_state, Reaches, here, taking, going, settling}
+use Rattle.c_rows.specs.Table.{made, State, stops, step, end_step}
+use Rattle.c_rows.specs.Meaning.{Text, Leads, bottom, Stands, lowest, first_state, Reaches, here, taking, going, ending}
 use Rattle.c_goals.proofs.Lists.{append_nil}
-use Rattle.c_goals.proofs.States.{Moves, moves, Settles, settles, completed, first_stands}
+use Rattle.c_goals.proofs.States.{Moves, moves, EndSteps, end_steps, completed, first_stands}
 use Rattle.c_goals.proofs.Reach.{followed, IsEnd, meets, end_stays, rises_on}
 use Rattle.c_goals.proofs.Whole.{external_reads}
 
@@ -47,8 +47,8 @@ stood s t _ vs front (taking _ u _ w ws _ i x) h =
 stood s t _ vs front (going _ u _ w ws _ i x) h =
     let m = subst (Moves s.goal s.waiting front w) i (moves s.goal s.waiting front w h) in
     stood u t (w ∷ ws) vs front x m.stands
-stood s t _ vs front (settling _ u _ _ i x) h =
-    let m = subst (Settles s.goal s.waiting front) i (settles s.goal s.waiting front h) in
+stood s t _ vs front (ending _ u _ _ i x) h =
+    let m = subst (EndSteps s.goal s.waiting front) i (end_steps s.goal s.waiting front h) in
     stood u t [] vs front x m.stands
 
 nothing_before : (used ws : List Word) → ws ≡ used ++ ws → used ≡ []
@@ -384,7 +384,7 @@ risen front ahead t unit n s u a go more all v =
     omega (arith, e, height_append unit x.others, g, h)
 
 -- the tokens are no unit
-pub unfinished : (front : List Token) (unit : List External) (n : ℕ) (s last : State) → At front [] unit n s → Reaches s [] last [] → settle last.goal last.waiting ≡ stops → ((o : OuterSpecifier) (f : ExternalForm) → last ≡ whole o f → ⊥) → (all : List External) → IsUnit front all → ⊥
+pub unfinished : (front : List Token) (unit : List External) (n : ℕ) (s last : State) → At front [] unit n s → Reaches s [] last [] → end_step last.goal last.waiting ≡ stops → ((o : OuterSpecifier) (f : ExternalForm) → last ≡ whole o f → ⊥) → (all : List External) → IsUnit front all → ⊥
 unfinished front unit n s last a go stop not_whole all u =
     let p = some_token a.since n a.begins in
     let Q : List Token → Type 0 = λ y. IsUnit y all in

@@ -10,7 +10,7 @@ use Rattle.ms_bytes.specs.Parts.{choose_least, item, never, pure}
 use Rattle.ms_bytes.specs.Runs.{TakesItem}
 use Rattle.ms_bytes.specs.RunLaws.{takes_least}
 use Rattle.ms_bytes.specs.Repetition.{run}
-use Rattle.ms_bytes.specs.Tests.{check, longest, marks, seen, told}
+use Rattle.ms_bytes.specs.Tests.{check, longest, marks, seen, from_text}
 use Rattle.c_token.specs.declared.word.Mark.{Mark}
 use Rattle.c_token.specs.declared.word.Token.{Token}
 use Rattle.c_token.specs.declared.word.Word.{Word}
@@ -93,13 +93,13 @@ inclusion at = do
 
 -- the longest run of letters, digits and `_`
 unfoldable pub word_text : Format ℕ Fault (List ℕ)
-word_text = told (λ text. text) (item char_here any >>= λ first. longest (is_in Name))
+word_text = from_text (λ text. text) (item char_here any >>= λ first. longest (is_in Name))
 
 -- what a run that begins with a digit is, if it is a constant
-unfoldable pub settled : ℕ → Constant → Format ℕ Fault Word
-settled at (constants.Is v t) = pure (words.Integer v t)
-settled at constants.TooLarge = never (too_big at)
-settled at constants.Wrong = never (char_at at)
+unfoldable pub constant_word : ℕ → Constant → Format ℕ Fault Word
+constant_word at (constants.Is v t) = pure (words.Integer v t)
+constant_word at constants.TooLarge = never (too_big at)
+constant_word at constants.Wrong = never (char_at at)
 
 -- ---- what begins
 
@@ -187,7 +187,7 @@ behind size st at leads.Identifier = do
   pure (with_word st at (word_of text))
 behind size st at leads.Number = do
   text ← word_text
-  word ← settled at (constant_of text)
+  word ← constant_word at (constant_of text)
   pure (with_word st at word)
 behind size st at leads.Quote = do
   text ← string size at

@@ -16,12 +16,12 @@ fault_of (Directive at) = Some (fault.Directive at)
 fault_of (TooBig at) = Some (fault.TooBig at)
 fault_of Memory = None
 
--- a fault as it is told
-abbrev pub told : Fault → CLex
-told (fault.Char at) = Char at
-told (fault.Unclosed at) = Unclosed at
-told (fault.Directive at) = Directive at
-told (fault.TooBig at) = TooBig at
+-- the error that the code gives for a fault
+abbrev pub error_of : Fault → CLex
+error_of (fault.Char at) = Char at
+error_of (fault.Unclosed at) = Unclosed at
+error_of (fault.Directive at) = Directive at
+error_of (fault.TooBig at) = TooBig at
 
 abbrev pub FailsBy : {A : Type 0} → Option Fault → Result A Fault → Type 0
 FailsBy (Some f) read = read ≡ Err f

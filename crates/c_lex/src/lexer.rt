@@ -3,9 +3,9 @@
 ghost use Rattle.std.specs.Prelude.{◌≡◌, ◌⊎◌, ℕ, List, length, IfErr, IfOk, MatchResult, Ok, Err};
 ghost use Rattle.c_token.specs.declared.word.Token.{Token};
 ghost use Rattle.c_lex.specs.Fault.{Fault};
-ghost use Rattle.c_lex.specs.Lexing.{Lexes, Stops, behind, lexeme, lexemes, lexing_goes, settled, token_list, tokens_of, with_fresh, with_text, with_word, word_text};
+ghost use Rattle.c_lex.specs.Lexing.{Lexes, Stops, behind, lexeme, lexemes, lexing_goes, constant_word, token_list, tokens_of, with_fresh, with_text, with_word, word_text};
 ghost use Rattle.c_lex.specs.Places.{Rises};
-ghost use Rattle.c_lex.specs.Readers.{FailsBy, FirstFault, Reads, ReadsPart, fault_of, told};
+ghost use Rattle.c_lex.specs.Readers.{FailsBy, FirstFault, Reads, ReadsPart, fault_of, error_of};
 
 use crate::class::{Class, run_len};
 use crate::comments::{block_comment, inclusion, line_comment};
@@ -92,9 +92,9 @@ fn word_text<'a>(c: &mut Cursor<'a>) -> Result<&'a [u8], CLex>
 }
 
 /// The word of a constant that begins at `at`.
-#[tactic(auto, unfolding(crate::specs::Lexing::settled))]
-fn settled(at: usize, constant: Constant, c: &mut Cursor) -> Result<Word, CLex>
-    ensures { Reads c.old c.new result ((settled at constant).read c.old.end c.old.left) }
+#[tactic(auto, unfolding(crate::specs::Lexing::constant_word))]
+fn constant_word(at: usize, constant: Constant, c: &mut Cursor) -> Result<Word, CLex>
+    ensures { Reads c.old c.new result ((constant_word at constant).read c.old.end c.old.left) }
 {
     let _ = c.len();
     match constant {
@@ -147,7 +147,7 @@ impl Steps for Lexer {
             }
             Lead::Number => {
                 let text = word_text(c)?;
-                let word = settled(at, constant_of(text), c)?;
+                let word = constant_word(at, constant_of(text), c)?;
                 self.add(at, word)?;
             }
             Lead::Quote => {
@@ -225,7 +225,7 @@ pub fn lex(alloc: Global, bytes: &[u8]) -> Result<Vec<Token>, CLex>
     // A fault is the first that the bytes have, and at its place.
     ensures fault { IfErr result (λ e. FirstFault bytes.now (fault_of e)) }
     // The first fault that the bytes have is told, unless memory runs out.
-    ensures stops { (first : Fault) → Stops bytes.now first → (result ≡ Err (told first)) ⊎ (result ≡ Err CLex.Memory) }
+    ensures stops { (first : Fault) → Stops bytes.now first → (result ≡ Err (error_of first)) ⊎ (result ≡ Err CLex.Memory) }
     // Each token begins within the bytes, behind the place where the one before it begins.
     ensures rises { (tokens : List Token) → Lexes bytes.now tokens → Rises 0 (length bytes.now) tokens }
 {

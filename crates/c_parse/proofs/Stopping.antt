@@ -103,8 +103,8 @@ only_one tokens end (Err (Syntax at)) whole a p = absurd (no_stop tokens end (Sy
 only_one tokens end (Err (TooDeep at)) whole a p = absurd (no_stop tokens end (TooDeep at) whole a p)
 only_one tokens end (Err Memory) whole a p = refl
 
-pub told : (tokens : List Token) (end : ℕ) (r : Result (List External) CParse) (e : CParse) → Answers tokens end r → Stops tokens end e → (r ≡ Err e) ⊎ (r ≡ Err Memory)
-told tokens end (Ok whole) e a s = absurd (no_stop tokens end e whole s a)
-told tokens end (Err (Syntax at)) e a s = inl (ap (λ x. Err x) (one_stop tokens end (Syntax at) e a s))
-told tokens end (Err (TooDeep at)) e a s = inl (ap (λ x. Err x) (one_stop tokens end (TooDeep at) e a s))
-told tokens end (Err Memory) e a s = inr refl
+pub stop_given : (tokens : List Token) (end : ℕ) (r : Result (List External) CParse) (e : CParse) → Answers tokens end r → Stops tokens end e → (r ≡ Err e) ⊎ (r ≡ Err Memory)
+stop_given tokens end (Ok whole) e a s = absurd (no_stop tokens end e whole s a)
+stop_given tokens end (Err (Syntax at)) e a s = inl (ap (λ x. Err x) (one_stop tokens end (Syntax at) e a s))
+stop_given tokens end (Err (TooDeep at)) e a s = inl (ap (λ x. Err x) (one_stop tokens end (TooDeep at) e a s))
+stop_given tokens end (Err Memory) e a s = inr refl

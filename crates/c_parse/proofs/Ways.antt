@@ -3,8 +3,8 @@ use Rattle.std.proofs.Common.{◌≡◌, [], ◌∷◌, subst}
 use Rattle.c_token.specs.declared.word.Word.{Word}
 use Rattle.c_tree.specs.declared.external.OuterSpecifier.{OuterSpecifier}
 use Rattle.c_tree.specs.declared.external.ExternalForm.{ExternalForm}
-use Rattle.c_rows.specs.Table.{State, takes, goes, step, settle}
-use Rattle.c_rows.specs.Meaning.{Reaches, here, taking, going, settling}
+use Rattle.c_rows.specs.Table.{State, takes, goes, step, end_step}
+use Rattle.c_rows.specs.Meaning.{Reaches, here, taking, going, ending}
 use Rattle.c_goals.proofs.Reach.{followed}
 use Rattle.c_parse.specs.Calls.{whole, Takes, Comes}
 
@@ -17,8 +17,8 @@ gone s t u w c e = λ q. followed s t u (w ∷ q) (w ∷ q) (w ∷ q) (c q) (goi
 pub come_whole : (s t : State) (w : Word) (o : OuterSpecifier) (f : ExternalForm) → Comes s w t → t ≡ whole o f → Comes s w (whole o f)
 come_whole s t w o f c e = let P : State → Type 0 = λ x. Comes s w x in subst P e c
 
-pub settled : (s t u : State) → Reaches s [] t [] → settle t.goal t.waiting ≡ goes u → Reaches s [] u []
-settled s t u c e = followed s t u [] [] [] c (settling t u u [] e (here u []))
+pub ended : (s t u : State) → Reaches s [] t [] → end_step t.goal t.waiting ≡ goes u → Reaches s [] u []
+ended s t u c e = followed s t u [] [] [] c (ending t u u [] e (here u []))
 
-pub settled_whole : (s t : State) (o : OuterSpecifier) (f : ExternalForm) → Reaches s [] t [] → t ≡ whole o f → Reaches s [] (whole o f) []
-settled_whole s t o f c e = let P : State → Type 0 = λ x. Reaches s [] x [] in subst P e c
+pub ended_whole : (s t : State) (o : OuterSpecifier) (f : ExternalForm) → Reaches s [] t [] → t ≡ whole o f → Reaches s [] (whole o f) []
+ended_whole s t o f c e = let P : State → Type 0 = λ x. Reaches s [] x [] in subst P e c

@@ -11,7 +11,7 @@ use Rattle.c_rows.specs.declared.kind.Kind.TheVariants as kinds
 use Rattle.c_rows.specs.declared.value.Value.{Value}
 use Rattle.c_rows.specs.declared.value.Value.TheVariants as values
 use Rattle.c_rows.specs.declared.frame.Frame.{Frame}
-use Rattle.c_rows.specs.Table.{Goal as Wanted, made, expects, State, rests, takes, goes, stops, resumes, step, settle}
+use Rattle.c_rows.specs.Table.{Goal as Wanted, made, expects, State, rests, takes, goes, stops, resumes, step, end_step}
 use Rattle.c_rows.specs.Meaning.{first_state, lowest, Reaches}
 use Rattle.c_parse.specs.declared.fault.CParse.{CParse}
 use Rattle.c_parse.specs.declared.fault.CParse.TheVariants.{Syntax, TooDeep, Memory}
@@ -97,7 +97,7 @@ pub record Refuses (s : State) (w : Word) : Type 0 where
 pub record Unfinished (s : State) : Type 0 where
   pub last : State
   pub comes : Reaches s [] last []
-  pub stop : settle last.goal last.waiting ≡ stops
+  pub stop : end_step last.goal last.waiting ≡ stops
   pub not_whole : is_whole last.goal last.waiting ≡ false
 
 -- what all steps at a word make of a state

@@ -28,7 +28,7 @@ use Rattle.c_rows.specs.declared.value.Value.{Value}
 use Rattle.c_rows.specs.declared.value.Value.TheVariants as values
 use Rattle.c_rows.specs.declared.frame.Frame.{Frame}
 use Rattle.c_rows.specs.Classes.{mark_of}
-use Rattle.c_rows.specs.Table.{level_at, core_at, build, height, least_of, least, rise, Goal, made, expects, State, takes, goes, step, settle}
+use Rattle.c_rows.specs.Table.{level_at, core_at, build, height, least_of, least, rise, Goal, made, expects, State, takes, goes, step, end_step}
 
 -- ---- the words that were read, and then these
 
@@ -392,4 +392,4 @@ pub data Reaches : State → List Word → State → List Word → Type 0 where
   here : (s : State) (ws : List Word) → Reaches s ws s ws
   taking : (s t u : State) (w : Word) (ws vs : List Word) → step s.goal s.waiting w ≡ takes t → Reaches t ws u vs → Reaches s (w ∷ ws) u vs
   going : (s t u : State) (w : Word) (ws vs : List Word) → step s.goal s.waiting w ≡ goes t → Reaches t (w ∷ ws) u vs → Reaches s (w ∷ ws) u vs
-  settling : (s t u : State) (vs : List Word) → settle s.goal s.waiting ≡ goes t → Reaches t [] u vs → Reaches s [] u vs
+  ending : (s t u : State) (vs : List Word) → end_step s.goal s.waiting ≡ goes t → Reaches t [] u vs → Reaches s [] u vs

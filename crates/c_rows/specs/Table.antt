@@ -703,6 +703,6 @@ step (made K v) fs w = turned K v fs (turn K v w)
 step (expects p f) fs w = if is p w then takes (opened f f.rest fs) else stops
 
 -- the step where no word follows
-abbrev pub settle : Goal → List Frame → Move
-settle (made K v) fs = resumes (rests K v) fs
-settle (expects p f) fs = stops
+abbrev pub end_step : Goal → List Frame → Move
+end_step (made K v) fs = resumes (rests K v) fs
+end_step (expects p f) fs = stops

@@ -74,8 +74,8 @@ module _ (bytes : List ℕ) (c : Spot) (begins : c ≡ start bytes) where
   fault_is f g h k = let s = stops_at g k in cc
 
   -- the first fault is told
-  pub is_told : (e : ReadFault) → Fails e (read_from c) → (f : ReadFault) → Stops bytes f → (e ≡ f) ⊎ (e ≡ Memory)
-  is_told (Malformed at) h f k = inl (fault_is (Malformed at) f h k)
-  is_told (Float at) h f k = inl (fault_is (Float at) f h k)
-  is_told (Limit which at) h f k = inl (fault_is (Limit which at) f h k)
-  is_told Memory h f k = inr refl
+  pub is_error : (e : ReadFault) → Fails e (read_from c) → (f : ReadFault) → Stops bytes f → (e ≡ f) ⊎ (e ≡ Memory)
+  is_error (Malformed at) h f k = inl (fault_is (Malformed at) f h k)
+  is_error (Float at) h f k = inl (fault_is (Float at) f h k)
+  is_error (Limit which at) h f k = inl (fault_is (Limit which at) f h k)
+  is_error Memory h f k = inr refl

@@ -4,8 +4,8 @@ use Rattle.std.proofs.Common.{ap}
 use Rattle.ms_bytes.specs.Reading.{blamed}
 use Rattle.ms_bytes.specs.ResultLaws.{blamed_ok}
 use Rattle.ms_bytes.specs.Format.{Format}
-use Rattle.ms_bytes.specs.Texts.{IsRun, check_at, front_at, marks_at, only_at, run_len, text_before, told_at}
-use Rattle.ms_bytes.specs.TextLaws.{append_fits, check_again, check_fits, check_takes, front_again, front_takes, left_again, left_fits, left_takes, longest_again, longest_takes, marks_again, marks_takes, only_again, only_takes, rest_again, rest_fits, rest_takes, told_again, told_takes}
+use Rattle.ms_bytes.specs.Texts.{IsRun, check_at, front_at, marks_at, only_at, run_len, text_before, from_text_at}
+use Rattle.ms_bytes.specs.TextLaws.{append_fits, check_again, check_fits, check_takes, front_again, front_takes, left_again, left_fits, left_takes, longest_again, longest_takes, marks_again, marks_takes, only_again, only_takes, rest_again, rest_fits, rest_takes, from_text_again, from_text_takes}
 
 -- an item that passes a test, which is given its value and its text, else a fault where it begins
 abbrev pub only : {E F A : Type 0} → (A → List E → Bool) → (ℕ → List E → F) → Format E F A → Format E F A
@@ -19,12 +19,12 @@ only test fault f = record {
 }
 
 -- a function of an item's text, in place of the item
-abbrev pub told : {E F A B : Type 0} → (List E → B) → Format E F A → Format E F B
-told {E} {F} {A} {B} g f = record {
-  read = told_at g f.read;
+abbrev pub from_text : {E F A B : Type 0} → (List E → B) → Format E F A → Format E F B
+from_text {E} {F} {A} {B} g f = record {
+  read = from_text_at g f.read;
   spelled = λ s y t. (x : A) × f.spelled s x t × (y ≡ g (text_before s t));
-  takes = told_takes g f;
-  again = told_again g f;
+  takes = from_text_takes g f;
+  again = from_text_again g f;
   least = f.least;
   fits = λ s y t h. f.fits s h.0 t h.1;
 }

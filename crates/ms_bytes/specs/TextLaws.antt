@@ -9,7 +9,7 @@ use Rattle.std.proofs.lemmas.List.{take_at, drop_at, take-append-drop, length-ap
 use Rattle.ms_bytes.specs.Reading.{okay}
 use Rattle.ms_bytes.specs.ResultLaws.{bind_ok, chosen, not_refused, ok_is}
 use Rattle.ms_bytes.specs.Format.{Format}
-use Rattle.ms_bytes.specs.Texts.{IsRun, all_pass, check_at, front_at, marks_at, next_passes, only_at, run_len, text_before, told_at}
+use Rattle.ms_bytes.specs.Texts.{IsRun, all_pass, check_at, front_at, marks_at, next_passes, only_at, run_len, text_before, from_text_at}
 
 pub append_fits : {E : Type 0} (s x t : List E) → s ≡ x ++ t → length t + 0 ≤ length s
 append_fits s x t e = rw e (omega (arith, length-append x t))
@@ -31,14 +31,14 @@ module _ {E F A : Type 0} (test : A → List E → Bool) (fault : ℕ → List E
 -- ---- an item's text
 
 module _ {E F A B : Type 0} (g : List E → B) (f : Format E F A) where
-  pub told_takes : (end : ℕ) (s : List E) (y : B) (t : List E) → told_at g f.read end s ≡ Ok (y, t) → (x : A) × f.spelled s x t × (y ≡ g (text_before s t))
-  told_takes end s y t e =
+  pub from_text_takes : (end : ℕ) (s : List E) (y : B) (t : List E) → from_text_at g f.read end s ≡ Ok (y, t) → (x : A) × f.spelled s x t × (y ≡ g (text_before s t))
+  from_text_takes end s y t e =
       let x = bind_ok (f.read end s) (λ x. Ok (g (text_before s x.1), x.1)) (y, t) e in
       let p = ok_is {F = F} (g (text_before s x.0.1), x.0.1) (y, t) x.2 in
       subst (λ (q : B × List E). (x : A) × f.spelled s x q.1 × (q.0 ≡ g (text_before s q.1))) p (x.0.0, f.takes end s x.0.0 x.0.1 x.1, refl)
 
-  pub told_again : (end : ℕ) (s : List E) (y : B) (t : List E) → (x : A) × f.spelled s x t × (y ≡ g (text_before s t)) → told_at g f.read end s ≡ Ok (y, t)
-  told_again end s y t h = rw (f.again end s h.0 t h.1, h.2) refl
+  pub from_text_again : (end : ℕ) (s : List E) (y : B) (t : List E) → (x : A) × f.spelled s x t × (y ≡ g (text_before s t)) → from_text_at g f.read end s ≡ Ok (y, t)
+  from_text_again end s y t h = rw (f.again end s h.0 t h.1, h.2) refl
 
 -- ---- a test of nothing
 

@@ -10,8 +10,8 @@ text_before s t = take (length s - length t) s
 abbrev pub only_at : {E F A : Type 0} → (A → List E → Bool) → (ℕ → List E → F) → Reader E F A → Reader E F A
 only_at test fault f end s = f end s >>= λ x. if test x.0 (text_before s x.1) then Ok x else Err (fault end s)
 
-abbrev pub told_at : {E F A B : Type 0} → (List E → B) → Reader E F A → Reader E F B
-told_at g f end s = f end s >>= λ x. Ok (g (text_before s x.1), x.1)
+abbrev pub from_text_at : {E F A B : Type 0} → (List E → B) → Reader E F A → Reader E F B
+from_text_at g f end s = f end s >>= λ x. Ok (g (text_before s x.1), x.1)
 
 abbrev pub check_at : {E F : Type 0} → (ℕ → List E → F) → Bool → Reader E F (Unit {0})
 check_at fault b end s = if b then Ok (tt, s) else Err (fault end s)

@@ -51,15 +51,15 @@ leads_on xs ys zs st e h g =
 
 -- ---- an `else` that waits for its first instruction
 
-abbrev settled_arm : Arm → Arm
-settled_arm (First opening) = First opening
-settled_arm Turned = First If
-settled_arm (Second first) = Second first
+abbrev unturned_arm : Arm → Arm
+unturned_arm (First opening) = First opening
+unturned_arm Turned = First If
+unturned_arm (Second first) = Second first
 
 -- the blocks as if it hadn't come
-abbrev pub settled : List Open → List Open
-settled [] = []
-settled (o ∷ os) = record { arm = settled_arm o.arm; ty = o.ty; seq = o.seq } ∷ os
+abbrev pub unturned : List Open → List Open
+unturned [] = []
+unturned (o ∷ os) = record { arm = unturned_arm o.arm; ty = o.ty; seq = o.seq } ∷ os
 
 -- only the innermost block may wait
 abbrev Still : List Open → Type 0
@@ -94,14 +94,14 @@ quiet (closes {st = st} some b) = go st.blocks st.seqs (quiet b) where
   go [] ss q = tt
   go (o ∷ os) ss q = still_quiet os q
 
-settled_arm-still : (a : Arm) → is_turned_in a ≡ false → settled_arm a ≡ a
-settled_arm-still (First opening) e = refl
-settled_arm-still Turned e = absurd cc
-settled_arm-still (Second before) e = refl
+unturned_arm-still : (a : Arm) → is_turned_in a ≡ false → unturned_arm a ≡ a
+unturned_arm-still (First opening) e = refl
+unturned_arm-still Turned e = absurd cc
+unturned_arm-still (Second before) e = refl
 
-settled-still : (os : List Open) → Still os → settled os ≡ os
-settled-still [] h = refl
-settled-still (o ∷ os) h = rw (settled_arm-still o.arm h.0) refl
+unturned-still : (os : List Open) → Still os → unturned os ≡ os
+unturned-still [] h = refl
+unturned-still (o ∷ os) h = rw (unturned_arm-still o.arm h.0) refl
 
 -- ---- the steps
 
@@ -116,14 +116,14 @@ pending [] = []
 pending (o ∷ os) = waits o.arm
 
 waiting_by : (a : Arm) (ty : Option ValType) (seq : ℕ) (os : List Open) (ss : List (List Instr))
-    → (after (record { blocks = record { arm = settled_arm a; ty = ty; seq = seq } ∷ os; seqs = ss }) (waits a) ≡ record { blocks = record { arm = a; ty = ty; seq = seq } ∷ os; seqs = ss })
-    × AllCome (record { blocks = record { arm = settled_arm a; ty = ty; seq = seq } ∷ os; seqs = ss }) (waits a)
+    → (after (record { blocks = record { arm = unturned_arm a; ty = ty; seq = seq } ∷ os; seqs = ss }) (waits a) ≡ record { blocks = record { arm = a; ty = ty; seq = seq } ∷ os; seqs = ss })
+    × AllCome (record { blocks = record { arm = unturned_arm a; ty = ty; seq = seq } ∷ os; seqs = ss }) (waits a)
 waiting_by (First opening) ty seq os ss = (refl, tt)
 waiting_by Turned ty seq os ss = (refl, (refl, tt))
 waiting_by (Second before) ty seq os ss = (refl, tt)
 
 waiting : (os : List Open) (ss : List (List Instr))
-    → (after (record { blocks = settled os; seqs = ss }) (pending os) ≡ record { blocks = os; seqs = ss }) × AllCome (record { blocks = settled os; seqs = ss }) (pending os)
+    → (after (record { blocks = unturned os; seqs = ss }) (pending os) ≡ record { blocks = os; seqs = ss }) × AllCome (record { blocks = unturned os; seqs = ss }) (pending os)
 waiting [] ss = (refl, tt)
 waiting (o ∷ os) ss = waiting_by o.arm o.ty o.seq os ss
 
@@ -144,16 +144,16 @@ items_started d (o ∷ os) ss b = started_by d o.arm o.ty o.seq os ss b.2
 
 -- a state is reached by its items
 abbrev pub Reached : ℕ → State → Type 0
-Reached d st = Leads (items_up_to d st) (record { blocks = settled st.blocks; seqs = st.seqs })
+Reached d st = Leads (items_up_to d st) (record { blocks = unturned st.blocks; seqs = st.seqs })
 
 reached_started : (d : ℕ) (st : State) → Below (length st.seqs) st.blocks → Reached d st → Leads (items_up_to d (started st)) st
 reached_started d st b h =
     let w = waiting st.blocks st.seqs in
     subst (λ (s : State). Leads (items_up_to d (started st)) s) w.0
-    (leads_on (items_up_to d st) (pending st.blocks) (items_up_to d (started st)) (record { blocks = settled st.blocks; seqs = st.seqs }) (items_started d st.blocks st.seqs b) h w.1)
+    (leads_on (items_up_to d st) (pending st.blocks) (items_up_to d (started st)) (record { blocks = unturned st.blocks; seqs = st.seqs }) (items_started d st.blocks st.seqs b) h w.1)
 
 still_reached : (d : ℕ) (st : State) → Still st.blocks → Leads (items_up_to d st) st → Reached d st
-still_reached d st still h = subst (λ (os : List Open). Leads (items_up_to d st) (record { blocks = os; seqs = st.seqs })) (sym (settled-still st.blocks still)) h
+still_reached d st still h = subst (λ (os : List Open). Leads (items_up_to d st) (record { blocks = os; seqs = st.seqs })) (sym (unturned-still st.blocks still)) h
 
 plain_items : (F : ℕ → List Item) (i : Instr) → IsPlain i → items_of F i ≡ Plain i ∷ []
 plain_items F (instr.Block ty body) h = absurd h
@@ -192,7 +192,7 @@ module _ (d : ℕ) (st : State) (b : Builds st) where
       let s = started st in
       leads_on (items_up_to d s) (Begin opening ty ∷ []) (items_up_to d (begun st opening ty)) st (begun_so_far d s.blocks s.seqs opening ty beneath) (reached_started d st before h) (tt, tt)
 
-turned_by : (F : ℕ → List Item) (ss : List (List Instr)) (a : Arm) (ty : Option ValType) → may_turn_in a ≡ true → (begun_items F ss Turned ty ≡ begun_items F ss a ty) × (First If ≡ settled_arm a)
+turned_by : (F : ℕ → List Item) (ss : List (List Instr)) (a : Arm) (ty : Option ValType) → may_turn_in a ≡ true → (begun_items F ss Turned ty ≡ begun_items F ss a ty) × (First If ≡ unturned_arm a)
 turned_by F ss (First Block) ty e = absurd cc
 turned_by F ss (First Loop) ty e = absurd cc
 turned_by F ss (First If) ty e = (refl, refl)
@@ -207,10 +207,10 @@ reached_turned d (o ∷ os) ss e h =
     let to : List Item → Arm → Type 0 = λ l a. Leads (so_far F ss os ++ (l ++ items_at F ss o.seq)) (record { blocks = record { arm = a; ty = o.ty; seq = o.seq } ∷ os; seqs = ss }) in
     subst (λ (l : List Item). to l (First If)) (sym t.0) (subst (λ (a : Arm). to (begun_items F ss o.arm o.ty) a) (sym t.1) h)
 
-whole_settled : (a : Arm) (ty : Option ValType) (seq : ℕ) → whole (settled_arm a) ty seq ≡ whole a ty seq
-whole_settled (First opening) ty seq = refl
-whole_settled Turned ty seq = refl
-whole_settled (Second first) ty seq = refl
+whole_unturned : (a : Arm) (ty : Option ValType) (seq : ℕ) → whole (unturned_arm a) ty seq ≡ whole a ty seq
+whole_unturned (First opening) ty seq = refl
+whole_unturned Turned ty seq = refl
+whole_unturned (Second first) ty seq = refl
 
 reached_closed : (d : ℕ) (os : List Open) (ss : List (List Instr)) → Builds (record { blocks = os; seqs = ss }) → length ss ≤ d → 0 < length os → Reached d (record { blocks = os; seqs = ss }) → Reached d (closed_in os ss)
 reached_closed d [] ss b le some h = absurd (omega arith)
@@ -222,9 +222,9 @@ reached_closed d (o ∷ os) ss b le some h =
     let one = put_so_far d os ss w inside (current_within os (length ss) order.1.1) (whole_apart o.arm o.ty os o.seq (length ss) order.1.0 order.1.1) (lower os (length ss) order.1.1) in
     let two = close_items d ss order.0 le o.arm o.ty o.seq in
     let three : items_up_to d (closed_in (o ∷ os) ss) ≡ so_far F ss (o ∷ os) ++ End ∷ [] = one ∙ (ap (λ (l : List Item). so_far F ss os ++ l) two ∙ simp append_assoc) in
-    let lead = leads_on (so_far F ss (o ∷ os)) (End ∷ []) (items_up_to d (closed_in (o ∷ os) ss)) (record { blocks = settled (o ∷ os); seqs = ss }) three h (omega arith, tt) in
+    let lead = leads_on (so_far F ss (o ∷ os)) (End ∷ []) (items_up_to d (closed_in (o ∷ os) ss)) (record { blocks = unturned (o ∷ os); seqs = ss }) three h (omega arith, tt) in
     still_reached d (closed_in (o ∷ os) ss) (quiet b)
-    (subst (λ (i : Instr). Leads (items_up_to d (closed_in (o ∷ os) ss)) (placed_in (record { blocks = os; seqs = ss }) i)) (whole_settled o.arm o.ty o.seq) lead)
+    (subst (λ (i : Instr). Leads (items_up_to d (closed_in (o ∷ os) ss)) (placed_in (record { blocks = os; seqs = ss }) i)) (whole_unturned o.arm o.ty o.seq) lead)
 
 pub reached : (d : ℕ) {st : State} → Builds st → length st.seqs ≤ d → Reached d st
 reached d begins le = (refl, tt)

@@ -132,6 +132,6 @@ numbers_more at text ns n word inside e is number =
     let rest = λ (w : List ℕ). placed_words false (at + length w) (drop (at + length w) text) in
     let P : List ℕ → Type 0 = λ w. numbers_behind ns words ≡ numbers_behind (ns ++ n ∷ []) (rest w) in
     let more = rest (first_word (drop at text)) in
-    let told = ap (number_within 0 4294967295) (sym is) ∙ number in
+    let read = ap (number_within 0 4294967295) (sym is) ∙ number in
     let goes_on = λ (o : Option ℕ). option_map_or (λ k. numbers_behind (ns ++ k ∷ []) more) o (Err (At at)) in
-    subst P (sym is) (ap (numbers_behind ns) (words_first at text inside e) ∙ ap goes_on told)
+    subst P (sym is) (ap (numbers_behind ns) (words_first at text inside e) ∙ ap goes_on read)

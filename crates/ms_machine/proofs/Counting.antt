@@ -29,7 +29,7 @@ use Rattle.ms_machine.specs.Stepped.{DoesStep, IsWell, event_of}
 use Rattle.ms_machine.specs.Store as stores
 use Rattle.ms_machine.specs.declared.stepped.Stepped.{Stepped}
 use Rattle.ms_machine.specs.declared.stepped.Stepped.TheVariants as answers
-use Rattle.ms_machine.proofs.SafeTold.{ToldIn, step_tells}
+use Rattle.ms_machine.proofs.SafeEvents.{EventIn, step_tells}
 
 -- the count of the second memory is that of the first after the event, if there is one
 abbrev pub Counts : Memory → Option Event → Memory → Type 0
@@ -38,46 +38,46 @@ Counts m event m' = m'.accesses ≡ counted_all (with_event event []) m.accesses
 -- ---- instructions on handles and segments
 
 module _ (m : Memory) (rest : List Value) where
-  made_counts : (size : ℕ) (kind : Kind) (o : Option ℕ) → ToldIn (Counts m) (made rest (made_at m size kind o))
+  made_counts : (size : ℕ) (kind : Kind) (o : Option ℕ) → EventIn (Counts m) (made rest (made_at m size kind o))
   made_counts size kind None = refl
   made_counts size kind (Some base) = refl
 
-  ended_counts : (r : Result ℕ SegTrap) → ToldIn (Counts m) (changed rest (ended_at m r))
+  ended_counts : (r : Result ℕ SegTrap) → EventIn (Counts m) (changed rest (ended_at m r))
   ended_counts (Ok id) = refl
   ended_counts (Err e) = tt
 
-  stored_counts : (new : List Byte) (width : ℕ) (r : Result Access SegTrap) → ToldIn (Counts m) (changed rest (stored_at m new width r))
+  stored_counts : (new : List Byte) (width : ℕ) (r : Result Access SegTrap) → EventIn (Counts m) (changed rest (stored_at m new width r))
   stored_counts new width (Ok a) = refl
   stored_counts new width (Err e) = tt
 
-  sliced_counts : (h g : H) → ToldIn (Counts m) (sliced m rest h g)
+  sliced_counts : (h g : H) → EventIn (Counts m) (sliced m rest h g)
   sliced_counts handles.Null g = refl
   sliced_counts handles.Broken g = refl
   sliced_counts (handles.Good id base size offset) handles.Null = refl
   sliced_counts (handles.Good id base size offset) handles.Broken = refl
   sliced_counts (handles.Good id base size offset) (handles.Good id' base' size' offset') = refl
 
-  measured_counts : (r : Result ℤ Apart) → ToldIn (Counts m) (measured m rest r)
+  measured_counts : (r : Result ℤ Apart) → EventIn (Counts m) (measured m rest r)
   measured_counts (Ok n) = refl
   measured_counts (Err e) = tt
 
-  handle_read_counts : (r : Result Access SegTrap) → ToldIn (Counts m) (handle_read m rest (handle_loaded_at m r))
+  handle_read_counts : (r : Result Access SegTrap) → EventIn (Counts m) (handle_read m rest (handle_loaded_at m r))
   handle_read_counts (Ok a) = refl
   handle_read_counts (Err e) = tt
 
-  as_number_counts : (op : LoadOp) (a : Access) (width : ℕ) (o : Option ℕ) → ToldIn (Counts m) (number_read op m rest (as_number o (read_event a width)))
+  as_number_counts : (op : LoadOp) (a : Access) (width : ℕ) (o : Option ℕ) → EventIn (Counts m) (number_read op m rest (as_number o (read_event a width)))
   as_number_counts op a width (Some n) = refl
   as_number_counts op a width None = tt
 
-  number_read_counts : (op : LoadOp) (width : ℕ) (r : Result Access SegTrap) → ToldIn (Counts m) (number_read op m rest (loaded_at m width r))
+  number_read_counts : (op : LoadOp) (width : ℕ) (r : Result Access SegTrap) → EventIn (Counts m) (number_read op m rest (loaded_at m width r))
   number_read_counts op width (Ok a) = as_number_counts op a width (number_at (range a.address width m.bytes))
   number_read_counts op width (Err e) = tt
 
-  number_stored_counts : (h : H) (width : ℕ) (o : Option ℕ) → ToldIn (Counts m) (number_stored m rest h width o)
+  number_stored_counts : (h : H) (width : ℕ) (o : Option ℕ) → EventIn (Counts m) (number_stored m rest h width o)
   number_stored_counts h width None = tt
   number_stored_counts h width (Some n) = stored_counts (data_of width n) width (access m h width)
 
-segment_counts : (i : Segment) (m : Memory) (vs : List Value) → ToldIn (Counts m) (segment_on i m vs)
+segment_counts : (i : Segment) (m : Memory) (vs : List Value) → EventIn (Counts m) (segment_on i m vs)
 segment_counts Null m vs = refl
 segment_counts (New kind) m (I32 n ∷ rest) = made_counts m rest n kind _
 segment_counts (Free kind) m (Handle h ∷ rest) = ended_counts m rest (freed m h kind)

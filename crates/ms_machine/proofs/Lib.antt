@@ -25,7 +25,7 @@ pub mod SafeMaking
 pub mod SafeEnding
 pub mod SafeAccesses
 pub mod SafeHandles
-pub mod SafeTold
+pub mod SafeEvents
 pub mod SafeSegments
 pub mod SafeSizes
 pub mod SafeSteps

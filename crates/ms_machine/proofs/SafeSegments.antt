@@ -29,7 +29,7 @@ use Rattle.ms_machine.proofs.SafeEnding.{free_follows}
 use Rattle.ms_machine.proofs.SafeHandles.{add_known, slice_follows}
 use Rattle.ms_machine.proofs.SafeMaking.{make_follows}
 use Rattle.ms_machine.proofs.SafeStates.{Follows, follows-none, handle_grows}
-use Rattle.ms_machine.proofs.SafeTold.{ToldIn}
+use Rattle.ms_machine.proofs.SafeEvents.{EventIn}
 
 module _ (state : State) (m : Memory) (sound : IsSound m) (monitored : IsMonitored state m) where
   -- ---- what is told
@@ -37,28 +37,28 @@ module _ (state : State) (m : Memory) (sound : IsSound m) (monitored : IsMonitor
   nothing_follows : Follows state m None m
   nothing_follows = follows-none state m monitored
 
-  changed_follows : (rest : List Value) (r : Result Change SegTrap) → ((c : Change) → r ≡ Ok c → Follows state m (Some c.event) c.memory) → ToldIn (Follows state m) (changed rest r)
+  changed_follows : (rest : List Value) (r : Result Change SegTrap) → ((c : Change) → r ≡ Ok c → Follows state m (Some c.event) c.memory) → EventIn (Follows state m) (changed rest r)
   changed_follows rest (Ok c) x = x c refl
   changed_follows rest (Err e) x = tt
 
-  measured_follows : (rest : List Value) (r : Result ℤ Apart) → ToldIn (Follows state m) (measured m rest r)
+  measured_follows : (rest : List Value) (r : Result ℤ Apart) → EventIn (Follows state m) (measured m rest r)
   measured_follows rest (Ok n) = nothing_follows
   measured_follows rest (Err e) = tt
 
-  handle_read_follows : (rest : List Value) (r : Result (H × Event) SegTrap) → ((x : H × Event) → r ≡ Ok x → Follows state m (Some x.1) (once_more m)) → ToldIn (Follows state m) (handle_read m rest r)
+  handle_read_follows : (rest : List Value) (r : Result (H × Event) SegTrap) → ((x : H × Event) → r ≡ Ok x → Follows state m (Some x.1) (once_more m)) → EventIn (Follows state m) (handle_read m rest r)
   handle_read_follows rest (Ok x) f = f x refl
   handle_read_follows rest (Err e) f = tt
 
-  number_read_follows : (op : LoadOp) (rest : List Value) (r : Result (ℕ × Event) SegTrap) → ((x : ℕ × Event) → r ≡ Ok x → Follows state m (Some x.1) (once_more m)) → ToldIn (Follows state m) (number_read op m rest r)
+  number_read_follows : (op : LoadOp) (rest : List Value) (r : Result (ℕ × Event) SegTrap) → ((x : ℕ × Event) → r ≡ Ok x → Follows state m (Some x.1) (once_more m)) → EventIn (Follows state m) (number_read op m rest r)
   number_read_follows op rest (Ok x) f = f x refl
   number_read_follows op rest (Err e) f = tt
 
-  number_stored_follows : (rest : List Value) (h : H) (width : ℕ) (n : Option ℕ) → IsFit m h → KnowsHandle state h → ToldIn (Follows state m) (number_stored m rest h width n)
+  number_stored_follows : (rest : List Value) (h : H) (width : ℕ) (n : Option ℕ) → IsFit m h → KnowsHandle state h → EventIn (Follows state m) (number_stored m rest h width n)
   number_stored_follows rest h width None fit known = tt
   number_stored_follows rest h width (Some n) fit known =
       changed_follows rest (call.store m h width n) (λ c is. store_follows state m monitored h width n c sound fit known is)
 
-  pub segment_follows : (i : Segment) (vs : List Value) → Each (Fits m) vs → Each (Knows state) vs → ToldIn (Follows state m) (segment_on i m vs)
+  pub segment_follows : (i : Segment) (vs : List Value) → Each (Fits m) vs → Each (Knows state) vs → EventIn (Follows state m) (segment_on i m vs)
   segment_follows Null vs a b = nothing_follows
   segment_follows (New kind) (I32 n ∷ rest) a b = (make_follows state m monitored n kind sound).0
   segment_follows (Free kind) (Handle h ∷ rest) a b = changed_follows rest (call.free m h kind) (λ c is. free_follows state m monitored h kind c is)

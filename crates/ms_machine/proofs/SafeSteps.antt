@@ -22,7 +22,7 @@ use Rattle.ms_machine.proofs.HeldValues.{thread_grows}
 use Rattle.ms_machine.proofs.SafeSegments.{segment_follows, segment_known}
 use Rattle.ms_machine.proofs.SafeSizes.{sizes_of}
 use Rattle.ms_machine.proofs.SafeStates.{Follows, follows-none, value_grows}
-use Rattle.ms_machine.proofs.SafeTold.{step_tells}
+use Rattle.ms_machine.proofs.SafeEvents.{step_tells}
 
 -- ---- traces, one after the other
 

@@ -14,5 +14,5 @@ pub mod Rooming
 pub mod Seen
 pub mod Slicing
 pub mod Splitting
-pub mod Told
+pub mod Unique
 pub mod Written

@@ -30,9 +30,9 @@ pub data AreOf : List (List ℕ) → List Event → Type 0 where
   one_line : (line : List ℕ) (e : Event) {lines : List (List ℕ)} {es : List Event} → IsOf line e → AreOf lines es → AreOf (line ∷ lines) (e ∷ es)
 
 -- the first line that tells none has this number, counted from k on
-pub data FirstUntold : (k : ℕ) → List (List ℕ) → ℕ → Type 0 where
-  untold : (k : ℕ) (line : List ℕ) (lines : List (List ℕ)) → ((e : Event) → ¬ IsOf line e) → FirstUntold k (line ∷ lines) k
-  later : (k : ℕ) (line : List ℕ) (e : Event) (lines : List (List ℕ)) (n : ℕ) → IsOf line e → FirstUntold (suc k) lines n → FirstUntold k (line ∷ lines) n
+pub data FirstMalformed : (k : ℕ) → List (List ℕ) → ℕ → Type 0 where
+  malformed : (k : ℕ) (line : List ℕ) (lines : List (List ℕ)) → ((e : Event) → ¬ IsOf line e) → FirstMalformed k (line ∷ lines) k
+  later : (k : ℕ) (line : List ℕ) (e : Event) (lines : List (List ℕ)) (n : ℕ) → IsOf line e → FirstMalformed (suc k) lines n → FirstMalformed k (line ∷ lines) n
 
 -- the text is the trace of these events
 abbrev pub IsTrace : List ℕ → List Event → Type 0
@@ -40,7 +40,7 @@ IsTrace text events = AreOf (lines_of text) events
 
 -- it is none: the line of this number, counted from 1, is the first that tells no event
 abbrev pub IsNoTrace : List ℕ → ℕ → Type 0
-IsNoTrace text n = FirstUntold 1 (lines_of text) n
+IsNoTrace text n = FirstMalformed 1 (lines_of text) n
 
 -- ---- judging
 

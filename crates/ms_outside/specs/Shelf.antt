@@ -9,13 +9,13 @@ use Rattle.ms_outside.specs.Files.{Files, bytes_of}
 use Rattle.ms_outside.specs.Sink.{IsFront}
 
 -- what a shelf that may not tell its files says of a file
-abbrev pub Told : Option Files → List ℕ → (List ℕ → Type 0) → Type 0
-Told files name P = MatchOption files ⊤ (λ known. P (bytes_of known name))
+abbrev pub IfKnown : Option Files → List ℕ → (List ℕ → Type 0) → Type 0
+IfKnown files name P = MatchOption files ⊤ (λ known. P (bytes_of known name))
 
 -- what reading the file gives: too long exactly where it has more bytes than the limit, else all of them
 abbrev pub Fetches : List ℕ → ℕ → Option Files → Fetched → Type 0
-Fetches name limit files (Bytes v) = (length v.items ≤ limit) × Told files name (λ bytes. v.items ≡ bytes)
-Fetches name limit files TooLong = Told files name (λ bytes. limit < length bytes)
+Fetches name limit files (Bytes v) = (length v.items ≤ limit) × IfKnown files name (λ bytes. v.items ≡ bytes)
+Fetches name limit files TooLong = IfKnown files name (λ bytes. limit < length bytes)
 Fetches name limit files Failed = ⊤
 Fetches name limit files Memory = ⊤
 

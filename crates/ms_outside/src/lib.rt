@@ -1,13 +1,8 @@
-//! The outside of the program, as three traits: a source of bytes, a sink of bytes, and a shelf of named files.
-//!
-//! Each trait says what a call means on the object's content, where the object tells it, and counts its faults. A
-//! caller that is generic over the trait can't raise a count by itself, so a clause "this answer only where the count
-//! rose" refuses a body that gives up.
-//!
-//! `SureSource`, `SureSink` and `SureShelf` are in memory, tell all that they hold and never fail; `MemSource`, `MemSink` and
-//! `MemShelf`, for tests, fail exactly at the calls that they are told to fail at. `StdSource`, `StdSink` and `FileShelf` are
-//! over the system, by devices that count their own faults. It stands on nothing. Read `specs/Source.antt`, `Sink.antt` and
-//! `Shelf.antt` first.
+//! The outside of the program, as three traits: a source of bytes, a sink of bytes, and a shelf of named files. Each says what
+//! a call means on what the object holds, where the object tells it, and counts its faults: a generic caller can't raise a
+//! count by itself. `Sure..` are in memory and never fail, `Mem..`, for tests, fail at the calls that they are told to fail
+//! at, and `StdSource`, `StdSink` and `FileShelf` are over the system. It stands on nothing. Read `specs/Source.antt`,
+//! `Sink.antt` and `Shelf.antt` first.
 #![tactic(auto)]
 
 mod count;

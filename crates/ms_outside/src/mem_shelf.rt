@@ -126,7 +126,7 @@ impl Shelf for MemShelf {
         ensures faults { CountsRead name.now result (count_of self.old.read_faults) (count_of self.new.read_faults) }
         ensures writes { self.new.write_faults ≡ self.old.write_faults }
         ensures failed { result ≡ Fetched.Failed → IsTrue (read_fails self.old name.now) }
-        ensures told { (result ≡ Fetched.Failed → ⊥) → (result ≡ Fetched.Memory → ⊥) → read_fails self.old name.now ≡ false }
+        ensures known { (result ≡ Fetched.Failed → ⊥) → (result ≡ Fetched.Memory → ⊥) → read_fails self.old name.now ≡ false }
         ensures script { (self.new.reads ≡ called self.old.reads) × (self.new.writes ≡ self.old.writes) }
     {
         let is_scripted = self.reads.call();

@@ -9,14 +9,14 @@ use Rattle.ms_tasks.proofs.Chaining.{drop_at}
 use Rattle.ms_host.specs.declared.trap.TrapKind.{TrapKind}
 use Rattle.ms_machine.specs.Crews.{Crew, End, Input, OutOfBudget as BudgetEnd, Results, Run, Trap, begun, bytes_of, events_of, results, run_of}
 use Rattle.ms_machine.specs.Running.{IsLeft}
-use Rattle.ms_tasks.specs.Logs.{Log, Told, all_seen}
+use Rattle.ms_tasks.specs.Logs.{Log, Trace, all_seen}
 use Rattle.ms_tasks.proofs.Deeds.{events_kept}
 use Rattle.ms_tasks.specs.Outside.{HasBegun, HasRun}
 use Rattle.ms_tasks.specs.Runs.{CountsInput, CountsOut, DoesRun}
 use Rattle.ms_tasks.specs.declared.ran.Ran.TheVariants as answers
 use Rattle.ms_run.specs.Answers.{File}
 use Rattle.ms_run.specs.Executions.{EndsAs, TellsOf}
-use Rattle.ms_run.specs.Flows.{Flowed, RunsPart, RunsWhole, TellsEnd, end_cut, end_told, end_untold, input_failed, out_failed}
+use Rattle.ms_run.specs.Flows.{Flowed, RunsPart, RunsWhole, TellsEnd, end_cut, end_printed, end_unprinted, input_failed, out_failed}
 use Rattle.ms_run.specs.Lines.{budget_line, input_fault_line, result_line, result_lines, trap_line}
 use Rattle.ms_run.specs.Observed.{Flow, Report, Shelved}
 use Rattle.ms_run.specs.Reporting.{Delivers, IsKept, KeepsFiles, Reports, failed, put, starved}
@@ -58,10 +58,10 @@ whole_part f given run left h =
 abbrev file_of : (name : List ℕ) → List Event → Option File
 file_of name events = Some (record { name = name; bytes = trace_text events })
 
-traced_same : (o : Option (List ℕ)) (told : Told) (es : List Event) → told.keep ≡ is_some o → told.events ≡ []
-    → option_map {U = File} (λ name. record { name = name; bytes = trace_text (all_seen es told).events }) o ≡ option_map {U = File} (λ name. record { name = name; bytes = trace_text es }) o
-traced_same None told es keeps none = refl
-traced_same (Some name) told es keeps none = ap (file_of name) (events_kept es told keeps ∙ ap (λ (x : List Event). x ++ es) none)
+traced_same : (o : Option (List ℕ)) (trace : Trace) (es : List Event) → trace.keep ≡ is_some o → trace.events ≡ []
+    → option_map {U = File} (λ name. record { name = name; bytes = trace_text (all_seen es trace).events }) o ≡ option_map {U = File} (λ name. record { name = name; bytes = trace_text es }) o
+traced_same None trace es keeps none = refl
+traced_same (Some name) trace es keeps none = ap (file_of name) (events_kept es trace keeps ∙ ap (λ (x : List Event). x ++ es) none)
 
 -- there is no file where none is asked for
 pub untraced : (telling : Telling) (events : List Event) → telling.trace ≡ None → traced telling events ≡ None
@@ -80,46 +80,46 @@ traced_name telling events file e = by telling.trace refl e where
 -- ---- the answers of the run of a crew
 
 module _ (telling : Telling) (run_over : Input → Run) (c : Crew) (s : Shelved) (r : Report) (f : Flow) (old new : Log) (result : Status) where
-  abbrev Told_of : Status → List ℕ → Type 0
-  Told_of status lines = Delivers status (lines ++ dumped telling c.store.segments) (traced telling new.told.events) s r result
+  abbrev Printed_of : Status → List ℕ → Type 0
+  Printed_of status lines = Delivers status (lines ++ dumped telling c.store.segments) (traced telling new.trace.events) s r result
 
-  module _ (keeps : old.told.keep ≡ is_some telling.trace) (none : old.told.events ≡ []) where
+  module _ (keeps : old.trace.keep ≡ is_some telling.trace) (none : old.trace.events ≡ []) where
     ended : (given : Input) (end : End) (status : Status) (lines : List ℕ) → (run_over given).end ≡ end → EndsAs end status lines → (run_over given).crew ≡ begun c → f.takes_new ≡ f.takes_old → f.puts_new ≡ f.puts_old
-        → HasRun f.left_old f.left_new f.held_old f.held_new old new given (run_over given) → Told_of status lines → TellsEnd telling run_over s r f result
+        → HasRun f.left_old f.left_new f.held_old f.held_new old new given (run_over given) → Printed_of status lines → TellsEnd telling run_over s r f result
     ended given end status lines is ends crew takes puts has delivers =
         let run = run_over given in
-        let events : traced telling new.told.events ≡ traced telling (events_of run.deeds) =
-        ap (λ (x : Log). traced telling x.told.events) has.log ∙ traced_same telling.trace old.told (events_of run.deeds) keeps none in
-        let tells : TellsOf telling run status (lines ++ dumped telling c.store.segments) (traced telling new.told.events) =
+        let events : traced telling new.trace.events ≡ traced telling (events_of run.deeds) =
+        ap (λ (x : Log). traced telling x.trace.events) has.log ∙ traced_same telling.trace old.trace (events_of run.deeds) keeps none in
+        let tells : TellsOf telling run status (lines ++ dumped telling c.store.segments) (traced telling new.trace.events) =
         (lines, subst (λ (e : End). EndsAs e status lines) (sym is) ends, ap (λ (x : Crew). lines ++ dumped telling x.store.segments) (sym crew), events) in
-        end_told given status (lines ++ dumped telling c.store.segments) (traced telling new.told.events) tells (whole_of f old new given run takes puts has) delivers
+        end_printed given status (lines ++ dumped telling c.store.segments) (traced telling new.trace.events) tells (whole_of f old new given run takes puts has) delivers
 
-    pub results_told : CountsInput answers.Results f.takes_old f.takes_new → CountsOut answers.Results f.puts_old f.puts_new → (given : Input) × DoesRun answers.Results c f.left_old f.left_new f.held_old f.held_new old new given (run_over given)
-        → Told_of Done (result_lines (results c.tasks)) → TellsEnd telling run_over s r f result
-    results_told takes puts (given, does) delivers = ended given (Results (results c.tasks)) Done (result_lines (results c.tasks)) does.0 (refl, refl) does.1 takes puts does.2 delivers
+    pub results_printed : CountsInput answers.Results f.takes_old f.takes_new → CountsOut answers.Results f.puts_old f.puts_new → (given : Input) × DoesRun answers.Results c f.left_old f.left_new f.held_old f.held_new old new given (run_over given)
+        → Printed_of Done (result_lines (results c.tasks)) → TellsEnd telling run_over s r f result
+    results_printed takes puts (given, does) delivers = ended given (Results (results c.tasks)) Done (result_lines (results c.tasks)) does.0 (refl, refl) does.1 takes puts does.2 delivers
 
-    pub trap_told : (kind : TrapKind) → CountsInput (answers.Trap kind) f.takes_old f.takes_new → CountsOut (answers.Trap kind) f.puts_old f.puts_new → (given : Input) × DoesRun (answers.Trap kind) c f.left_old f.left_new f.held_old f.held_new old new given (run_over given)
-        → Told_of Trapped (trap_line kind) → TellsEnd telling run_over s r f result
-    trap_told kind takes puts (given, does) delivers = ended given (Trap does.0 kind) Trapped (trap_line kind) does.1 (refl, refl) does.2 takes puts does.3 delivers
+    pub trap_printed : (kind : TrapKind) → CountsInput (answers.Trap kind) f.takes_old f.takes_new → CountsOut (answers.Trap kind) f.puts_old f.puts_new → (given : Input) × DoesRun (answers.Trap kind) c f.left_old f.left_new f.held_old f.held_new old new given (run_over given)
+        → Printed_of Trapped (trap_line kind) → TellsEnd telling run_over s r f result
+    trap_printed kind takes puts (given, does) delivers = ended given (Trap does.0 kind) Trapped (trap_line kind) does.1 (refl, refl) does.2 takes puts does.3 delivers
 
-    pub budget_told : CountsInput answers.Budget f.takes_old f.takes_new → CountsOut answers.Budget f.puts_old f.puts_new → (given : Input) × DoesRun answers.Budget c f.left_old f.left_new f.held_old f.held_new old new given (run_over given)
-        → Told_of OutOfBudget budget_line → TellsEnd telling run_over s r f result
-    budget_told takes puts (given, does) delivers = ended given BudgetEnd OutOfBudget budget_line does.0 (refl, refl) does.1 takes puts does.2 delivers
+    pub budget_printed : CountsInput answers.Budget f.takes_old f.takes_new → CountsOut answers.Budget f.puts_old f.puts_new → (given : Input) × DoesRun answers.Budget c f.left_old f.left_new f.held_old f.held_new old new given (run_over given)
+        → Printed_of OutOfBudget budget_line → TellsEnd telling run_over s r f result
+    budget_printed takes puts (given, does) delivers = ended given BudgetEnd OutOfBudget budget_line does.0 (refl, refl) does.1 takes puts does.2 delivers
 
-  pub read_fault_told : CountsInput answers.ReadFault f.takes_old f.takes_new → CountsOut answers.ReadFault f.puts_old f.puts_new → (given : Input) × DoesRun answers.ReadFault c f.left_old f.left_new f.held_old f.held_new old new given (run_over given)
+  pub read_fault_printed : CountsInput answers.ReadFault f.takes_old f.takes_new → CountsOut answers.ReadFault f.puts_old f.puts_new → (given : Input) × DoesRun answers.ReadFault c f.left_old f.left_new f.held_old f.held_new old new given (run_over given)
       → KeepsFiles s → Reports ReadFault input_fault_line r result → TellsEnd telling run_over s r f result
-  read_fault_told takes puts (given, does) files reports =
+  read_fault_printed takes puts (given, does) files reports =
       let part = part_of f old new given (run_over given) does in
       end_cut given part (of_reports (Flowed given f (run_over given)) ReadFault input_fault_line r result (puts, part) part part reports) files (input_failed takes.rose reports)
 
-  pub write_fault_told : CountsInput answers.WriteFault f.takes_old f.takes_new → CountsOut answers.WriteFault f.puts_old f.puts_new → (given : Input) × DoesRun answers.WriteFault c f.left_old f.left_new f.held_old f.held_new old new given (run_over given)
+  pub write_fault_printed : CountsInput answers.WriteFault f.takes_old f.takes_new → CountsOut answers.WriteFault f.puts_old f.puts_new → (given : Input) × DoesRun answers.WriteFault c f.left_old f.left_new f.held_old f.held_new old new given (run_over given)
       → KeepsFiles s → IsKept r → TellsEnd telling run_over s r f WriteFault
-  write_fault_told takes puts (given, does) files kept =
+  write_fault_printed takes puts (given, does) files kept =
       let part = part_of f old new given (run_over given) does in
       end_cut given part part files (out_failed puts.rose kept)
 
-  pub memory_told : (given : Input) × DoesRun answers.Memory c f.left_old f.left_new f.held_old f.held_new old new given (run_over given) → KeepsFiles s → IsKept r → TellsEnd telling run_over s r f OutOfMemory
-  memory_told (given, does) files kept = end_untold given (part_of f old new given (run_over given) does) files kept
+  pub memory_printed : (given : Input) × DoesRun answers.Memory c f.left_old f.left_new f.held_old f.held_new old new given (run_over given) → KeepsFiles s → IsKept r → TellsEnd telling run_over s r f OutOfMemory
+  memory_printed (given, does) files kept = end_unprinted given (part_of f old new given (run_over given) does) files kept
 
 -- ---- the lines of the tasks
 

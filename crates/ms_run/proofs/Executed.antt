@@ -13,7 +13,7 @@ use Rattle.ms_tasks.specs.Schedules.{entries_of}
 use Rattle.ms_tasks.specs.declared.schedule.Schedule.{Schedule}
 use Rattle.ms_tasks.specs.Tasks.{and_thread, task_address, thread_at, threads_from}
 use Rattle.ms_run.specs.Executions.{Execution, NoTask, Ran, Unlinked, execution, if_linked, in_store, with_threads}
-use Rattle.ms_run.specs.Flows.{IsQuiet, TellsEnd, TellsExecution, nothing_told, refused, run_told}
+use Rattle.ms_run.specs.Flows.{IsQuiet, TellsEnd, TellsExecution, nothing_printed, refused, run_printed}
 use Rattle.ms_run.specs.Lines.{link_line, task_line}
 use Rattle.ms_run.specs.Observed.{Flow, Report, Shelved}
 use Rattle.ms_run.specs.Reporting.{KeepsFiles, Reports}
@@ -50,26 +50,26 @@ linked_none_made modules capacity s e = let made = linked_made modules capacity 
 -- ---- what was told
 
 module _ (telling : Telling) (s : Shelved) (r : Report) (f : Flow) where
-  same_told : (e e' : Input → Execution) → ((given : Input) → e' given ≡ e given) → (result : Status) → TellsExecution telling e s r f result → TellsExecution telling e' s r f result
-  same_told e e' same result (refused x line is answers still files reports) = refused x line (λ given. same given ∙ is given) answers still files reports
-  same_told e e' same result (run_told runs is tell) = run_told runs (λ given. same given ∙ is given) tell
-  same_told e e' same result (nothing_told still files kept) = nothing_told still files kept
+  same_printed : (e e' : Input → Execution) → ((given : Input) → e' given ≡ e given) → (result : Status) → TellsExecution telling e s r f result → TellsExecution telling e' s r f result
+  same_printed e e' same result (refused x line is answers still files reports) = refused x line (λ given. same given ∙ is given) answers still files reports
+  same_printed e e' same result (run_printed runs is tell) = run_printed runs (λ given. same given ∙ is given) tell
+  same_printed e e' same result (nothing_printed still files kept) = nothing_printed still files kept
 
   -- the entries are those of a schedule for so many tasks
-  pub crew_told : (tasks : List (ℕ × List ℕ)) (schedule : Schedule) (budget : ℕ) (store : Store) (c : Crew) → IsCrewOf store tasks c → (result : Status) → TellsEnd telling (run_of (entries_of schedule (length c.tasks) budget) c) s r f result
+  pub crew_printed : (tasks : List (ℕ × List ℕ)) (schedule : Schedule) (budget : ℕ) (store : Store) (c : Crew) → IsCrewOf store tasks c → (result : Status) → TellsEnd telling (run_of (entries_of schedule (length c.tasks) budget) c) s r f result
       → TellsExecution telling (in_store tasks (entries_of schedule (length tasks) budget) store) s r f result
-  crew_told tasks schedule budget store c (threads, found, is) result tell =
+  crew_printed tasks schedule budget store c (threads, found, is) result tell =
       let entries = entries_of schedule (length tasks) budget in
-      run_told (run_of entries c) (λ given. ap (with_threads entries store given) found ∙ ap (λ (x : Crew). Ran (run_of entries x given)) (sym is))
+      run_printed (run_of entries c) (λ given. ap (with_threads entries store given) found ∙ ap (λ (x : Crew). Ran (run_of entries x given)) (sym is))
       (subst (λ n. TellsEnd telling (run_of (entries_of schedule n budget) c) s r f result) (crew_length store tasks c (threads, found, is)) tell)
 
   module _ (tasks : List (ℕ × List ℕ)) (entries : List ℕ) where
-    pub no_task_told : (store : Store) (number : ℕ) → threads_from store tasks 0 ≡ Err number → IsQuiet f → (result : Status) → KeepsFiles s → Reports Refused (task_line number) r result → TellsExecution telling (in_store tasks entries store) s r f result
-    no_task_told store number found still result files reports = refused (NoTask number) (task_line number) (λ given. ap (with_threads entries store given) found) (refl, refl, refl, refl) still files reports
+    pub no_task_printed : (store : Store) (number : ℕ) → threads_from store tasks 0 ≡ Err number → IsQuiet f → (result : Status) → KeepsFiles s → Reports Refused (task_line number) r result → TellsExecution telling (in_store tasks entries store) s r f result
+    no_task_printed store number found still result files reports = refused (NoTask number) (task_line number) (λ given. ap (with_threads entries store given) found) (refl, refl, refl, refl) still files reports
 
     module _ (modules : List (List ℕ × Module)) (capacity : ℕ) where
-      pub linked_told : (store : Store) → linked modules capacity ≡ Ok store → (result : Status) → TellsExecution telling (in_store tasks entries store) s r f result → TellsExecution telling (execution modules tasks entries capacity) s r f result
-      linked_told store e result tell = same_told (in_store tasks entries store) (execution modules tasks entries capacity) (λ given. ap (if_linked tasks entries given) e) result tell
+      pub linked_printed : (store : Store) → linked modules capacity ≡ Ok store → (result : Status) → TellsExecution telling (in_store tasks entries store) s r f result → TellsExecution telling (execution modules tasks entries capacity) s r f result
+      linked_printed store e result tell = same_printed (in_store tasks entries store) (execution modules tasks entries capacity) (λ given. ap (if_linked tasks entries given) e) result tell
 
-      pub unlinked_told : (fault : Fault) → linked modules capacity ≡ Err fault → IsQuiet f → (result : Status) → KeepsFiles s → Reports Refused (link_line fault) r result → TellsExecution telling (execution modules tasks entries capacity) s r f result
-      unlinked_told fault e still result files reports = refused (Unlinked fault) (link_line fault) (λ given. ap (if_linked tasks entries given) e) (refl, refl, refl, refl) still files reports
+      pub unlinked_printed : (fault : Fault) → linked modules capacity ≡ Err fault → IsQuiet f → (result : Status) → KeepsFiles s → Reports Refused (link_line fault) r result → TellsExecution telling (execution modules tasks entries capacity) s r f result
+      unlinked_printed fault e still result files reports = refused (Unlinked fault) (link_line fault) (λ given. ap (if_linked tasks entries given) e) (refl, refl, refl, refl) still files reports

@@ -10,7 +10,7 @@ use Rattle.ms_run.specs.Answers.{HasBytes, HasModule, Unloaded}
 use Rattle.ms_run.specs.Jobs.{AllLoaded, FirstUnloaded, Unnumbered, here, no_more, no_number, what_of}
 use Rattle.ms_run.specs.Lines.{schedule_line}
 use Rattle.ms_run.specs.Observed.{Report, Shelved}
-use Rattle.ms_run.specs.Reporting.{Holds, IsFound, IsUntouched, KeepsFiles, Reports, Tells, told, untold}
+use Rattle.ms_run.specs.Reporting.{Holds, IsFound, IsUntouched, KeepsFiles, Reports, Tells, printed, unprinted}
 use Rattle.ms_run.specs.declared.gathering.Naming.{Naming}
 use Rattle.ms_run.specs.declared.status.Status.{Status}
 use Rattle.ms_run.specs.declared.status.Status.TheVariants.{OutOfMemory, Refused}
@@ -49,9 +49,9 @@ module _ (files : Option Files) (whole : List (List ℕ × List ℕ)) (modules :
   all_loaded so_far = subst (λ (x : List (List ℕ × List ℕ)). AllLoaded (Holds files) x modules) (sym (append-nil so_far.front) ∙ so_far.is_front) so_far.loaded
 
 -- the next one has no module
-pub first_told : (s : Shelved) (naming : Naming) (whole : List (List ℕ × List ℕ)) (modules : List (List ℕ × Module)) (number k : ℕ) (item : List ℕ × List ℕ) → slice_get whole k ≡ Some item → IsLoading s.old whole (drop k whole) modules number
+pub first_printed : (s : Shelved) (naming : Naming) (whole : List (List ℕ × List ℕ)) (modules : List (List ℕ × Module)) (number k : ℕ) (item : List ℕ × List ℕ) → slice_get whole k ≡ Some item → IsLoading s.old whole (drop k whole) modules number
     → (status : Status) (line : List ℕ) → Unloaded (IsFound s) (what_of naming number) item.1 status line → FirstUnloaded (IsFound s) naming 0 whole status line
-first_told s naming whole modules number k item found so_far status line h =
+first_printed s naming whole modules number k item found so_far status line h =
     let rest = drop (suc k) whole in
     let there : FirstUnloaded (IsFound s) naming (0 + length modules) (item ∷ rest) status line =
     let is = so_far.number_is in
@@ -62,10 +62,10 @@ first_told s naming whole modules number k item found so_far status line h =
 
 -- ---- a schedule
 
-pub no_number_told : (s : Shelved) (r : Report) (name bytes : List ℕ) (at : ℕ) (result : Status) → HasBytes (Holds s.old) name bytes → schedule_in bytes ≡ Err (At at) → SameCounts s.reads_old s.reads_new → KeepsFiles s → Reports Refused (schedule_line at) r result → Tells (Unnumbered (IsFound s) name) s r result
-no_number_told s r name bytes at result has is counts files reports = told Refused (schedule_line at) (no_number bytes at has is) (inr counts) files reports
+pub no_number_printed : (s : Shelved) (r : Report) (name bytes : List ℕ) (at : ℕ) (result : Status) → HasBytes (Holds s.old) name bytes → schedule_in bytes ≡ Err (At at) → SameCounts s.reads_old s.reads_new → KeepsFiles s → Reports Refused (schedule_line at) r result → Tells (Unnumbered (IsFound s) name) s r result
+no_number_printed s r name bytes at result has is counts files reports = printed Refused (schedule_line at) (no_number bytes at has is) (inr counts) files reports
 
 -- ---- memory ran out
 
-pub starved_told : (Gives : Status → List ℕ → Type 0) (s : Shelved) (r : Report) → IsUntouched s r → Tells Gives s r OutOfMemory
-starved_told Gives s r h = untold h.counts h.files h.report
+pub starved_printed : (Gives : Status → List ℕ → Type 0) (s : Shelved) (r : Report) → IsUntouched s r → Tells Gives s r OutOfMemory
+starved_printed Gives s r h = unprinted h.counts h.files h.report

@@ -24,12 +24,12 @@ use Rattle.ms_tasks.specs.declared.schedule.Schedule.{Schedule}
 use Rattle.ms_tasks.proofs.Leaving.{run_leaves}
 use Rattle.ms_run.specs.Answers.{File, Found, Unfound, Unloaded, HasBytes, invalid, overlong, unfound, unread, unreadable}
 use Rattle.ms_run.specs.Executions.{AnswersAs, EndsAs, Execution, Ran, execution, if_linked, with_threads}
-use Rattle.ms_run.specs.Flows.{DidRun, Flowed, Flows, IsQuiet, IsUnrun, RunsWhole, TellsExecution, cut, delivered, end_cut, end_told, end_untold, nothing_told, quiet, ran, refused, run_told, starved_run}
+use Rattle.ms_run.specs.Flows.{DidRun, Flowed, Flows, IsQuiet, IsUnrun, RunsWhole, TellsExecution, cut, delivered, end_cut, end_printed, end_unprinted, nothing_printed, quiet, ran, refused, run_printed, starved_run}
 use Rattle.ms_run.specs.Jobs.{AllLoaded, FirstUnloaded, HasEntries, RunOfFile, RunOfJob, RunsFile, RunsJob, Unnumbered, Unscheduled, exec_job, executed, here, job as of_job, later, no_job, no_job_file, no_more, no_number, one_more, unlisted, unloaded, unscheduled}
 use Rattle.ms_run.specs.Jobs as jobs
 use Rattle.ms_run.specs.Lines.{job_line}
 use Rattle.ms_run.specs.Observed.{Flow, Report, Shelved}
-use Rattle.ms_run.specs.Reporting.{Holds, IsFound, IsKept, IsUntouched, KeepsFiles, Reports, ReportsJobFault, Tells, put, told, untold}
+use Rattle.ms_run.specs.Reporting.{Holds, IsFound, IsKept, IsUntouched, KeepsFiles, Reports, ReportsJobFault, Tells, put, printed, unprinted}
 use Rattle.ms_run.specs.Telling.{telling_of}
 use Rattle.ms_run.specs.declared.gathering.Naming.{Naming}
 use Rattle.ms_run.specs.declared.gathering.Naming.TheVariants.{Numbered}
@@ -88,10 +88,10 @@ module _ (Gives : Input → Option Run → Status → List ℕ → Option File �
   -- nothing was run
   unrun_answered : (G : Status → List ℕ → Type 0) → ((given : Input) (status : Status) (line : List ℕ) → G status line → Gives given None status line None) → ((status : Status) (line : List ℕ) → G status line → IsUnrun status) → IsQuiet f → (result : Status) → Tells G s r result
       → Answered Gives IsRun s r f result
-  unrun_answered G more unrun still result (told status line gives counts files reports) =
+  unrun_answered G more unrun still result (printed status line gives counts files reports) =
       let input = some_input f.left_old in
       (input.0, input.1, delivered None status line None (more input.0 status line gives) counts still (put files reports), quiet (of_reports IsUnrun status line r result (unrun status line gives) tt tt reports) still)
-  unrun_answered G more unrun still result (untold counts files kept) =
+  unrun_answered G more unrun still result (unprinted counts files kept) =
       let input = some_input f.left_old in
       (input.0, input.1, starved_run counts files kept, quiet tt still)
 
@@ -146,17 +146,17 @@ module _ (naming : Naming) (job : Job) (s : Shelved) (r : Report) (f : Flow) whe
           let input = some_input f.left_old in
           let gave = gives input.0 None Refused line None (subst (λ (x : Execution). AnswersAs (telling_of job) x None Refused line None) (sym (is input.0)) answers) in
           (input.0, input.1, delivered None Refused line None gave (inr counts) still (put files reports), quiet (of_reports IsUnrun Refused line r result tt tt tt reports) still)
-      executed_answered result (run_told runs is (end_told given status report file tells done delivers)) =
+      executed_answered result (run_printed runs is (end_printed given status report file tells done delivers)) =
           let run = runs given in
           let part = whole_part f given run (execution_leaves modules job.tasks entries job.memory given run (is given)) done in
           let gave = gives given (Some run) status report file (subst (λ (x : Execution). AnswersAs (telling_of job) x (Some run) status report file) (sym (is given)) (refl, tells)) in
           let flowed = of_delivers (Flowed given f run) status report file s r result (ends_flowed given f run run.end status tells.0 tells.1 done) part part delivers in
           (given, done.may, delivered (Some run) status report file gave (inr counts) done delivers, ran run (is_run given run (is given)) flowed)
-      executed_answered result (run_told runs is (end_cut given part flowed files cuts)) =
+      executed_answered result (run_printed runs is (end_cut given part flowed files cuts)) =
           (given, part.may, cut counts files cuts, ran (runs given) (is_run given (runs given) (is given)) flowed)
-      executed_answered result (run_told runs is (end_untold given part files kept)) =
+      executed_answered result (run_printed runs is (end_unprinted given part files kept)) =
           (given, part.may, starved_run counts files kept, ran (runs given) (is_run given (runs given) (is given)) part)
-      executed_answered result (nothing_told still files kept) = starved_answered Gives IsRun s r f counts files kept still
+      executed_answered result (nothing_printed still files kept) = starved_answered Gives IsRun s r f counts files kept still
 
 -- ---- after the job's own file was read
 

@@ -3,13 +3,13 @@ use Rattle.std.proofs.Common.{◌≡◌, ◌∙◌, ℕ, inl, inr, List, subst}
 use Rattle.std.specs.Prelude.{Option, Some, None}
 use Rattle.ms_outside.specs.Faults.{Rose}
 use Rattle.ms_outside.specs.Files.{Files}
-use Rattle.ms_outside.specs.Shelf.{SameCounts, Told}
+use Rattle.ms_outside.specs.Shelf.{SameCounts, IfKnown}
 use Rattle.ms_run.specs.Answers.{Command, Contents, Fault, File, Found}
 use Rattle.ms_machine.specs.Crews.{Input, Run}
 use Rattle.ms_run.specs.Executions.{Execution}
-use Rattle.ms_run.specs.Flows.{Cuts, DidRun, TellsEnd, TellsExecution, cut, delivered, end_cut, end_told, end_untold, nothing_told, refused, run_told, starved_run}
+use Rattle.ms_run.specs.Flows.{Cuts, DidRun, TellsEnd, TellsExecution, cut, delivered, end_cut, end_printed, end_unprinted, nothing_printed, refused, run_printed, starved_run}
 use Rattle.ms_run.specs.Observed.{Flow, Report, Shelved}
-use Rattle.ms_run.specs.Reporting.{CountsReads, Delivers, Did, IsFound, IsKept, IsUntouched, KeepsFiles, Makes, Reports, Tells, answered, failed, made, made_none, put, ran_out, starved, told, untold}
+use Rattle.ms_run.specs.Reporting.{CountsReads, Delivers, Did, IsFound, IsKept, IsUntouched, KeepsFiles, Makes, Reports, Tells, answered, failed, made, made_none, put, ran_out, starved, printed, unprinted}
 use Rattle.ms_run.specs.declared.status.Status.{Status}
 use Rattle.ms_run.specs.declared.status.Status.TheVariants.{Refused}
 use Rattle.ms_run.specs.declared.telling.Telling.{Telling}
@@ -27,8 +27,8 @@ over_report P old mid new puts_old puts_mid puts_new kept h =
 
 module _ (Gives Gives' : Status → List ℕ → Type 0) (more : (status : Status) (line : List ℕ) → Gives status line → Gives' status line) where
   pub tells_more : (s : Shelved) (r : Report) (result : Status) → Tells Gives s r result → Tells Gives' s r result
-  tells_more s r result (told status line gives counts files reports) = told status line (more status line gives) counts files reports
-  tells_more s r result (untold counts files kept) = untold counts files kept
+  tells_more s r result (printed status line gives counts files reports) = printed status line (more status line gives) counts files reports
+  tells_more s r result (unprinted counts files kept) = unprinted counts files kept
 
 -- ---- the shelf
 
@@ -60,7 +60,7 @@ module _ (old mid new : Option Files) (reads_old reads_mid reads_new : List ℕ 
   Before = IsUntouched first first_report
 
   pub found_later : Before → (name : List ℕ) (found : Found) → IsFound second name found → IsFound whole name found
-  found_later before name (Contents bytes) h = subst (λ (x : Option Files). Told x name (λ known. bytes ≡ known)) before.files.0 h
+  found_later before name (Contents bytes) h = subst (λ (x : Option Files). IfKnown x name (λ known. bytes ≡ known)) before.files.0 h
   found_later before name Fault h = subst (λ (n : ℕ). Rose n (reads_new name)) (before.counts name) h
 
   counts_later : Before → (status : Status) → CountsReads second status → CountsReads whole status
@@ -81,10 +81,10 @@ module _ (old mid new : Option Files) (reads_old reads_mid reads_new : List ℕ 
       record { counts = λ n. after.counts n ∙ before.counts n; files = files_later before after.files; report = kept_later before after.report }
 
   pub tells_later : (Gives Gives' : Status → List ℕ → Type 0) → ((status : Status) (line : List ℕ) → Gives status line → Gives' status line) → Before → (result : Status) → Tells Gives second second_report result → Tells Gives' whole whole_report result
-  tells_later Gives Gives' more before result (told status line gives counts files reports) =
-      told status line (more status line gives) (counts_later before status counts) (files_later before files) (reports_later before status line result reports)
-  tells_later Gives Gives' more before result (untold counts files kept) =
-      untold (λ n. counts n ∙ before.counts n) (files_later before files) (kept_later before kept)
+  tells_later Gives Gives' more before result (printed status line gives counts files reports) =
+      printed status line (more status line gives) (counts_later before status counts) (files_later before files) (reports_later before status line result reports)
+  tells_later Gives Gives' more before result (unprinted counts files kept) =
+      unprinted (λ n. counts n ∙ before.counts n) (files_later before files) (kept_later before kept)
 
   pub cuts_later : Before → (f : Flow) (result : Status) → Cuts second_report f result → Cuts whole_report f result
   cuts_later before f result h = over_report (λ (r : Report). Cuts r f result) held held_mid held_new puts puts_mid puts_new before.report h
@@ -114,14 +114,14 @@ module _ (old mid new : Option Files) (reads_old reads_mid reads_new : List ℕ 
 
   module _ (telling : Telling) (before : Before) (f : Flow) where
     end_later : (run_over : Input → Run) (result : Status) → TellsEnd telling run_over second second_report f result → TellsEnd telling run_over whole whole_report f result
-    end_later run_over result (end_told given status report file tells done delivers) = end_told given status report file tells done (delivers_later before status report file result delivers)
+    end_later run_over result (end_printed given status report file tells done delivers) = end_printed given status report file tells done (delivers_later before status report file result delivers)
     end_later run_over result (end_cut given part flowed files cuts) = end_cut given part flowed (files_later before files) (cuts_later before f result cuts)
-    end_later run_over result (end_untold given part files kept) = end_untold given part (files_later before files) (kept_later before kept)
+    end_later run_over result (end_unprinted given part files kept) = end_unprinted given part (files_later before files) (kept_later before kept)
 
     pub execution_later : (executed : Input → Execution) (result : Status) → TellsExecution telling executed second second_report f result → TellsExecution telling executed whole whole_report f result
     execution_later executed result (refused e line is answers still files reports) = refused e line is answers still (files_later before files) (reports_later before Refused line result reports)
-    execution_later executed result (run_told runs is tell) = run_told runs is (end_later runs result tell)
-    execution_later executed result (nothing_told still files kept) = nothing_told still (files_later before files) (kept_later before kept)
+    execution_later executed result (run_printed runs is tell) = run_printed runs is (end_later runs result tell)
+    execution_later executed result (nothing_printed still files kept) = nothing_printed still (files_later before files) (kept_later before kept)
 
   -- the table of what is made is one of answers
   pub makes_later : (Gives : Status → List ℕ → Option File → Type 0) (Does : Command) (bytes : List ℕ) → ((status : Status) (line : List ℕ) (file : Option File) → Does bytes status line file → Gives status line file) → Before → SameCounts reads_mid reads_new
@@ -133,5 +133,5 @@ module _ (old mid new : Option Files) (reads_old reads_mid reads_new : List ℕ 
 -- ---- an answer without a file
 
 pub did_without : (Gives : Status → List ℕ → Type 0) (Gives' : Status → List ℕ → Option File → Type 0) → ((status : Status) (line : List ℕ) → Gives status line → Gives' status line None) → (s : Shelved) (r : Report) (result : Status) → Tells Gives s r result → Did Gives' s r result
-did_without Gives Gives' more s r result (told status line gives counts files reports) = answered status line None (more status line gives) counts (put files reports)
-did_without Gives Gives' more s r result (untold counts files kept) = ran_out counts files kept
+did_without Gives Gives' more s r result (printed status line gives counts files reports) = answered status line None (more status line gives) counts (put files reports)
+did_without Gives Gives' more s r result (unprinted counts files kept) = ran_out counts files kept

@@ -2,7 +2,7 @@ pub mod Once
 pub mod Finding
 pub mod Later
 pub mod Done
-pub mod Told
+pub mod Printed
 pub mod Written
 pub mod Counting
 pub mod Ending

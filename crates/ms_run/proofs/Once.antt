@@ -20,10 +20,10 @@ use Rattle.ms_event.specs.Monitor.{Accepts}
 use Rattle.ms_machine.specs.Crews.{End, Input, OutOfBudget, Results, Run, Stuck, Trap}
 use Rattle.ms_module.specs.declared.module.Module.{Module}
 use Rattle.ms_monitor.proofs.Judged.{accepted_or_rejected, one_rejected}
-use Rattle.ms_monitor.proofs.Told.{one_trace, one_untold, trace_or_none}
+use Rattle.ms_monitor.proofs.Unique.{one_trace, one_malformed, trace_or_none}
 use Rattle.ms_monitor.specs.Traces.{IsTrace, RejectsAt}
 use Rattle.ms_outside.specs.Files.{Files}
-use Rattle.ms_outside.specs.Shelf.{Told}
+use Rattle.ms_outside.specs.Shelf.{IfKnown}
 use Rattle.ms_rules.specs.Context.{context_of}
 use Rattle.ms_rules.specs.Modules.{FuncTyped, IsFirstUntyped, WellTyped}
 use Rattle.ms_valid.specs.Refusals.{IsWrong}
@@ -179,7 +179,7 @@ module _ (capacity : ℕ) (bytes : List ℕ) where
   of_trace P es fs h k p = subst P (one_trace bytes es fs h k) p
 
   verdict_once : GivesOne (Verdict capacity bytes)
-  verdict_once s t s' t' (no_event m h) (no_event n k) = (refl, ap trace_line (one_untold bytes m n h k))
+  verdict_once s t s' t' (no_event m h) (no_event n k) = (refl, ap trace_line (one_malformed bytes m n h k))
   verdict_once s t s' t' (no_event m h) (rejected es n k bad) = absurd (trace_or_none bytes es m k h)
   verdict_once s t s' t' (no_event m h) (accepted es k good) = absurd (trace_or_none bytes es m k h)
   verdict_once s t s' t' (rejected es n h bad) (no_event m k) = absurd (trace_or_none bytes es m h k)
@@ -375,7 +375,7 @@ holds_one known name Fault b h k = absurd h
 
 -- the bytes that were found are known
 pub found_held : (s : Shelved) (known : Files) → s.old ≡ Some known → (name bytes : List ℕ) → IsFound s name (Contents bytes) → Holds (Some known) name (Contents bytes)
-found_held s known e name bytes h = subst (λ (x : Option Files). Told x name (λ now. bytes ≡ now)) e h
+found_held s known e name bytes h = subst (λ (x : Option Files). IfKnown x name (λ now. bytes ≡ now)) e h
 
 -- Where the second way to know of files knows the bytes that the first one does, an answer by the first is a read fault, or one by
 -- the second.

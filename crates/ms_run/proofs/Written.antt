@@ -16,7 +16,7 @@ use Rattle.ms_run.specs.declared.loading.LoadFault.{LoadFault}
 use Rattle.ms_run.specs.declared.loading.LoadFault.TheVariants as faults
 use Rattle.ms_run.specs.declared.status.Status.{Status}
 use Rattle.ms_run.specs.declared.status.Status.TheVariants.{Done, Refused}
-use Rattle.ms_run.proofs.Told.{unread_binary, unread_text}
+use Rattle.ms_run.proofs.Printed.{unread_binary, unread_text}
 
 starved_makes : (Does : Command) (bytes : List ℕ) (s : Shelved) (r : Report) (result : Status) → KeepsFiles s → IsStarved r result → Makes Does bytes s r result
 starved_makes Does bytes s r result kept h = subst (λ (x : Status). Makes Does bytes s r x) (sym h.0) (made_none kept h.1)

@@ -92,12 +92,12 @@ pub data DidRun (Gives : Option Run → Status → List ℕ → Option File → 
 
 -- What was told of a run over what the input gave, which may be cut short.
 pub data TellsEnd (telling : Telling) (run_over : Input → Run) (s : Shelved) (r : Report) (f : Flow) : Status → Type 0 where
-  end_told : {result : Status} (given : Input) (status : Status) (report : List ℕ) (file : Option File) → TellsOf telling (run_over given) status report file → RunsWhole given f (run_over given) → Delivers status report file s r result → TellsEnd telling run_over s r f result
+  end_printed : {result : Status} (given : Input) (status : Status) (report : List ℕ) (file : Option File) → TellsOf telling (run_over given) status report file → RunsWhole given f (run_over given) → Delivers status report file s r result → TellsEnd telling run_over s r f result
   end_cut : {result : Status} (given : Input) → RunsPart given f (run_over given) → Flowed given f (run_over given) result → KeepsFiles s → Cuts r f result → TellsEnd telling run_over s r f result
-  end_untold : (given : Input) → RunsPart given f (run_over given) → KeepsFiles s → IsKept r → TellsEnd telling run_over s r f OutOfMemory
+  end_unprinted : (given : Input) → RunsPart given f (run_over given) → KeepsFiles s → IsKept r → TellsEnd telling run_over s r f OutOfMemory
 
 -- What was told of an execution: that nothing was run, whatever the input gives; or of its run.
 pub data TellsExecution (telling : Telling) (executed : Input → Execution) (s : Shelved) (r : Report) (f : Flow) : Status → Type 0 where
   refused : {result : Status} (e : Execution) (line : List ℕ) → ((given : Input) → executed given ≡ e) → AnswersAs telling e None Refused line None → IsQuiet f → KeepsFiles s → Reports Refused line r result → TellsExecution telling executed s r f result
-  run_told : {result : Status} (run_over : Input → Run) → ((given : Input) → executed given ≡ Ran (run_over given)) → TellsEnd telling run_over s r f result → TellsExecution telling executed s r f result
-  nothing_told : IsQuiet f → KeepsFiles s → IsKept r → TellsExecution telling executed s r f OutOfMemory
+  run_printed : {result : Status} (run_over : Input → Run) → ((given : Input) → executed given ≡ Ran (run_over given)) → TellsEnd telling run_over s r f result → TellsExecution telling executed s r f result
+  nothing_printed : IsQuiet f → KeepsFiles s → IsKept r → TellsExecution telling executed s r f OutOfMemory

@@ -6,7 +6,7 @@ use Rattle.ms_bin_grammar.specs.Module.{SpellsWithin, Stops as BinaryStops}
 use Rattle.ms_bin_grammar.specs.declared.fault.ReadFault.{ReadFault}
 use Rattle.ms_bin_grammar.specs.declared.fault.ReadFault.TheVariants as reading
 use Rattle.ms_text_grammar.specs.TextSpells.{Stops as TextStops, TextSpells, TextStop}
-use Rattle.ms_text_read.specs.Answers.{told}
+use Rattle.ms_text_read.specs.Answers.{error_of}
 use Rattle.ms_module.specs.declared.module.Module.{Module}
 use Rattle.ms_valid.specs.declared.refusal.Refusal.{Refusal}
 use Rattle.ms_valid.specs.declared.refusal.Refusal.TheVariants as refusals
@@ -39,7 +39,7 @@ Spells Text bytes m = TextSpells bytes m
 -- They spell none: the words of the first fault, with its place.
 pub data Unread (bytes : List ℕ) : Form → List ℕ → Type 0 where
   binary : (fault : ReadFault) → BinaryStops bytes fault → Unread bytes Binary (fault_words fault)
-  text : (why : TextStop) → TextStops bytes why → Unread bytes Text (text_fault_words (told why))
+  text : (why : TextStop) → TextStops bytes why → Unread bytes Text (text_fault_words (error_of why))
 
 -- ---- what loading a file's module gives
 
@@ -58,7 +58,7 @@ abbrev pub Refuses : Form → List ℕ → LoadFault → Type 0
 Refuses Binary bytes (faults.Read fault) = IsRead fault × BinaryStops bytes fault
 Refuses Text bytes (faults.Read fault) = ⊥
 Refuses Binary bytes (faults.Text fault) = ⊥
-Refuses Text bytes (faults.Text fault) = (why : TextStop) × (told why ≡ fault) × TextStops bytes why
+Refuses Text bytes (faults.Text fault) = (why : TextStop) × (error_of why ≡ fault) × TextStops bytes why
 Refuses form bytes (faults.Invalid refusal) = IsInvalid form bytes refusal
 Refuses form bytes faults.Memory = Unit {0}
 

@@ -2,7 +2,7 @@
 use Rattle.std.specs.Prelude.{◌≡◌, ◌⊎◌, ℕ, List, ◌++◌, Option, Some, None, MatchOption}
 use Rattle.ms_outside.specs.Faults.{CountsFault, Rose}
 use Rattle.ms_outside.specs.Files.{Files}
-use Rattle.ms_outside.specs.Shelf.{SameCounts, Told, Writes}
+use Rattle.ms_outside.specs.Shelf.{SameCounts, IfKnown, Writes}
 use Rattle.ms_outside.specs.Sink.{IsFront}
 use Rattle.ms_outside.specs.declared.sink.Put.TheVariants as puts
 use Rattle.ms_run.specs.Answers.{Command, Contents, Fault, File, Found, Verdict}
@@ -43,12 +43,12 @@ Reports status line r result = IsWhole status line r result ⊎ (IsCut line r re
 
 -- what was found is the file's bytes, where the shelf tells them; a fault only where the count of its reads rose
 abbrev pub IsFound : Shelved → List ℕ → Found → Type 0
-IsFound s name (Contents bytes) = Told s.old name (λ known. bytes ≡ known)
+IsFound s name (Contents bytes) = IfKnown s.old name (λ known. bytes ≡ known)
 IsFound s name Fault = Rose (s.reads_old name) (s.reads_new name)
 
 -- the same of what the files are known to be
 abbrev pub Holds : Option Files → List ℕ → Found → Type 0
-Holds files name (Contents bytes) = Told files name (λ known. bytes ≡ known)
+Holds files name (Contents bytes) = IfKnown files name (λ known. bytes ≡ known)
 Holds files name Fault = ⊥
 
 -- ---- the file that is written
@@ -88,8 +88,8 @@ pub data Did (Gives : Status → List ℕ → Option File → Type 0) (s : Shelv
 
 -- What a command did that writes none.
 pub data Tells (Gives : Status → List ℕ → Type 0) (s : Shelved) (r : Report) : Status → Type 0 where
-  told : {result : Status} (status : Status) (line : List ℕ) → Gives status line → CountsReads s status → KeepsFiles s → Reports status line r result → Tells Gives s r result
-  untold : SameCounts s.reads_old s.reads_new → KeepsFiles s → IsKept r → Tells Gives s r OutOfMemory
+  printed : {result : Status} (status : Status) (line : List ℕ) → Gives status line → CountsReads s status → KeepsFiles s → Reports status line r result → Tells Gives s r result
+  unprinted : SameCounts s.reads_old s.reads_new → KeepsFiles s → IsKept r → Tells Gives s r OutOfMemory
 
 -- ---- the same in parts
 

@@ -21,7 +21,7 @@ pub fn check_file<F: Shelf, I: Source, O: Sink, R: Sink>(
     _out: &mut O,
     report: &mut R,
 ) -> Status
-    ensures told { Tells (Checks (IsFound (shelved F.files F.read_faults F.write_faults shelf.old shelf.new)) file.now)
+    ensures printed { Tells (Checks (IsFound (shelved F.files F.read_faults F.write_faults shelf.old shelf.new)) file.now)
         (shelved F.files F.read_faults F.write_faults shelf.old shelf.new)
         (reported R.held R.faults report.old report.new)
         result }

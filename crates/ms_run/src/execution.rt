@@ -81,7 +81,7 @@ fn tell_run<G: Gaps, T: Tagged, F: Shelf, R: Sink>(
     shelf: &mut F,
     report: &mut R,
 ) -> Status
-    ensures told { (text : List ℕ) → IfOk lines (λ t. string_bytes t ≡ text) → Delivers status (text ++ dumped telling.now store.now.segments)
+    ensures printed { (text : List ℕ) → IfOk lines (λ t. string_bytes t ≡ text) → Delivers status (text ++ dumped telling.now store.now.segments)
         (traced telling.now events.now)
         (shelved F.files F.read_faults F.write_faults shelf.old shelf.new)
         (reported R.held R.faults report.old report.new)
@@ -126,7 +126,7 @@ fn run_crew<G: Gaps, T: Tagged, F: Shelf, I: Source, O: Sink, R: Sink>(
     requires tasks { (tasks ≡ length crew.old.tasks) × (0 < tasks) }
     requires turns { HasTurns schedule.now }
     requires few { crew.old.store.segments.made + budget < 2 ^ 63 }
-    ensures told { TellsEnd telling.now (run_of (entries_of schedule.now (length crew.old.tasks) budget) crew.old)
+    ensures printed { TellsEnd telling.now (run_of (entries_of schedule.now (length crew.old.tasks) budget) crew.old)
         (shelved F.files F.read_faults F.write_faults shelf.old shelf.new)
         (reported R.held R.faults report.old report.new)
         (flowed I.left I.faults O.held O.faults input.old input.new out.old out.new)
@@ -200,7 +200,7 @@ fn run_store<G: Gaps, T: Tagged, F: Shelf, I: Source, O: Sink, R: Sink>(
     requires tasks { (0 < length tasks.items) × (length tasks.items < 2 ^ 32) }
     requires turns { HasTurns schedule.now }
     requires few { store.segments.made + budget < 2 ^ 63 }
-    ensures told { TellsExecution telling.now (in_store tasks.items (entries_of schedule.now (length tasks.items) budget) store)
+    ensures printed { TellsExecution telling.now (in_store tasks.items (entries_of schedule.now (length tasks.items) budget) store)
         (shelved F.files F.read_faults F.write_faults shelf.old shelf.new)
         (reported R.held R.faults report.old report.new)
         (flowed I.left I.faults O.held O.faults input.old input.new out.old out.new)
@@ -239,7 +239,7 @@ pub fn execute<G: Gaps, T: Tagged, F: Shelf, I: Source, O: Sink, R: Sink>(
     requires tasks { (0 < length tasks.items) × (length tasks.items < 2 ^ 32) }
     requires turns { HasTurns schedule.now }
     requires few { budget < 2 ^ 63 }
-    ensures told { TellsExecution telling.now (execution modules.items tasks.items (entries_of schedule.now (length tasks.items) budget) memory)
+    ensures printed { TellsExecution telling.now (execution modules.items tasks.items (entries_of schedule.now (length tasks.items) budget) memory)
         (shelved F.files F.read_faults F.write_faults shelf.old shelf.new)
         (reported R.held R.faults report.old report.new)
         (flowed I.left I.faults O.held O.faults input.old input.new out.old out.new)

@@ -55,7 +55,7 @@ fn load_named<F: Shelf, R: Sink>(
     ensures untouched { IfOk result (λ _. IsUntouched
         (shelved F.files F.read_faults F.write_faults shelf.old shelf.new)
         (reported R.held R.faults report.old report.new)) }
-    ensures told { IfErr result (Tells
+    ensures printed { IfErr result (Tells
         (Unloaded (IsFound (shelved F.files F.read_faults F.write_faults shelf.old shelf.new)) (what_of naming number) named.now.1)
         (shelved F.files F.read_faults F.write_faults shelf.old shelf.new)
         (reported R.held R.faults report.old report.new)) }
@@ -84,7 +84,7 @@ pub fn load_all<F: Shelf, R: Sink>(
     ensures untouched { IfOk result (λ _. IsUntouched
         (shelved F.files F.read_faults F.write_faults shelf.old shelf.new)
         (reported R.held R.faults report.old report.new)) }
-    ensures told { IfErr result (Tells
+    ensures printed { IfErr result (Tells
         (FirstUnloaded (IsFound (shelved F.files F.read_faults F.write_faults shelf.old shelf.new)) naming 0 files.now)
         (shelved F.files F.read_faults F.write_faults shelf.old shelf.new)
         (reported R.held R.faults report.old report.new)) }
@@ -115,7 +115,7 @@ fn listed<F: Shelf, R: Sink>(
     ensures untouched { IfOk result (λ _. IsUntouched
         (shelved F.files F.read_faults F.write_faults shelf.old shelf.new)
         (reported R.held R.faults report.old report.new)) }
-    ensures told { IfErr result (Tells
+    ensures printed { IfErr result (Tells
         (Unnumbered (IsFound (shelved F.files F.read_faults F.write_faults shelf.old shelf.new)) file.now)
         (shelved F.files F.read_faults F.write_faults shelf.old shelf.new)
         (reported R.held R.faults report.old report.new)) }
@@ -148,7 +148,7 @@ pub fn schedule_of<F: Shelf, R: Sink>(
     ensures untouched { IfOk result (λ _. IsUntouched
         (shelved F.files F.read_faults F.write_faults shelf.old shelf.new)
         (reported R.held R.faults report.old report.new)) }
-    ensures told { IfErr result (Tells
+    ensures printed { IfErr result (Tells
         (Unscheduled (IsFound (shelved F.files F.read_faults F.write_faults shelf.old shelf.new)) job.now)
         (shelved F.files F.read_faults F.write_faults shelf.old shelf.new)
         (reported R.held R.faults report.old report.new)) }

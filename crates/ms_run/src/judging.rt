@@ -48,7 +48,7 @@ pub fn judge<F: Shelf, I: Source, O: Sink, R: Sink>(
     _out: &mut O,
     report: &mut R,
 ) -> Status
-    ensures told { Tells (Judges (IsFound (shelved F.files F.read_faults F.write_faults shelf.old shelf.new)) file.now memory)
+    ensures printed { Tells (Judges (IsFound (shelved F.files F.read_faults F.write_faults shelf.old shelf.new)) file.now memory)
         (shelved F.files F.read_faults F.write_faults shelf.old shelf.new)
         (reported R.held R.faults report.old report.new)
         result }

@@ -119,7 +119,7 @@ pub fn load_file<F: Shelf, R: Sink>(
     ensures untouched { IfOk result (λ _. IsUntouched
         (shelved F.files F.read_faults F.write_faults shelf.old shelf.new)
         (reported R.held R.faults report.old report.new)) }
-    ensures told { IfErr result (Tells
+    ensures printed { IfErr result (Tells
         (Unloaded (IsFound (shelved F.files F.read_faults F.write_faults shelf.old shelf.new)) what.now file.now)
         (shelved F.files F.read_faults F.write_faults shelf.old shelf.new)
         (reported R.held R.faults report.old report.new)) }

@@ -11,7 +11,7 @@ use Rattle.ms_machine.specs.Holding.{StoreFits, ThreadFits}
 use Rattle.ms_machine.specs.Store.{Store}
 use Rattle.ms_machine.specs.Typing.{Outline, StoreTyped, TaskTyped, outline_of}
 use Rattle.ms_machine.proofs.HeldFits.{thread_fits_grows}
-use Rattle.ms_machine.proofs.Outsides.{Told}
+use Rattle.ms_machine.proofs.Outsides.{Content}
 use Rattle.ms_task.specs.Thread.{Thread}
 use Rattle.ms_task.specs.View.{thread_of}
 use Rattle.ms_task.specs.declared.task.Task.{Task as CodeTask}
@@ -92,7 +92,7 @@ entries_on ks most left rest within less =
     drop_twice (most - left) (left - rest) ks ∙ ap (λ n. drop n ks) e
 
 -- It has ended, and the next one comes.
-pub chain_ends : (l l' l'' h h' h'' : Told) (old log new : Log) (all : Input → Run) (ks : List ℕ) (most left rest : ℕ) (s s' : Store) (t t' : Thread) (ahead0 more more' tasks : List Thread) → left ≤ most → rest ≤ left → ahead0 ≡ t ∷ more → t'.work ≡ [] → more ≡ more'
+pub chain_ends : (l l' l'' h h' h'' : Content) (old log new : Log) (all : Input → Run) (ks : List ℕ) (most left rest : ℕ) (s s' : Store) (t t' : Thread) (ahead0 more more' tasks : List Thread) → left ≤ most → rest ≤ left → ahead0 ≡ t ∷ more → t'.work ≡ [] → more ≡ more'
     → ComesTo l l' h h' old log all (run_entries (drop (most - left) ks) (begun_with s ahead0 tasks))
     → ComesTo l' l'' h' h'' log new (run_entries (drop (most - left) ks) (begun_with s (t ∷ more) tasks)) (run_entries (drop (left - rest) (drop (most - left) ks)) (begun_with s' (t' ∷ more) tasks))
     → ComesTo l l'' h h'' old new all (run_entries (drop (most - rest) ks) (begun_with s' more' tasks))
@@ -104,7 +104,7 @@ chain_ends l l' l'' h h' h'' old log new all ks most left rest s s' t t' ahead0 
     (subst (λ xs. ComesTo l l'' h h'' old new all (run_entries xs (begun_with s' (t' ∷ more) tasks))) (entries_on ks most left rest within less)
     (to_trans l l' l'' h h' h'' old log new all mid (run_entries (drop (left - rest) (drop (most - left) ks)) (begun_with s' (t' ∷ more) tasks)) here second))
 
-stops : (a : Halt) (l l' h h' : Told) (old new : Log) (run ended ended' : Input → Run) (ks : List ℕ) (s' : Store) (t' : Thread) (more tasks : List Thread) (c' : Crew) → a ≢ answers.Ended → (a ≡ answers.Paused → (ks ≡ []) × (t'.work ≢ [])) → (IsWell a → begun_with s' (t' ∷ more) tasks ≡ c')
+stops : (a : Halt) (l l' h h' : Content) (old new : Log) (run ended ended' : Input → Run) (ks : List ℕ) (s' : Store) (t' : Thread) (more tasks : List Thread) (c' : Crew) → a ≢ answers.Ended → (a ≡ answers.Paused → (ks ≡ []) × (t'.work ≢ [])) → (IsWell a → begun_with s' (t' ∷ more) tasks ≡ c')
     → Answers a run ended (run_entries ks (begun_with s' (t' ∷ more) tasks)) (begun_with s' (t' ∷ more) tasks) l l' h h' old new → Answers a run ended' (ends OutOfBudget c') c' l l' h h' old new
 stops answers.Ended l l' h h' old new run ended ended' ks s' t' more tasks c' not paused same is = absurd (not refl)
 stops answers.Paused l l' h h' old new run ended ended' ks s' t' more tasks c' not paused same is =
@@ -122,7 +122,7 @@ stops answers.WriteFault l l' h h' old new run ended ended' ks s' t' more tasks 
 stops answers.Memory l l' h h' old new run ended ended' ks s' t' more tasks c' not paused same is = is
 
 -- Or it stops the run, with those that stand behind it.
-pub chain_stops : (a : Halt) (l l' l'' h h' h'' : Told) (old log new : Log) (all ended : Input → Run) (ks : List ℕ) (most left : ℕ) (s s' : Store) (t t' : Thread) (ahead0 more chain' tasks : List Thread) → length ks ≡ most → left ≤ most → ahead0 ≡ t ∷ more → a ≢ answers.Ended → (a ≡ answers.Paused → t'.work ≢ []) → (IsWell a → ahead (t' ∷ more) ≡ ahead chain')
+pub chain_stops : (a : Halt) (l l' l'' h h' h'' : Content) (old log new : Log) (all ended : Input → Run) (ks : List ℕ) (most left : ℕ) (s s' : Store) (t t' : Thread) (ahead0 more chain' tasks : List Thread) → length ks ≡ most → left ≤ most → ahead0 ≡ t ∷ more → a ≢ answers.Ended → (a ≡ answers.Paused → t'.work ≢ []) → (IsWell a → ahead (t' ∷ more) ≡ ahead chain')
     → ComesTo l l' h h' old log all (run_entries (drop (most - left) ks) (begun_with s ahead0 tasks)) → (before : Input → Run)
     → Answers a (run_entries (drop (most - left) ks) (begun_with s (t ∷ more) tasks)) before (run_entries (drop left (drop (most - left) ks)) (begun_with s' (t' ∷ more) tasks)) (begun_with s' (t' ∷ more) tasks) l' l'' h' h'' log new
     → Answers a all ended (ends OutOfBudget (begun_with s' chain' tasks)) (begun_with s' chain' tasks) l l'' h h'' old new

@@ -8,7 +8,7 @@ use Rattle.ms_machine.specs.Moves as moves
 use Rattle.ms_machine.specs.Moves.{Goes, Move, first_of, move_of, rest_of}
 use Rattle.ms_machine.specs.Store.{Store}
 use Rattle.ms_machine.proofs.Counting.{move_counts}
-use Rattle.ms_tasks.proofs.Deeds.{both_told, deed_told}
+use Rattle.ms_tasks.proofs.Deeds.{both_events, deed_events}
 use Rattle.ms_tasks.proofs.Keeping.{by_work_has, cond_has}
 
 counted_both : (es fs : List Event) (n : ℕ) → counted_all (es ++ fs) n ≡ counted_all fs (counted_all es n)
@@ -28,7 +28,7 @@ behind_counts n m d r is counts =
     counts
     ∙ ap (counted_all (events_of r.deeds)) is
     ∙ sym (counted_both (events_of d) (events_of r.deeds) n)
-    ∙ ap (λ (es : List Event). counted_all es n) (sym (both_told d r.deeds))
+    ∙ ap (λ (es : List Event). counted_all es n) (sym (both_events d r.deeds))
 
 quiet_counts : (n : ℕ) (r : Run) → RunCounts n r → RunCounts n (behind passed r)
 quiet_counts n r counts = behind_counts n n passed r refl counts
@@ -41,7 +41,7 @@ moved_counts whose c t input next go same goes (Goes s' t' took put event) is =
     (
     ap (λ (s : Store). s.segments.accesses) (same s' t')
     ∙ move_counts c.store s' t t' (first_of input) took put event is
-    ∙ ap (λ (es : List Event). counted_all es (accesses_in c)) (sym (deed_told whose put event))
+    ∙ ap (λ (es : List Event). counted_all es (accesses_in c)) (sym (deed_events whose put event))
     )
     (goes (next s' t') (rest_of took input))
 moved_counts whose c t input next go same goes (moves.Trap trap) is = refl

@@ -6,7 +6,7 @@ use Rattle.ms_event.specs.declared.event.Event.TheVariants.{Alloc, Free, Read, R
 use Rattle.ms_machine.specs.Crews.{Deeds, Run, Whose, behind, both, bytes_of, deed, events_of, nothing}
 use Rattle.ms_machine.specs.Running.{with_event}
 use Rattle.ms_machine.proofs.Outsides.{with_byte}
-use Rattle.ms_tasks.specs.Logs.{IsWithin, Log, Told, all_seen, logged, seen}
+use Rattle.ms_tasks.specs.Logs.{IsWithin, Log, Trace, all_seen, logged, seen}
 
 deeds_is : (d e : Deeds) → d.puts ≡ e.puts → d.events ≡ e.events → d.used ≡ e.used → d ≡ e
 deeds_is d e a b u = ap (λ p. record { puts = p; events = d.events; used = d.used }) a ∙ (ap (λ p. record { puts = e.puts; events = p; used = d.used }) b ∙ ap (λ p. record { puts = e.puts; events = e.events; used = p }) u)
@@ -28,42 +28,42 @@ both_nothing d = deeds_is (both d nothing) d (append-nil d.puts) (append-nil d.e
 
 -- ---- bytes and events
 
-pub deed_told : (whose : Whose) (put : Option ℕ) (event : Option Event) → events_of (deed whose put event) ≡ with_event event []
-deed_told whose put None = refl
-deed_told whose put (Some e) = refl
+pub deed_events : (whose : Whose) (put : Option ℕ) (event : Option Event) → events_of (deed whose put event) ≡ with_event event []
+deed_events whose put None = refl
+deed_events whose put (Some e) = refl
 
 pub deed_bytes : (whose : Whose) (put : Option ℕ) (event : Option Event) → bytes_of (deed whose put event) ≡ with_byte put []
 deed_bytes whose None event = refl
 deed_bytes whose (Some b) event = refl
 
-pub both_told : (d e : Deeds) → events_of (both d e) ≡ events_of d ++ events_of e
-both_told d e = map-append (λ (p : Whose × Event). p.1) d.events e.events
+pub both_events : (d e : Deeds) → events_of (both d e) ≡ events_of d ++ events_of e
+both_events d e = map-append (λ (p : Whose × Event). p.1) d.events e.events
 
 pub both_bytes : (d e : Deeds) → bytes_of (both d e) ≡ bytes_of d ++ bytes_of e
 both_bytes d e = map-append (λ (p : Whose × ℕ). p.1) d.puts e.puts
 
 -- ---- the log
 
-pub all_seen_both : (es fs : List Event) (t : Told) → all_seen (es ++ fs) t ≡ all_seen fs (all_seen es t)
+pub all_seen_both : (es fs : List Event) (t : Trace) → all_seen (es ++ fs) t ≡ all_seen fs (all_seen es t)
 all_seen_both [] fs t = refl
 all_seen_both (e ∷ es) fs t = all_seen_both es fs (seen e t)
 
 pub logged_nothing : (l : Log) → l ≡ logged nothing l
 logged_nothing l =
     let e : l.entries ≡ l.entries + 0 = omega arith in
-    ap (λ (m : ℕ). let x : Log = record { entries = m; told = l.told } in x) e
+    ap (λ (m : ℕ). let x : Log = record { entries = m; trace = l.trace } in x) e
 
 sum_again : (a b x : ℕ) → (a + b) + x ≡ a + (b + x)
 sum_again a b x = omega arith
 
 pub logged_both : (d e : Deeds) (l : Log) → logged e (logged d l) ≡ logged (both d e) l
 logged_both d e l =
-    ap (λ n. record { entries = n; told = all_seen (events_of e) (all_seen (events_of d) l.told) }) (sum_again l.entries d.used e.used)
-    ∙ ap (λ x. record { entries = l.entries + (d.used + e.used); told = x }) (sym (all_seen_both (events_of d) (events_of e) l.told) ∙ ap (λ es. all_seen es l.told) (sym (both_told d e)))
+    ap (λ n. record { entries = n; trace = all_seen (events_of e) (all_seen (events_of d) l.trace) }) (sum_again l.entries d.used e.used)
+    ∙ ap (λ x. record { entries = l.entries + (d.used + e.used); trace = x }) (sym (all_seen_both (events_of d) (events_of e) l.trace) ∙ ap (λ es. all_seen es l.trace) (sym (both_events d e)))
 
 -- ---- its counts
 
-seen_within : (n : ℕ) (e : Event) (t : Told) → IsWithin n t → IsWithin (n + 1) (seen e t)
+seen_within : (n : ℕ) (e : Event) (t : Trace) → IsWithin n t → IsWithin (n + 1) (seen e t)
 seen_within n (Alloc id addr size) t h = let a = h.allocs in let b = h.refused in let c = h.slices in let d = h.reads in let e = h.writes in let f = h.frees in record { allocs = omega (arith, a); refused = omega (arith, b); slices = omega (arith, c); reads = omega (arith, d); writes = omega (arith, e); frees = omega (arith, f) }
 seen_within n (Refused size) t h = let a = h.allocs in let b = h.refused in let c = h.slices in let d = h.reads in let e = h.writes in let f = h.frees in record { allocs = omega (arith, a); refused = omega (arith, b); slices = omega (arith, c); reads = omega (arith, d); writes = omega (arith, e); frees = omega (arith, f) }
 seen_within n (Slice id lo hi lo2 hi2) t h = let a = h.allocs in let b = h.refused in let c = h.slices in let d = h.reads in let e = h.writes in let f = h.frees in record { allocs = omega (arith, a); refused = omega (arith, b); slices = omega (arith, c); reads = omega (arith, d); writes = omega (arith, e); frees = omega (arith, f) }
@@ -71,16 +71,16 @@ seen_within n (Read id lo hi addr width) t h = let a = h.allocs in let b = h.ref
 seen_within n (Write id lo hi addr width) t h = let a = h.allocs in let b = h.refused in let c = h.slices in let d = h.reads in let e = h.writes in let f = h.frees in record { allocs = omega (arith, a); refused = omega (arith, b); slices = omega (arith, c); reads = omega (arith, d); writes = omega (arith, e); frees = omega (arith, f) }
 seen_within n (Free id) t h = let a = h.allocs in let b = h.refused in let c = h.slices in let d = h.reads in let e = h.writes in let f = h.frees in record { allocs = omega (arith, a); refused = omega (arith, b); slices = omega (arith, c); reads = omega (arith, d); writes = omega (arith, e); frees = omega (arith, f) }
 
-within_more : (n m : ℕ) (t : Told) → n ≤ m → IsWithin n t → IsWithin m t
+within_more : (n m : ℕ) (t : Trace) → n ≤ m → IsWithin n t → IsWithin m t
 within_more n m t le h = let a = h.allocs in let b = h.refused in let c = h.slices in let d = h.reads in let e = h.writes in let f = h.frees in record { allocs = omega (arith, a, le); refused = omega (arith, b, le); slices = omega (arith, c, le); reads = omega (arith, d, le); writes = omega (arith, e, le); frees = omega (arith, f, le) }
 
-pub told_within : (n m : ℕ) (event : Option Event) (t t' : Told) → n + 1 ≤ m → t' ≡ all_seen (with_event event []) t → IsWithin n t → IsWithin m t'
-told_within n m None t t' le is h = subst (IsWithin m) (sym is) (within_more n m t (omega (arith, le)) h)
-told_within n m (Some e) t t' le is h = subst (IsWithin m) (sym is) (within_more (n + 1) m (seen e t) le (seen_within n e t h))
+pub within_after : (n m : ℕ) (event : Option Event) (t t' : Trace) → n + 1 ≤ m → t' ≡ all_seen (with_event event []) t → IsWithin n t → IsWithin m t'
+within_after n m None t t' le is h = subst (IsWithin m) (sym is) (within_more n m t (omega (arith, le)) h)
+within_after n m (Some e) t t' le is h = subst (IsWithin m) (sym is) (within_more (n + 1) m (seen e t) le (seen_within n e t h))
 
 -- ---- what it keeps
 
-seen_keep : (e : Event) (t : Told) → (seen e t).keep ≡ t.keep
+seen_keep : (e : Event) (t : Trace) → (seen e t).keep ≡ t.keep
 seen_keep (Alloc id addr size) t = refl
 seen_keep (Refused size) t = refl
 seen_keep (Slice id lo hi lo2 hi2) t = refl
@@ -88,7 +88,7 @@ seen_keep (Read id lo hi addr width) t = refl
 seen_keep (Write id lo hi addr width) t = refl
 seen_keep (Free id) t = refl
 
-seen_events : (e : Event) (t : Told) → t.keep ≡ true → (seen e t).events ≡ t.events ++ e ∷ []
+seen_events : (e : Event) (t : Trace) → t.keep ≡ true → (seen e t).events ≡ t.events ++ e ∷ []
 seen_events (Alloc id addr size) t k = ap (λ b. cond b (t.events ++ Alloc id addr size ∷ []) t.events) k
 seen_events (Refused size) t k = ap (λ b. cond b (t.events ++ Refused size ∷ []) t.events) k
 seen_events (Slice id lo hi lo2 hi2) t k = ap (λ b. cond b (t.events ++ Slice id lo hi lo2 hi2 ∷ []) t.events) k
@@ -96,7 +96,7 @@ seen_events (Read id lo hi addr width) t k = ap (λ b. cond b (t.events ++ Read 
 seen_events (Write id lo hi addr width) t k = ap (λ b. cond b (t.events ++ Write id lo hi addr width ∷ []) t.events) k
 seen_events (Free id) t k = ap (λ b. cond b (t.events ++ Free id ∷ []) t.events) k
 
-pub events_kept : (es : List Event) (t : Told) → t.keep ≡ true → (all_seen es t).events ≡ t.events ++ es
+pub events_kept : (es : List Event) (t : Trace) → t.keep ≡ true → (all_seen es t).events ≡ t.events ++ es
 events_kept [] t keep = sym (append-nil t.events)
 events_kept (e ∷ es) t keep =
     events_kept es (seen e t) (seen_keep e t ∙ keep) ∙ (ap (λ xs. xs ++ es) (seen_events e t keep) ∙ append_assoc t.events (e ∷ []) es)

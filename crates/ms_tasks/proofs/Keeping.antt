@@ -10,7 +10,7 @@ use Rattle.ms_machine.specs.Crews.{Crew, Deeds, End, Input, OutOfBudget, Results
 use Rattle.ms_machine.specs.Moves as moves
 use Rattle.ms_machine.specs.Moves.{Goes, Move, move_of, rest_of}
 use Rattle.ms_machine.specs.Running.{with_event}
-use Rattle.ms_tasks.proofs.Deeds.{both_told, deed_told}
+use Rattle.ms_tasks.proofs.Deeds.{both_events, deed_events}
 
 -- ---- what is in front of the chain has something left to do
 
@@ -58,7 +58,7 @@ module _ (S : List Event → Store → Type 0) (P : List Event → Store → Thr
 
   behind_keeps : (es : List Event) (d : Deeds) (r : Run) → RunKeeps (es ++ events_of d) r → RunKeeps es (behind d r)
   behind_keeps es d r keeps =
-      let e : (es ++ events_of d) ++ events_of r.deeds ≡ es ++ events_of (both d r.deeds) = append_assoc es (events_of d) (events_of r.deeds) ∙ ap (λ x. es ++ x) (sym (both_told d r.deeds)) in
+      let e : (es ++ events_of d) ++ events_of r.deeds ≡ es ++ events_of (both d r.deeds) = append_assoc es (events_of d) (events_of r.deeds) ∙ ap (λ x. es ++ x) (sym (both_events d r.deeds)) in
       (subst (λ x. Kept x r.crew) e keeps.0, keeps.1)
 
   quiet_keeps : (es : List Event) (r : Run) → RunKeeps es r → RunKeeps es (behind passed r)
@@ -73,7 +73,7 @@ module _ (S : List Event → Store → Type 0) (P : List Event → Store → Thr
     moved_keeps es whose c t input next go kept mine going nexts goes (Goes s' t' took put event) is =
         let k = keeps es c.store s' t t' input took put event kept.0 mine going is in
         behind_keeps es (deed whose put event) (go (next s' t') (rest_of took input))
-        (subst (λ x. RunKeeps (es ++ x) (go (next s' t') (rest_of took input))) (sym (deed_told whose put event)) (goes (es ++ with_event event []) (next s' t') (rest_of took input) (nexts (es ++ with_event event []) s' t' k.0 k.1 k.2)))
+        (subst (λ x. RunKeeps (es ++ x) (go (next s' t') (rest_of took input))) (sym (deed_events whose put event)) (goes (es ++ with_event event []) (next s' t') (rest_of took input) (nexts (es ++ with_event event []) s' t' k.0 k.1 k.2)))
     moved_keeps es whose c t input next go kept mine going nexts goes (moves.Trap kind) is =
         quiet_keeps es (ends (Trap whose kind) c input) (ends_keep es (Trap whose kind) c input (λ e. absurd cc) kept)
     moved_keeps es whose c t input next go kept mine going nexts goes moves.Stuck is = absurd (unstuck es c.store t input kept.0 mine going is)

@@ -10,7 +10,7 @@ use Rattle.ms_machine.specs.Holding.{StoreFits, ThreadFits}
 use Rattle.ms_machine.specs.Store.{Store}
 use Rattle.ms_machine.specs.Typing.{Outline, StoreTyped, TaskTyped, outline_of}
 use Rattle.ms_machine.proofs.HeldFits.{thread_fits_grows}
-use Rattle.ms_machine.proofs.Outsides.{Told, left_all, puts_none, tells_same}
+use Rattle.ms_machine.proofs.Outsides.{Content, left_all, puts_none, tells_same}
 use Rattle.ms_task.specs.Thread.{Thread}
 use Rattle.ms_task.specs.View.{thread_of}
 use Rattle.ms_task.specs.declared.task.Task.{Task as CodeTask}
@@ -70,7 +70,7 @@ idle_ended s tasks k task found ended = subst IsIdle (sym (map_get (thread_of s.
 
 -- ---- a row
 
-pub row_answers : (a : Halt) (s s' : Store) (tasks : List CodeTask) (k most left : ℕ) (task task' : CodeTask) (rest : List ℕ) (l l' h h' : Told) (old new : Log) → slice_get tasks k ≡ Some task → left ≤ most → (IsWell a → s'.funcs ≡ s.funcs)
+pub row_answers : (a : Halt) (s s' : Store) (tasks : List CodeTask) (k most left : ℕ) (task task' : CodeTask) (rest : List ℕ) (l l' h h' : Content) (old new : Log) → slice_get tasks k ≡ Some task → left ≤ most → (IsWell a → s'.funcs ≡ s.funcs)
     → Answers a (run_entries (replicate most k ++ rest) (with_only (threads_in s tasks) k s (thread_of s.funcs task))) (run_entries (drop (most - left) (replicate most k ++ rest)) (with_only (threads_in s tasks) k s' (thread_of s'.funcs task'))) (run_entries (drop most (replicate most k ++ rest)) (with_only (threads_in s tasks) k s' (thread_of s'.funcs task'))) (with_only (threads_in s tasks) k s' (thread_of s'.funcs task')) l l' h h' old new
     → Answers a (run_entries (replicate most k ++ rest) (crew_in s tasks)) (run_entries (replicate left k ++ rest) (crew_in s' (slice_set tasks k task'))) (run_entries rest (crew_in s' (slice_set tasks k task'))) (crew_in s' (slice_set tasks k task')) l l' h h' old new
 row_answers a s s' tasks k most left task task' rest l l' h h' old new found within same is =
@@ -92,7 +92,7 @@ row_answers a s s' tasks k most left task task' rest l l' h h' old new found wit
 
 -- ---- entries that are passed over
 
-pub idle_comes : (s : Store) (tasks : List CodeTask) (k m : ℕ) (rest : List ℕ) (l h : Told) (old new : Log) → IsIdle (slice_get (threads_in s tasks) k) → are_ended (threads_in s tasks) ≡ false → new ≡ record { entries = old.entries + m; told = old.told } → ComesTo l l h h old new (run_entries (replicate m k ++ rest) (crew_in s tasks)) (run_entries rest (crew_in s tasks))
+pub idle_comes : (s : Store) (tasks : List CodeTask) (k m : ℕ) (rest : List ℕ) (l h : Content) (old new : Log) → IsIdle (slice_get (threads_in s tasks) k) → are_ended (threads_in s tasks) ≡ false → new ≡ record { entries = old.entries + m; trace = old.trace } → ComesTo l l h h old new (run_entries (replicate m k ++ rest) (crew_in s tasks)) (run_entries rest (crew_in s tasks))
 idle_comes s tasks k m rest l h old new idle going count = record {
   deeds = passes m;
   comes = record {
@@ -103,10 +103,10 @@ idle_comes s tasks k m rest l h old new idle going count = record {
   log = count;
 }
 
-pub over_comes : (s : Store) (tasks : List CodeTask) (ks : List ℕ) (l l' h h' : Told) (old new : Log) (run : Input → Run) → are_ended (threads_in s tasks) ≡ true → ComesTo l l' h h' old new run (run_entries ks (crew_in s tasks)) → ComesTo l l' h h' old new run (ends (Results (results (threads_in s tasks))) (crew_in s tasks))
+pub over_comes : (s : Store) (tasks : List CodeTask) (ks : List ℕ) (l l' h h' : Content) (old new : Log) (run : Input → Run) → are_ended (threads_in s tasks) ≡ true → ComesTo l l' h h' old new run (run_entries ks (crew_in s tasks)) → ComesTo l l' h h' old new run (ends (Results (results (threads_in s tasks))) (crew_in s tasks))
 over_comes s tasks ks l l' h h' old new run over comes =
     to_as l l' h h' old new run (run_entries ks (crew_in s tasks)) (ends (Results (results (threads_in s tasks))) (crew_in s tasks)) comes (λ rest. over_entries ks s (threads_in s tasks) rest over)
 
-pub none_comes : (s : Store) (tasks : List CodeTask) (ks : List ℕ) (l l' h h' : Told) (old new : Log) (run : Input → Run) → ks ≡ [] → are_ended (threads_in s tasks) ≡ false → ComesTo l l' h h' old new run (run_entries ks (crew_in s tasks)) → ComesTo l l' h h' old new run (ends OutOfBudget (crew_in s tasks))
+pub none_comes : (s : Store) (tasks : List CodeTask) (ks : List ℕ) (l l' h h' : Content) (old new : Log) (run : Input → Run) → ks ≡ [] → are_ended (threads_in s tasks) ≡ false → ComesTo l l' h h' old new run (run_entries ks (crew_in s tasks)) → ComesTo l l' h h' old new run (ends OutOfBudget (crew_in s tasks))
 none_comes s tasks ks l l' h h' old new run none going comes =
     to_as l l' h h' old new run (run_entries ks (crew_in s tasks)) (ends OutOfBudget (crew_in s tasks)) comes (λ rest. ap (λ xs. run_entries xs (crew_in s tasks) rest) none ∙ no_entries s (threads_in s tasks) rest going)

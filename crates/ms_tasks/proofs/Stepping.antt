@@ -11,16 +11,16 @@ use Rattle.ms_machine.specs.Step.{Next, step_of}
 use Rattle.ms_machine.specs.Stepped.{Went}
 use Rattle.ms_machine.specs.Store.{Store}
 use Rattle.ms_machine.specs.StraightLine.{GoesQuietly}
-use Rattle.ms_machine.proofs.Outsides.{Told as Tells, before, front_put, left_all, puts_after, puts_none, tells_after, tells_same}
+use Rattle.ms_machine.proofs.Outsides.{Content, before, front_put, left_all, puts_after, puts_none, tells_after, tells_same}
 use Rattle.ms_machine.proofs.Quiet.{moves_so}
 use Rattle.ms_outside.specs.Sink.{IsFront, Puts}
 use Rattle.ms_outside.specs.declared.sink.Put.TheVariants as puts
 use Rattle.ms_segment.specs.Memory.{IsFit}
 use Rattle.ms_task.specs.Thread.{Thread}
-use Rattle.ms_tasks.specs.Logs.{Log, Told, all_seen}
+use Rattle.ms_tasks.specs.Logs.{Log, Trace, all_seen}
 use Rattle.ms_tasks.specs.Parts.{Comes, ComesTo, IsRow}
 use Rattle.ms_tasks.proofs.Coming.{Begun, begun_here, comes_same, comes_trans, to_same}
-use Rattle.ms_tasks.proofs.Deeds.{all_seen_both, both_bytes, both_told, deed_bytes, deed_told}
+use Rattle.ms_tasks.proofs.Deeds.{all_seen_both, both_bytes, both_events, deed_bytes, deed_events}
 use Rattle.ms_tasks.proofs.Leaving.{run_leaves}
 
 -- ---- lists
@@ -46,7 +46,7 @@ row_step whose next zero ks s t input some going row = absurd (omega (arith, som
 row_step whose next (suc n) [] s t input some going row = absurd row
 row_step whose next (suc n) (k ∷ ks) s t input some going row = row.0 s t input going
 
-step_comes : (whose : Whose) (next : Store → Thread → Crew) (n : ℕ) (ks : List ℕ) (s s' : Store) (t t' : Thread) (event : Option Event) (l l' h h' : Tells) → 0 < n → t.work ≢ [] → IsRow whose next n ks → (w : Went (move_for s t) event s' t' l l' h h') → Comes l l' h h' (deed whose w.put event) (run_entries ks (next s t)) (run_entries (drop 1 ks) (next s' t'))
+step_comes : (whose : Whose) (next : Store → Thread → Crew) (n : ℕ) (ks : List ℕ) (s s' : Store) (t t' : Thread) (event : Option Event) (l l' h h' : Content) → 0 < n → t.work ≢ [] → IsRow whose next n ks → (w : Went (move_for s t) event s' t' l l' h h') → Comes l l' h h' (deed whose w.put event) (run_entries ks (next s t)) (run_entries (drop 1 ks) (next s' t'))
 step_comes whose next n ks s s' t t' event l l' h h' some going row w = record {
   alike = tells_after w.took w.got l l' w.input;
   out = subst (λ bs. Puts puts.Done bs h h') (sym (deed_bytes whose w.put event)) (puts_after w.put h h' w.out);
@@ -61,7 +61,7 @@ step_comes whose next n ks s s' t t' event l l' h h' some going row w = record {
       );
 }
 
-trap_comes : (whose : Whose) (next : Store → Thread → Crew) (n : ℕ) (ks : List ℕ) (s : Store) (t : Thread) (why : TrapKind) (l h : Tells) → 0 < n → t.work ≢ [] → IsRow whose next n ks → ((got : Option ℕ) → move_for s t got ≡ moves.Trap why) → Comes l l h h passed (run_entries ks (next s t)) (ends (Trap whose why) (next s t))
+trap_comes : (whose : Whose) (next : Store → Thread → Crew) (n : ℕ) (ks : List ℕ) (s : Store) (t : Thread) (why : TrapKind) (l h : Content) → 0 < n → t.work ≢ [] → IsRow whose next n ks → ((got : Option ℕ) → move_for s t got ≡ moves.Trap why) → Comes l l h h passed (run_entries ks (next s t)) (ends (Trap whose why) (next s t))
 trap_comes whose next n ks s t why l h some going row is = record {
   alike = tells_same l;
   out = puts_none h h refl;
@@ -82,12 +82,12 @@ puts_first whose next n ks s t byte input some going row putting = by (move_of s
 -- ---- what the code keeps to
 
 -- The run of these entries is, behind what has happened, that of those that are left.
-pub record IsUnderWay (whose : Whose) (next : Store → Thread → Crew) (entries : List ℕ) (most : ℕ) (s0 : Store) (t0 : Thread) (told0 : Told) (left : ℕ) (s : Store) (t : Thread) (told : Told) (l l' h h' : Tells) : Type 0 where
+pub record IsUnderWay (whose : Whose) (next : Store → Thread → Crew) (entries : List ℕ) (most : ℕ) (s0 : Store) (t0 : Thread) (trace0 : Trace) (left : ℕ) (s : Store) (t : Thread) (trace : Trace) (l l' h h' : Content) : Type 0 where
   pub deeds : Deeds
   pub comes : Comes l l' h h' deeds (run_entries entries (next s0 t0)) (run_entries (drop (most - left) entries) (next s t))
   pub used : deeds.used + left ≡ most
   pub row : IsRow whose next left (drop (most - left) entries)
-  pub seen : told ≡ all_seen (events_of deeds) told0
+  pub seen : trace ≡ all_seen (events_of deeds) trace0
 
 all_left : (most : ℕ) (entries : List ℕ) → entries ≡ drop (most - most) entries
 all_left most entries = let e : 0 ≡ most - most = omega arith in ap (λ n. drop n entries) e
@@ -97,8 +97,8 @@ one_more most left entries some within =
     let e : (most - left) + 1 ≡ most - (left - 1) = omega (arith, some, within) in
     drop_twice (most - left) 1 entries ∙ ap (λ n. drop n entries) e
 
-pub begins_way : (whose : Whose) (next : Store → Thread → Crew) (entries : List ℕ) (most : ℕ) (s : Store) (t : Thread) (told : Told) (l h : Tells) → IsRow whose next most entries → IsUnderWay whose next entries most s t told most s t told l l h h
-begins_way whose next entries most s t told l h row = record {
+pub begins_way : (whose : Whose) (next : Store → Thread → Crew) (entries : List ℕ) (most : ℕ) (s : Store) (t : Thread) (trace : Trace) (l h : Content) → IsRow whose next most entries → IsUnderWay whose next entries most s t trace most s t trace l l h h
+begins_way whose next entries most s t trace l h row = record {
   deeds = nothing;
   comes = subst (λ ks. Comes l l h h nothing (run_entries entries (next s t)) (run_entries ks (next s t))) (all_left most entries) (comes_same l h (run_entries entries (next s t)));
   used = omega arith;
@@ -106,11 +106,11 @@ begins_way whose next entries most s t told l h row = record {
   seen = refl;
 }
 
-module _ (whose : Whose) (next : Store → Thread → Crew) (entries : List ℕ) (most : ℕ) (s0 : Store) (t0 : Thread) (told0 : Told) (left : ℕ) (s : Store) (t : Thread) (told : Told) (l l' l'' h h' h'' : Tells)
-    (some : 0 < left) (within : left ≤ most) (going : t.work ≢ []) (way : IsUnderWay whose next entries most s0 t0 told0 left s t told l l' h h') where
+module _ (whose : Whose) (next : Store → Thread → Crew) (entries : List ℕ) (most : ℕ) (s0 : Store) (t0 : Thread) (trace0 : Trace) (left : ℕ) (s : Store) (t : Thread) (trace : Trace) (l l' l'' h h' h'' : Content)
+    (some : 0 < left) (within : left ≤ most) (going : t.work ≢ []) (way : IsUnderWay whose next entries most s0 t0 trace0 left s t trace l l' h h') where
   -- a step further
-  pub goes_way : (s' : Store) (t' : Thread) (event : Option Event) (told' : Told) → Went (move_for s t) event s' t' l' l'' h' h'' → told' ≡ all_seen (with_event event []) told → IsUnderWay whose next entries most s0 t0 told0 (left - 1) s' t' told' l l'' h h''
-  goes_way s' t' event told' w tells =
+  pub goes_way : (s' : Store) (t' : Thread) (event : Option Event) (trace' : Trace) → Went (move_for s t) event s' t' l' l'' h' h'' → trace' ≡ all_seen (with_event event []) trace → IsUnderWay whose next entries most s0 t0 trace0 (left - 1) s' t' trace' l l'' h h''
+  goes_way s' t' event trace' w tells =
       let d = deed whose w.put event in
       let ks = drop (most - left) entries in
       let used = way.used in
@@ -121,13 +121,13 @@ module _ (whose : Whose) (next : Store → Thread → Crew) (entries : List ℕ)
             (comes_trans l l' l'' h h' h'' way.deeds d all (run_entries ks (next s t)) (run_entries (drop 1 ks) (next s' t')) way.comes (step_comes whose next left ks s s' t t' event l' l'' h' h'' some going way.row w));
         used = omega (arith, used, some);
         row = subst (IsRow whose next (left - 1)) (one_more most left entries some within) (row_next whose next left ks some way.row);
-        seen = tells ∙ (ap (all_seen (with_event event [])) way.seen ∙ (sym (all_seen_both (events_of way.deeds) (with_event event []) told0)
-            ∙ ap (λ es. all_seen es told0) (ap (λ es. events_of way.deeds ++ es) (sym (deed_told whose w.put event)) ∙ sym (both_told way.deeds d))));
+        seen = tells ∙ (ap (all_seen (with_event event [])) way.seen ∙ (sym (all_seen_both (events_of way.deeds) (with_event event []) trace0)
+            ∙ ap (λ es. all_seen es trace0) (ap (λ es. events_of way.deeds ++ es) (sym (deed_events whose w.put event)) ∙ sym (both_events way.deeds d))));
       }
 
   -- a step that traps
-  pub way_traps : (why : TrapKind) (s' : Store) (t' : Thread) (log0 log' : Log) (n entries0 : ℕ) → log0.told ≡ told0 → entries0 ≡ log0.entries → ((got : Option ℕ) → move_for s t got ≡ moves.Trap why) → s' ≡ s → t' ≡ t → l'' ≡ l' → h'' ≡ h' → n + (left - 1) ≡ most → log' ≡ record { entries = entries0 + n; told = told } → ComesTo l l'' h h'' log0 log' (run_entries entries (next s0 t0)) (ends (Trap whose why) (next s' t'))
-  way_traps why s' t' log0 log' n entries0 told-is entries-is is store thread same still all count =
+  pub way_traps : (why : TrapKind) (s' : Store) (t' : Thread) (log0 log' : Log) (n entries0 : ℕ) → log0.trace ≡ trace0 → entries0 ≡ log0.entries → ((got : Option ℕ) → move_for s t got ≡ moves.Trap why) → s' ≡ s → t' ≡ t → l'' ≡ l' → h'' ≡ h' → n + (left - 1) ≡ most → log' ≡ record { entries = entries0 + n; trace = trace } → ComesTo l l'' h h'' log0 log' (run_entries entries (next s0 t0)) (ends (Trap whose why) (next s' t'))
+  way_traps why s' t' log0 log' n entries0 trace-is entries-is is store thread same still all count =
       let d = both way.deeds passed in
       let ks = drop (most - left) entries in
       let run = run_entries entries (next s0 t0) in
@@ -140,22 +140,22 @@ module _ (whose : Whose) (next : Store → Thread → Crew) (entries : List ℕ)
       record {
         deeds = d;
         comes = subst (λ x. Comes l l'' h h'' d run (ends (Trap whose why) (next s' x))) (sym thread) four;
-        log = count ∙ (ap (λ (x : ℕ). let y : Log = record { entries = entries0 + x; told = told } in y) sum
-            ∙ (ap (λ (x : ℕ). let y : Log = record { entries = x + (way.deeds.used + 1); told = told } in y) entries-is
-            ∙ ap (λ (x : Told). let y : Log = record { entries = log0.entries + (way.deeds.used + 1); told = x } in y)
-            (way.seen ∙ (ap (λ es. all_seen es told0) (sym (append-nil (events_of way.deeds)) ∙ sym (both_told way.deeds passed)) ∙ ap (all_seen (events_of d)) (sym told-is)))));
+        log = count ∙ (ap (λ (x : ℕ). let y : Log = record { entries = entries0 + x; trace = trace } in y) sum
+            ∙ (ap (λ (x : ℕ). let y : Log = record { entries = x + (way.deeds.used + 1); trace = trace } in y) entries-is
+            ∙ ap (λ (x : Trace). let y : Log = record { entries = log0.entries + (way.deeds.used + 1); trace = x } in y)
+            (way.seen ∙ (ap (λ es. all_seen es trace0) (sym (append-nil (events_of way.deeds)) ∙ sym (both_events way.deeds passed)) ∙ ap (all_seen (events_of d)) (sym trace-is)))));
       }
 
   -- nothing of the next step was done
-  pub stops_before : (log0 log' : Log) → log0.told ≡ told0 → log'.told.events ≡ told.events → l'' ≡ l' → h'' ≡ h' → Begun l l'' h h'' log0 log' (run_entries entries (next s0 t0))
-  stops_before log0 log' told-is kept same still =
+  pub stops_before : (log0 log' : Log) → log0.trace ≡ trace0 → log'.trace.events ≡ trace.events → l'' ≡ l' → h'' ≡ h' → Begun l l'' h h'' log0 log' (run_entries entries (next s0 t0))
+  stops_before log0 log' trace-is kept same still =
       let ks = drop (most - left) entries in
       begun_here l l' l'' h h' h'' log0 log' way.deeds (run_entries entries (next s0 t0)) (run_entries ks (next s t)) way.comes same [] (puts_none h' h'' still) (λ input. (bytes_of (run_entries ks (next s t) input).deeds, refl)) (run_leaves ks (next s t))
-      (events_of way.deeds) [] (sym (append-nil (events_of way.deeds))) (kept ∙ (ap (λ (x : Told). x.events) way.seen ∙ ap (λ x. (all_seen (events_of way.deeds) x).events) (sym told-is)))
+      (events_of way.deeds) [] (sym (append-nil (events_of way.deeds))) (kept ∙ (ap (λ (x : Trace). x.events) way.seen ∙ ap (λ x. (all_seen (events_of way.deeds) x).events) (sym trace-is)))
 
   -- or a front of its byte was put
-  pub stops_in : (log0 log' : Log) (byte : ℕ) → log0.told ≡ told0 → log'.told.events ≡ told.events → ((got : Option ℕ) → IsPutting byte (move_for s t got)) → l'' ≡ l' → Puts puts.Failed (byte ∷ []) h' h'' → Begun l l'' h h'' log0 log' (run_entries entries (next s0 t0))
-  stops_in log0 log' byte told-is kept putting same failed =
+  pub stops_in : (log0 log' : Log) (byte : ℕ) → log0.trace ≡ trace0 → log'.trace.events ≡ trace.events → ((got : Option ℕ) → IsPutting byte (move_for s t got)) → l'' ≡ l' → Puts puts.Failed (byte ∷ []) h' h'' → Begun l l'' h h'' log0 log' (run_entries entries (next s0 t0))
+  stops_in log0 log' byte trace-is kept putting same failed =
       let ks = drop (most - left) entries in
       let part = front_put (byte ∷ []) h' h'' failed in
       begun_here l l' l'' h h' h'' log0 log' way.deeds (run_entries entries (next s0 t0)) (run_entries ks (next s t)) way.comes same part.0 part.2
@@ -163,42 +163,42 @@ module _ (whose : Whose) (next : Store → Thread → Crew) (entries : List ℕ)
       let first = puts_first whose next left ks s t byte input some going way.row (putting (first_of input)) in
       front_of byte first.0 part.0 (bytes_of (run_entries ks (next s t) input).deeds) first.1 part.1)
       (run_leaves ks (next s t))
-      (events_of way.deeds) [] (sym (append-nil (events_of way.deeds))) (kept ∙ (ap (λ (x : Told). x.events) way.seen ∙ ap (λ x. (all_seen (events_of way.deeds) x).events) (sym told-is)))
+      (events_of way.deeds) [] (sym (append-nil (events_of way.deeds))) (kept ∙ (ap (λ (x : Trace). x.events) way.seen ∙ ap (λ x. (all_seen (events_of way.deeds) x).events) (sym trace-is)))
     where
       front_of : (byte : ℕ) (later front whole : List ℕ) → whole ≡ byte ∷ later → IsFront front (byte ∷ []) → IsFront front whole
       front_of byte later front whole is f = (f.0 ++ later, is ∙ (ap (λ bs. bs ++ later) f.1 ∙ append_assoc front f.0 later))
 
   -- the step was made, and its event was lost
-  pub stops_behind : (s' : Store) (t' : Thread) (event : Option Event) (log0 log' : Log) → log0.told ≡ told0 → log'.told.events ≡ told.events → Went (move_for s t) event s' t' l' l'' h' h'' → Begun l l'' h h'' log0 log' (run_entries entries (next s0 t0))
-  stops_behind s' t' event log0 log' told-is kept w =
+  pub stops_behind : (s' : Store) (t' : Thread) (event : Option Event) (log0 log' : Log) → log0.trace ≡ trace0 → log'.trace.events ≡ trace.events → Went (move_for s t) event s' t' l' l'' h' h'' → Begun l l'' h h'' log0 log' (run_entries entries (next s0 t0))
+  stops_behind s' t' event log0 log' trace-is kept w =
       let d = deed whose w.put event in
       let ks = drop (most - left) entries in
       let all = run_entries entries (next s0 t0) in
       let mid = run_entries (drop 1 ks) (next s' t') in
       let comes = comes_trans l l' l'' h h' h'' way.deeds d all (run_entries ks (next s t)) mid way.comes (step_comes whose next left ks s s' t t' event l' l'' h' h'' some going way.row w) in
       begun_here l l'' l'' h h'' h'' log0 log' (both way.deeds d) all mid comes refl [] (puts_none h'' h'' refl) (λ input. (bytes_of (mid input).deeds, refl)) (run_leaves (drop 1 ks) (next s' t'))
-      (events_of way.deeds) (events_of d) (both_told way.deeds d) (kept ∙ (ap (λ (x : Told). x.events) way.seen ∙ ap (λ x. (all_seen (events_of way.deeds) x).events) (sym told-is)))
+      (events_of way.deeds) (events_of d) (both_events way.deeds d) (kept ∙ (ap (λ (x : Trace). x.events) way.seen ∙ ap (λ x. (all_seen (events_of way.deeds) x).events) (sym trace-is)))
 
 -- the steps are counted
-pub way_here : (whose : Whose) (next : Store → Thread → Crew) (entries : List ℕ) (most : ℕ) (s0 : Store) (t0 : Thread) (log0 log log' : Log) (left n : ℕ) (s : Store) (t : Thread) (l l' h h' : Tells) → IsUnderWay whose next entries most s0 t0 log0.told left s t log.told l l' h h' → log.entries ≡ log0.entries → n + left ≡ most → log' ≡ record { entries = log.entries + n; told = log.told } → ComesTo l l' h h' log0 log' (run_entries entries (next s0 t0)) (run_entries (drop (most - left) entries) (next s t))
+pub way_here : (whose : Whose) (next : Store → Thread → Crew) (entries : List ℕ) (most : ℕ) (s0 : Store) (t0 : Thread) (log0 log log' : Log) (left n : ℕ) (s : Store) (t : Thread) (l l' h h' : Content) → IsUnderWay whose next entries most s0 t0 log0.trace left s t log.trace l l' h h' → log.entries ≡ log0.entries → n + left ≡ most → log' ≡ record { entries = log.entries + n; trace = log.trace } → ComesTo l l' h h' log0 log' (run_entries entries (next s0 t0)) (run_entries (drop (most - left) entries) (next s t))
 way_here whose next entries most s0 t0 log0 log log' left n s t l l' h h' way same all count =
     let used = way.used in
     let sum : n ≡ way.deeds.used = omega (arith, used, all) in
     record {
       deeds = way.deeds;
       comes = way.comes;
-      log = count ∙ (ap (λ (x : ℕ). let y : Log = record { entries = log.entries + x; told = log.told } in y) sum
-          ∙ (ap (λ (x : ℕ). let y : Log = record { entries = x + way.deeds.used; told = log.told } in y) same
-          ∙ ap (λ (x : Told). let y : Log = record { entries = log0.entries + way.deeds.used; told = x } in y) way.seen));
+      log = count ∙ (ap (λ (x : ℕ). let y : Log = record { entries = log.entries + x; trace = log.trace } in y) sum
+          ∙ (ap (λ (x : ℕ). let y : Log = record { entries = x + way.deeds.used; trace = log.trace } in y) same
+          ∙ ap (λ (x : Trace). let y : Log = record { entries = log0.entries + way.deeds.used; trace = x } in y) way.seen));
     }
 
 -- none was made
-pub way_ends : (whose : Whose) (next : Store → Thread → Crew) (entries : List ℕ) (most : ℕ) (s : Store) (t : Thread) (log : Log) (l h : Tells) → ComesTo l l h h log log (run_entries entries (next s t)) (run_entries (drop (most - most) entries) (next s t))
+pub way_ends : (whose : Whose) (next : Store → Thread → Crew) (entries : List ℕ) (most : ℕ) (s : Store) (t : Thread) (log : Log) (l h : Content) → ComesTo l l h h log log (run_entries entries (next s t)) (run_entries (drop (most - most) entries) (next s t))
 way_ends whose next entries most s t log l h =
     subst (λ ks. ComesTo l l h h log log (run_entries entries (next s t)) (run_entries ks (next s t))) (all_left most entries) (to_same l h log (run_entries entries (next s t)))
 
 -- all were made
-pub way_pauses : (whose : Whose) (next : Store → Thread → Crew) (entries : List ℕ) (most left : ℕ) → left ≡ 0 → (s : Store) (t : Thread) (l l' h h' : Tells) (old new : Log) (run : Input → Run) → ComesTo l l' h h' old new run (run_entries (drop (most - left) entries) (next s t)) → ComesTo l l' h h' old new run (run_entries (drop most entries) (next s t))
+pub way_pauses : (whose : Whose) (next : Store → Thread → Crew) (entries : List ℕ) (most left : ℕ) → left ≡ 0 → (s : Store) (t : Thread) (l l' h h' : Content) (old new : Log) (run : Input → Run) → ComesTo l l' h h' old new run (run_entries (drop (most - left) entries) (next s t)) → ComesTo l l' h h' old new run (run_entries (drop most entries) (next s t))
 way_pauses whose next entries most left none s t l l' h h' old new run comes =
     let e : most - left ≡ most = omega (arith, none) in
     subst (λ n. ComesTo l l' h h' old new run (run_entries (drop n entries) (next s t))) e comes
@@ -208,30 +208,30 @@ pub kept_fit : (s s' : Store) → s'.segments ≡ s.segments → (h : Handle) �
 kept_fit s s' same h fit = subst (λ m. IsFit m h) (sym same) fit
 
 -- steps of which the outside sees nothing
-step_quiet : (s s' : Store) (t t' : Thread) (l h : Tells) → step_of s t ≡ Next s' t' None → Went (move_for s t) None s' t' l l h h
+step_quiet : (s s' : Store) (t t' : Thread) (l h : Content) → step_of s t ≡ Next s' t' None → Went (move_for s t) None s' t' l l h h
 step_quiet s s' t t' l h is = record { got = None; took = false; put = None; is = ap (move_on s None) is; input = refl; out = refl }
 
-way_quietly : (whose : Whose) (next : Store → Thread → Crew) (entries : List ℕ) (most : ℕ) (s0 : Store) (t0 : Thread) (told0 : Told) (n left : ℕ) (s s' : Store) (t t' : Thread) (told : Told) (l l' h h' : Tells) → n < left → left ≤ most → IsUnderWay whose next entries most s0 t0 told0 left s t told l l' h h' → GoesQuietly s t n s' t' → IsUnderWay whose next entries most s0 t0 told0 (left - n) s' t' told l l' h h'
-way_quietly whose next entries most s0 t0 told0 zero left s s' t t' told l l' h h' some within way (same, still) =
+way_quietly : (whose : Whose) (next : Store → Thread → Crew) (entries : List ℕ) (most : ℕ) (s0 : Store) (t0 : Thread) (trace0 : Trace) (n left : ℕ) (s s' : Store) (t t' : Thread) (trace : Trace) (l l' h h' : Content) → n < left → left ≤ most → IsUnderWay whose next entries most s0 t0 trace0 left s t trace l l' h h' → GoesQuietly s t n s' t' → IsUnderWay whose next entries most s0 t0 trace0 (left - n) s' t' trace l l' h h'
+way_quietly whose next entries most s0 t0 trace0 zero left s s' t t' trace l l' h h' some within way (same, still) =
     let e : left ≡ left - 0 = omega arith in
-    subst (λ n. IsUnderWay whose next entries most s0 t0 told0 n s' t' told l l' h h') e
-    (subst (λ (x : Store). IsUnderWay whose next entries most s0 t0 told0 left x t' told l l' h h') (sym same) (subst (λ x. IsUnderWay whose next entries most s0 t0 told0 left s x told l l' h h') (sym still) way))
-way_quietly whose next entries most s0 t0 told0 (suc n) left s s' t t' told l l' h h' some within way (s1, t1, steps, going, step) =
+    subst (λ n. IsUnderWay whose next entries most s0 t0 trace0 n s' t' trace l l' h h') e
+    (subst (λ (x : Store). IsUnderWay whose next entries most s0 t0 trace0 left x t' trace l l' h h') (sym same) (subst (λ x. IsUnderWay whose next entries most s0 t0 trace0 left s x trace l l' h h') (sym still) way))
+way_quietly whose next entries most s0 t0 trace0 (suc n) left s s' t t' trace l l' h h' some within way (s1, t1, steps, going, step) =
     let e : (left - n) - 1 ≡ left - suc n = omega arith in
-    subst (λ n. IsUnderWay whose next entries most s0 t0 told0 n s' t' told l l' h h') e
-    (goes_way whose next entries most s0 t0 told0 (left - n) s1 t1 told l l' l' h h' h' (omega (arith, some)) (omega (arith, within)) going
-    (way_quietly whose next entries most s0 t0 told0 n left s s1 t t1 told l l' h h' (omega (arith, some)) within way steps) s' t' None told (step_quiet s1 s' t1 t' l' h' step.0) refl)
+    subst (λ n. IsUnderWay whose next entries most s0 t0 trace0 n s' t' trace l l' h h') e
+    (goes_way whose next entries most s0 t0 trace0 (left - n) s1 t1 trace l l' l' h h' h' (omega (arith, some)) (omega (arith, within)) going
+    (way_quietly whose next entries most s0 t0 trace0 n left s s1 t t1 trace l l' h h' (omega (arith, some)) within way steps) s' t' None trace (step_quiet s1 s' t1 t' l' h' step.0) refl)
 
 -- so that one step more is left than the rest
-pub quiet_way : (whose : Whose) (next : Store → Thread → Crew) (entries : List ℕ) (most : ℕ) (s0 : Store) (t0 : Thread) (told0 : Told) (left rest : ℕ) (s s' : Store) (t t' : Thread) (told : Told) (l l' h h' : Tells) → 0 < left → rest ≤ left - 1 → left ≤ most → IsUnderWay whose next entries most s0 t0 told0 left s t told l l' h h' → GoesQuietly s t ((left - 1) - rest) s' t' → IsUnderWay whose next entries most s0 t0 told0 (rest + 1) s' t' told l l' h h'
-quiet_way whose next entries most s0 t0 told0 left rest s s' t t' told l l' h h' some less within way steps =
+pub quiet_way : (whose : Whose) (next : Store → Thread → Crew) (entries : List ℕ) (most : ℕ) (s0 : Store) (t0 : Thread) (trace0 : Trace) (left rest : ℕ) (s s' : Store) (t t' : Thread) (trace : Trace) (l l' h h' : Content) → 0 < left → rest ≤ left - 1 → left ≤ most → IsUnderWay whose next entries most s0 t0 trace0 left s t trace l l' h h' → GoesQuietly s t ((left - 1) - rest) s' t' → IsUnderWay whose next entries most s0 t0 trace0 (rest + 1) s' t' trace l l' h h'
+quiet_way whose next entries most s0 t0 trace0 left rest s s' t t' trace l l' h h' some less within way steps =
     let e : left - ((left - 1) - rest) ≡ rest + 1 = omega (arith, some, less) in
-    subst (λ n. IsUnderWay whose next entries most s0 t0 told0 n s' t' told l l' h h') e
-    (way_quietly whose next entries most s0 t0 told0 ((left - 1) - rest) left s s' t t' told l l' h h' (omega (arith, some, less)) within way steps)
+    subst (λ n. IsUnderWay whose next entries most s0 t0 trace0 n s' t' trace l l' h h') e
+    (way_quietly whose next entries most s0 t0 trace0 ((left - 1) - rest) left s s' t t' trace l l' h h' (omega (arith, some, less)) within way steps)
 
 -- a step behind which the rest is left
-pub goes_on : (whose : Whose) (next : Store → Thread → Crew) (entries : List ℕ) (most : ℕ) (s0 : Store) (t0 : Thread) (told0 : Told) (rest : ℕ) (s : Store) (t : Thread) (told : Told) (l l' l'' h h' h'' : Tells) → rest + 1 ≤ most → t.work ≢ [] → IsUnderWay whose next entries most s0 t0 told0 (rest + 1) s t told l l' h h' → (s' : Store) (t' : Thread) (event : Option Event) (told' : Told) → Went (move_for s t) event s' t' l' l'' h' h'' → told' ≡ all_seen (with_event event []) told → IsUnderWay whose next entries most s0 t0 told0 rest s' t' told' l l'' h h''
-goes_on whose next entries most s0 t0 told0 rest s t told l l' l'' h h' h'' within going way s' t' event told' went tells =
+pub goes_on : (whose : Whose) (next : Store → Thread → Crew) (entries : List ℕ) (most : ℕ) (s0 : Store) (t0 : Thread) (trace0 : Trace) (rest : ℕ) (s : Store) (t : Thread) (trace : Trace) (l l' l'' h h' h'' : Content) → rest + 1 ≤ most → t.work ≢ [] → IsUnderWay whose next entries most s0 t0 trace0 (rest + 1) s t trace l l' h h' → (s' : Store) (t' : Thread) (event : Option Event) (trace' : Trace) → Went (move_for s t) event s' t' l' l'' h' h'' → trace' ≡ all_seen (with_event event []) trace → IsUnderWay whose next entries most s0 t0 trace0 rest s' t' trace' l l'' h h''
+goes_on whose next entries most s0 t0 trace0 rest s t trace l l' l'' h h' h'' within going way s' t' event trace' went tells =
     let e : (rest + 1) - 1 ≡ rest = omega arith in
-    subst (λ n. IsUnderWay whose next entries most s0 t0 told0 n s' t' told' l l'' h h'') e
-    (goes_way whose next entries most s0 t0 told0 (rest + 1) s t told l l' l'' h h' h'' (omega arith) within going way s' t' event told' went tells)
+    subst (λ n. IsUnderWay whose next entries most s0 t0 trace0 n s' t' trace' l l'' h h'') e
+    (goes_way whose next entries most s0 t0 trace0 (rest + 1) s t trace l l' l'' h h' h'' (omega arith) within going way s' t' event trace' went tells)

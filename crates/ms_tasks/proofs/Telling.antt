@@ -6,7 +6,7 @@ use Rattle.ms_task.specs.Thread.{Item, Thread}
 use Rattle.ms_machine.specs.Crews.{Crew, Deeds, End, Input, OutOfBudget, Results, Run, Trap, ahead, begun, by_work, bytes_of, ends, events_of, results, run_of}
 use Rattle.ms_machine.specs.Running.{MayGive}
 use Rattle.ms_machine.specs.Safety.{Sound}
-use Rattle.ms_machine.proofs.Outsides.{Told as Tells, some_input}
+use Rattle.ms_machine.proofs.Outsides.{Content, some_input}
 use Rattle.ms_outside.specs.Sink.{Puts}
 use Rattle.ms_outside.specs.declared.sink.Put.TheVariants as puts
 use Rattle.ms_tasks.specs.Logs.{Log, logged}
@@ -25,10 +25,10 @@ use Rattle.ms_tasks.proofs.Safe.{run_safe}
 -- ---- answers
 
 -- the run was that over this input, to this end
-abbrev RunEnds : (l l' h h' : Tells) → (old new : Log) → (run : Input → Run) → End → Crew → Type 0
+abbrev RunEnds : (l l' h h' : Content) → (old new : Log) → (run : Input → Run) → End → Crew → Type 0
 RunEnds l l' h h' old new run end c = (given : Input) × ((run given).end ≡ end) × ((run given).crew ≡ c) × HasRun l l' h h' old new given (run given)
 
-run_ends : (l l' h h' : Tells) (old new : Log) (run : Input → Run) (end : End) (c : Crew) → ComesTo l l' h h' old new run (ends end c) → RunEnds l l' h h' old new run end c
+run_ends : (l l' h h' : Content) (old new : Log) (run : Input → Run) (end : End) (c : Crew) → ComesTo l l' h h' old new run (ends end c) → RunEnds l l' h h' old new run end c
 run_ends l l' h h' old new run end c a =
     let rest = some_input l' in
     let f = a.comes.from rest.0 rest.1 in
@@ -45,7 +45,7 @@ run_ends l l' h h' old new run end c a =
       },
     )
 
-pub run_answers : (a : Halt) (l l' h h' : Tells) (old new : Log) (run : Input → Run) (c : Crew) → Answers a run (ends (Results (results c.tasks)) (begun c)) (ends OutOfBudget (begun c)) (begun c) l l' h h' old new → (given : Input) × DoesRun (answer_of a) c l l' h h' old new given (run given)
+pub run_answers : (a : Halt) (l l' h h' : Content) (old new : Log) (run : Input → Run) (c : Crew) → Answers a run (ends (Results (results c.tasks)) (begun c)) (ends OutOfBudget (begun c)) (begun c) l l' h h' old new → (given : Input) × DoesRun (answer_of a) c l l' h h' old new given (run given)
 run_answers halts.Ended l l' h h' old new run c is = let x = run_ends l l' h h' old new run (Results (results c.tasks)) (begun c) is in (x.0, (x.1, x.2, x.3))
 run_answers halts.Paused l l' h h' old new run c is = let x = run_ends l l' h h' old new run OutOfBudget (begun c) is in (x.0, (x.1, x.2, x.3))
 run_answers (halts.Trap why) l l' h h' old new run c (whose, is) = let x = run_ends l l' h h' old new run (Trap whose why) (begun c) is in (x.0, (whose, x.1, x.2, x.3))
@@ -79,7 +79,7 @@ well_over halts.Memory h = h
 
 -- ---- what was kept
 
-pub kept_accepted : (ran : Ran) (l l' h h' : Tells) (old new : Log) (ks : List ℕ) (c c' : Crew) (given : Input) → DoesRun ran c' l l' h h' old new given (run_of ks c given) → IsReady c → old.told.keep ≡ true → Sound old.told.events c.store (threads_of c) → Accepts (length c.store.segments.bytes) new.told.events
+pub kept_accepted : (ran : Ran) (l l' h h' : Content) (old new : Log) (ks : List ℕ) (c c' : Crew) (given : Input) → DoesRun ran c' l l' h h' old new given (run_of ks c given) → IsReady c → old.trace.keep ≡ true → Sound old.trace.events c.store (threads_of c) → Accepts (length c.store.segments.bytes) new.trace.events
 kept_accepted ran l l' h h' old new ks c c' given does ready keep sound = by ran does where
   n : ℕ
   n = length c.store.segments.bytes
@@ -87,18 +87,18 @@ kept_accepted ran l l' h h' old new ks c c' given does ready keep sound = by ran
   r : Run
   r = run_of ks c given
 
-  whole : Accepts n (old.told.events ++ events_of r.deeds)
-  whole = let safe = run_safe ks c given old.told.events ready sound in subst (λ m. Accepts m (old.told.events ++ events_of r.deeds)) safe.1 safe.0.accepted
+  whole : Accepts n (old.trace.events ++ events_of r.deeds)
+  whole = let safe = run_safe ks c given old.trace.events ready sound in subst (λ m. Accepts m (old.trace.events ++ events_of r.deeds)) safe.1 safe.0.accepted
 
-  ended : HasRun l l' h h' old new given r → Accepts n new.told.events
-  ended has = subst (Accepts n) (sym (ap (λ (x : Log). x.told.events) has.log ∙ events_kept (events_of r.deeds) old.told keep)) whole
+  ended : HasRun l l' h h' old new given r → Accepts n new.trace.events
+  ended has = subst (Accepts n) (sym (ap (λ (x : Log). x.trace.events) has.log ∙ events_kept (events_of r.deeds) old.trace keep)) whole
 
-  begins : HasBegun l l' h h' old new given r → Accepts n new.told.events
+  begins : HasBegun l l' h h' old new given r → Accepts n new.trace.events
   begins has =
-      let all = subst (Accepts n) (ap (λ es. old.told.events ++ es) has.is_seen.1 ∙ sym (append_assoc old.told.events has.seen has.is_seen.0)) whole in
-      subst (Accepts n) (sym (has.kept ∙ events_kept has.seen old.told keep)) (front_is_accepted n nothing_yet (old.told.events ++ has.seen) has.is_seen.0 all)
+      let all = subst (Accepts n) (ap (λ es. old.trace.events ++ es) has.is_seen.1 ∙ sym (append_assoc old.trace.events has.seen has.is_seen.0)) whole in
+      subst (Accepts n) (sym (has.kept ∙ events_kept has.seen old.trace keep)) (front_is_accepted n nothing_yet (old.trace.events ++ has.seen) has.is_seen.0 all)
 
-  by : (ran : Ran) → DoesRun ran c' l l' h h' old new given r → Accepts n new.told.events
+  by : (ran : Ran) → DoesRun ran c' l l' h h' old new given r → Accepts n new.trace.events
   by answers.Results x = ended x.2
   by (answers.Trap why) x = ended x.3
   by answers.Budget x = ended x.2
@@ -113,24 +113,24 @@ ahead_again (t ∷ ts) = by t.work refl (ahead_again ts) where
   by [] is rest = rest
   by (i ∷ w) is rest = ap (λ x. by_work x (ahead ts) (t ∷ ts)) is
 
-pub kept_sound : (ran : Ran) (l l' h h' : Tells) (old new : Log) (ks : List ℕ) (c c' : Crew) (given : Input) → DoesRun ran c' l l' h h' old new given (run_of ks c given) → IsOver ran → IsReady c → old.told.keep ≡ true → Sound old.told.events c.store (threads_of c) → Sound new.told.events c'.store (threads_of c')
+pub kept_sound : (ran : Ran) (l l' h h' : Content) (old new : Log) (ks : List ℕ) (c c' : Crew) (given : Input) → DoesRun ran c' l l' h h' old new given (run_of ks c given) → IsOver ran → IsReady c → old.trace.keep ≡ true → Sound old.trace.events c.store (threads_of c) → Sound new.trace.events c'.store (threads_of c')
 kept_sound ran l l' h h' old new ks c c' given does over ready keep sound = by ran does over where
   r : Run
   r = run_of ks c given
 
-  whole : Sound (old.told.events ++ events_of r.deeds) r.crew.store (threads_of r.crew)
-  whole = (run_safe ks c given old.told.events ready sound).0
+  whole : Sound (old.trace.events ++ events_of r.deeds) r.crew.store (threads_of r.crew)
+  whole = (run_safe ks c given old.trace.events ready sound).0
 
   threads : threads_of (begun c') ≡ threads_of c'
   threads = ap (λ ts. ts ++ c'.tasks) (ahead_again c'.chain)
 
-  ended : r.crew ≡ begun c' → HasRun l l' h h' old new given r → Sound new.told.events c'.store (threads_of c')
+  ended : r.crew ≡ begun c' → HasRun l l' h h' old new given r → Sound new.trace.events c'.store (threads_of c')
   ended crew has =
-      subst (Sound new.told.events c'.store) threads
-      (subst (λ (x : Crew). Sound new.told.events x.store (threads_of x)) crew
-      (subst (λ es. Sound es r.crew.store (threads_of r.crew)) (sym (ap (λ (x : Log). x.told.events) has.log ∙ events_kept (events_of r.deeds) old.told keep)) whole))
+      subst (Sound new.trace.events c'.store) threads
+      (subst (λ (x : Crew). Sound new.trace.events x.store (threads_of x)) crew
+      (subst (λ es. Sound es r.crew.store (threads_of r.crew)) (sym (ap (λ (x : Log). x.trace.events) has.log ∙ events_kept (events_of r.deeds) old.trace keep)) whole))
 
-  by : (ran : Ran) → DoesRun ran c' l l' h h' old new given r → IsOver ran → Sound new.told.events c'.store (threads_of c')
+  by : (ran : Ran) → DoesRun ran c' l l' h h' old new given r → IsOver ran → Sound new.trace.events c'.store (threads_of c')
   by answers.Results x over = ended x.1 x.2
   by (answers.Trap why) x over = ended x.2 x.3
   by answers.Budget x over = ended x.1 x.2

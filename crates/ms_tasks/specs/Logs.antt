@@ -4,7 +4,7 @@ use Rattle.ms_event.specs.declared.event.Event.{Event}
 use Rattle.ms_event.specs.declared.event.Event.TheVariants.{Alloc, Free, Read, Refused, Slice, Write}
 use Rattle.ms_machine.specs.Crews.{Deeds, events_of}
 
-pub record Told : Type 0 where
+pub record Trace : Type 0 where
   -- whether the events are kept
   pub keep : Bool
   pub allocs : ℕ
@@ -18,9 +18,9 @@ pub record Told : Type 0 where
 
 pub record Log : Type 0 where
   pub entries : ℕ
-  pub told : Told
+  pub trace : Trace
 
-abbrev pub counted : Event → Told → Told
+abbrev pub counted : Event → Trace → Trace
 counted (Alloc id addr size) t = record t { allocs = t.allocs + 1 }
 counted (Refused size) t = record t { refused = t.refused + 1 }
 counted (Slice id lo hi lo2 hi2) t = record t { slices = t.slices + 1 }
@@ -28,22 +28,22 @@ counted (Read id lo hi addr width) t = record t { reads = t.reads + 1 }
 counted (Write id lo hi addr width) t = record t { writes = t.writes + 1 }
 counted (Free id) t = record t { frees = t.frees + 1 }
 
-abbrev pub kept_with : Event → Told → Told
+abbrev pub kept_with : Event → Trace → Trace
 kept_with e t = record t { events = if t.keep then t.events ++ e ∷ [] else t.events }
 
-abbrev pub seen : Event → Told → Told
+abbrev pub seen : Event → Trace → Trace
 seen e t = kept_with e (counted e t)
 
-abbrev pub all_seen : List Event → Told → Told
+abbrev pub all_seen : List Event → Trace → Trace
 all_seen [] t = t
 all_seen (e ∷ es) t = all_seen es (seen e t)
 
 -- after these deeds
 abbrev pub logged : Deeds → Log → Log
-logged d l = record { entries = l.entries + d.used; told = all_seen (events_of d) l.told }
+logged d l = record { entries = l.entries + d.used; trace = all_seen (events_of d) l.trace }
 
 -- no count is above this
-pub record IsWithin (n : ℕ) (t : Told) : Type 0 where
+pub record IsWithin (n : ℕ) (t : Trace) : Type 0 where
   pub allocs : t.allocs ≤ n
   pub refused : t.refused ≤ n
   pub slices : t.slices ≤ n

@@ -34,4 +34,4 @@ pub record HasBegun (left left' held held' : Option (List ℕ)) (old new : Log) 
   pub out : Puts puts.Done front held held'
   pub seen : List Event
   pub is_seen : IsFirst seen (events_of r.deeds)
-  pub kept : new.told.events ≡ (all_seen seen old.told).events
+  pub kept : new.trace.events ≡ (all_seen seen old.trace).events

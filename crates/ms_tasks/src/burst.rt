@@ -51,7 +51,7 @@ pub(crate) fn burst<G: Gaps, T: Tagged, I: Source, O: Sink>(
     requires few { store.old.segments.made + most < 2 ^ 63 }
     requires store_fits { StoreFits store.old }
     requires task_fits { ThreadFits store.old (thread_of store.old.funcs task.old) }
-    requires within { IsWithin log.old.entries log.old.told }
+    requires within { IsWithin log.old.entries log.old.trace }
     requires room { log.old.entries + most < 2 ^ 63 }
     ensures run { (whose : Whose) (next : StoreView → Thread → Crew) (entries : List ℕ) → IsRow whose next most entries → Answers result.0 (run_entries entries (next store.old (thread_of store.old.funcs task.old))) (run_entries (drop (most - result.1) entries) (next store.new (thread_of store.new.funcs task.new))) (run_entries (drop most entries) (next store.new (thread_of store.new.funcs task.new))) (next store.new (thread_of store.new.funcs task.new)) (I.left input.old) (I.left input.new) (O.held out.old) (O.held out.new) log.old log.new }
     ensures outline { IsWell result.0 → outline_of store.new ≡ outline_of store.old }
@@ -61,7 +61,7 @@ pub(crate) fn burst<G: Gaps, T: Tagged, I: Source, O: Sink>(
     ensures others { IsWell result.0 → (h : Handle) → IsFit store.old.segments h → IsFit store.new.segments h }
     ensures made { IsWell result.0 → store.new.segments.made + result.1 ≤ store.old.segments.made + most }
     ensures entries { IsWell result.0 → log.new.entries + result.1 ≡ log.old.entries + most }
-    ensures within { IsWell result.0 → IsWithin log.new.entries log.new.told }
+    ensures within { IsWell result.0 → IsWithin log.new.entries log.new.trace }
     ensures left { result.1 ≤ most }
     ensures ended { result.0 ≡ Halt.Ended → (thread_of store.new.funcs task.new).work ≡ [] }
     ensures paused { result.0 ≡ Halt.Paused → (result.1 ≡ 0) × ((thread_of store.new.funcs task.new).work ≢ []) }

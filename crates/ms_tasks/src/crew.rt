@@ -106,7 +106,7 @@ impl<G: Gaps, T: Tagged> Crew<G, T> {
         requires tasks { (0 < length self.old.tasks) × (length self.old.tasks < 2 ^ 32) }
         requires turns { HasTurns schedule.now }
         requires few { self.old.store.segments.made + budget < 2 ^ 63 }
-        requires within { IsWithin log.old.entries log.old.told }
+        requires within { IsWithin log.old.entries log.old.trace }
         requires room { log.old.entries + budget < 2 ^ 63 }
         ensures run { (given : Input) × DoesRun result self.new (I.left input.old) (I.left input.new) (O.held out.old) (O.held out.new) log.old log.new given (run_of (entries_of schedule.now (length self.old.tasks) budget) self.old given) }
         ensures input_faults { CountsInput result (I.faults input.old) (I.faults input.new) }
@@ -114,15 +114,15 @@ impl<G: Gaps, T: Tagged> Crew<G, T> {
         ensures ready { IsOver result → IsReady self.new }
         ensures made { IsOver result → self.new.store.segments.made ≤ self.old.store.segments.made + budget }
         ensures entries { IsOver result → log.new.entries ≤ log.old.entries + budget }
-        ensures within { IsOver result → IsWithin log.new.entries log.new.told }
+        ensures within { IsOver result → IsWithin log.new.entries log.new.trace }
         ensures never_stuck { (given : Input) → (run_of (entries_of schedule.now (length self.old.tasks) budget) self.old given).end ≢ Stuck }
         // The events of the run are a trace that the colour monitor accepts.
         ensures accepted { Sound [] self.old.store (threads_of self.old) → (given : Input) → Accepts (length self.old.store.segments.bytes) (events_of (run_of (entries_of schedule.now (length self.old.tasks) budget) self.old given).deeds) }
         // The segment memory that the run leaves has counted the accesses that its events are.
         ensures accesses { (given : Input) → (run_of (entries_of schedule.now (length self.old.tasks) budget) self.old given).crew.store.segments.accesses ≡ counted_all (events_of (run_of (entries_of schedule.now (length self.old.tasks) budget) self.old given).deeds) self.old.store.segments.accesses }
         // Those that are kept are one, whatever the answer, behind those that were kept before.
-        ensures kept { log.old.told.keep ≡ true → Sound log.old.told.events self.old.store (threads_of self.old) → Accepts (length self.old.store.segments.bytes) log.new.told.events }
-        ensures sound { IsOver result → log.old.told.keep ≡ true → Sound log.old.told.events self.old.store (threads_of self.old) → Sound log.new.told.events self.new.store (threads_of self.new) }
+        ensures kept { log.old.trace.keep ≡ true → Sound log.old.trace.events self.old.store (threads_of self.old) → Accepts (length self.old.store.segments.bytes) log.new.trace.events }
+        ensures sound { IsOver result → log.old.trace.keep ≡ true → Sound log.old.trace.events self.old.store (threads_of self.old) → Sound log.new.trace.events self.new.store (threads_of self.new) }
     {
         ran_of(run_all(
             &mut self.store,

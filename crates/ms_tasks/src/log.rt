@@ -27,13 +27,13 @@ impl Model for Log {
 
     ghost Value = { L };
 
-    ghost view = { λ l. record { entries = l.entries; told = record { keep = l.keep; allocs = l.allocs; refused = l.refused; slices = l.slices; reads = l.reads; writes = l.writes; frees = l.frees; events = l.events.items } } };
+    ghost view = { λ l. record { entries = l.entries; trace = record { keep = l.keep; allocs = l.allocs; refused = l.refused; slices = l.slices; reads = l.reads; writes = l.writes; frees = l.frees; events = l.events.items } } };
 }
 
 impl Log {
     /// A log without entries and events.
     pub fn new(alloc: Global, keep: bool) -> Log
-        ensures { result ≡ record { entries = 0; told = record { keep = keep; allocs = 0; refused = 0; slices = 0; reads = 0; writes = 0; frees = 0; events = [] } } }
+        ensures { result ≡ record { entries = 0; trace = record { keep = keep; allocs = 0; refused = 0; slices = 0; reads = 0; writes = 0; frees = 0; events = [] } } }
     {
         Log {
             keep,
@@ -57,59 +57,59 @@ impl Log {
 
     /// How many segments were made.
     pub fn allocs(&self) -> u64
-        ensures { result ≡ self.now.told.allocs }
+        ensures { result ≡ self.now.trace.allocs }
     {
         self.allocs
     }
 
     /// How many were refused.
     pub fn refused(&self) -> u64
-        ensures { result ≡ self.now.told.refused }
+        ensures { result ≡ self.now.trace.refused }
     {
         self.refused
     }
 
     /// How many handles were made of others.
     pub fn slices(&self) -> u64
-        ensures { result ≡ self.now.told.slices }
+        ensures { result ≡ self.now.trace.slices }
     {
         self.slices
     }
 
     /// How many reads there were.
     pub fn reads(&self) -> u64
-        ensures { result ≡ self.now.told.reads }
+        ensures { result ≡ self.now.trace.reads }
     {
         self.reads
     }
 
     /// How many writes there were.
     pub fn writes(&self) -> u64
-        ensures { result ≡ self.now.told.writes }
+        ensures { result ≡ self.now.trace.writes }
     {
         self.writes
     }
 
     /// How many segments were freed.
     pub fn frees(&self) -> u64
-        ensures { result ≡ self.now.told.frees }
+        ensures { result ≡ self.now.trace.frees }
     {
         self.frees
     }
 
     /// The events, in order, where they are kept.
     pub fn events(&self) -> &[Event]
-        ensures { result.now ≡ self.now.told.events }
+        ensures { result.now ≡ self.now.trace.events }
     {
         &self.events
     }
 
     /// One more event.
     fn see_event(&mut self, event: Event) -> Result<(), AllocError>
-        requires { IsWithin (2 ^ 63) self.old.told }
+        requires { IsWithin (2 ^ 63) self.old.trace }
         ensures entries { self.new.entries ≡ self.old.entries }
-        ensures told { OnOk result (self.new.told ≡ seen event self.old.told) }
-        ensures lost { OnErr result (self.new.told.events ≡ self.old.told.events) }
+        ensures trace { OnOk result (self.new.trace ≡ seen event self.old.trace) }
+        ensures lost { OnErr result (self.new.trace.events ≡ self.old.trace.events) }
     {
         match event {
             Event::Alloc { .. } => self.allocs += 1,
@@ -128,10 +128,10 @@ impl Log {
     /// What a step told.
     #[inline(always)]
     pub(crate) fn see(&mut self, event: Option<Event>) -> Result<(), AllocError>
-        requires { IsWithin (2 ^ 63) self.old.told }
+        requires { IsWithin (2 ^ 63) self.old.trace }
         ensures entries { self.new.entries ≡ self.old.entries }
-        ensures told { OnOk result (self.new.told ≡ all_seen (with_event event []) self.old.told) }
-        ensures lost { OnErr result (self.new.told.events ≡ self.old.told.events) }
+        ensures trace { OnOk result (self.new.trace ≡ all_seen (with_event event []) self.old.trace) }
+        ensures lost { OnErr result (self.new.trace.events ≡ self.old.trace.events) }
     {
         match event {
             None => Ok(()),
@@ -142,7 +142,7 @@ impl Log {
     /// So many more entries.
     pub(crate) fn count(&mut self, entries: u64)
         requires { self.old.entries + entries < 2 ^ 64 }
-        ensures { self.new ≡ record { entries = self.old.entries + entries; told = self.old.told } }
+        ensures { self.new ≡ record { entries = self.old.entries + entries; trace = self.old.trace } }
     {
         self.entries += entries;
     }

@@ -142,9 +142,9 @@ abbrev pub plain_stop : List ℕ → List Token → Option TextFault
 plain_stop source s = earlier (fault_in ((file source).read (length source) s)) (limit_at (too_deep usual.parens 0 s))
 
 -- with a use that differs before it
-abbrev pub told : List ℕ → List Token → Option TextFault → Option TextFault
-told source s stop = earlier (syntax_at (mismatch source (before stop s))) stop
+abbrev pub with_mismatch : List ℕ → List Token → Option TextFault → Option TextFault
+with_mismatch source s stop = earlier (syntax_at (mismatch source (before stop s))) stop
 
 -- the first fault of tokens, but for identifiers
 abbrev pub first_stop : List ℕ → List Token → Option TextFault
-first_stop source s = told source s (plain_stop source s)
+first_stop source s = with_mismatch source s (plain_stop source s)

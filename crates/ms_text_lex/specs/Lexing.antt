@@ -7,7 +7,7 @@ use Rattle.ms_bytes.specs.Parts.{choose_least, item, never, pure}
 use Rattle.ms_bytes.specs.Runs.{TakesItem}
 use Rattle.ms_bytes.specs.RunLaws.{takes_least}
 use Rattle.ms_bytes.specs.Repetition.{run}
-use Rattle.ms_bytes.specs.Tests.{longest, seen, told}
+use Rattle.ms_bytes.specs.Tests.{longest, seen, from_text}
 use Rattle.ms_text_lex.specs.declared.class.Class.TheVariants.{Blank, IdChar}
 use Rattle.ms_text_lex.specs.declared.leads.Lead.{Lead}
 use Rattle.ms_text_lex.specs.declared.leads.Lead.TheVariants as leads
@@ -22,7 +22,7 @@ use Rattle.ms_text_lex.specs.Words.{kind_of}
 
 -- the longest run of identifier characters, and what it is
 unfoldable pub word : Format ℕ Fault Kind
-word = told kind_of (item char_here any >>= λ first. longest (is_in IdChar))
+word = from_text kind_of (item char_here any >>= λ first. longest (is_in IdChar))
 
 -- what begins with a byte and those behind it
 abbrev pub lead_by : ℕ → List ℕ → Lead

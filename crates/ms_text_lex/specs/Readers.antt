@@ -13,10 +13,10 @@ fault_of (Char at) = Some (fault.Char at)
 fault_of (Unclosed at) = Some (fault.Unclosed at)
 fault_of Memory = None
 
--- a fault as it is told
-abbrev pub told : Fault → LexFault
-told (fault.Char at) = Char at
-told (fault.Unclosed at) = Unclosed at
+-- the error that the code gives for a fault
+abbrev pub error_of : Fault → LexFault
+error_of (fault.Char at) = Char at
+error_of (fault.Unclosed at) = Unclosed at
 
 abbrev pub FailsBy : {A : Type 0} → Option Fault → Result A Fault → Type 0
 FailsBy (Some f) read = read ≡ Err f

@@ -4,7 +4,7 @@ ghost use Rattle.std.specs.Prelude.{◌≡◌, ◌⊎◌, All, List, length, IfE
 ghost use Rattle.ms_text_lex.specs.declared.token.Token.{Token};
 ghost use Rattle.ms_text_lex.specs.Fault.{Fault};
 ghost use Rattle.ms_text_lex.specs.Lexing.{LexStops, Lexes, lexeme, lexemes, lexing_goes, word};
-ghost use Rattle.ms_text_lex.specs.Readers.{FirstFault, Reads, fault_of, told};
+ghost use Rattle.ms_text_lex.specs.Readers.{FirstFault, Reads, fault_of, error_of};
 ghost use Rattle.ms_text_lex.specs.Tokens.{Rises};
 ghost use Rattle.ms_text_lex.specs.Values.{HasValue};
 
@@ -101,7 +101,7 @@ pub fn lex(alloc: Global, source: &[u8]) -> Result<Vector<Token>, LexFault>
     // A fault is the first that the source has, and at its place.
     ensures fault { IfErr result (λ e. FirstFault source.now (fault_of e)) }
     // The first fault that the source has is told, unless memory runs out.
-    ensures stops { (first : Fault) → LexStops source.now first → (result ≡ Err (told first)) ⊎ (result ≡ Err LexFault.Memory) }
+    ensures stops { (first : Fault) → LexStops source.now first → (result ≡ Err (error_of first)) ⊎ (result ≡ Err LexFault.Memory) }
     // Tokens rise in the source and don't overlap.
     ensures rises { (tokens : List Token) → Lexes source.now tokens → Rises 0 (length source.now) tokens }
     // Each string token is a string, and stands for its value.

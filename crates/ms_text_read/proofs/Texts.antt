@@ -18,7 +18,7 @@ use Rattle.ms_text_grammar.specs.TextSpells.TextStop.{lex, name, syntax}
 use Rattle.ms_text_read.specs.Fields.{IsFirstStop}
 use Rattle.ms_text_read.proofs.Stops.{no_stop, one_answer}
 use Rattle.ms_text_resolve.specs.Answers.{Resolves}
-use Rattle.ms_text_read.specs.Answers.{Reads, Tells, lexing_fault, told}
+use Rattle.ms_text_read.specs.Answers.{Reads, Tells, lexing_fault, error_of}
 
 -- ---- one list of tokens, one list of fields
 
@@ -70,8 +70,8 @@ same_lex bytes f g h k = cc
 same_stop : (f g : TextFault) (stop : Option TextFault) → stop ≡ Some f → stop ≡ Some g → f ≡ g
 same_stop f g stop h k = cc
 
-pub reasons_alike : (bytes : List ℕ) (why other : TextStop) → Stops bytes why → Stops bytes other → told why ≡ told other
-reasons_alike bytes (lex f) (lex g) h k = ap (λ (x : fault.Fault). told (lex x)) (same_lex bytes f g h k)
+pub reasons_alike : (bytes : List ℕ) (why other : TextStop) → Stops bytes why → Stops bytes other → error_of why ≡ error_of other
+reasons_alike bytes (lex f) (lex g) h k = ap (λ (x : fault.Fault). error_of (lex x)) (same_lex bytes f g h k)
 reasons_alike bytes (lex f) (syntax g) h k = absurd (no_lex_stop bytes k.0 f k.1 h)
 reasons_alike bytes (lex f) (name at) h k = absurd (no_lex_stop bytes k.0 f k.2 h)
 reasons_alike bytes (syntax f) (lex g) h k = absurd (no_lex_stop bytes h.0 g h.1 k)
@@ -88,38 +88,38 @@ reasons_alike bytes (name at) (name other) h k =
 
 -- ---- what the stages give
 
-pub lex_told : (bytes : List ℕ) (f : LexFault) → FirstFault bytes (fault_of f) → Tells bytes (lexing_fault f)
-lex_told bytes (lexing.Char at) h = inr (lex (fault.Char at), refl, h)
-lex_told bytes (lexing.Unclosed at) h = inr (lex (fault.Unclosed at), refl, h)
-lex_told bytes lexing.Memory h = inl refl
+pub lex_tells : (bytes : List ℕ) (f : LexFault) → FirstFault bytes (fault_of f) → Tells bytes (lexing_fault f)
+lex_tells bytes (lexing.Char at) h = inr (lex (fault.Char at), refl, h)
+lex_tells bytes (lexing.Unclosed at) h = inr (lex (fault.Unclosed at), refl, h)
+lex_tells bytes lexing.Memory h = inl refl
 
-pub syntax_told : (bytes : List ℕ) (tokens : List Token) (e : TextFault) → Lexes bytes tokens → IsFirstStop bytes tokens e → Tells bytes e
-syntax_told bytes tokens (Lex f) h k = inr (syntax (Lex f), refl, (tokens, h, k))
-syntax_told bytes tokens (Syntax at) h k = inr (syntax (Syntax at), refl, (tokens, h, k))
-syntax_told bytes tokens (Range at) h k = inr (syntax (Range at), refl, (tokens, h, k))
-syntax_told bytes tokens (Float at) h k = inr (syntax (Float at), refl, (tokens, h, k))
-syntax_told bytes tokens (Limit which at) h k = inr (syntax (Limit which at), refl, (tokens, h, k))
-syntax_told bytes tokens (Name at) h k = inr (syntax (Name at), refl, (tokens, h, k))
-syntax_told bytes tokens Memory h k = inl refl
+pub syntax_tells : (bytes : List ℕ) (tokens : List Token) (e : TextFault) → Lexes bytes tokens → IsFirstStop bytes tokens e → Tells bytes e
+syntax_tells bytes tokens (Lex f) h k = inr (syntax (Lex f), refl, (tokens, h, k))
+syntax_tells bytes tokens (Syntax at) h k = inr (syntax (Syntax at), refl, (tokens, h, k))
+syntax_tells bytes tokens (Range at) h k = inr (syntax (Range at), refl, (tokens, h, k))
+syntax_tells bytes tokens (Float at) h k = inr (syntax (Float at), refl, (tokens, h, k))
+syntax_tells bytes tokens (Limit which at) h k = inr (syntax (Limit which at), refl, (tokens, h, k))
+syntax_tells bytes tokens (Name at) h k = inr (syntax (Name at), refl, (tokens, h, k))
+syntax_tells bytes tokens Memory h k = inl refl
 
 pub module_read : (bytes : List ℕ) (tokens : List Token) (fields : List Field) (m : Module) → Lexes bytes tokens → FieldsSpelled bytes tokens fields → Resolves (module_of bytes fields) (Ok m) → TextSpells bytes m
 module_read bytes tokens fields m h spelled r = record { tokens = tokens; fields = fields; lexed = h; spelled = spelled; named = r.0; is = r.1 }
 
-pub name_told : (bytes : List ℕ) (tokens : List Token) (fields : List Field) (e : TextFault) → Lexes bytes tokens → FieldsSpelled bytes tokens fields → Resolves (module_of bytes fields) (Err e) → Tells bytes e
-name_told bytes tokens fields (Lex f) h spelled r = absurd r
-name_told bytes tokens fields (Syntax at) h spelled r = absurd r
-name_told bytes tokens fields (Range at) h spelled r = absurd r
-name_told bytes tokens fields (Float at) h spelled r = absurd r
-name_told bytes tokens fields (Limit which at) h spelled r = absurd r
-name_told bytes tokens fields (Name at) h spelled r = inr (name at, refl, (tokens, fields, h, spelled, r.0, r.1))
-name_told bytes tokens fields Memory h spelled r = inl refl
+pub name_tells : (bytes : List ℕ) (tokens : List Token) (fields : List Field) (e : TextFault) → Lexes bytes tokens → FieldsSpelled bytes tokens fields → Resolves (module_of bytes fields) (Err e) → Tells bytes e
+name_tells bytes tokens fields (Lex f) h spelled r = absurd r
+name_tells bytes tokens fields (Syntax at) h spelled r = absurd r
+name_tells bytes tokens fields (Range at) h spelled r = absurd r
+name_tells bytes tokens fields (Float at) h spelled r = absurd r
+name_tells bytes tokens fields (Limit which at) h spelled r = absurd r
+name_tells bytes tokens fields (Name at) h spelled r = inr (name at, refl, (tokens, fields, h, spelled, r.0, r.1))
+name_tells bytes tokens fields Memory h spelled r = inl refl
 
 -- ---- the clauses of the whole
 
-pub told_only : (bytes : List ℕ) (e : TextFault) → Tells bytes e → (m : Module) → TextSpells bytes m → e ≡ Memory
-told_only bytes e (inl h) m k = h
-told_only bytes e (inr h) m k = absurd (no_reason bytes m h.0 k h.2)
+pub tells_only : (bytes : List ℕ) (e : TextFault) → Tells bytes e → (m : Module) → TextSpells bytes m → e ≡ Memory
+tells_only bytes e (inl h) m k = h
+tells_only bytes e (inr h) m k = absurd (no_reason bytes m h.0 k h.2)
 
-pub told_stops : (bytes : List ℕ) (e : TextFault) → Tells bytes e → (why : TextStop) → Stops bytes why → (e ≡ told why) ⊎ (e ≡ Memory)
-told_stops bytes e (inl h) why k = inr h
-told_stops bytes e (inr h) why k = inl (sym h.1 ∙ reasons_alike bytes h.0 why h.2 k)
+pub tells_stops : (bytes : List ℕ) (e : TextFault) → Tells bytes e → (why : TextStop) → Stops bytes why → (e ≡ error_of why) ⊎ (e ≡ Memory)
+tells_stops bytes e (inl h) why k = inr h
+tells_stops bytes e (inr h) why k = inl (sym h.1 ∙ reasons_alike bytes h.0 why h.2 k)

@@ -9,11 +9,11 @@ use Rattle.ms_text_grammar.specs.declared.fault.TextFault.TheVariants.{Lex, Memo
 use Rattle.ms_text_grammar.specs.TextSpells.{Stops, TextSpells, TextStop}
 use Rattle.ms_text_grammar.specs.TextSpells.TextStop.{lex, name, syntax}
 
--- why a text is no module, as it is told
-abbrev pub told : TextStop → TextFault
-told (lex f) = Lex (lexed.told f)
-told (syntax f) = f
-told (name at) = Name at
+-- the error that the code gives for a reason
+abbrev pub error_of : TextStop → TextFault
+error_of (lex f) = Lex (lexed.error_of f)
+error_of (syntax f) = f
+error_of (name at) = Name at
 
 -- the fault of a lexer
 abbrev pub lexing_fault : LexFault → TextFault
@@ -22,7 +22,7 @@ lexing_fault f = Lex f
 
 -- the fault is want of memory, or why the text is no module
 abbrev pub Tells : List ℕ → TextFault → Type 0
-Tells bytes e = (e ≡ Memory) ⊎ ((why : TextStop) × (told why ≡ e) × Stops bytes why)
+Tells bytes e = (e ≡ Memory) ⊎ ((why : TextStop) × (error_of why ≡ e) × Stops bytes why)
 
 -- the module that the text spells, or why it spells none
 abbrev pub Reads : List ℕ → Result Module TextFault → Type 0

@@ -4,7 +4,7 @@ ghost use Rattle.std.specs.Prelude.{◌≡◌, ◌⊎◌, IfErr, IfOk, List, Opt
 ghost use Rattle.ms_text_grammar.specs.declared.fault.TextFault.TheVariants.{Memory};
 ghost use Rattle.ms_text_grammar.specs.declared.surface.Field.{Field};
 ghost use Rattle.ms_text_grammar.specs.declared.fault.TextFault.{TextFault};
-ghost use Rattle.ms_text_grammar.specs.Scans.{earlier, first_stop, limit_at, mismatch, place, told, too_deep, up_to};
+ghost use Rattle.ms_text_grammar.specs.Scans.{earlier, first_stop, limit_at, mismatch, place, with_mismatch, too_deep, up_to};
 ghost use Rattle.ms_text_grammar.specs.TextSpells.{FieldsSpelled};
 ghost use Rattle.ms_text_parts.specs.Readers.{fault_of};
 ghost use Rattle.ms_text_read.specs.Fields.{Finds, FoundBy, IsFirstStop};
@@ -43,8 +43,8 @@ fn mismatch(alloc: Global, source: &[u8], tokens: &[Token]) -> Result<Option<usi
 }
 
 /// A fault, or a type use before it that differs from its type field.
-fn told(alloc: Global, source: &[u8], tokens: &[Token], stop: TextFault) -> TextFault
-    ensures found { (f : TextFault) → fault_of stop ≡ Option.Some f → FoundBy (fault_of result) (told source.now tokens.now (Option.Some f)) }
+fn with_mismatch(alloc: Global, source: &[u8], tokens: &[Token], stop: TextFault) -> TextFault
+    ensures found { (f : TextFault) → fault_of stop ≡ Option.Some f → FoundBy (fault_of result) (with_mismatch source.now tokens.now (Option.Some f)) }
     ensures memory { fault_of stop ≡ Option.None → fault_of result ≡ Option.None }
 {
     if let TextFault::Memory = stop {
@@ -93,14 +93,14 @@ fn of_tokens(alloc: Global, source: &[u8], tokens: &[Token]) -> Result<Vector<Fi
 {
     let mut c = Words::new(source, tokens);
     match whole_file(alloc, &mut c) {
-        Err(stop) => Err(told(alloc, source, tokens, with_depth(tokens, stop))),
+        Err(stop) => Err(with_mismatch(alloc, source, tokens, with_depth(tokens, stop))),
         Ok(fields) => {
             if let Some(at) = too_deep(tokens) {
                 let stop = TextFault::Limit {
                     which: Counted::Parens,
                     at,
                 };
-                return Err(told(alloc, source, tokens, stop));
+                return Err(with_mismatch(alloc, source, tokens, stop));
             }
             match mismatch(alloc, source, tokens) {
                 Err(_) => Err(TextFault::Memory),

@@ -4,7 +4,7 @@ ghost use Rattle.std.specs.Prelude.{◌≡◌, ◌⊎◌, IfErr, IfOk, Ok, Err};
 ghost use Rattle.ms_module.specs.declared.module.Module.{Module};
 ghost use Rattle.ms_text_grammar.specs.declared.fault.TextFault.TheVariants.{Memory};
 ghost use Rattle.ms_text_grammar.specs.TextSpells.{Stops, TextSpells, TextStop};
-ghost use Rattle.ms_text_read.specs.Answers.{Reads, Tells, lexing_fault, told};
+ghost use Rattle.ms_text_read.specs.Answers.{Reads, Tells, lexing_fault, error_of};
 
 use crate::fields::fields;
 use ms_module::Module;
@@ -56,7 +56,7 @@ pub fn read(alloc: Global, source: &[u8]) -> Result<Module, TextFault>
     // A fault says why the text spells no module.
     ensures fault { IfErr result (Tells source.now) }
     // Why the text spells no module is told, unless memory runs out.
-    ensures stops { (why : TextStop) → Stops source.now why → (result ≡ Err (told why)) ⊎ (result ≡ Err Memory) }
+    ensures stops { (why : TextStop) → Stops source.now why → (result ≡ Err (error_of why)) ⊎ (result ≡ Err Memory) }
 {
     match read_text(alloc, source) {
         Ok(module) => Ok(module),

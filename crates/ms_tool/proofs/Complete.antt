@@ -23,7 +23,7 @@ use Rattle.ms_run.specs.Jobs.{RunOfFile, RunOfJob, RunsFile, RunsJob, exec_job}
 use Rattle.ms_run.specs.Jobs as jobs
 use Rattle.ms_run.specs.Lines.{input_fault_line}
 use Rattle.ms_run.specs.Observed.{Flow, Report, Shelved}
-use Rattle.ms_run.specs.Reporting.{CountsReads, Delivers, Did, Grows, HasFailed, HasWritten, Holds, IsFound, IsKept, KeepsFiles, Reports, Tells, answered, failed, put, ran_out, starved, told, untold}
+use Rattle.ms_run.specs.Reporting.{CountsReads, Delivers, Did, Grows, HasFailed, HasWritten, Holds, IsFound, IsKept, KeepsFiles, Reports, Tells, answered, failed, put, ran_out, starved, printed, unprinted}
 use Rattle.ms_run.specs.SafeRuns.{IsEnd, RanSafely}
 use Rattle.ms_run.specs.Telling.{telling_of}
 use Rattle.ms_run.specs.declared.gathering.Naming.{Naming}
@@ -119,8 +119,8 @@ module _ (words : List (List ℕ)) (given : Input) (s : Shelved) (r : Report) (f
 
     tells_gave : (Does : Status → List ℕ → Type 0) → ((status : Status) (line : List ℕ) → Does status line → GivesFor (IsFound s) given a None status line None)
         → IsQuiet f → (result : Status) → Tells Does s r result → Responds words given s r f result
-    tells_gave Does gives still result (told status line does counts files reports) = one_gave result None status line None (gives status line does) counts still (put files reports)
-    tells_gave Does gives still result (untold same files kept) = nothing same files kept
+    tells_gave Does gives still result (printed status line does counts files reports) = one_gave result None status line None (gives status line does) counts still (put files reports)
+    tells_gave Does gives still result (unprinted same files kept) = nothing same files kept
 
     -- a run, which may be cut short
     run_gave : (Does : Option MachineRun → Status → List ℕ → Option File → Type 0) → ((which : Option MachineRun) (status : Status) (line : List ℕ) (file : Option File) → Does which status line file → GivesFor (IsFound s) given a which status line file)

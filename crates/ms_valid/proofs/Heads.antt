@@ -68,6 +68,6 @@ head_is m c e =
 -- The rest of the test is the test on names.
 pub ends : {E : Type 0} (r : Result Bool E) (m : Module) (c : Context) (es : List Export) → c ≡ context_of m → es ≡ m.exports → PartsTyped c m → IfOk r (λ b. IsTrue b ↔ AreDistinct (map (λ (e : Export). e.name) es)) → IfOk r (λ b. IsTrue b ↔ Head m)
 ends (Ok b) m c es e same p h =
-    let told = subst (λ (xs : List Export). IsTrue b ↔ AreDistinct (map (λ (x : Export). x.name) xs)) same h in
-    ((λ t. (head_is m c e).0 (p, told.0 t)), (λ q. told.1 ((head_is m c e).1 q).1))
+    let distinct = subst (λ (xs : List Export). IsTrue b ↔ AreDistinct (map (λ (x : Export). x.name) xs)) same h in
+    ((λ t. (head_is m c e).0 (p, distinct.0 t)), (λ q. distinct.1 ((head_is m c e).1 q).1))
 ends (Err x) m c es e same p h = tt

@@ -4,7 +4,7 @@ use Rattle.c_parse.specs.declared.steps.Goal.{Goal}
 use Rattle.c_parse.specs.declared.steps.Goal.TheVariants as goals
 use Rattle.c_parse.specs.Calls.{state}
 use Rattle.c_rows.specs.Table.{rests}
-use Rattle.c_parse.proofs.Ways.{settled}
+use Rattle.c_parse.proofs.Ways.{ended}
 use Rattle.c_parse.proofs.Falls.{resumes_less}
 use Rattle.c_parse.proofs.runs.finish.Goals as goal
 
@@ -16,7 +16,7 @@ coming-preserved c =
     let e = rw c.in-Goes.is at c.in_ok-next.ensures in
     let s = state c.args.goal c.args.waiting.now in
     let P : Goal → Type 0 = λ g. Reaches s [] (state g c.coming.waiting) [] in
-    settled s (state (goals.Made c.in-Made.kind c.in-Made.value) c.coming.waiting) (state c.in-Goes.next c.resume.new.waiting) (subst P c.in-Made.is c.coming.invariant) e
+    ended s (state (goals.Made c.in-Made.kind c.in-Made.value) c.coming.waiting) (state c.in-Goes.next c.resume.new.waiting) (subst P c.in-Made.is c.coming.invariant) e
 
 pub coming-smaller : goal.coming-smaller
 coming-smaller c =

@@ -1,7 +1,7 @@
 use Rattle.std.proofs.Common.{ap, inl, inr, Ok, Err, Result}
 use Rattle.ms_module.specs.declared.module.Module.{Module}
 use Rattle.ms_bin_grammar.specs.declared.fault.ReadFault.{ReadFault}
-use Rattle.ms_bin_read.proofs.Modules.{is_first, is_found, is_only, is_told, no_fault, no_module}
+use Rattle.ms_bin_read.proofs.Modules.{is_first, is_found, is_only, is_error, no_fault, no_module}
 use Rattle.ms_bin_read.proofs.reader.read.Goals as goal
 
 abbrev answered : ReadFault → Result Module ReadFault
@@ -24,7 +24,7 @@ returns-in-Err-clause-fault c = is_first c.args.bytes.now c.new-c.result c.new-c
 
 pub returns-in-Err-clause-stops : goal.returns-in-Err-clause-stops
 returns-in-Err-clause-stops c = λ f h.
-    elim (is_told c.args.bytes.now c.new-c.result c.new-c.ensures c.in-Err.fault c.in-Err.ensures f h) [
+    elim (is_error c.args.bytes.now c.new-c.result c.new-c.ensures c.in-Err.fault c.in-Err.ensures f h) [
       | inl e ↦ inl (ap answered e)
       | inr e ↦ inr (ap answered e)
     ]

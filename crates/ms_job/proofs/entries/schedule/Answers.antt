@@ -12,7 +12,7 @@ loop-at-preserved-then-is_apart c =
     let skipped = words_skip at text c.loop-at-test.true apart in
     record {
       inside = omega arith;
-      told = ap (numbers_behind c.loop-at.numbers) (sym skipped) ∙ c.loop-at.invariant.told;
+      read = ap (numbers_behind c.loop-at.numbers) (sym skipped) ∙ c.loop-at.invariant.read;
     }
 
 pub loop-at-preserved : goal.loop-at-preserved
@@ -28,5 +28,5 @@ loop-at-preserved c =
     let rest = placed_words false (at + length word) (drop (at + length word) text) in
     record {
       inside = omega (arith, fits, ap length is);
-      told = ap (λ (ns : List ℕ). numbers_behind ns rest) c.in_ok-push.ensures.items ∙ sym more ∙ c.loop-at.invariant.told;
+      read = ap (λ (ns : List ℕ). numbers_behind ns rest) c.in_ok-push.ensures.items ∙ sym more ∙ c.loop-at.invariant.read;
     }

@@ -7,7 +7,7 @@ use Rattle.ms_job.proofs.entries.schedule.Given as goal
 abbrev pub invariant-loop-at : goal.invariant-loop-at
 invariant-loop-at l = record {
   inside : l.at ≤ length l.text;
-  told : numbers_behind l.numbers (placed_words false l.at (drop l.at l.text)) ≡ schedule_in l.fn.text;
+  read : numbers_behind l.numbers (placed_words false l.at (drop l.at l.text)) ≡ schedule_in l.fn.text;
 }
 
 abbrev pub decreases-loop-at : goal.decreases-loop-at

@@ -6,7 +6,7 @@ use Rattle.ms_job.proofs.reader.draft.Given as goal
 
 abbrev pub invariant-loop-left : goal.invariant-loop-left
 invariant-loop-left l = record {
-  told : with_lines (l.n + 1) l.draft (lines l.left) ≡ with_lines 1 no_lines (lines l.fn.text);
+  read : with_lines (l.n + 1) l.draft (lines l.left) ≡ with_lines 1 no_lines (lines l.fn.text);
   few : l.n + length l.left ≤ length l.fn.text;
 }
 

@@ -18,4 +18,4 @@ pub returns-in-Err-clause-did : goal.returns-in-Err-clause-did
 returns-in-Err-clause-did g c =
     let name = c.args.file.now in
     let s = shelved g.F.Shelf.files g.F.Shelf.read_faults g.F.Shelf.write_faults c.args.shelf.now c.fetch.new.shelf in
-    did_without (Unfound (IsFound s) name) (OnFile (IsFound s) name (Disassembles c.args.target.now)) (λ status line h. no_file h) s _ c.in-Err.status c.in-Err.ensures.told
+    did_without (Unfound (IsFound s) name) (OnFile (IsFound s) name (Disassembles c.args.target.now)) (λ status line h. no_file h) s _ c.in-Err.status c.in-Err.ensures.printed

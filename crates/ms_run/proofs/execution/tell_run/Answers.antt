@@ -7,11 +7,11 @@ use Rattle.ms_run.specs.Telling.{dumped}
 use Rattle.ms_run.proofs.Ending.{untraced}
 use Rattle.ms_run.proofs.execution.tell_run.Goals as goal
 
-pub returns-in_default-clause-told : goal.returns-in_default-clause-told
-returns-in_default-clause-told g c = λ text is. starved (refl, refl) (refl, refl)
+pub returns-in_default-clause-printed : goal.returns-in_default-clause-printed
+returns-in_default-clause-printed g c = λ text is. starved (refl, refl) (refl, refl)
 
-pub returns-in_default-trace-clause-told : goal.returns-in_default-trace-clause-told
-returns-in_default-trace-clause-told g c = λ text is.
+pub returns-in_default-trace-clause-printed : goal.returns-in_default-trace-clause-printed
+returns-in_default-trace-clause-printed g c = λ text is.
     let telling = c.args.telling.now in
     let s = shelved g.F.Shelf.files g.F.Shelf.read_faults g.F.Shelf.write_faults c.args.shelf.now c.args.shelf.now in
     let r = reported g.R.Sink.held g.R.Sink.faults c.args.report.now c.answer.new.report in
@@ -20,5 +20,5 @@ returns-in_default-trace-clause-told g c = λ text is.
     subst (λ (file : Option File). Delivers c.args.status all file s r c.answer.result) (sym (untraced telling c.args.events.now c.in_default-trace.is))
     (put (refl, refl) (subst (λ (t : List ℕ). Reports c.args.status t r c.answer.result) whole c.answer.ensures))
 
-pub returns-in_default-print_trace-clause-told : goal.returns-in_default-print_trace-clause-told
-returns-in_default-print_trace-clause-told g c = λ text is. starved (refl, refl) (refl, refl)
+pub returns-in_default-print_trace-clause-printed : goal.returns-in_default-print_trace-clause-printed
+returns-in_default-print_trace-clause-printed g c = λ text is. starved (refl, refl) (refl, refl)

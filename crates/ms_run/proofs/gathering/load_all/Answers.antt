@@ -9,7 +9,7 @@ use Rattle.ms_run.specs.Observed.{shelved}
 use Rattle.ms_run.specs.Reporting.{Holds, IsFound}
 use Rattle.ms_run.specs.declared.status.Status.{Status}
 use Rattle.ms_run.proofs.Finding.{unloaded_more}
-use Rattle.ms_run.proofs.Gathered.{IsLoading, first_told, none_loaded, one_loaded, starved_told}
+use Rattle.ms_run.proofs.Gathered.{IsLoading, first_printed, none_loaded, one_loaded, starved_printed}
 use Rattle.ms_run.proofs.Later.{found_later, tells_later, untouched_later}
 use Rattle.ms_run.proofs.gathering.load_all.Goals as goal
 
@@ -21,8 +21,8 @@ loop-named-init g c =
       record { counts = λ n. refl; files = (refl, refl); report = (refl, refl) },
     )
 
-pub returns-in-Err-clause-told : goal.returns-in-Err-clause-told
-returns-in-Err-clause-told g c =
+pub returns-in-Err-clause-printed : goal.returns-in-Err-clause-printed
+returns-in-Err-clause-printed g c =
     let l = c.loop-named in
     let whole = c.args.files.now in
     let item = c.named-item.result in
@@ -33,13 +33,13 @@ returns-in-Err-clause-told g c =
     let more = found_later _ _ (g.F.Shelf.files now.shelf) _ _ _ _ _ (g.F.Shelf.write_faults now.shelf) _ _ (g.R.Sink.held now.report) _ _ (g.R.Sink.faults now.report) l.invariant.2 in
     tells_later _ _ _ _ _ _ _ _ _ _ _ _ _ _ _ (Unloaded (IsFound here) (what_of c.args.naming l.number) item.1) (FirstUnloaded (IsFound s) c.args.naming 0 whole)
     (λ (status : Status) (line : List ℕ) (h : Unloaded (IsFound here) (what_of c.args.naming l.number) item.1 status line).
-    first_told s c.args.naming whole l.modules.items l.number l.named-index item found l.invariant.0 status line (unloaded_more (IsFound here) (IsFound s) more (what_of c.args.naming l.number) item.1 status line h))
-    l.invariant.2 c.in-Err.status c.in-Err.ensures.told
+    first_printed s c.args.naming whole l.modules.items l.number l.named-index item found l.invariant.0 status line (unloaded_more (IsFound here) (IsFound s) more (what_of c.args.naming l.number) item.1 status line h))
+    l.invariant.2 c.in-Err.status c.in-Err.ensures.printed
 
-pub returns-in_default-clause-told : goal.returns-in_default-clause-told
-returns-in_default-clause-told g c =
+pub returns-in_default-clause-printed : goal.returns-in_default-clause-printed
+returns-in_default-clause-printed g c =
     let s = shelved g.F.Shelf.files g.F.Shelf.read_faults g.F.Shelf.write_faults c.args.shelf.now c.load_named.new.shelf in
-    starved_told (FirstUnloaded (IsFound s) c.args.naming 0 c.args.files.now) s _ (untouched_later _ _ _ _ _ _ _ _ _ _ _ _ _ _ _ c.loop-named.invariant.2 c.in-Ok.ensures.untouched)
+    starved_printed (FirstUnloaded (IsFound s) c.args.naming 0 c.args.files.now) s _ (untouched_later _ _ _ _ _ _ _ _ _ _ _ _ _ _ _ c.loop-named.invariant.2 c.in-Ok.ensures.untouched)
 
 pub loop-named-preserved : goal.loop-named-preserved
 loop-named-preserved g c =

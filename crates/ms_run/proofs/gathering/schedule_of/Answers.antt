@@ -14,9 +14,9 @@ returns-in-Ok-clause-entries g c =
     let has = subst (λ (n : List ℕ). HasNumbers (Holds (g.F.Shelf.files c.args.shelf.now)) n c.in-Ok.numbers.items) c.as_str.ensures c.in-Ok.ensures.numbers in
     listed c.in-Some.file c.in-Ok.numbers.items c.in-Some.is has
 
-pub returns-in-Err-clause-told : goal.returns-in-Err-clause-told
-returns-in-Err-clause-told g c =
+pub returns-in-Err-clause-printed : goal.returns-in-Err-clause-printed
+returns-in-Err-clause-printed g c =
     let s = shelved g.F.Shelf.files g.F.Shelf.read_faults g.F.Shelf.write_faults c.args.shelf.now c.listed.new.shelf in
     let name = c.as_str.result.now in
     tells_more (Unnumbered (IsFound s) name) (Unscheduled (IsFound s) c.args.job.now)
-    (λ (status : Status) (line : List ℕ) (h : Unnumbered (IsFound s) name status line). unlisted c.in-Some.file c.in-Some.is (subst (λ (n : List ℕ). Unnumbered (IsFound s) n status line) c.as_str.ensures h)) s _ c.in-Err.status c.in-Err.ensures.told
+    (λ (status : Status) (line : List ℕ) (h : Unnumbered (IsFound s) name status line). unlisted c.in-Some.file c.in-Some.is (subst (λ (n : List ℕ). Unnumbered (IsFound s) n status line) c.as_str.ensures h)) s _ c.in-Err.status c.in-Err.ensures.printed

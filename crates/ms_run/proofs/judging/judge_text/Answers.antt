@@ -14,8 +14,8 @@ use Rattle.ms_run.proofs.judging.judge_text.Goals as goal
 pub returns-in-Err-Line : goal.returns-in-Err-Line
 returns-in-Err-Line g c =
     let it = c.in-Err-Line in
-    let untold = subst (λ (e : TraceFault). ReadsTrace c.args.text.now (Err e)) it.field-0-is it.ensures in
-    verdict_put Refused (trace_line it.n) (no_event it.n untold) (c.answer_line.ensures (trace_line it.n) c.trace_line.ensures)
+    let unprinted = subst (λ (e : TraceFault). ReadsTrace c.args.text.now (Err e)) it.field-0-is it.ensures in
+    verdict_put Refused (trace_line it.n) (no_event it.n unprinted) (c.answer_line.ensures (trace_line it.n) c.trace_line.ensures)
 
 pub returns-in-Err-Memory : goal.returns-in-Err-Memory
 returns-in-Err-Memory g c = no_verdict (refl, refl)

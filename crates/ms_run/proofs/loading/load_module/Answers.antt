@@ -2,7 +2,7 @@ use Rattle.std.proofs.Common.{◌∙◌, ap, inl, inr}
 use Rattle.std.specs.Prelude.{Err, Ok}
 use Rattle.ms_run.specs.Loading.{form_of}
 use Rattle.ms_run.proofs.Once.{one_module}
-use Rattle.ms_run.proofs.Told.{never_refused, refused_only}
+use Rattle.ms_run.proofs.Printed.{never_refused, refused_only}
 use Rattle.ms_run.proofs.loading.load_module.Goals as goal
 
 pub returns-in-Err-clause-only : goal.returns-in-Err-clause-only

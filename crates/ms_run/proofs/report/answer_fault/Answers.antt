@@ -1,6 +1,6 @@
 use Rattle.ms_run.specs.Lines.{refused_line}
 use Rattle.ms_run.specs.Loading.{load_words}
-use Rattle.ms_run.proofs.Told.{fault_reported}
+use Rattle.ms_run.proofs.Printed.{fault_reported}
 use Rattle.ms_run.proofs.report.answer_fault.Goals as goal
 
 pub returns-in_default : goal.returns-in_default

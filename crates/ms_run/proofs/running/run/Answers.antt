@@ -9,7 +9,7 @@ use Rattle.ms_run.proofs.Later.{over_report}
 use Rattle.ms_run.proofs.running.run.Goals as goal
 
 pub returns-in-Err : goal.returns-in-Err
-returns-in-Err g c = unfound_answered c.args.file.now _ _ _ (refl, refl, refl, refl) c.in-Err.status c.in-Err.ensures.told
+returns-in-Err g c = unfound_answered c.args.file.now _ _ _ (refl, refl, refl, refl) c.in-Err.status c.in-Err.ensures.printed
 
 pub returns-in-Ok-parse : goal.returns-in-Ok-parse
 returns-in-Ok-parse g c =

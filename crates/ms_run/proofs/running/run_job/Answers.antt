@@ -5,13 +5,13 @@ use Rattle.ms_run.proofs.Jobs.{names_apart, schedule_answered, tasks_answered, u
 use Rattle.ms_run.proofs.running.run_job.Goals as goal
 
 pub returns-in-Err : goal.returns-in-Err
-returns-in-Err g c = unloaded_answered c.args.naming c.args.job _ _ _ c.as_slice.result.now c.as_slice.ensures (refl, refl, refl, refl) c.in-Err.status c.in-Err.ensures.told
+returns-in-Err g c = unloaded_answered c.args.naming c.args.job _ _ _ c.as_slice.result.now c.as_slice.ensures (refl, refl, refl, refl) c.in-Err.status c.in-Err.ensures.printed
 
 pub returns-in-Err-schedule_of : goal.returns-in-Err-schedule_of
 returns-in-Err-schedule_of g c =
     let modules = c.in-Ok.modules.items in
     let all = subst (λ (fs : List (List ℕ × List ℕ)). AllLoaded (Holds (g.F.Shelf.files c.args.shelf.now)) fs modules) c.as_slice.ensures c.in-Ok.ensures.modules in
-    schedule_answered _ _ _ _ _ _ _ _ _ _ _ _ _ _ _ c.args.naming c.args.job _ modules all c.in-Ok.ensures.untouched (refl, refl, refl, refl) c.in-Err-schedule_of.status c.in-Err-schedule_of.ensures.told
+    schedule_answered _ _ _ _ _ _ _ _ _ _ _ _ _ _ _ c.args.naming c.args.job _ modules all c.in-Ok.ensures.untouched (refl, refl, refl, refl) c.in-Err-schedule_of.status c.in-Err-schedule_of.ensures.printed
 
 pub execute-requires-clause-names : goal.execute-requires-clause-names
 execute-requires-clause-names g c =
@@ -25,4 +25,4 @@ returns g c =
     let modules = c.in-Ok.modules.items in
     let all = subst (λ (fs : List (List ℕ × List ℕ)). AllLoaded (Holds (g.F.Shelf.files c.args.shelf.now)) fs modules) c.as_slice.ensures c.in-Ok.ensures.modules in
     let e = c.in-Ok-schedule_of.ensures in
-    tasks_answered _ _ _ _ _ _ _ _ _ _ _ _ _ _ _ c.args.naming c.args.job _ modules all c.in-Ok.ensures.untouched _ _ _ _ _ c.in-Ok-schedule_of.schedule c.into_vec-tasks.result.items c.into_vec-tasks.ensures e.entries e.untouched c.execute.result c.execute.ensures.reads c.execute.ensures.told
+    tasks_answered _ _ _ _ _ _ _ _ _ _ _ _ _ _ _ c.args.naming c.args.job _ modules all c.in-Ok.ensures.untouched _ _ _ _ _ c.in-Ok-schedule_of.schedule c.into_vec-tasks.result.items c.into_vec-tasks.ensures e.entries e.untouched c.execute.result c.execute.ensures.reads c.execute.ensures.printed

@@ -7,7 +7,7 @@ use Rattle.ms_task.specs.View.{thread_of}
 use Rattle.ms_machine.specs.Crews.{run_entries}
 use Rattle.ms_machine.specs.StraightLine.{IsCalm, IsHalted}
 use Rattle.ms_machine.specs.declared.straight.Stretch.{Stretch}
-use Rattle.ms_tasks.proofs.Deeds.{told_within}
+use Rattle.ms_tasks.proofs.Deeds.{within_after}
 use Rattle.ms_segment.specs.Memory.{Memory}
 use Rattle.ms_tasks.proofs.Stepping.{begins_way, goes_on, kept_fit, quiet_way, stops_before, stops_behind, stops_in, way_ends, way_here, way_pauses, way_traps}
 use Rattle.ms_tasks.proofs.burst.burst.Goals as goal
@@ -18,7 +18,7 @@ loop-left-init g c =
     let t = thread_of s.funcs c.args.task.now in
     let within = c.requires.within in
     record {
-      runs = λ whose next entries row. begins_way whose next entries c.args.most s t c.args.log.now.told (g.I.Source.left c.args.input.now) (g.O.Sink.held c.args.out.now) row;
+      runs = λ whose next entries row. begins_way whose next entries c.args.most s t c.args.log.now.trace (g.I.Source.left c.args.input.now) (g.O.Sink.held c.args.out.now) row;
       outline = refl;
       task = c.requires.task;
       going = search rules;
@@ -57,9 +57,9 @@ loop-left-preserved g c =
     let calm = subst IsCalm (sym c.in-Paused-default.is-0) tt in
     let e = c.in-On-Some.ensures in
     let event = c.in-On-Some.field-0 in
-    let tells = c.in-Ok.ensures.told ∙ ap (λ (o : Option Event). all_seen (with_event o []) l.log.told) (sym c.in-On-Some.field-0-is) in
+    let tells = c.in-Ok.ensures.trace ∙ ap (λ (o : Option Event). all_seen (with_event o []) l.log.trace) (sym c.in-On-Some.field-0-is) in
     record {
-      runs = λ whose next entries row. goes_on whose next entries c.args.most s0 t0 log0.told rest s1 u l.log.told (left c.args.input.now) (left l.input) (left c.step.new.input) (held c.args.out.now) (held l.out) (held c.step.new.out) within (halted.1) (quiet_way whose next entries c.args.most s0 t0 log0.told l.left rest s s1 t u l.log.told (left c.args.input.now) (left l.input) (held c.args.out.now) (held l.out) c.loop-left-test.true less among (v.runs whose next entries row) halted.0) s' t' event c.see.new.self.told e.step.0 tells;
+      runs = λ whose next entries row. goes_on whose next entries c.args.most s0 t0 log0.trace rest s1 u l.log.trace (left c.args.input.now) (left l.input) (left c.step.new.input) (held c.args.out.now) (held l.out) (held c.step.new.out) within (halted.1) (quiet_way whose next entries c.args.most s0 t0 log0.trace l.left rest s s1 t u l.log.trace (left c.args.input.now) (left l.input) (held c.args.out.now) (held l.out) c.loop-left-test.true less among (v.runs whose next entries row) halted.0) s' t' event c.see.new.self.trace e.step.0 tells;
       outline = e.outline tt ∙ (q.outline calm ∙ v.outline);
       task = e.task tt;
       going = e.step.1;
@@ -69,7 +69,7 @@ loop-left-preserved g c =
       made = let m = e.made tt in let k = ap (λ (x : Memory). x.made) (q.segments calm) in omega (arith, m, k, v.made, c.loop-left-test.true);
       left = let x = v.left in omega (arith, x);
       entries = c.in-Ok.ensures.entries ∙ v.entries;
-      within = let x = v.left in told_within (log0.entries + (c.args.most - l.left)) (log0.entries + (c.args.most - rest)) event l.log.told c.see.new.self.told (omega (arith, x, c.loop-left-test.true)) tells v.within;
+      within = let x = v.left in within_after (log0.entries + (c.args.most - l.left)) (log0.entries + (c.args.most - rest)) event l.log.trace c.see.new.self.trace (omega (arith, x, c.loop-left-test.true)) tells v.within;
       input = e.input_faults ∙ v.input;
       out = e.out_faults ∙ v.out;
     }
@@ -98,9 +98,9 @@ loop-left-preserved-in-On-None g c =
     let calm = subst IsCalm (sym c.in-Paused-default.is-0) tt in
     let e = c.in-On-None.ensures in
     let event = c.in-On-None.field-0 in
-    let tells = ap (λ (o : Option Event). all_seen (with_event o []) l.log.told) (sym c.in-On-None.field-0-is) in
+    let tells = ap (λ (o : Option Event). all_seen (with_event o []) l.log.trace) (sym c.in-On-None.field-0-is) in
     record {
-      runs = λ whose next entries row. goes_on whose next entries c.args.most s0 t0 log0.told rest s1 u l.log.told (left c.args.input.now) (left l.input) (left c.step.new.input) (held c.args.out.now) (held l.out) (held c.step.new.out) within (halted.1) (quiet_way whose next entries c.args.most s0 t0 log0.told l.left rest s s1 t u l.log.told (left c.args.input.now) (left l.input) (held c.args.out.now) (held l.out) c.loop-left-test.true less among (v.runs whose next entries row) halted.0) s' t' event l.log.told e.step.0 tells;
+      runs = λ whose next entries row. goes_on whose next entries c.args.most s0 t0 log0.trace rest s1 u l.log.trace (left c.args.input.now) (left l.input) (left c.step.new.input) (held c.args.out.now) (held l.out) (held c.step.new.out) within (halted.1) (quiet_way whose next entries c.args.most s0 t0 log0.trace l.left rest s s1 t u l.log.trace (left c.args.input.now) (left l.input) (held c.args.out.now) (held l.out) c.loop-left-test.true less among (v.runs whose next entries row) halted.0) s' t' event l.log.trace e.step.0 tells;
       outline = e.outline tt ∙ (q.outline calm ∙ v.outline);
       task = e.task tt;
       going = e.step.1;
@@ -110,7 +110,7 @@ loop-left-preserved-in-On-None g c =
       made = let m = e.made tt in let k = ap (λ (x : Memory). x.made) (q.segments calm) in omega (arith, m, k, v.made, c.loop-left-test.true);
       left = let x = v.left in omega (arith, x);
       entries = v.entries;
-      within = let x = v.left in told_within (log0.entries + (c.args.most - l.left)) (log0.entries + (c.args.most - rest)) event l.log.told l.log.told (omega (arith, x, c.loop-left-test.true)) tells v.within;
+      within = let x = v.left in within_after (log0.entries + (c.args.most - l.left)) (log0.entries + (c.args.most - rest)) event l.log.trace l.log.trace (omega (arith, x, c.loop-left-test.true)) tells v.within;
       input = e.input_faults ∙ v.input;
       out = e.out_faults ∙ v.out;
     }
@@ -138,7 +138,7 @@ returns-in-Ended-default-clause-run g c = λ whose next entries row.
     let left = g.I.Source.left in
     let held = g.O.Sink.held in
     way_here whose next entries c.args.most s0 t0 log0 l.log c.count.new.self (rest + 1) (c.args.most - (rest + 1)) s1 u (left c.args.input.now) (left l.input) (held c.args.out.now) (held l.out)
-    (quiet_way whose next entries c.args.most s0 t0 log0.told l.left rest s s1 t u l.log.told (left c.args.input.now) (left l.input) (held c.args.out.now) (held l.out) c.loop-left-test.true less among (v.runs whose next entries row) halted.0)
+    (quiet_way whose next entries c.args.most s0 t0 log0.trace l.left rest s s1 t u l.log.trace (left c.args.input.now) (left l.input) (held c.args.out.now) (held l.out) c.loop-left-test.true less among (v.runs whose next entries row) halted.0)
     v.entries (omega (arith, within)) c.count.ensures
 
 pub returns-in-Memory-default-clause-run : goal.returns-in-Memory-default-clause-run
@@ -150,7 +150,7 @@ returns-in-Memory-default-clause-run g c = λ whose next entries row.
     let log0 = c.args.log.now in
     let left = g.I.Source.left in
     let held = g.O.Sink.held in
-    stops_before whose next entries c.args.most s0 t0 log0.told l.left l.store (thread_of l.store.funcs l.task) l.log.told (left c.args.input.now) (left l.input) (left l.input) (held c.args.out.now) (held l.out) (held l.out) c.loop-left-test.true v.left v.going (v.runs whose next entries row) log0 l.log refl refl refl refl
+    stops_before whose next entries c.args.most s0 t0 log0.trace l.left l.store (thread_of l.store.funcs l.task) l.log.trace (left c.args.input.now) (left l.input) (left l.input) (held c.args.out.now) (held l.out) (held l.out) c.loop-left-test.true v.left v.going (v.runs whose next entries row) log0 l.log refl refl refl refl
 
 pub returns-in_default-clause-run : goal.returns-in_default-clause-run
 returns-in_default-clause-run g c = λ whose next entries row.
@@ -172,7 +172,7 @@ returns-in_default-clause-run g c = λ whose next entries row.
     let held = g.O.Sink.held in
     let s' = c.step.new.store in
     let t' = thread_of s'.funcs c.step.new.task in
-    stops_behind whose next entries c.args.most s0 t0 log0.told (rest + 1) s1 u l.log.told (left c.args.input.now) (left l.input) (left c.step.new.input) (held c.args.out.now) (held l.out) (held c.step.new.out) (omega arith) within (halted.1) (quiet_way whose next entries c.args.most s0 t0 log0.told l.left rest s s1 t u l.log.told (left c.args.input.now) (left l.input) (held c.args.out.now) (held l.out) c.loop-left-test.true less among (v.runs whose next entries row) halted.0) s' t' c.in-On-Some.field-0 log0 c.see.new.self refl c.in_default.ensures.lost c.in-On-Some.ensures.step.0
+    stops_behind whose next entries c.args.most s0 t0 log0.trace (rest + 1) s1 u l.log.trace (left c.args.input.now) (left l.input) (left c.step.new.input) (held c.args.out.now) (held l.out) (held c.step.new.out) (omega arith) within (halted.1) (quiet_way whose next entries c.args.most s0 t0 log0.trace l.left rest s s1 t u l.log.trace (left c.args.input.now) (left l.input) (held c.args.out.now) (held l.out) c.loop-left-test.true less among (v.runs whose next entries row) halted.0) s' t' c.in-On-Some.field-0 log0 c.see.new.self refl c.in_default.ensures.lost c.in-On-Some.ensures.step.0
 
 pub returns-in_default-see-clause-run : goal.returns-in_default-see-clause-run
 returns-in_default-see-clause-run g c = λ whose next entries row.
@@ -194,7 +194,7 @@ returns-in_default-see-clause-run g c = λ whose next entries row.
     let held = g.O.Sink.held in
     let s' = c.step.new.store in
     let t' = thread_of s'.funcs c.step.new.task in
-    stops_behind whose next entries c.args.most s0 t0 log0.told (rest + 1) s1 u l.log.told (left c.args.input.now) (left l.input) (left c.step.new.input) (held c.args.out.now) (held l.out) (held c.step.new.out) (omega arith) within (halted.1) (quiet_way whose next entries c.args.most s0 t0 log0.told l.left rest s s1 t u l.log.told (left c.args.input.now) (left l.input) (held c.args.out.now) (held l.out) c.loop-left-test.true less among (v.runs whose next entries row) halted.0) s' t' c.in-Ended.event log0 c.see-in-Ended.new.self refl c.in_default-see.ensures.lost c.in-Ended.ensures.step.0
+    stops_behind whose next entries c.args.most s0 t0 log0.trace (rest + 1) s1 u l.log.trace (left c.args.input.now) (left l.input) (left c.step.new.input) (held c.args.out.now) (held l.out) (held c.step.new.out) (omega arith) within (halted.1) (quiet_way whose next entries c.args.most s0 t0 log0.trace l.left rest s s1 t u l.log.trace (left c.args.input.now) (left l.input) (held c.args.out.now) (held l.out) c.loop-left-test.true less among (v.runs whose next entries row) halted.0) s' t' c.in-Ended.event log0 c.see-in-Ended.new.self refl c.in_default-see.ensures.lost c.in-Ended.ensures.step.0
 
 pub returns-in-Ended-clause-run : goal.returns-in-Ended-clause-run
 returns-in-Ended-clause-run g c = λ whose next entries row.
@@ -218,7 +218,7 @@ returns-in-Ended-clause-run g c = λ whose next entries row.
     let t' = thread_of s'.funcs c.step.new.task in
     let see = c.see-in-Ended.new.self in
     let x = v.left in
-    let way = goes_on whose next entries c.args.most s0 t0 log0.told rest s1 u l.log.told (left c.args.input.now) (left l.input) (left c.step.new.input) (held c.args.out.now) (held l.out) (held c.step.new.out) within (halted.1) (quiet_way whose next entries c.args.most s0 t0 log0.told l.left rest s s1 t u l.log.told (left c.args.input.now) (left l.input) (held c.args.out.now) (held l.out) c.loop-left-test.true less among (v.runs whose next entries row) halted.0) s' t' c.in-Ended.event see.told c.in-Ended.ensures.step.0 c.in-Ok-see.ensures.told in
+    let way = goes_on whose next entries c.args.most s0 t0 log0.trace rest s1 u l.log.trace (left c.args.input.now) (left l.input) (left c.step.new.input) (held c.args.out.now) (held l.out) (held c.step.new.out) within (halted.1) (quiet_way whose next entries c.args.most s0 t0 log0.trace l.left rest s s1 t u l.log.trace (left c.args.input.now) (left l.input) (held c.args.out.now) (held l.out) c.loop-left-test.true less among (v.runs whose next entries row) halted.0) s' t' c.in-Ended.event see.trace c.in-Ended.ensures.step.0 c.in-Ok-see.ensures.trace in
     way_here whose next entries c.args.most s0 t0 log0 see c.count-in-Ended.new.self rest (c.args.most - rest) s' t' (left c.args.input.now) (left c.step.new.input) (held c.args.out.now) (held c.step.new.out) way
     (c.in-Ok-see.ensures.entries ∙ v.entries) (omega (arith, x)) c.count-in-Ended.ensures
 
@@ -244,7 +244,7 @@ returns-in-Trap-clause-run g c = λ whose next entries row.
     let t' = thread_of s'.funcs c.step.new.task in
     let e = c.in-Trap.ensures.step in
     let x = v.left in
-    (whose, way_traps whose next entries c.args.most s0 t0 log0.told (rest + 1) s1 u l.log.told (left c.args.input.now) (left l.input) (left c.step.new.input) (held c.args.out.now) (held l.out) (held c.step.new.out) (omega arith) within (halted.1) (quiet_way whose next entries c.args.most s0 t0 log0.told l.left rest s s1 t u l.log.told (left c.args.input.now) (left l.input) (held c.args.out.now) (held l.out) c.loop-left-test.true less among (v.runs whose next entries row) halted.0) c.in-Trap.kind s' t' log0 c.count-in-Trap.new.self (c.args.most - rest) l.log.entries refl v.entries e.0 e.1 e.2 e.3 e.4 (omega (arith, x)) c.count-in-Trap.ensures)
+    (whose, way_traps whose next entries c.args.most s0 t0 log0.trace (rest + 1) s1 u l.log.trace (left c.args.input.now) (left l.input) (left c.step.new.input) (held c.args.out.now) (held l.out) (held c.step.new.out) (omega arith) within (halted.1) (quiet_way whose next entries c.args.most s0 t0 log0.trace l.left rest s s1 t u l.log.trace (left c.args.input.now) (left l.input) (held c.args.out.now) (held l.out) c.loop-left-test.true less among (v.runs whose next entries row) halted.0) c.in-Trap.kind s' t' log0 c.count-in-Trap.new.self (c.args.most - rest) l.log.entries refl v.entries e.0 e.1 e.2 e.3 e.4 (omega (arith, x)) c.count-in-Trap.ensures)
 
 pub returns-in-ReadFault-clause-run : goal.returns-in-ReadFault-clause-run
 returns-in-ReadFault-clause-run g c = λ whose next entries row.
@@ -265,7 +265,7 @@ returns-in-ReadFault-clause-run g c = λ whose next entries row.
     let left = g.I.Source.left in
     let held = g.O.Sink.held in
     let e = c.in-ReadFault.ensures.step in
-    stops_before whose next entries c.args.most s0 t0 log0.told (rest + 1) s1 u l.log.told (left c.args.input.now) (left l.input) (left c.step.new.input) (held c.args.out.now) (held l.out) (held c.step.new.out) (omega arith) within (halted.1) (quiet_way whose next entries c.args.most s0 t0 log0.told l.left rest s s1 t u l.log.told (left c.args.input.now) (left l.input) (held c.args.out.now) (held l.out) c.loop-left-test.true less among (v.runs whose next entries row) halted.0) log0 l.log refl refl (none_taken (left l.input) (left c.step.new.input) e.2) e.3
+    stops_before whose next entries c.args.most s0 t0 log0.trace (rest + 1) s1 u l.log.trace (left c.args.input.now) (left l.input) (left c.step.new.input) (held c.args.out.now) (held l.out) (held c.step.new.out) (omega arith) within (halted.1) (quiet_way whose next entries c.args.most s0 t0 log0.trace l.left rest s s1 t u l.log.trace (left c.args.input.now) (left l.input) (held c.args.out.now) (held l.out) c.loop-left-test.true less among (v.runs whose next entries row) halted.0) log0 l.log refl refl (none_taken (left l.input) (left c.step.new.input) e.2) e.3
 
 pub returns-in-WriteFault-clause-run : goal.returns-in-WriteFault-clause-run
 returns-in-WriteFault-clause-run g c = λ whose next entries row.
@@ -286,7 +286,7 @@ returns-in-WriteFault-clause-run g c = λ whose next entries row.
     let left = g.I.Source.left in
     let held = g.O.Sink.held in
     let e = c.in-WriteFault.ensures.step in
-    stops_in whose next entries c.args.most s0 t0 log0.told (rest + 1) s1 u l.log.told (left c.args.input.now) (left l.input) (left c.step.new.input) (held c.args.out.now) (held l.out) (held c.step.new.out) (omega arith) within (halted.1) (quiet_way whose next entries c.args.most s0 t0 log0.told l.left rest s s1 t u l.log.told (left c.args.input.now) (left l.input) (held c.args.out.now) (held l.out) c.loop-left-test.true less among (v.runs whose next entries row) halted.0) log0 l.log e.0 refl refl e.1 e.3 e.4
+    stops_in whose next entries c.args.most s0 t0 log0.trace (rest + 1) s1 u l.log.trace (left c.args.input.now) (left l.input) (left c.step.new.input) (held c.args.out.now) (held l.out) (held c.step.new.out) (omega arith) within (halted.1) (quiet_way whose next entries c.args.most s0 t0 log0.trace l.left rest s s1 t u l.log.trace (left c.args.input.now) (left l.input) (held c.args.out.now) (held l.out) c.loop-left-test.true less among (v.runs whose next entries row) halted.0) log0 l.log e.0 refl refl e.1 e.3 e.4
 
 pub returns-in-Memory-clause-run : goal.returns-in-Memory-clause-run
 returns-in-Memory-clause-run g c = λ whose next entries row.
@@ -307,7 +307,7 @@ returns-in-Memory-clause-run g c = λ whose next entries row.
     let left = g.I.Source.left in
     let held = g.O.Sink.held in
     let e = c.in-Memory.ensures.step in
-    stops_before whose next entries c.args.most s0 t0 log0.told (rest + 1) s1 u l.log.told (left c.args.input.now) (left l.input) (left c.step.new.input) (held c.args.out.now) (held l.out) (held c.step.new.out) (omega arith) within (halted.1) (quiet_way whose next entries c.args.most s0 t0 log0.told l.left rest s s1 t u l.log.told (left c.args.input.now) (left l.input) (held c.args.out.now) (held l.out) c.loop-left-test.true less among (v.runs whose next entries row) halted.0) log0 l.log refl refl e.1 e.2
+    stops_before whose next entries c.args.most s0 t0 log0.trace (rest + 1) s1 u l.log.trace (left c.args.input.now) (left l.input) (left c.step.new.input) (held c.args.out.now) (held l.out) (held c.step.new.out) (omega arith) within (halted.1) (quiet_way whose next entries c.args.most s0 t0 log0.trace l.left rest s s1 t u l.log.trace (left c.args.input.now) (left l.input) (held c.args.out.now) (held l.out) c.loop-left-test.true less among (v.runs whose next entries row) halted.0) log0 l.log refl refl e.1 e.2
 
 pub returns-clause-run : goal.returns-clause-run
 returns-clause-run g c = λ whose next entries row.

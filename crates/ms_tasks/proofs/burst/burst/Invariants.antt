@@ -14,7 +14,7 @@ use Rattle.ms_tasks.proofs.burst.burst.Given as goal
 
 abbrev pub invariant-loop-left : goal.invariant-loop-left
 invariant-loop-left g l = record {
-  runs : (whose : Whose) (next : Store → Thread → Crew) (entries : List ℕ) → IsRow whose next l.most entries → IsUnderWay whose next entries l.most l.fn.store (thread_of l.fn.store.funcs l.fn.task) l.fn.log.told l.left l.store (thread_of l.store.funcs l.task) l.log.told (g.I.Source.left l.fn.input) (g.I.Source.left l.input) (g.O.Sink.held l.fn.out) (g.O.Sink.held l.out);
+  runs : (whose : Whose) (next : Store → Thread → Crew) (entries : List ℕ) → IsRow whose next l.most entries → IsUnderWay whose next entries l.most l.fn.store (thread_of l.fn.store.funcs l.fn.task) l.fn.log.trace l.left l.store (thread_of l.store.funcs l.task) l.log.trace (g.I.Source.left l.fn.input) (g.I.Source.left l.input) (g.O.Sink.held l.fn.out) (g.O.Sink.held l.out);
   outline : outline_of l.store ≡ outline_of l.fn.store;
   task : TaskTyped (outline_of l.store) (thread_of l.store.funcs l.task);
   going : (thread_of l.store.funcs l.task).work ≢ [];
@@ -24,7 +24,7 @@ invariant-loop-left g l = record {
   made : l.store.segments.made + l.left ≤ l.fn.store.segments.made + l.most;
   left : l.left ≤ l.most;
   entries : l.log.entries ≡ l.fn.log.entries;
-  within : IsWithin (l.fn.log.entries + (l.most - l.left)) l.log.told;
+  within : IsWithin (l.fn.log.entries + (l.most - l.left)) l.log.trace;
   input : g.I.Source.faults l.input ≡ g.I.Source.faults l.fn.input;
   out : g.O.Sink.faults l.out ≡ g.O.Sink.faults l.fn.out;
 }

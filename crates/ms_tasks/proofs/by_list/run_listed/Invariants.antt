@@ -19,7 +19,7 @@ invariant-loop-at g l = record {
   going : are_ended (threads_in l.store l.tasks) ≡ false;
   made : l.store.segments.made + (length l.entries - l.at) ≤ l.fn.store.segments.made + length l.entries;
   log : l.log.entries + (length l.entries - l.at) ≡ l.fn.log.entries + length l.entries;
-  within : IsWithin l.log.entries l.log.told;
+  within : IsWithin l.log.entries l.log.trace;
   input : g.I.Source.faults l.input ≡ g.I.Source.faults l.fn.input;
   out : g.O.Sink.faults l.out ≡ g.O.Sink.faults l.fn.out;
 }

@@ -21,7 +21,7 @@ invariant-loop-left g l = record {
   going : are_ended (threads_in l.store l.tasks) ≡ false;
   made : l.store.segments.made + l.left ≤ l.fn.store.segments.made + l.most;
   entries : l.log.entries + l.left ≡ l.fn.log.entries + l.most;
-  within : IsWithin l.log.entries l.log.told;
+  within : IsWithin l.log.entries l.log.trace;
   input : g.I.Source.faults l.input ≡ g.I.Source.faults l.fn.input;
   out : g.O.Sink.faults l.out ≡ g.O.Sink.faults l.fn.out;
 }

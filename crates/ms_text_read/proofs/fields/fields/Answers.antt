@@ -1,7 +1,7 @@
 use Rattle.std.proofs.Common.{◌≡◌, List, ap, inl, inr, Ok, Err, Result}
 use Rattle.ms_text_grammar.specs.declared.fault.TextFault.{TextFault}
 use Rattle.ms_text_grammar.specs.declared.surface.Field.{Field}
-use Rattle.ms_text_read.proofs.Stops.{is_told, no_answer, one_answer, stops_none}
+use Rattle.ms_text_read.proofs.Stops.{is_first, no_answer, one_answer, stops_none}
 use Rattle.ms_text_read.proofs.fields.fields.Goals as goal
 
 abbrev answered : TextFault → Result (List Field) TextFault
@@ -21,7 +21,7 @@ returns-in-Err-clause-only c = λ f h. inr (ap answered (no_answer c.args.source
 
 pub returns-in-Err-clause-stops : goal.returns-in-Err-clause-stops
 returns-in-Err-clause-stops c = λ f h.
-    elim (is_told c.args.source.now c.args.tokens.now c.in-Err.fault f c.in-Err.ensures h) [
+    elim (is_first c.args.source.now c.args.tokens.now c.in-Err.fault f c.in-Err.ensures h) [
       | inl e ↦ inl (ap answered e)
       | inr e ↦ inr (ap answered e)
     ]

@@ -10,7 +10,7 @@ returns-in-Err c =
     let source = c.args.source.now in
     let tokens = c.args.tokens.now in
     let h : FailsBy (fault_of c.in-Err.stop) ((file source).read (length source) tokens) = rw (← c.new-c.ensures.source, ← c.new-c.ensures.left) c.in-Err.ensures in
-    fault_found source tokens (fault_of c.in-Err.stop) (fault_of c.with_depth.result) (fault_of c.told.result) h c.with_depth.ensures.found c.with_depth.ensures.memory c.told.ensures.found c.told.ensures.memory
+    fault_found source tokens (fault_of c.in-Err.stop) (fault_of c.with_depth.result) (fault_of c.with_mismatch.result) h c.with_depth.ensures.found c.with_depth.ensures.memory c.with_mismatch.ensures.found c.with_mismatch.ensures.memory
 
 pub returns-in-Ok-None : goal.returns-in-Ok-None
 returns-in-Ok-None c =

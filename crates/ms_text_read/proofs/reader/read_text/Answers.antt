@@ -6,20 +6,20 @@ use Rattle.ms_text_grammar.specs.declared.surface.Field.{Field}
 use Rattle.ms_text_grammar.specs.TextSpells.{FieldsSpelled}
 use Rattle.ms_text_grammar.proofs.Wholes.{file_is_whole}
 use Rattle.ms_text_read.specs.Answers.{Tells}
-use Rattle.ms_text_read.proofs.Texts.{lex_told, name_told, syntax_told}
+use Rattle.ms_text_read.proofs.Texts.{lex_tells, name_tells, syntax_tells}
 use Rattle.ms_text_read.proofs.reader.read_text.Goals as goal
 
 pub returns-in-Err : goal.returns-in-Err
 returns-in-Err c =
     let source = c.args.source.now in
-    subst (λ (e : TextFault). Tells source e) (sym c.lexing_fault.ensures) (lex_told source c.in-Err.fault c.in-Err.ensures.fault)
+    subst (λ (e : TextFault). Tells source e) (sym c.lexing_fault.ensures) (lex_tells source c.in-Err.fault c.in-Err.ensures.fault)
 
 pub returns-in-Err-fields : goal.returns-in-Err-fields
 returns-in-Err-fields c =
     let source = c.args.source.now in
     let tokens = c.as_slice.result.now in
     let lexed : Lexes source tokens = subst (λ (ts : List Token). Lexes source ts) (sym c.as_slice.ensures) c.in-Ok.ensures.found in
-    syntax_told source tokens c.in-Err-fields.fault lexed c.in-Err-fields.ensures.fault
+    syntax_tells source tokens c.in-Err-fields.fault lexed c.in-Err-fields.ensures.fault
 
 pub resolve-requires : goal.resolve-requires
 resolve-requires c =
@@ -34,4 +34,4 @@ returns c =
     let tokens = c.as_slice.result.now in
     let lexed : Lexes source tokens = subst (λ (ts : List Token). Lexes source ts) (sym c.as_slice.ensures) c.in-Ok.ensures.found in
     let spelled = subst (λ (fs : List Field). FieldsSpelled source tokens fs) (sym c.as_slice-2.ensures) c.in-Ok-fields.ensures.found in
-    name_told source tokens c.as_slice-2.result.now c.in-Err-resolve.fault lexed spelled c.in-Err-resolve.ensures
+    name_tells source tokens c.as_slice-2.result.now c.in-Err-resolve.fault lexed spelled c.in-Err-resolve.ensures

@@ -31,7 +31,7 @@ returns-in-Ok-Check g c =
     let asked = it.ensures.answers ∙ ap (λ (r : Request). Some (view r)) it.field-0-is in
     let input = some_input (g.I.Source.left c.args.input.now) in
     let e = c.check_file.ensures in
-    check_responded words _ _ _ input.0 input.1 it.file.now c.check_file.result asked e.told (e.input.0, e.input.1, e.out.0, e.out.1)
+    check_responded words _ _ _ input.0 input.1 it.file.now c.check_file.result asked e.printed (e.input.0, e.input.1, e.out.0, e.out.1)
 
 pub returns-in-Ok-Asm : goal.returns-in-Ok-Asm
 returns-in-Ok-Asm g c =
@@ -58,7 +58,7 @@ returns-in-Ok-Judge g c =
     let asked = it.ensures.answers ∙ ap (λ (r : Request). Some (view r)) it.field-0-is in
     let input = some_input (g.I.Source.left c.args.input.now) in
     let e = c.judge.ensures in
-    judge_responded words _ _ _ input.0 input.1 it.file.now it.memory c.judge.result asked e.told (e.input.0, e.input.1, e.out.0, e.out.1)
+    judge_responded words _ _ _ input.0 input.1 it.file.now it.memory c.judge.result asked e.printed (e.input.0, e.input.1, e.out.0, e.out.1)
 
 pub returns-in-Err-Refused : goal.returns-in-Err-Refused
 returns-in-Err-Refused g c =

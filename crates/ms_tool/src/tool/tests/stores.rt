@@ -62,7 +62,7 @@ dump 2 32 32 heap 00000000000000000000000000000000000000000000000000000000000000
 ];
 
 /// What comes of a job over stores of these kinds that runs these instructions: its status, and its report.
-fn told<G: Gaps, T: Tagged>(alloc: Global, code: &str) -> Result<(Status, MemSink), Fail> {
+fn printed<G: Gaps, T: Tagged>(alloc: Global, code: &str) -> Result<(Status, MemSink), Fail> {
     let text = format!(in alloc;
         "(func (export \"main\") (local $h handle) (local $g handle) {code})"
     )?;
@@ -72,7 +72,7 @@ fn told<G: Gaps, T: Tagged>(alloc: Global, code: &str) -> Result<(Status, MemSin
         mut shelf,
         mut input,
         mut out,
-        report: mut told,
+        report: mut printed,
     } = world;
     let given = run_job::<G, T, MemShelf, MemSource, MemSink, MemSink>(
         alloc,
@@ -81,31 +81,31 @@ fn told<G: Gaps, T: Tagged>(alloc: Global, code: &str) -> Result<(Status, MemSin
         &mut shelf,
         &mut input,
         &mut out,
-        &mut told,
+        &mut printed,
     );
-    Ok((given, told))
+    Ok((given, printed))
 }
 
 /// Whether each row comes out so over stores of these kinds.
-fn expect_told<G: Gaps, T: Tagged>(
+fn expect_printed<G: Gaps, T: Tagged>(
     rt: &impl Abort,
     alloc: Global,
     rows: &[(&str, Status, &str)],
 ) -> Result<(), Fail> {
     for (code, status, report) in rows {
-        let (given, told) = told::<G, T>(alloc, code)?;
+        let (given, printed) = printed::<G, T>(alloc, code)?;
         assert_eq!(rt; given, *status, "{code}");
-        assert_eq!(rt; told.held(), report.as_bytes(), "the report of {code}");
+        assert_eq!(rt; printed.held(), report.as_bytes(), "the report of {code}");
     }
     Ok(())
 }
 
 #[test]
 fn the_plain_stores(rt: HostRuntime) -> Result<(), Fail> {
-    expect_told::<ListGaps, ByteTags>(&rt, rt.alloc(), &ROWS)
+    expect_printed::<ListGaps, ByteTags>(&rt, rt.alloc(), &ROWS)
 }
 
 #[test]
 fn the_stores_of_the_program(rt: HostRuntime) -> Result<(), Fail> {
-    expect_told::<TreeGaps, Granules>(&rt, rt.alloc(), &ROWS)
+    expect_printed::<TreeGaps, Granules>(&rt, rt.alloc(), &ROWS)
 }

@@ -4,7 +4,7 @@ use Rattle.ms_bin_grammar.specs.declared.fault.ReadFault.{ReadFault}
 use Rattle.ms_bin_grammar.specs.Module.{Stops as BinaryStops}
 use Rattle.ms_text_grammar.specs.declared.fault.TextFault.{TextFault}
 use Rattle.ms_text_grammar.specs.TextSpells.{Stops as TextStops, TextStop}
-use Rattle.ms_text_read.specs.Answers.{told as told_of}
+use Rattle.ms_text_read.specs.Answers.{error_of}
 use Rattle.ms_module.specs.declared.module.Module.{Module}
 use Rattle.ms_outside.specs.Shelf.{SameCounts}
 use Rattle.ms_rules.specs.Modules.{WellTyped}
@@ -14,7 +14,7 @@ use Rattle.ms_run.specs.Answers.{Found, HasBytes, Judges, Unloaded, invalid, jud
 use Rattle.ms_run.specs.Lines.{fault_words, refused_line, text_fault_words}
 use Rattle.ms_run.specs.Loading.{Binary, Form, IsInvalid, IsRead, Refuses, Spells, Text, Unread, binary, form_of, load_words, text}
 use Rattle.ms_run.specs.Observed.{Report, Shelved}
-use Rattle.ms_run.specs.Reporting.{KeepsFiles, Reports, ReportsFault, ReportsVerdict, Tells, no_verdict, told, untold, verdict_put}
+use Rattle.ms_run.specs.Reporting.{KeepsFiles, Reports, ReportsFault, ReportsVerdict, Tells, no_verdict, printed, unprinted, verdict_put}
 use Rattle.ms_run.specs.declared.loading.LoadFault.{LoadFault}
 use Rattle.ms_run.specs.declared.loading.LoadFault.TheVariants as faults
 use Rattle.ms_run.specs.declared.status.Status.{Status}
@@ -28,14 +28,14 @@ use Rattle.ms_run.proofs.Once.{never_both, never_wrong, one_module}
 pub unread_binary : (bytes : List ℕ) (fault : ReadFault) → IsRead fault → BinaryStops bytes fault → Unread bytes Binary (fault_words fault)
 unread_binary bytes fault is_read stops = binary fault stops
 
-pub unread_text : (bytes : List ℕ) (fault : TextFault) (why : TextStop) → told_of why ≡ fault → TextStops bytes why → Unread bytes Text (text_fault_words fault)
+pub unread_text : (bytes : List ℕ) (fault : TextFault) (why : TextStop) → error_of why ≡ fault → TextStops bytes why → Unread bytes Text (text_fault_words fault)
 unread_text bytes fault why is stops = subst (λ (f : TextFault). Unread bytes Text (text_fault_words f)) is (text why stops)
 
 module _ (Has : List ℕ → Found → Type 0) (what name bytes : List ℕ) (has : HasBytes Has name bytes) where
-  abbrev Untold : List ℕ → Type 0
-  Untold words = Unloaded Has what name Refused (refused_line what words)
+  abbrev Unprinted : List ℕ → Type 0
+  Unprinted words = Unloaded Has what name Refused (refused_line what words)
 
-  of_form : (form : Form) → form_of name ≡ form → (fault : LoadFault) → fault ≢ faults.Memory → Refuses form bytes fault → Untold (load_words fault)
+  of_form : (form : Form) → form_of name ≡ form → (fault : LoadFault) → fault ≢ faults.Memory → Refuses form bytes fault → Unprinted (load_words fault)
   of_form Binary is (faults.Read fault) not h = unread bytes has (subst (λ (f : Form). Unread bytes f (fault_words fault)) (sym is) (unread_binary bytes fault h.0 h.1))
   of_form Text is (faults.Read fault) not h = absurd h
   of_form Binary is (faults.Text fault) not h = absurd h
@@ -48,11 +48,11 @@ module _ (Has : List ℕ → Found → Type 0) (what name bytes : List ℕ) (has
   of_form Text is faults.Memory not h = absurd (not refl)
 
   -- it was put, after the file was read
-  pub fault_told : (s : Shelved) (r : Report) (result : Status) → SameCounts s.reads_old s.reads_new → KeepsFiles s → (fault : LoadFault) → Refuses (form_of name) bytes fault → ReportsFault what fault r result → Tells (Unloaded Has what name) s r result
-  fault_told s r result counts files (faults.Read fault) h reports = told Refused (refused_line what (fault_words fault)) (of_form (form_of name) refl (faults.Read fault) (λ e. let n = e in cc) h) (inr counts) files reports
-  fault_told s r result counts files (faults.Text fault) h reports = told Refused (refused_line what (text_fault_words fault)) (of_form (form_of name) refl (faults.Text fault) (λ e. let n = e in cc) h) (inr counts) files reports
-  fault_told s r result counts files (faults.Invalid refusal) h reports = told Refused (refused_line what (load_words (faults.Invalid refusal))) (of_form (form_of name) refl (faults.Invalid refusal) (λ e. let n = e in cc) h) (inr counts) files reports
-  fault_told s r result counts files faults.Memory h reports = subst (λ (x : Status). Tells (Unloaded Has what name) s r x) (sym reports.0) (untold counts files reports.1)
+  pub fault_printed : (s : Shelved) (r : Report) (result : Status) → SameCounts s.reads_old s.reads_new → KeepsFiles s → (fault : LoadFault) → Refuses (form_of name) bytes fault → ReportsFault what fault r result → Tells (Unloaded Has what name) s r result
+  fault_printed s r result counts files (faults.Read fault) h reports = printed Refused (refused_line what (fault_words fault)) (of_form (form_of name) refl (faults.Read fault) (λ e. let n = e in cc) h) (inr counts) files reports
+  fault_printed s r result counts files (faults.Text fault) h reports = printed Refused (refused_line what (text_fault_words fault)) (of_form (form_of name) refl (faults.Text fault) (λ e. let n = e in cc) h) (inr counts) files reports
+  fault_printed s r result counts files (faults.Invalid refusal) h reports = printed Refused (refused_line what (load_words (faults.Invalid refusal))) (of_form (form_of name) refl (faults.Invalid refusal) (λ e. let n = e in cc) h) (inr counts) files reports
+  fault_printed s r result counts files faults.Memory h reports = subst (λ (x : Status). Tells (Unloaded Has what name) s r x) (sym reports.0) (unprinted counts files reports.1)
 
 -- ---- why there is no module, and that it was put
 
@@ -85,7 +85,7 @@ refused_only Text bytes faults.Memory h m spelled well = refl
 
 -- ---- the verdict on a trace, and that it was put, after the file was read
 
-pub verdict_told : (Has : List ℕ → Found → Type 0) (name bytes : List ℕ) → HasBytes Has name bytes → (capacity : ℕ) (s : Shelved) (r : Report) → SameCounts s.reads_old s.reads_new → KeepsFiles s → (result : Status) → ReportsVerdict capacity bytes r result
+pub verdict_printed : (Has : List ℕ → Found → Type 0) (name bytes : List ℕ) → HasBytes Has name bytes → (capacity : ℕ) (s : Shelved) (r : Report) → SameCounts s.reads_old s.reads_new → KeepsFiles s → (result : Status) → ReportsVerdict capacity bytes r result
     → Tells (Judges Has name capacity) s r result
-verdict_told Has name bytes has capacity s r counts files result (verdict_put status line verdict reports) = told status line (judged bytes has verdict) (inr counts) files reports
-verdict_told Has name bytes has capacity s r counts files result (no_verdict kept) = untold counts files kept
+verdict_printed Has name bytes has capacity s r counts files result (verdict_put status line verdict reports) = printed status line (judged bytes has verdict) (inr counts) files reports
+verdict_printed Has name bytes has capacity s r counts files result (no_verdict kept) = unprinted counts files kept
