@@ -1,5 +1,6 @@
 -- The limits of the grammar.
 use Rattle.std.specs.Prelude.{ℕ}
+use Rattle.ms_module.specs.Bounds.{most_blocks, most_locals}
 
 -- How many blocks may be in one another, and how many locals a function may declare.
 pub record Bounds : Type 0 where
@@ -7,4 +8,4 @@ pub record Bounds : Type 0 where
   pub locals : ℕ
 
 abbrev pub usual : Bounds
-usual = record { blocks = 500; locals = 50000 }
+usual = record { blocks = most_blocks; locals = most_locals }

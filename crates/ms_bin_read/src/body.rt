@@ -13,14 +13,8 @@ use crate::steps::{Steps, run};
 use crate::types::block_type_of;
 use ms_bin_grammar::{Counted, ReadFault};
 use ms_bytes::Cursor;
-use ms_module::{Builder, Code, MOST_BLOCKS, Opening};
+use ms_module::{Builder, Code, ELSE_CODE, END_CODE, MOST_BLOCKS, Opening};
 use std::alloc::Global;
-
-/// The opcode of `else`.
-const ELSE: u8 = 0x05;
-
-/// The opcode of `end`.
-const END: u8 = 0x0B;
 
 /// Opens a block, behind its opcode at `at`.
 fn open(b: &mut Builder, at: usize, opening: Opening, c: &mut Cursor) -> Result<(), ReadFault>
@@ -52,14 +46,14 @@ fn turn_on(
         0x02 => open(b, at, Opening::Block, c),
         0x03 => open(b, at, Opening::Loop, c),
         0x04 => open(b, at, Opening::If, c),
-        ELSE => {
+        ELSE_CODE => {
             if !b.may_turn() {
                 return Err(ReadFault::Malformed { at });
             }
             b.turn();
             Ok(())
         }
-        END => {
+        END_CODE => {
             if b.depth() == 0 {
                 return Err(ReadFault::Malformed { at });
             }
@@ -80,7 +74,7 @@ impl Steps for Builder {
     ghost step = { turn usual.blocks };
 
     fn goes(&self, c: &Cursor) -> bool {
-        self.depth() > 0 || !c.next_is(END)
+        self.depth() > 0 || !c.next_is(END_CODE)
     }
 
     #[tactic(auto, unfolding(ms_bin_grammar::specs::Body::turn))]
@@ -98,6 +92,6 @@ pub fn body_of(alloc: Global, c: &mut Cursor) -> Result<Code, ReadFault>
 {
     let first = Builder::new(alloc)?;
     let built = run(alloc, first, c)?;
-    marks_of(&[END], c)?;
+    marks_of(&[END_CODE], c)?;
     Ok(built.finish())
 }

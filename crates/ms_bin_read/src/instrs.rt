@@ -13,7 +13,8 @@ use ms_bin_grammar::ReadFault;
 use ms_bytes::Cursor;
 use ms_handle::Kind;
 use ms_module::{
-    BrTable, Instr, Linear, LoadOp, MemArg, Numeric, Segment, StoreOp, Targets, is_float_opcode,
+    BrTable, Instr, Linear, LoadOp, MemArg, Numeric, PREFIX, Segment, StoreOp, Targets,
+    is_float_opcode,
 };
 use std::alloc::Global;
 
@@ -107,7 +108,7 @@ fn operation_of(at: usize, code: u8, c: &mut Cursor) -> Result<Instr, ReadFault>
     if let Some(op) = StoreOp::from_opcode(code) {
         return Ok(Instr::Linear(Linear::Store(op, mem_arg_of(c)?)));
     }
-    if code == 0xE0 {
+    if code == PREFIX {
         return second_of(at, c);
     }
     if is_float_opcode(code) {

@@ -10,14 +10,8 @@ use crate::items::{Item, write_vec};
 use crate::opcodes::{block_type_code, kind_code, opcode, opening_code, segment_code};
 use ms_flat::{Step, Walk};
 use ms_leb::{write_s, write_u};
-use ms_module::{BrTable, Code, Instr, Linear, MemArg, Segment};
+use ms_module::{BrTable, Code, ELSE_CODE, END_CODE, Instr, Linear, MemArg, Segment};
 use std::alloc::{AllocError, Global};
-
-/// The opcode of `else`.
-const ELSE: u8 = 0x05;
-
-/// The opcode of `end`.
-const END: u8 = 0x0B;
 
 /// Writes the alignment and the offset of an access.
 fn write_mem_arg(arg: MemArg, out: &mut Vec<u8>) -> Result<(), AllocError>
@@ -114,11 +108,11 @@ fn write_step(alloc: Global, step: Step<'_>, out: &mut Vec<u8>) -> Result<(), Al
             Ok(())
         }
         Step::Else => {
-            out.push(ELSE)?;
+            out.push(ELSE_CODE)?;
             Ok(())
         }
         Step::End => {
-            out.push(END)?;
+            out.push(END_CODE)?;
             Ok(())
         }
     }
@@ -136,7 +130,7 @@ impl Item for Code {
         while let Some(step) = walk.next()? {
             write_step(alloc, step, out)?;
         }
-        out.push(END)?;
+        out.push(END_CODE)?;
         Ok(())
     }
 }

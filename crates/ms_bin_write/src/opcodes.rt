@@ -15,7 +15,7 @@ use ms_module::RelOp::*;
 use ms_module::StoreOp::{self, *};
 use ms_module::UnOp::*;
 use ms_module::Width::{W32, W64};
-use ms_module::{Instr, Linear, Opening, Segment};
+use ms_module::{Instr, Linear, Opening, PREFIX, Segment};
 use ms_types::ValType;
 
 /// The code of a value type.
@@ -267,6 +267,6 @@ pub fn opcode(instr: &Instr) -> u8
         Instr::I64Const(_) => 0x42,
         Instr::Numeric(op) => numeric_code(*op),
         Instr::Linear(instr) => linear_code(*instr),
-        Instr::Segment(_) => 0xE0,
+        Instr::Segment(_) => PREFIX,
     }
 }

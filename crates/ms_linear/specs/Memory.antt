@@ -1,5 +1,6 @@
 -- The linear memory as a plain list of bytes (WebAssembly 1.0, 4.2.8 and 4.4.4).
 use Rattle.ms_bytes.specs.Little.{bytes_of, number_of}
+use Rattle.ms_types.specs.Page.{page}
 use Rattle.std.specs.Prelude.{◌≡◌, ◌≤◌, ◌⊎◌, ℕ, ◌+◌, ◌*◌, ◌/◌, List, ◌++◌, length, take, drop, replicate, Option, Some, None}
 
 -- its bytes, and the greatest number of pages that it may have, if one is set
@@ -7,10 +8,7 @@ pub record Memory : Type 0 where
   pub bytes : List ℕ
   pub max : Option ℕ
 
--- how many bytes a page has, and how many pages a memory may have at most
-abbrev pub page : ℕ
-page = 65536
-
+-- how many pages a memory may have at most
 abbrev pub most_pages : ℕ
 most_pages = 1024
 

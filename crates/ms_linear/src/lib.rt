@@ -12,7 +12,7 @@ mod table;
 mod value;
 
 pub use global::GlobalInst;
-pub use memory::{Linear, MOST_PAGES, Outside, PAGE};
+pub use memory::{Linear, MOST_PAGES, Outside};
 pub use operands::{Cell, Operands};
 pub use table::{CallTrap, Entry, FuncRef, MOST_ENTRIES, Table, target};
 pub use value::Value;

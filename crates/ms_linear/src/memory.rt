@@ -1,15 +1,13 @@
 //! The linear memory.
 
 ghost use Rattle.std.specs.Prelude.{◌≡◌, ◌^◌, ◌<◌, ◌≤◌, ◌+◌, ◌*◌, ◌++◌, ◌↔◌, IfOk, IsTrue, MatchOption, MatchResult, OnErr, drop, length, replicate, take};
-ghost use Rattle.ms_linear.specs.Memory.{IsInside, IsWidth, MayGrow, grown, loaded, most_pages, page, pages, stored};
+ghost use Rattle.ms_types.specs.Page.{page};
+ghost use Rattle.ms_linear.specs.Memory.{IsInside, IsWidth, MayGrow, grown, loaded, most_pages, pages, stored};
 
 use crate::number::{read_1, read_2, read_4, read_8, write_1, write_2, write_4, write_8};
-use ms_types::Limits;
+use ms_types::{Limits, PAGE};
 use std::alloc::{AllocError, Global};
 use std::marker::Model;
-
-/// How many bytes a page of a linear memory has (WebAssembly 1.0, 4.2.8).
-pub const PAGE: usize = 65_536;
 
 /// How many pages a linear memory may have at most.
 pub const MOST_PAGES: u32 = 1_024;
@@ -27,7 +25,8 @@ pub struct Linear {
 
 impl Model for Linear {
     ghost use Rattle.std.specs.Prelude.{◌≡◌, ◌≤◌, ◌%◌, ◌*◌, length};
-    ghost use Rattle.ms_linear.specs.Memory.{Memory, most_pages, page};
+    ghost use Rattle.ms_types.specs.Page.{page};
+    ghost use Rattle.ms_linear.specs.Memory.{Memory, most_pages};
 
     ghost Value = { Memory };
 

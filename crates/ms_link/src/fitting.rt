@@ -2,16 +2,16 @@
 
 ghost use Rattle.std.specs.Prelude.{◌≡◌, ◌≤◌, ◌+◌, ◌*◌, ◌↔◌, IsTrue, length};
 ghost use Rattle.ms_link.specs.Answers.{Tests};
-ghost use Rattle.ms_linear.specs.Memory.{page};
+ghost use Rattle.ms_types.specs.Page.{page};
 ghost use Rattle.ms_machine.specs.Linked as linked;
 ghost use Rattle.ms_machine.specs.Store.{at};
 
 use crate::constant::{constant, index_of};
 use crate::fault::{LinkFault, refused};
-use ms_linear::{GlobalInst, Linear, MOST_ENTRIES, MOST_PAGES, PAGE, Table};
+use ms_linear::{GlobalInst, Linear, MOST_ENTRIES, MOST_PAGES, Table};
 use ms_machine::{Instance, Why};
 use ms_module::{Element, Fill};
-use ms_types::Limits;
+use ms_types::{Limits, PAGE};
 
 /// Whether all of these have a size at the beginning of at most so much.
 fn test_sizes(number: usize, item: usize, most: u32, limits: &[Limits]) -> Result<(), LinkFault>

@@ -8,6 +8,12 @@ use std::alloc::{AllocError, Global};
 /// How many segments may be live at once.
 pub const MOST_LIVE: u32 = 65_536;
 
+/// Each segment, and so each gap, begins at a multiple of this.
+pub const ALIGNMENT: u64 = 16;
+
+/// How many levels a tree has that has the keys of all gaps: a multiple of 16 up to 2^32, by 16.
+pub const GAP_LEVELS: u32 = 30;
+
 /// A live segment.
 #[derive(Clone, Copy, Debug, PartialEq, Eq)]
 pub struct Live {

@@ -4,10 +4,7 @@ ghost use Rattle.std.specs.Prelude.{◌≡◌, ◌+◌, ◌<◌, ◌^◌, find};
 ghost use Rattle.ms_live.specs.Overlap.{overlaps};
 ghost use Rattle.ms_live.specs.Place.{IsPlace};
 
-use crate::gaps::Live;
-
-/// Each segment begins at a multiple of this.
-const STEP: u64 = 16;
+use crate::gaps::{ALIGNMENT, Live};
 
 /// The least multiple of 16 at which `n` addresses below `capacity` lie in no segment of the list.
 pub(crate) fn least_place(live: &[Live], capacity: u32, n: u32) -> Option<u32>
@@ -21,7 +18,7 @@ pub(crate) fn least_place(live: &[Live], capacity: u32, n: u32) -> Option<u32>
     while candidate + size <= u64::from(capacity) {
         match overlapped(live, candidate, size) {
             None => return Some(candidate as u32),
-            Some(segment) => candidate = end(segment).next_multiple_of(STEP),
+            Some(segment) => candidate = end(segment).next_multiple_of(ALIGNMENT),
         }
     }
     None

@@ -12,6 +12,6 @@ mod list_gaps;
 mod order;
 mod tree_gaps;
 
-pub use gaps::{Gaps, Live, MOST_LIVE};
+pub use gaps::{ALIGNMENT, GAP_LEVELS, Gaps, Live, MOST_LIVE};
 pub use list_gaps::ListGaps;
 pub use tree_gaps::TreeGaps;

@@ -6,18 +6,12 @@ ghost use Rattle.ms_live.specs.Kept.{looked_at};
 ghost use Rattle.ms_live.specs.Layout.{Begins, Ends, IsBegun, behind};
 ghost use Rattle.ms_live.specs.Place.{IsPlace};
 
-use crate::gaps::{Gaps, Live, MOST_LIVE};
+use crate::gaps::{ALIGNMENT, GAP_LEVELS, Gaps, Live, MOST_LIVE};
 use crate::ids::Ids;
 use ms_gap_tree::{Item, Rooms, Steps};
 use std::alloc::{AllocError, Global};
 use std::marker::{Brand, Model};
 use std::sync::ledger::{Blank, Ledger};
-
-/// Each gap begins at a multiple of this.
-const STEP: u64 = 16;
-
-/// A tree of 30 levels has the keys of all gaps: a multiple of 16 up to 2^32, by 16.
-const LEVELS: u32 = 30;
 
 /// The live segments as a tree by identity, and the gaps between them as a tree by address. Each call goes down these
 /// trees, and none goes through all segments.
@@ -42,7 +36,7 @@ impl Model for TreeGaps {
 fn behind(segment: Live) -> u64
     ensures { result ≡ behind segment }
 {
-    (u64::from(segment.base) + u64::from(segment.size) + STEP - 1) / STEP
+    (u64::from(segment.base) + u64::from(segment.size) + ALIGNMENT - 1) / ALIGNMENT
 }
 
 /// A segment begins at the gap of its place: that has no room then, and behind the segment is what is left of it. One of
@@ -61,12 +55,12 @@ fn begin(rooms: &mut Rooms, segment: Live)
     if segment.size == 0 {
         return;
     }
-    let key = u64::from(segment.base) / STEP;
+    let key = u64::from(segment.base) / ALIGNMENT;
     let Some(room) = rooms.find(key) else {
         unreachable!()
     };
     let next = behind(segment);
-    let left = (STEP * key + room).saturating_sub(STEP * next);
+    let left = (ALIGNMENT * key + room).saturating_sub(ALIGNMENT * next);
     rooms.cut(
         key,
         Item {
@@ -92,18 +86,18 @@ fn end(rooms: &mut Rooms, capacity: u32, segment: Live)
     if segment.size == 0 {
         return;
     }
-    let Some(before) = rooms.last(u64::from(segment.base) / STEP) else {
+    let Some(before) = rooms.last(u64::from(segment.base) / ALIGNMENT) else {
         unreachable!()
     };
     let next = behind(segment);
     let Some(rest) = rooms.find(next) else {
         unreachable!()
     };
-    let to = (STEP * next + rest).min(u64::from(capacity));
+    let to = (ALIGNMENT * next + rest).min(u64::from(capacity));
     rooms.remove(next);
     rooms.replace(Item {
         key: before.key,
-        room: to - STEP * before.key,
+        room: to - ALIGNMENT * before.key,
     });
 }
 
@@ -130,7 +124,7 @@ impl TreeGaps {
             return Some(0);
         }
         let key = self.rooms.lowest(u64::from(n), steps)?;
-        Some((STEP * key) as u32)
+        Some((ALIGNMENT * key) as u32)
     }
 }
 
@@ -140,7 +134,7 @@ impl Gaps for TreeGaps {
     ghost live = { λ gaps. gaps.live };
 
     fn new(alloc: Global, capacity: u32) -> Result<Self, AllocError> {
-        let mut rooms = Rooms::new(alloc, LEVELS, MOST_LIVE + 1)?;
+        let mut rooms = Rooms::new(alloc, GAP_LEVELS, MOST_LIVE + 1)?;
         rooms.insert(Item {
             key: 0,
             room: u64::from(capacity),

@@ -1,10 +1,11 @@
 -- Tables and linear memories at the beginning, and elements and data that are written into them (WebAssembly 1.0, 4.5.4).
 use Rattle.std.specs.Prelude.{ℕ, ◌+◌, ◌*◌, List, ◌++◌, drop, length, replicate, slice_get, slice_set, take, Option, Some, None}
 use Rattle.ms_linear.specs.declared.table.Entry.{Entry}
-use Rattle.ms_linear.specs.Memory.{Memory as Linear, page}
+use Rattle.ms_linear.specs.Memory.{Memory as Linear}
 use Rattle.ms_linear.specs.Table.{Table}
 use Rattle.ms_task.specs.declared.func.FuncInst.{FuncInst}
 use Rattle.ms_types.specs.declared.types.Limits.{Limits}
+use Rattle.ms_types.specs.Page.{page}
 
 -- these items stand from a place on, and all others are as before
 abbrev pub written : {A : Type 0} → ℕ → List A → List A → List A

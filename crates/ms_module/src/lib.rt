@@ -29,4 +29,4 @@ pub use locals::{Locals, Run};
 pub use module::{Element, Export, ExportDesc, Fill, Func, Global, Import, ImportDesc, Module};
 pub use name::Name;
 pub use numeric::{BinOp, Numeric, RelOp, UnOp, Width};
-pub use opcode::{is_float_opcode, is_float_type, val_type_from_code};
+pub use opcode::{ELSE_CODE, END_CODE, PREFIX, is_float_opcode, is_float_type, val_type_from_code};

@@ -1,4 +1,4 @@
-//! What the readers of both formats allow. The definitions have the same limits in `ms_bin_grammar/specs/Bounds.antt`.
+//! What the readers of both formats allow. The definitions have the same in `specs/Bounds.antt`.
 
 /// How many blocks may be in one another.
 pub const MOST_BLOCKS: usize = 500;

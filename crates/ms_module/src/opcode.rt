@@ -1,11 +1,10 @@
 //! The instructions by their opcodes (WebAssembly 1.0, 5.4), as the one table of them has it.
 
 ghost use Rattle.std.specs.Prelude.{◌≡◌};
-ghost use Rattle.ms_module.specs.Instructions.{by_code, is_float, is_float_type, load_rows, numeric_rows, opening_rows, segment_load_rows, segment_store_rows, store_rows, value_rows};
+ghost use Rattle.ms_module.specs.Instructions.{by_code, is_float, is_float_type, load_rows, numeric_rows, segment_load_rows, segment_store_rows, store_rows, value_rows};
 
 use crate::access::LoadOp::{self, *};
 use crate::access::StoreOp::{self, *};
-use crate::builder::Opening;
 use crate::numeric::BinOp::*;
 use crate::numeric::Numeric::{self, *};
 use crate::numeric::RelOp::*;
@@ -13,20 +12,14 @@ use crate::numeric::UnOp::*;
 use crate::numeric::Width::{W32, W64};
 use ms_types::ValType;
 
-impl Opening {
-    /// What this opcode opens, if it opens a block.
-    #[tactic(auto, unfolding(crate::specs::Instructions::opening_rows))]
-    pub fn from_opcode(code: u8) -> Option<Self>
-        ensures { result ≡ by_code opening_rows code }
-    {
-        Some(match code {
-            0x02 => Opening::Block,
-            0x03 => Opening::Loop,
-            0x04 => Opening::If,
-            _ => return None,
-        })
-    }
-}
+/// The opcode of `else` (WebAssembly 1.0, 5.4.1).
+pub const ELSE_CODE: u8 = 0x05;
+
+/// The opcode of `end` (WebAssembly 1.0, 5.4.1).
+pub const END_CODE: u8 = 0x0B;
+
+/// The opcode of each instruction on handles and segments, in front of a second byte.
+pub const PREFIX: u8 = 0xE0;
 
 impl Numeric {
     /// The numeric instruction of this opcode, but for constants.

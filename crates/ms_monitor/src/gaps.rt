@@ -6,17 +6,15 @@ ghost use Rattle.ms_live.specs.Layout as layout;
 ghost use Rattle.ms_monitor.specs.Gaps.{IsBefore, IsNear, Splits, back, segment};
 
 use ms_gap_tree::{Item, Rooms, Steps};
+use ms_live::ALIGNMENT;
 use std::marker::Brand;
 use std::sync::ledger::{Blank, Ledger};
-
-/// Each gap begins at a multiple of this.
-const STEP: u64 = 16;
 
 /// The key of the gap behind an allocation.
 fn back(base: u32, size: u32) -> u64
     ensures { result ≡ back base size }
 {
-    (u64::from(base) + u64::from(size) + STEP - 1) / STEP
+    (u64::from(base) + u64::from(size) + ALIGNMENT - 1) / ALIGNMENT
 }
 
 /// The last gap that begins at the address or before it.
@@ -24,7 +22,7 @@ pub(crate) fn gap_before(rooms: &Rooms, address: u32) -> Item
     requires { IsSome (room_at rooms.now 0) }
     ensures { IsBefore (room_at rooms.now) address result.key result.room }
 {
-    let Some(gap) = rooms.last(u64::from(address) / STEP) else {
+    let Some(gap) = rooms.last(u64::from(address) / ALIGNMENT) else {
         unreachable!()
     };
     gap
@@ -35,7 +33,7 @@ pub(crate) fn reaches(gap: Item, base: u32, size: u32) -> bool
     requires { 16 * gap.key + gap.room ≤ 2 ^ 32 }
     ensures { IsTrue result ↔ (0 < size → base + size ≤ 16 * gap.key + gap.room) }
 {
-    size == 0 || u64::from(base) + u64::from(size) <= STEP * gap.key + gap.room
+    size == 0 || u64::from(base) + u64::from(size) <= ALIGNMENT * gap.key + gap.room
 }
 
 /// An allocation begins in the gap, which ends there; behind the allocation begins another. One of no bytes changes nothing.
@@ -58,11 +56,11 @@ pub(crate) fn split(rooms: &mut Rooms, gap: Item, base: u32, size: u32)
     let next = back(base, size);
     rooms.replace(Item {
         key: gap.key,
-        room: u64::from(base) - STEP * gap.key,
+        room: u64::from(base) - ALIGNMENT * gap.key,
     });
     rooms.insert(Item {
         key: next,
-        room: (STEP * gap.key + gap.room).saturating_sub(STEP * next),
+        room: (ALIGNMENT * gap.key + gap.room).saturating_sub(ALIGNMENT * next),
     });
 }
 
@@ -87,11 +85,11 @@ pub(crate) fn join(rooms: &mut Rooms, capacity: u32, base: u32, size: u32)
     let Some(rest) = rooms.find(next) else {
         unreachable!()
     };
-    let to = (STEP * next + rest).min(u64::from(capacity));
+    let to = (ALIGNMENT * next + rest).min(u64::from(capacity));
     rooms.remove(next);
     rooms.replace(Item {
         key: before.key,
-        room: to - STEP * before.key,
+        room: to - ALIGNMENT * before.key,
     });
 }
 

@@ -12,14 +12,9 @@ use crate::gaps::{gap_before, has_room, join, reaches, split};
 use crate::shades::{Part, Shades};
 use ms_event::Event;
 use ms_gap_tree::{Item, Rooms};
+use ms_live::{GAP_LEVELS, MOST_LIVE};
 use std::alloc::{AllocError, Global};
 use std::marker::Model;
-
-/// How many allocations may be live at once.
-const MOST_LIVE: u32 = 65_536;
-
-/// A tree of 30 levels has the keys of all gaps: a multiple of 16 up to 2^32, by 16.
-const LEVELS: u32 = 30;
 
 /// Why a monitor doesn't go on.
 #[derive(Clone, Copy, Debug, PartialEq, Eq)]
@@ -56,7 +51,7 @@ impl Monitor {
         ensures shows { IfOk result (λ m. Shows m nothing_yet) }
         ensures capacity { IfOk result (λ m. m.capacity ≡ capacity) }
     {
-        let mut rooms = Rooms::new(alloc, LEVELS, MOST_LIVE + 1)?;
+        let mut rooms = Rooms::new(alloc, GAP_LEVELS, MOST_LIVE + 1)?;
         rooms.insert(Item {
             key: 0,
             room: u64::from(capacity),

@@ -1,6 +1,7 @@
 //! Bodies (WebAssembly 1.0, 6.5.8 and 6.6.5).
 
 ghost use Rattle.std.specs.Prelude.{◌≡◌, length};
+ghost use Rattle.ms_text_grammar.specs.Bounds.{usual};
 ghost use Rattle.ms_text_grammar.specs.Bodies.{body, body_goes, folded_body, inside_goes, turn};
 ghost use Rattle.ms_bytes.specs.Runs.{run_at};
 ghost use Rattle.ms_text_grammar.specs.Faults.{bad};
@@ -18,7 +19,7 @@ use std::marker::Model;
 /// Takes a turn.
 #[tactic(auto, unfolding(ms_text_grammar::specs::Bodies::turn))]
 fn turned(work: Work, c: &mut Words) -> Result<Work, TextFault>
-    ensures { Reads c.old c.new result ((turn c.old.source 500 work).read (length c.old.source) c.old.left) }
+    ensures { Reads c.old c.new result ((turn c.old.source usual.blocks work).read (length c.old.source) c.old.left) }
 {
     let mut work = work;
     let sign = sign_of(c);
@@ -41,9 +42,9 @@ impl Model for Whole {
 }
 
 impl Steps for Whole {
-    ghost going = { λ source st s. body_goes source 500 st s };
+    ghost going = { λ source st s. body_goes source usual.blocks st s };
 
-    ghost step = { λ source st. turn source 500 st };
+    ghost step = { λ source st. turn source usual.blocks st };
 
     fn goes(&self, c: &Words) -> bool {
         !(self.work.is_closed() && next_closes(c))
@@ -71,9 +72,9 @@ impl Model for Inside {
 }
 
 impl Steps for Inside {
-    ghost going = { λ source st s. inside_goes source 500 st s };
+    ghost going = { λ source st s. inside_goes source usual.blocks st s };
 
-    ghost step = { λ source st. turn source 500 st };
+    ghost step = { λ source st. turn source usual.blocks st };
 
     fn goes(&self, _c: &Words) -> bool {
         !self.work.is_closed()
@@ -89,7 +90,7 @@ impl Steps for Inside {
 /// Takes a body, up to the parenthesis that closes what it stands in. At most 500 blocks are in one another.
 #[tactic(auto, unfolding(ms_text_grammar::specs::Bodies::body))]
 pub fn body(alloc: Global, c: &mut Words) -> Result<Body, TextFault>
-    ensures { Reads c.old c.new result ((body c.old.source 500).read (length c.old.source) c.old.left) }
+    ensures { Reads c.old c.new result ((body c.old.source usual.blocks).read (length c.old.source) c.old.left) }
 {
     let first = Whole {
         work: Work::new(alloc),
@@ -100,7 +101,7 @@ pub fn body(alloc: Global, c: &mut Words) -> Result<Body, TextFault>
 
 /// Takes a parenthesis and what stands behind it, in a body of its own.
 fn first_folded(alloc: Global, c: &mut Words) -> Result<Work, TextFault>
-    ensures { Reads c.old c.new result ((folded c.old.source 500 first_state).read (length c.old.source) c.old.left) }
+    ensures { Reads c.old c.new result ((folded c.old.source usual.blocks first_state).read (length c.old.source) c.old.left) }
 {
     let mut work = Work::new(alloc);
     folded(&mut work, c)?;
@@ -109,7 +110,7 @@ fn first_folded(alloc: Global, c: &mut Words) -> Result<Work, TextFault>
 
 /// Takes turns while frames are open.
 fn to_the_end(work: Work, c: &mut Words) -> Result<Work, TextFault>
-    ensures { Reads c.old c.new result (run_at (bad c.old.source) (inside_goes c.old.source 500) (turn c.old.source 500) (length c.old.left) work (length c.old.source) c.old.left) }
+    ensures { Reads c.old c.new result (run_at (bad c.old.source) (inside_goes c.old.source usual.blocks) (turn c.old.source usual.blocks) (length c.old.left) work (length c.old.source) c.old.left) }
 {
     let Inside { work } = run(Inside { work }, c)?;
     Ok(work)
@@ -118,7 +119,7 @@ fn to_the_end(work: Work, c: &mut Words) -> Result<Work, TextFault>
 /// Takes one folded instruction, with its operands.
 #[tactic(auto, unfolding(ms_text_grammar::specs::Bodies::folded_body))]
 pub fn folded_body(alloc: Global, c: &mut Words) -> Result<Body, TextFault>
-    ensures { Reads c.old c.new result ((folded_body c.old.source 500).read (length c.old.source) c.old.left) }
+    ensures { Reads c.old c.new result ((folded_body c.old.source usual.blocks).read (length c.old.source) c.old.left) }
 {
     let first = first_folded(alloc, c)?;
     let last = to_the_end(first, c)?;

@@ -3,19 +3,17 @@
 ghost use Rattle.std.specs.Prelude.{◌≡◌, length, codes};
 ghost use Rattle.std.specs.Str.{bytes_eq};
 ghost use Rattle.ms_module.specs.Instructions.{by_word, opening_rows};
+ghost use Rattle.ms_text_grammar.specs.Bounds.{usual};
 ghost use Rattle.ms_text_grammar.specs.Turns.{heading, is_label, marked, repeated, sign_of, word_sign};
 ghost use Rattle.ms_text_parts.specs.Readers.{Reads};
 
-use ms_module::Opening;
+use ms_module::{MOST_BLOCKS, Opening};
 use ms_text_grammar::{Counted, Sign, TextFault, Word};
 use ms_text_lex::{Token, text_of};
 use ms_text_parts::{
     Words, bad, block_type, is_close, is_keyword, is_open, next_is_id, optional_id,
 };
 use ms_types::ValType;
-
-/// How many blocks may be in one another.
-const MOST_BLOCKS: usize = 500;
 
 #[tactic(auto, unfolding(ms_module::specs::Instructions::opening_rows))]
 fn opening_word(text: &[u8]) -> Option<Opening>
@@ -74,7 +72,7 @@ pub fn sign_of(c: &Words) -> Sign
 /// Takes the keyword of a block, its label and its type, where so many blocks are open.
 #[tactic(auto, unfolding(ms_text_grammar::specs::Turns::heading))]
 pub fn heading(blocks: usize, c: &mut Words) -> Result<(Option<Token>, Option<ValType>), TextFault>
-    ensures { Reads c.old c.new result ((heading c.old.source 500 blocks).read (length c.old.source) c.old.left) }
+    ensures { Reads c.old c.new result ((heading c.old.source usual.blocks blocks).read (length c.old.source) c.old.left) }
 {
     if blocks >= MOST_BLOCKS {
         return Err(TextFault::Limit {
@@ -96,7 +94,7 @@ pub fn heading(blocks: usize, c: &mut Words) -> Result<(Option<Token>, Option<Va
 
 /// Whether a token is the identifier of a label.
 fn is_label(source: &[u8], label: Option<Token>, token: Token) -> bool
-    ensures { result ≡ is_label source.now 500 label token }
+    ensures { result ≡ is_label source.now usual.blocks label token }
 {
     match label {
         None => false,
@@ -107,7 +105,7 @@ fn is_label(source: &[u8], label: Option<Token>, token: Token) -> bool
 /// Takes a label again, if there is an identifier.
 #[tactic(auto, unfolding(ms_text_grammar::specs::Turns::repeated, ms_text_grammar::specs::Turns::repeated_by))]
 pub fn repeated(label: Option<Token>, c: &mut Words) -> Result<(), TextFault>
-    ensures { Reads c.old c.new result ((repeated c.old.source 500 label).read (length c.old.source) c.old.left) }
+    ensures { Reads c.old c.new result ((repeated c.old.source usual.blocks label).read (length c.old.source) c.old.left) }
 {
     if !next_is_id(c) {
         return Ok(());

@@ -2,6 +2,7 @@
 
 ghost use Rattle.std.specs.Prelude.{◌≡◌, ◌∷◌, length};
 ghost use Rattle.ms_module.specs.Instructions.{else_word, end_word};
+ghost use Rattle.ms_text_grammar.specs.Bounds.{usual};
 ghost use Rattle.ms_text_grammar.specs.Turns.{closed, condition, condition_on, else_arm, ended, flat_block, flat_else, flat_plain, folded, folded_block, folded_on, folded_plain, framed, given, instructions, marked, sign_of, turn_on};
 ghost use Rattle.ms_text_parts.specs.Readers.{Turns};
 
@@ -17,7 +18,7 @@ use ms_types::ValType;
 /// Takes the head of a flat block.
 #[tactic(auto, unfolding(ms_text_grammar::specs::Turns::flat_block))]
 fn flat_block(w: &mut Work, opening: Opening, c: &mut Words) -> Result<(), TextFault>
-    ensures { Turns w.new c.old c.new result ((flat_block c.old.source 500 w.old opening).read (length c.old.source) c.old.left) }
+    ensures { Turns w.new c.old c.new result ((flat_block c.old.source usual.blocks w.old opening).read (length c.old.source) c.old.left) }
 {
     let (label, ty) = heading(w.blocks(), c)?;
     w.enter(Frame::Flat {
@@ -31,7 +32,7 @@ fn flat_block(w: &mut Work, opening: Opening, c: &mut Words) -> Result<(), TextF
 /// Takes an instruction that is no block.
 #[tactic(auto, unfolding(ms_text_grammar::specs::Turns::flat_plain))]
 fn flat_plain(w: &mut Work, c: &mut Words) -> Result<(), TextFault>
-    ensures { Turns w.new c.old c.new result ((flat_plain c.old.source 500 w.old).read (length c.old.source) c.old.left) }
+    ensures { Turns w.new c.old c.new result ((flat_plain c.old.source usual.blocks w.old).read (length c.old.source) c.old.left) }
 {
     let fresh = instruction(w.alloc(), c)?;
     let plain = w.number(fresh)?;
@@ -42,7 +43,7 @@ fn flat_plain(w: &mut Work, c: &mut Words) -> Result<(), TextFault>
 /// Takes the head of a folded block.
 #[tactic(auto, unfolding(ms_text_grammar::specs::Turns::folded_block))]
 fn folded_block(w: &mut Work, opening: Opening, c: &mut Words) -> Result<(), TextFault>
-    ensures { Turns w.new c.old c.new result ((folded_block c.old.source 500 w.old opening).read (length c.old.source) c.old.left) }
+    ensures { Turns w.new c.old c.new result ((folded_block c.old.source usual.blocks w.old opening).read (length c.old.source) c.old.left) }
 {
     let (label, ty) = heading(w.blocks(), c)?;
     if matches!(opening, Opening::If) {
@@ -57,7 +58,7 @@ fn folded_block(w: &mut Work, opening: Opening, c: &mut Words) -> Result<(), Tex
 /// Takes the keyword of a folded instruction, and what belongs to it.
 #[tactic(auto, unfolding(ms_text_grammar::specs::Turns::folded_plain))]
 fn folded_plain(w: &mut Work, c: &mut Words) -> Result<(), TextFault>
-    ensures { Turns w.new c.old c.new result ((folded_plain c.old.source 500 w.old).read (length c.old.source) c.old.left) }
+    ensures { Turns w.new c.old c.new result ((folded_plain c.old.source usual.blocks w.old).read (length c.old.source) c.old.left) }
 {
     let fresh = instruction(w.alloc(), c)?;
     let plain = w.number(fresh)?;
@@ -68,7 +69,7 @@ fn folded_plain(w: &mut Work, c: &mut Words) -> Result<(), TextFault>
 /// Takes what stands behind the parenthesis of a folded instruction.
 #[tactic(auto, unfolding(ms_text_grammar::specs::Turns::folded_on))]
 fn folded_on(w: &mut Work, sign: Sign, c: &mut Words) -> Result<(), TextFault>
-    ensures { Turns w.new c.old c.new result ((folded_on c.old.source 500 w.old sign).read (length c.old.source) c.old.left) }
+    ensures { Turns w.new c.old c.new result ((folded_on c.old.source usual.blocks w.old sign).read (length c.old.source) c.old.left) }
 {
     match sign {
         Sign::Heads(opening) => folded_block(w, opening, c),
@@ -79,7 +80,7 @@ fn folded_on(w: &mut Work, sign: Sign, c: &mut Words) -> Result<(), TextFault>
 /// Takes a parenthesis and what stands behind it.
 #[tactic(auto, unfolding(ms_text_grammar::specs::Turns::folded))]
 pub fn folded(w: &mut Work, c: &mut Words) -> Result<(), TextFault>
-    ensures { Turns w.new c.old c.new result ((folded c.old.source 500 w.old).read (length c.old.source) c.old.left) }
+    ensures { Turns w.new c.old c.new result ((folded c.old.source usual.blocks w.old).read (length c.old.source) c.old.left) }
 {
     opening(c)?;
     let sign = sign_of(c);
@@ -95,7 +96,7 @@ fn condition_on(
     sign: Sign,
     c: &mut Words,
 ) -> Result<(), TextFault>
-    ensures { Turns w.new c.old c.new result ((condition_on c.old.source 500 label ty w.old.frames (framed (Frame.Condition label ty ∷ w.old.frames) w.old) sign).read (length c.old.source) c.old.left) }
+    ensures { Turns w.new c.old c.new result ((condition_on c.old.source usual.blocks label ty w.old.frames (framed (Frame.Condition label ty ∷ w.old.frames) w.old) sign).read (length c.old.source) c.old.left) }
 {
     match sign {
         Sign::Thens => {
@@ -120,7 +121,7 @@ fn condition(
     ty: Option<ValType>,
     c: &mut Words,
 ) -> Result<(), TextFault>
-    ensures { Turns w.new c.old c.new result ((condition c.old.source 500 label ty w.old.frames (framed (Frame.Condition label ty ∷ w.old.frames) w.old)).read (length c.old.source) c.old.left) }
+    ensures { Turns w.new c.old c.new result ((condition c.old.source usual.blocks label ty w.old.frames (framed (Frame.Condition label ty ∷ w.old.frames) w.old)).read (length c.old.source) c.old.left) }
 {
     opening(c)?;
     let sign = sign_of(c);
@@ -130,7 +131,7 @@ fn condition(
 /// Takes the beginning of an else arm behind a `then`, whose frame has been left.
 #[tactic(auto, unfolding(ms_text_grammar::specs::Turns::else_arm))]
 fn else_arm(w: &mut Work, c: &mut Words) -> Result<(), TextFault>
-    ensures { Turns w.new c.old c.new result ((else_arm c.old.source 500 w.old.frames (framed (Frame.Then ∷ w.old.frames) w.old)).read (length c.old.source) c.old.left) }
+    ensures { Turns w.new c.old c.new result ((else_arm c.old.source usual.blocks w.old.frames (framed (Frame.Then ∷ w.old.frames) w.old)).read (length c.old.source) c.old.left) }
 {
     opening(c)?;
     keyword(b"else", c)?;
@@ -143,7 +144,7 @@ fn else_arm(w: &mut Work, c: &mut Words) -> Result<(), TextFault>
 /// Takes the end of a flat block, whose frame has been left.
 #[tactic(auto, unfolding(ms_text_grammar::specs::Turns::marked))]
 fn flat_end(w: &mut Work, label: Option<Token>, c: &mut Words) -> Result<(), TextFault>
-    ensures { Turns w.new c.old c.new result ((marked c.old.source 500 end_word label (ended w.old.frames w.old)).read (length c.old.source) c.old.left) }
+    ensures { Turns w.new c.old c.new result ((marked c.old.source usual.blocks end_word label (ended w.old.frames w.old)).read (length c.old.source) c.old.left) }
 {
     keyword(b"end", c)?;
     repeated(label, c)?;
@@ -154,7 +155,7 @@ fn flat_end(w: &mut Work, label: Option<Token>, c: &mut Words) -> Result<(), Tex
 /// Takes the beginning of a flat else arm; the frame of its block has been left.
 #[tactic(auto, unfolding(ms_text_grammar::specs::Turns::flat_else, ms_text_grammar::specs::Turns::marked))]
 fn flat_else(w: &mut Work, label: Option<Token>, may: bool, c: &mut Words) -> Result<(), TextFault>
-    ensures { Turns w.new c.old c.new result ((flat_else c.old.source 500 label may w.old.frames (framed (Frame.Flat label may ∷ w.old.frames) w.old)).read (length c.old.source) c.old.left) }
+    ensures { Turns w.new c.old c.new result ((flat_else c.old.source usual.blocks label may w.old.frames (framed (Frame.Flat label may ∷ w.old.frames) w.old)).read (length c.old.source) c.old.left) }
 {
     if !may {
         return Err(bad(c));
@@ -172,7 +173,7 @@ fn flat_else(w: &mut Work, label: Option<Token>, may: bool, c: &mut Words) -> Re
 /// Takes a closing parenthesis that ends a block, whose frame has been left.
 #[tactic(auto, unfolding(ms_text_grammar::specs::Turns::closed))]
 fn close_block(w: &mut Work, c: &mut Words) -> Result<(), TextFault>
-    ensures { Turns w.new c.old c.new result ((closed c.old.source 500 (ended w.old.frames w.old)).read (length c.old.source) c.old.left) }
+    ensures { Turns w.new c.old c.new result ((closed c.old.source usual.blocks (ended w.old.frames w.old)).read (length c.old.source) c.old.left) }
 {
     closing(c)?;
     w.end()?;
@@ -182,7 +183,7 @@ fn close_block(w: &mut Work, c: &mut Words) -> Result<(), TextFault>
 /// Takes a closing parenthesis that ends a folded instruction, whose frame has been left.
 #[tactic(auto, unfolding(ms_text_grammar::specs::Turns::closed))]
 fn close_operands(w: &mut Work, plain: Plain, c: &mut Words) -> Result<(), TextFault>
-    ensures { Turns w.new c.old c.new result ((closed c.old.source 500 (given w.old.frames plain w.old)).read (length c.old.source) c.old.left) }
+    ensures { Turns w.new c.old c.new result ((closed c.old.source usual.blocks (given w.old.frames plain w.old)).read (length c.old.source) c.old.left) }
 {
     closing(c)?;
     w.give(plain)?;
@@ -192,7 +193,7 @@ fn close_operands(w: &mut Work, plain: Plain, c: &mut Words) -> Result<(), TextF
 /// Takes a closing parenthesis.
 #[tactic(auto, unfolding(ms_text_grammar::specs::Turns::closed))]
 fn close(w: &mut Work, c: &mut Words) -> Result<(), TextFault>
-    ensures { Turns w.new c.old c.new result ((closed c.old.source 500 w.old).read (length c.old.source) c.old.left) }
+    ensures { Turns w.new c.old c.new result ((closed c.old.source usual.blocks w.old).read (length c.old.source) c.old.left) }
 {
     let _ = &w;
     closing(c)?;
@@ -202,7 +203,7 @@ fn close(w: &mut Work, c: &mut Words) -> Result<(), TextFault>
 /// A turn in a body.
 #[tactic(auto, unfolding(ms_text_grammar::specs::Turns::instructions))]
 fn in_body(w: &mut Work, sign: Sign, c: &mut Words) -> Result<(), TextFault>
-    ensures { Turns w.new c.old c.new result ((instructions c.old.source 500 w.old w.old sign).read (length c.old.source) c.old.left) }
+    ensures { Turns w.new c.old c.new result ((instructions c.old.source usual.blocks w.old w.old sign).read (length c.old.source) c.old.left) }
 {
     match sign {
         Sign::Left => folded(w, c),
@@ -215,7 +216,7 @@ fn in_body(w: &mut Work, sign: Sign, c: &mut Words) -> Result<(), TextFault>
 /// A turn in a folded block, whose frame has been left.
 #[tactic(auto, unfolding(ms_text_grammar::specs::Turns::instructions))]
 fn in_folded(w: &mut Work, sign: Sign, c: &mut Words) -> Result<(), TextFault>
-    ensures { Turns w.new c.old c.new result ((instructions c.old.source 500 (framed (Frame.Folded ∷ w.old.frames) w.old) (ended w.old.frames w.old) sign).read (length c.old.source) c.old.left) }
+    ensures { Turns w.new c.old c.new result ((instructions c.old.source usual.blocks (framed (Frame.Folded ∷ w.old.frames) w.old) (ended w.old.frames w.old) sign).read (length c.old.source) c.old.left) }
 {
     if let Sign::Right = sign {
         return close_block(w, c);
@@ -231,7 +232,7 @@ fn in_folded(w: &mut Work, sign: Sign, c: &mut Words) -> Result<(), TextFault>
 /// A turn in an arm, whose frame has been left.
 #[tactic(auto, unfolding(ms_text_grammar::specs::Turns::instructions))]
 fn in_arm(w: &mut Work, sign: Sign, c: &mut Words) -> Result<(), TextFault>
-    ensures { Turns w.new c.old c.new result ((instructions c.old.source 500 (framed (Frame.Arm ∷ w.old.frames) w.old) w.old sign).read (length c.old.source) c.old.left) }
+    ensures { Turns w.new c.old c.new result ((instructions c.old.source usual.blocks (framed (Frame.Arm ∷ w.old.frames) w.old) w.old sign).read (length c.old.source) c.old.left) }
 {
     if let Sign::Right = sign {
         return close(w, c);
@@ -253,7 +254,7 @@ fn in_flat(
     sign: Sign,
     c: &mut Words,
 ) -> Result<(), TextFault>
-    ensures { Turns w.new c.old c.new result ((turn_on c.old.source 500 (framed (Frame.Flat label may ∷ w.old.frames) w.old) (Frame.Flat label may ∷ w.old.frames) sign).read (length c.old.source) c.old.left) }
+    ensures { Turns w.new c.old c.new result ((turn_on c.old.source usual.blocks (framed (Frame.Flat label may ∷ w.old.frames) w.old) (Frame.Flat label may ∷ w.old.frames) sign).read (length c.old.source) c.old.left) }
 {
     match sign {
         Sign::Ends => return flat_end(w, label, c),
@@ -274,7 +275,7 @@ fn in_flat(
 /// A turn by a frame that has been left.
 #[tactic(auto, unfolding(ms_text_grammar::specs::Turns::turn_on))]
 fn in_frame(w: &mut Work, frame: Frame, sign: Sign, c: &mut Words) -> Result<(), TextFault>
-    ensures { Turns w.new c.old c.new result ((turn_on c.old.source 500 (framed (frame ∷ w.old.frames) w.old) (frame ∷ w.old.frames) sign).read (length c.old.source) c.old.left) }
+    ensures { Turns w.new c.old c.new result ((turn_on c.old.source usual.blocks (framed (frame ∷ w.old.frames) w.old) (frame ∷ w.old.frames) sign).read (length c.old.source) c.old.left) }
 {
     match frame {
         Frame::Flat { label, may_else } => in_flat(w, label, may_else, sign, c),
@@ -302,7 +303,7 @@ fn in_frame(w: &mut Work, frame: Frame, sign: Sign, c: &mut Words) -> Result<(),
 /// A turn by the innermost frame.
 #[tactic(auto, unfolding(ms_text_grammar::specs::Turns::turn_on))]
 pub fn turn_on(w: &mut Work, sign: Sign, c: &mut Words) -> Result<(), TextFault>
-    ensures { Turns w.new c.old c.new result ((turn_on c.old.source 500 w.old w.old.frames sign).read (length c.old.source) c.old.left) }
+    ensures { Turns w.new c.old c.new result ((turn_on c.old.source usual.blocks w.old w.old.frames sign).read (length c.old.source) c.old.left) }
 {
     match w.leave() {
         None => in_body(w, sign, c),

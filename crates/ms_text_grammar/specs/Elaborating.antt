@@ -2,8 +2,9 @@
 -- types, flat instructions numbered sequences, and inline exports, elements and data fields of their own. Each step is total:
 -- the places of identifiers that are unknown, or that stand a second time in their index space, are a list, of which the least
 -- is told.
-use Rattle.std.specs.Prelude.{◌==◌, ◌+◌, ◌/◌, ℕ, suc, pos, Bool, true, false, List, [], ◌∷◌, ◌++◌, Option, Some, None, length, replicate, slice_get, if◌then◌else◌}
+use Rattle.std.specs.Prelude.{◌==◌, ◌+◌, ◌-◌, ◌/◌, ℕ, suc, pos, Bool, true, false, List, [], ◌∷◌, ◌++◌, Option, Some, None, length, replicate, slice_get, if◌then◌else◌}
 use Rattle.std.specs.Str.{bytes_eq}
+use Rattle.ms_types.specs.Page.{page}
 use Rattle.ms_types.specs.declared.types.FuncType.{FuncType}
 use Rattle.ms_types.specs.declared.types.GlobalType.{GlobalType}
 use Rattle.ms_types.specs.declared.types.Limits.{Limits}
@@ -343,7 +344,7 @@ exactly n = record { min = n; max = Some n }
 
 -- the pages of so many bytes
 abbrev pub pages : ℕ → ℕ
-pages n = (n + 65535) / 65536
+pages n = (n + (page - 1)) / page
 
 -- the constant 0, the offset of inline elements and data
 abbrev pub at_zero : List (List Instr)

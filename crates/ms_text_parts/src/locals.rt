@@ -1,6 +1,7 @@
 //! LocalGroups (WebAssembly 1.0, 6.6.5), of which a function declares 50,000 at most.
 
 ghost use Rattle.std.specs.Prelude.{◌≡◌, ◌++◌, length, List, Option};
+ghost use Rattle.ms_text_grammar.specs.Bounds.{usual};
 ghost use Rattle.ms_text_grammar.specs.declared.word.Word.TheVariants as word;
 ghost use Rattle.ms_text_grammar.specs.Parts.{group, group_goes, list_goes};
 ghost use Rattle.ms_text_grammar.specs.Types.{local_type, locals, locals_by, locals_inside, next_local};
@@ -10,19 +11,17 @@ use crate::parts::{closing, next_begins, next_closes, opening, optional_id, the}
 use crate::steps::{Steps, run};
 use crate::types::type_of;
 use crate::words::{Words, bad};
+use ms_module::MOST_LOCALS;
 use ms_text_grammar::{Counted, Param, TextFault, Word};
 use ms_text_lex::Token;
 use ms_types::{ValType, Vector};
 use std::alloc::Global;
 use std::marker::Model;
 
-/// How many locals a function may declare.
-const MOST_LOCALS: usize = 50_000;
-
 /// Takes the type of a local where so many are declared.
 #[tactic(auto, unfolding(ms_text_grammar::specs::Types::local_type))]
 fn local_type(count: usize, c: &mut Words) -> Result<ValType, TextFault>
-    ensures { Reads c.old c.new result ((local_type c.old.source 50000 count).read (length c.old.source) c.old.left) }
+    ensures { Reads c.old c.new result ((local_type c.old.source usual.locals count).read (length c.old.source) c.old.left) }
 {
     let [token, ..] = c.rest() else {
         return Err(bad(c));
@@ -59,7 +58,7 @@ impl Model for LocalList {
 impl Steps for LocalList {
     ghost going = { λ source ls s. list_goes source ls s };
 
-    ghost step = { λ source ls. next_local source 50000 ls };
+    ghost step = { λ source ls. next_local source usual.locals ls };
 
     fn goes(&self, c: &Words) -> bool {
         !next_closes(c)
@@ -81,7 +80,7 @@ fn locals_by(
     id: Option<Token>,
     c: &mut Words,
 ) -> Result<Vector<Param>, TextFault>
-    ensures { Reads c.old c.new result ((locals_by c.old.source 50000 so_far id).read (length c.old.source) c.old.left) }
+    ensures { Reads c.old c.new result ((locals_by c.old.source usual.locals so_far id).read (length c.old.source) c.old.left) }
 {
     let mut locals = so_far;
     match id {
@@ -100,7 +99,7 @@ fn locals_by(
 /// Takes what is in a group of locals.
 #[tactic(auto, unfolding(ms_text_grammar::specs::Types::locals_inside))]
 fn locals_inside(so_far: Vector<Param>, c: &mut Words) -> Result<Vector<Param>, TextFault>
-    ensures { Reads c.old c.new result ((locals_inside c.old.source 50000 so_far).read (length c.old.source) c.old.left) }
+    ensures { Reads c.old c.new result ((locals_inside c.old.source usual.locals so_far).read (length c.old.source) c.old.left) }
 {
     let id = optional_id(c)?;
     locals_by(so_far, id, c)
@@ -122,9 +121,9 @@ impl Model for LocalGroups {
 }
 
 impl Steps for LocalGroups {
-    ghost going = { λ source ls s. group_goes source word.Local (locals_inside source 50000) ls s };
+    ghost going = { λ source ls s. group_goes source word.Local (locals_inside source usual.locals) ls s };
 
-    ghost step = { λ source ls. group source word.Local (locals_inside source 50000) ls };
+    ghost step = { λ source ls. group source word.Local (locals_inside source usual.locals) ls };
 
     fn goes(&self, c: &Words) -> bool {
         next_begins(Word::Local, c)
@@ -144,7 +143,7 @@ impl Steps for LocalGroups {
 /// Takes groups of locals, as many as there are.
 #[tactic(auto, unfolding(ms_text_grammar::specs::Types::locals, ms_text_grammar::specs::Parts::groups))]
 pub fn all_locals(alloc: Global, c: &mut Words) -> Result<Vector<Param>, TextFault>
-    ensures { Reads c.old c.new result ((locals c.old.source 50000).read (length c.old.source) c.old.left) }
+    ensures { Reads c.old c.new result ((locals c.old.source usual.locals).read (length c.old.source) c.old.left) }
 {
     let first = LocalGroups {
         locals: Vector::new(alloc),

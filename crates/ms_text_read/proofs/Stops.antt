@@ -6,6 +6,7 @@ use Rattle.ms_text_grammar.specs.declared.fault.TextFault.{TextFault}
 use Rattle.ms_text_grammar.specs.declared.fault.TextFault.TheVariants.{Float, Lex, Limit, Memory, Name, Range, Syntax}
 use Rattle.ms_text_grammar.specs.Fields.{file}
 use Rattle.ms_text_grammar.proofs.Files.{file_ends, one_way}
+use Rattle.ms_text_grammar.specs.Bounds.{usual}
 use Rattle.ms_text_grammar.specs.Scans.{before, earlier, fault_in, first_stop, limit_at, mismatch, plain_stop, syntax_at, with_mismatch, too_deep}
 use Rattle.ms_text_grammar.specs.TextSpells.{FieldsSpelled}
 use Rattle.ms_text_parts.specs.Readers.{FailsBy, fault_of}
@@ -13,7 +14,7 @@ use Rattle.ms_text_read.specs.Fields.{FoundBy}
 
 -- what is read is spelled
 pub all_spelled : (source : List ℕ) (tokens : List Token) (fields : List Field) (t : List Token) → (file source).read (length source) tokens ≡ Ok (fields, t)
-    → too_deep 1000 0 tokens ≡ None → mismatch source tokens ≡ None → FieldsSpelled source tokens fields
+    → too_deep usual.parens 0 tokens ≡ None → mismatch source tokens ≡ None → FieldsSpelled source tokens fields
 all_spelled source tokens fields t e shallow agrees =
     let h = (file source).takes (length source) tokens fields t e in
     record {
@@ -24,13 +25,13 @@ all_spelled source tokens fields t e shallow agrees =
 
 -- the first stop where the grammar has one
 pub stop_of_fault : (source : List ℕ) (tokens : List Token) (f : TextFault) → (file source).read (length source) tokens ≡ Err f
-    → first_stop source tokens ≡ with_mismatch source tokens (earlier (Some f) (limit_at (too_deep 1000 0 tokens)))
-stop_of_fault source tokens f e = ap (λ r. with_mismatch source tokens (earlier (fault_in r) (limit_at (too_deep 1000 0 tokens)))) e
+    → first_stop source tokens ≡ with_mismatch source tokens (earlier (Some f) (limit_at (too_deep usual.parens 0 tokens)))
+stop_of_fault source tokens f e = ap (λ r. with_mismatch source tokens (earlier (fault_in r) (limit_at (too_deep usual.parens 0 tokens)))) e
 
 -- the first stop where the grammar has none
 pub stop_of_fields : (source : List ℕ) (tokens : List Token) (x : List Field × List Token) → (file source).read (length source) tokens ≡ Ok x
-    → first_stop source tokens ≡ with_mismatch source tokens (limit_at (too_deep 1000 0 tokens))
-stop_of_fields source tokens x e = ap (λ r. with_mismatch source tokens (earlier (fault_in r) (limit_at (too_deep 1000 0 tokens)))) e
+    → first_stop source tokens ≡ with_mismatch source tokens (limit_at (too_deep usual.parens 0 tokens))
+stop_of_fields source tokens x e = ap (λ r. with_mismatch source tokens (earlier (fault_in r) (limit_at (too_deep usual.parens 0 tokens)))) e
 
 -- what is spelled has no stop
 pub no_stop : (source : List ℕ) (tokens : List Token) (fields : List Field) → FieldsSpelled source tokens fields → first_stop source tokens ≡ None
@@ -42,7 +43,7 @@ no_stop source tokens fields h =
 
 -- what the code answers where the grammar has a fault
 pub fault_found : (source : List ℕ) (tokens : List Token) (e mid res : Option TextFault) → FailsBy e ((file source).read (length source) tokens)
-    → ((f : TextFault) → e ≡ Some f → earlier (Some f) (limit_at (too_deep 1000 0 tokens)) ≡ mid) → (e ≡ None → mid ≡ None)
+    → ((f : TextFault) → e ≡ Some f → earlier (Some f) (limit_at (too_deep usual.parens 0 tokens)) ≡ mid) → (e ≡ None → mid ≡ None)
     → ((f : TextFault) → mid ≡ Some f → FoundBy res (with_mismatch source tokens (Some f))) → (mid ≡ None → res ≡ None) → FoundBy res (first_stop source tokens)
 fault_found source tokens None mid res h depth no_depth tell no_tell = rw (no_tell (no_depth refl)) tt
 fault_found source tokens (Some f) None res h depth no_depth tell no_tell = rw (no_tell refl) tt

@@ -4,6 +4,7 @@ ghost use Rattle.std.specs.Prelude.{◌≡◌, ◌⊎◌, IfErr, IfOk, List, Opt
 ghost use Rattle.ms_text_grammar.specs.declared.fault.TextFault.TheVariants.{Memory};
 ghost use Rattle.ms_text_grammar.specs.declared.surface.Field.{Field};
 ghost use Rattle.ms_text_grammar.specs.declared.fault.TextFault.{TextFault};
+ghost use Rattle.ms_text_grammar.specs.Bounds.{usual};
 ghost use Rattle.ms_text_grammar.specs.Scans.{earlier, first_stop, limit_at, mismatch, place, with_mismatch, too_deep, up_to};
 ghost use Rattle.ms_text_grammar.specs.TextSpells.{FieldsSpelled};
 ghost use Rattle.ms_text_parts.specs.Readers.{fault_of};
@@ -66,7 +67,7 @@ fn with_mismatch(alloc: Global, source: &[u8], tokens: &[Token], stop: TextFault
 
 /// A fault of the grammar, or a parenthesis before it that is too deep.
 fn with_depth(tokens: &[Token], stop: TextFault) -> TextFault
-    ensures found { (f : TextFault) → fault_of stop ≡ Option.Some f → earlier (Option.Some f) (limit_at (too_deep 1000 0 tokens.now)) ≡ fault_of result }
+    ensures found { (f : TextFault) → fault_of stop ≡ Option.Some f → earlier (Option.Some f) (limit_at (too_deep usual.parens 0 tokens.now)) ≡ fault_of result }
     ensures memory { fault_of stop ≡ Option.None → fault_of result ≡ Option.None }
 {
     if let TextFault::Memory = stop {

@@ -18,7 +18,7 @@ const MOST_PARENS: usize = 1000;
 
 /// The first parenthesis that opens where a thousand are open.
 pub fn too_deep(tokens: &[Token]) -> Option<usize>
-    ensures { result ≡ too_deep 1000 0 tokens.now }
+    ensures { result ≡ too_deep usual.parens 0 tokens.now }
 {
     let mut depth: usize = 0;
     for token in tokens {

@@ -8,7 +8,7 @@ use crate::texts::{name_of, text_values};
 use ms_module::{Import, ImportDesc};
 use ms_text_grammar::{ExternKind, Field, ImportNames, Item};
 use ms_text_space::{Context, Space, enter_all, kind_of, number, same_kind};
-use ms_types::{Limits, Vector};
+use ms_types::{Limits, PAGE, Vector};
 use std::alloc::{AllocError, Global};
 
 /// Exactly so many entries or pages.
@@ -28,7 +28,7 @@ fn exactly(n: usize) -> Result<Limits, AllocError>
 fn pages(n: usize) -> usize
     ensures { result ≡ pages n }
 {
-    n.div_ceil(65_536)
+    n.div_ceil(PAGE)
 }
 
 /// The size of a table or a memory.

@@ -22,6 +22,9 @@ pub struct FuncType {
     pub results: Vector<ValType>,
 }
 
+/// How many bytes a page has, the unit in which the size of a memory is given (WebAssembly 1.0, 4.2.8).
+pub const PAGE: usize = 65_536;
+
 /// The size of a memory or a table, in pages or entries (WebAssembly 1.0, 2.3.4).
 #[derive(Clone, Copy, Debug, PartialEq, Eq)]
 pub struct Limits {

@@ -1,6 +1,7 @@
 use Rattle.std.proofs.Common.{◌≡◌, ◌∙◌, sym, None, length, arith}
 use Rattle.ms_text_parts.specs.Readers.{FailsBy, fault_of}
 use Rattle.ms_text_grammar.specs.Fields.{file}
+use Rattle.ms_text_grammar.specs.Bounds.{usual}
 use Rattle.ms_text_grammar.specs.Scans.{mismatch, too_deep}
 use Rattle.ms_text_read.proofs.Stops.{all_spelled, fault_found}
 use Rattle.ms_text_read.proofs.fields.of_tokens.Goals as goal
@@ -17,6 +18,6 @@ returns-in-Ok-None c =
     let source = c.args.source.now in
     let tokens = c.args.tokens.now in
     let e = rw (c.new-c.ensures.source, c.new-c.ensures.left) at c.in-Ok.ensures.0 in
-    let shallow : too_deep 1000 0 tokens ≡ None = sym c.too_deep.ensures ∙ c.in_default.is in
+    let shallow : too_deep usual.parens 0 tokens ≡ None = sym c.too_deep.ensures ∙ c.in_default.is in
     let agrees : mismatch source tokens ≡ None = grind arith in
     all_spelled source tokens c.in-Ok.fields c.whole_file.new.c.left e shallow agrees
