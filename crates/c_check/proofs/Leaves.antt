@@ -9,7 +9,7 @@ use Rattle.ms_num.specs.Integers.{wrapped}
 use Rattle.c_types.specs.declared.integers.IntType.{IntType}
 use Rattle.c_types.specs.declared.integers.IntType.TheVariants.{Char}
 use Rattle.c_types.specs.Integers.{bits}
-use Rattle.c_types.specs.Layout.{Table, Layout, layout_at, members_of, members_in, IsSmall, size}
+use Rattle.c_types.specs.Layout.{Table, Layout, layout_at, members_of, members_in, IsSmall, size, most_bytes}
 use Rattle.c_types.specs.Types.{Ty, void, integer, struct, pointer, array, function, scalar_of}
 use Rattle.c_tree.specs.Tree as tree
 use Rattle.c_tree.specs.Tree.{Expr, Initialiser, Initialisers}
@@ -145,7 +145,7 @@ module _ (r : Ty) (l : Bool) where
   -- ---- parts
 
   -- an element is as large as all of them at most
-  one-small : (n k : ℕ) → 0 < n → n * k ≤ 2 ^ 30 → k ≤ 2 ^ 30
+  one-small : (n k : ℕ) → 0 < n → n * k ≤ most_bytes → k ≤ most_bytes
   one-small zero k h e = absurd (omega arith)
   one-small (suc n) k h e = omega (arith, e, suc-mul n k)
 

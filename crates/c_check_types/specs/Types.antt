@@ -4,7 +4,7 @@ use Rattle.std.specs.Prelude.{ℕ, ◌*◌, ◌/◌, ◌&&◌, not, nat_lt, nat_
 use Rattle.c_types.specs.declared.integers.IntType.{IntType}
 use Rattle.c_types.specs.declared.integers.IntType.TheVariants.{Char, SignedChar, UnsignedChar, Short, UnsignedShort, Int, UnsignedInt, Long, UnsignedLong, LongLong, UnsignedLongLong}
 use Rattle.c_types.specs.Integers.{bits}
-use Rattle.c_types.specs.Layout.{Table, Layout, layout_at, pointer_size}
+use Rattle.c_types.specs.Layout.{Table, Layout, layout_at, pointer_size, most_bytes}
 use Rattle.c_types.specs.Types.{Ty, void, integer, struct, pointer, array, function, Tys, no_types}
 use Rattle.c_tree.specs.declared.operators.Infix.TheVariants.{Binary}
 use Rattle.c_tree.specs.declared.specifier.SpecifierNode.{SpecifierNode}
@@ -24,10 +24,6 @@ use Rattle.c_check_types.specs.Constants.{a_number, constant_type, constant_bits
 use Rattle.c_check_types.specs.Operators.{operator_of}
 
 -- ---- sizes (6.5.3.4)
-
--- the most bytes of a type, and the most elements of an array
-abbrev pub most_bytes : ℕ
-most_bytes = 1073741824
 
 abbrev pub limited : Option Layout → Option ℕ
 limited None = None

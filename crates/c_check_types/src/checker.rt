@@ -1,6 +1,7 @@
 //! What is known at a place in a unit.
 
 ghost use Rattle.std.specs.Prelude.{◌≡◌, ◌≤◌, None, IfOk};
+ghost use Rattle.c_types.specs.Layout.{most_bytes};
 ghost use Rattle.c_types.specs.Types.{type_of};
 ghost use Rattle.c_check_types.specs.Scopes as scopes;
 ghost use Rattle.c_check_types.specs.Scopes.{new_tag, tag_number};
@@ -101,7 +102,7 @@ impl<'a> Checker<'a> {
     /// The size of a type (C11, 6.5.3.4).
     pub fn size_of(&mut self, t: &CType) -> Result<u64, Stop>
         ensures is { Answers (λ n. n) (words.size_of (type_of t.now)) (state_of self.old) (state_of self.new) result }
-        ensures small { IfOk result (λ n. n ≤ words.most_bytes) }
+        ensures small { IfOk result (λ n. n ≤ most_bytes) }
     {
         match measured(&self.structs, t) {
             Some(n) => Ok(n),

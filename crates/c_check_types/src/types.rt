@@ -1,19 +1,17 @@
 //! Types: whether two are the same, and how large one is.
 
 ghost use Rattle.std.specs.Prelude.{◌≡◌, ◌≤◌, ◌&&◌, IfOk, IfSome, Some};
+ghost use Rattle.c_types.specs.Layout.{most_bytes};
 ghost use Rattle.c_types.specs.Layout as layout;
 ghost use Rattle.c_types.specs.Types.{function, type_of};
 ghost use Rattle.c_types.specs.Views.{types_in};
 ghost use Rattle.c_check_types.specs.TypeEquality as words;
 ghost use Rattle.c_check_types.specs.TypeEquality.{tys_of};
-ghost use Rattle.c_check_types.specs.Types.{limited, measured, most_bytes, so_many};
+ghost use Rattle.c_check_types.specs.Types.{limited, measured, so_many};
 
-use c_types::{CType, Signature, Structs, same_integer, size};
+use c_types::{CType, MOST_BYTES, Signature, Structs, same_integer, size};
 use std::alloc::{AllocError, Global};
 use std::rc::Rc;
-
-/// The most bytes of a type, and the most elements of an array.
-const MOST_BYTES: u64 = 0x4000_0000;
 
 /// Whether two types are the same (C11, 6.2.7).
 #[cycle(same)]

@@ -4,9 +4,9 @@ use Rattle.std.proofs.lemmas.Bool.Decides.{nat_tests}
 use Rattle.c_types.specs.Integers.{bits}
 use Rattle.c_types.specs.declared.integers.IntType.{IntType}
 use Rattle.c_types.specs.declared.integers.IntType.TheVariants.{Char, SignedChar, UnsignedChar, Short, UnsignedShort, Int, UnsignedInt, Long, UnsignedLong, LongLong, UnsignedLongLong}
-use Rattle.c_types.specs.Layout.{Table, Layout, HasSize, IsSmall, layout_at, size, size_in, pointer_size}
+use Rattle.c_types.specs.Layout.{Table, Layout, HasSize, IsSmall, layout_at, size, size_in, pointer_size, most_bytes}
 use Rattle.c_types.specs.Types.{Ty, void, integer, struct, pointer, array, function, is_function}
-use Rattle.c_check_types.specs.Types.{limited, measured, most_bytes, so_many}
+use Rattle.c_check_types.specs.Types.{limited, measured, so_many}
 
 same : (a b : ℕ) → Some a ≡ Some b → a ≡ b
 same a b e = cc
@@ -17,9 +17,9 @@ chosen false a n e = let q : None ≡ Some n = e in absurd (cc)
 
 -- of a size that is measured
 abbrev IsMeasured : Table → Ty → ℕ → Type 0
-IsMeasured table t n = HasSize table t × (size table t ≡ n) × (n ≤ 2 ^ 30)
+IsMeasured table t n = HasSize table t × (size table t ≡ n) × (n ≤ most_bytes)
 
-struct_is : (o : Option Layout) (n : ℕ) → limited o ≡ Some n → IsSome o × (size_in o ≡ n) × (n ≤ 2 ^ 30)
+struct_is : (o : Option Layout) (n : ℕ) → limited o ≡ Some n → IsSome o × (size_in o ≡ n) × (n ≤ most_bytes)
 struct_is None n e = let q : None ≡ Some n = e in absurd (cc)
 struct_is (Some l) n e =
     let c = chosen (nat_le l.size most_bytes) l.size n e in
@@ -30,7 +30,7 @@ array_of table t m s k h p e =
     let c = chosen (nat_lt 0 m && (nat_le m most_bytes && nat_le (m * s) most_bytes)) (m * s) k e in
     let b = parts (nat_lt 0 m) (nat_le m most_bytes) (nat_le (m * s) most_bytes) c.0 refl refl in
     ((b.0, h), ap (λ x. m * x) p ∙ c.1, grind (arith, b.1, c.1)) where
-      parts : (a b c : Bool) → (a && (b && c)) ≡ true → nat_lt 0 m ≡ a → nat_le (m * s) most_bytes ≡ c → (0 < m) × (m * s ≤ 2 ^ 30)
+      parts : (a b c : Bool) → (a && (b && c)) ≡ true → nat_lt 0 m ≡ a → nat_le (m * s) most_bytes ≡ c → (0 < m) × (m * s ≤ most_bytes)
       parts true true true e p q = (grind (arith, nat_tests, p), grind (arith, nat_tests, q))
       parts true true false e p q = let r : false ≡ true = e in absurd (cc)
       parts true false c e p q = let r : false ≡ true = e in absurd (cc)
@@ -53,7 +53,7 @@ integer_bits UnsignedLong = omega arith
 integer_bits LongLong = omega arith
 integer_bits UnsignedLongLong = omega arith
 
-pointer_bytes : (b : Bool) → (if b then 4 else 16) ≤ 2 ^ 30
+pointer_bytes : (b : Bool) → (if b then 4 else 16) ≤ most_bytes
 pointer_bytes true = omega arith
 pointer_bytes false = omega arith
 

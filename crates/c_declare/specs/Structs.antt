@@ -1,6 +1,6 @@
 -- Structs (C11, 6.7.2.1), and the types of specifiers at file scope.
 use Rattle.std.specs.Prelude.{ℕ, nat_le, not, Bool, true, false, List, [], ◌∷◌, ◌++◌, length, is_some, slice_get, slice_set, Option, Some, None}
-use Rattle.c_types.specs.Layout.{Layout, laid_out}
+use Rattle.c_types.specs.Layout.{Layout, laid_out, most_bytes}
 use Rattle.c_types.specs.Types.{Ty, struct}
 use Rattle.c_tree.specs.declared.external.MemberHead.TheVariants as heads
 use Rattle.c_tree.specs.declared.external.OuterSpecifier.{OuterSpecifier}
@@ -10,7 +10,7 @@ use Rattle.c_tree.specs.declared.external.Piece.TheVariants as pieces
 use Rattle.c_tree.specs.Tree.{Declarator}
 use Rattle.c_check_types.specs.State.{Names, number_of, Rule, ◌>>=◌, ◌>>◌, pure, none, given, only_if, state, change}
 use Rattle.c_check_types.specs.Scopes.{tag_number}
-use Rattle.c_check_types.specs.Types.{whole, whole_type, specified, declared, most_bytes, size_of}
+use Rattle.c_check_types.specs.Types.{whole, whole_type, specified, declared, size_of}
 
 -- a struct whose members are being read: its number, and the names and types of those so far
 pub record Open : Type 0 where

@@ -11,12 +11,9 @@ ghost use Rattle.c_declare.specs.Views.{open_of, opens_of};
 
 use c_check_types::{Checker, Derived, Names, Stop, measured, whole_type};
 use c_tree::{Declarator, MemberHead, Members, OuterSpecifier, Piece};
-use c_types::{CType, Structs};
+use c_types::{CType, MOST_BYTES, Structs};
 use std::collections::LinkedList;
 use std::mem;
-
-/// The most members of a struct, each of which has a byte at least.
-const MOST_MEMBERS: usize = 0x4000_0000;
 
 /// A struct whose members are being read: its number, and the names and types of those so far.
 #[derive(Drop)]
@@ -125,7 +122,8 @@ fn defines<'a>(checker: &mut Checker<'a>, o: Open<'a>) -> Result<CType, Stop>
     if !checker.structs.is_undefined(number) {
         return Err(Stop::NoTyping);
     }
-    if MOST_MEMBERS < types.len() {
+    // Each member has a byte at least.
+    if MOST_BYTES < types.len() as u64 {
         return Err(Stop::NoTyping);
     }
     // Each had a size where it was declared, and keeps it, so that this never comes.

@@ -4,10 +4,10 @@ use Rattle.std.proofs.lemmas.Bool.Decides.{nat_tests}
 use Rattle.c_types.specs.Integers.{bits}
 use Rattle.c_types.specs.declared.integers.IntType.{IntType}
 use Rattle.c_types.specs.declared.integers.IntType.TheVariants.{Char, SignedChar, UnsignedChar, Short, UnsignedShort, Int, UnsignedInt, Long, UnsignedLong, LongLong, UnsignedLongLong}
-use Rattle.c_types.specs.Layout.{Table, Layout, HasSize, IsSmall, layout_at, size, size_in, pointer_size}
+use Rattle.c_types.specs.Layout.{Table, Layout, HasSize, IsSmall, layout_at, size, size_in, pointer_size, most_bytes}
 use Rattle.c_types.specs.Types.{Ty, void, integer, struct, pointer, array, function, is_function}
 use Rattle.c_well_typed.specs.Types.{IsScalar}
-use Rattle.c_check_types.specs.Types.{limited, measured, most_bytes, so_many}
+use Rattle.c_check_types.specs.Types.{limited, measured, so_many}
 
 same : (a b : ℕ) → Some a ≡ Some b → a ≡ b
 same a b e = cc
@@ -18,9 +18,9 @@ chosen false a n e = let q : None ≡ Some n = e in absurd (cc)
 
 -- of a size that is measured
 abbrev IsMeasured : Table → Ty → ℕ → Type 0
-IsMeasured table t n = HasSize table t × (size table t ≡ n) × (n ≤ 2 ^ 30)
+IsMeasured table t n = HasSize table t × (size table t ≡ n) × (n ≤ most_bytes)
 
-struct_is : (o : Option Layout) (n : ℕ) → limited o ≡ Some n → IsSome o × (size_in o ≡ n) × (n ≤ 2 ^ 30)
+struct_is : (o : Option Layout) (n : ℕ) → limited o ≡ Some n → IsSome o × (size_in o ≡ n) × (n ≤ most_bytes)
 struct_is None n e = let q : None ≡ Some n = e in absurd (cc)
 struct_is (Some l) n e =
     let c = chosen (nat_le l.size most_bytes) l.size n e in
@@ -28,13 +28,13 @@ struct_is (Some l) n e =
 
 -- what is tested of an array
 parts : (m s : ℕ) (a b c : Bool) → (a && (b && c)) ≡ true → nat_lt 0 m ≡ a → nat_le m most_bytes ≡ b → nat_le (m * s) most_bytes ≡ c
-    → (0 < m) × (m ≤ 2 ^ 30) × (m * s ≤ 2 ^ 30)
+    → (0 < m) × (m ≤ most_bytes) × (m * s ≤ most_bytes)
 parts m s true true true e p q r = (grind (arith, nat_tests, p), grind (arith, nat_tests, q), grind (arith, nat_tests, r))
 parts m s true true false e p q r = let x : false ≡ true = e in absurd (cc)
 parts m s true false c e p q r = let x : false ≡ true = e in absurd (cc)
 parts m s false b c e p q r = let x : false ≡ true = e in absurd (cc)
 
-counted : (m : ℕ) (o : Option ℕ) (k : ℕ) → so_many m o ≡ Some k → (s : ℕ) × (o ≡ Some s) × (m * s ≡ k) × (0 < m) × (m ≤ 2 ^ 30) × (m * s ≤ 2 ^ 30)
+counted : (m : ℕ) (o : Option ℕ) (k : ℕ) → so_many m o ≡ Some k → (s : ℕ) × (o ≡ Some s) × (m * s ≡ k) × (0 < m) × (m ≤ most_bytes) × (m * s ≤ most_bytes)
 counted m None k e = let q : None ≡ Some k = e in absurd (cc)
 counted m (Some s) k e =
     let c = chosen (nat_lt 0 m && (nat_le m most_bytes && nat_le (m * s) most_bytes)) (m * s) k e in
@@ -54,7 +54,7 @@ integer_bits UnsignedLong = omega arith
 integer_bits LongLong = omega arith
 integer_bits UnsignedLongLong = omega arith
 
-pointer_bytes : (b : Bool) → (if b then 4 else 16) ≤ 2 ^ 30
+pointer_bytes : (b : Bool) → (if b then 4 else 16) ≤ most_bytes
 pointer_bytes true = omega arith
 pointer_bytes false = omega arith
 
@@ -76,7 +76,7 @@ small_if_measured table t n e =
     let it = is_measured table t n e in ((it.0, omega (arith, it.1, it.2)), sym it.1)
 
 -- an array that is measured has at most 2^30 elements
-pub few_if_measured : (table : Table) (t : Ty) (m n : ℕ) → measured table (array t m) ≡ Some n → m ≤ 2 ^ 30
+pub few_if_measured : (table : Table) (t : Ty) (m n : ℕ) → measured table (array t m) ≡ Some n → m ≤ most_bytes
 few_if_measured table t m n e = (counted m (measured table t) n e).4
 
 pub scalar-small : (table : Table) (t : Ty) → IsScalar t → IsSmall table t

@@ -3,7 +3,7 @@ use Rattle.std.proofs.Common.{◌≡◌, refl, ℕ, zero, suc, ◌<◌, ◌⊎�
 use Rattle.std.proofs.lemmas.List.{length-set}
 use Rattle.std.proofs.lemmas.List.Elements.{All-nil, All-cons, All-head, All-tail, All-push, All-weaker}
 use Rattle.std.specs.List.{All}
-use Rattle.c_types.specs.Layout.{Table, Layout, layout_at, laid_out}
+use Rattle.c_types.specs.Layout.{Table, Layout, layout_at, laid_out, most_bytes}
 use Rattle.c_types.specs.Types.{Ty, struct}
 use Rattle.c_tree.specs.declared.external.MemberHead.TheVariants as heads
 use Rattle.c_tree.specs.declared.external.OuterSpecifier.{OuterSpecifier}
@@ -12,7 +12,7 @@ use Rattle.c_tree.specs.declared.external.Piece.{Piece}
 use Rattle.c_tree.specs.declared.external.Piece.TheVariants as pieces
 use Rattle.c_tree.specs.Tree.{Declarator}
 use Rattle.c_check_types.specs.State.{State, number_of}
-use Rattle.c_check_types.specs.Types.{measured, whole, whole_type, most_bytes}
+use Rattle.c_check_types.specs.Types.{measured, whole, whole_type}
 use Rattle.c_declare.specs.Structs.{Open, opens_struct, with_member, declares_member, with_members, is_undefined, defines, closes, in_front, piece, all_pieces, last_one, outer}
 use Rattle.c_well_typed.specs.Types.{IsType, IsObject}
 use Rattle.c_laws.proofs.States.{Good, Extends, Quiet, Does}

@@ -2,7 +2,7 @@
 use Rattle.std.proofs.Common.{◌≡◌, ℕ, ◌+◌, ◌*◌, ◌^◌, ◌<◌, ◌≤◌, max, suc, List, [], ◌∷◌, ◌++◌, length, get_or, drop, refl, sym, ◌∙◌, ap, arith, append_assoc, drop-cons, add-one, length-append}
 use Rattle.std.specs.List.{All}
 use Rattle.std.proofs.lemmas.List.{get_or-map, length-map}
-use Rattle.c_types.specs.Layout.{Table, IsCounted, IsSmall, size, align, round_up, offsets_from, end_from, greatest_from, greatest}
+use Rattle.c_types.specs.Layout.{Table, IsCounted, IsSmall, size, align, round_up, offsets_from, end_from, greatest_from, greatest, most_bytes}
 use Rattle.c_types.specs.Types.{Ty, void, integer, struct, pointer, array, function, type_of}
 use Rattle.c_types.specs.Views.{types_in}
 use Rattle.c_types.specs.declared.types.CType.{CType}
@@ -41,7 +41,7 @@ part_at table members xs i m parts same l e =
     let is : get_or (types_in members) i (type_of m) ≡ type_of m = rw (← same) (get_or-map type_of xs i m (type_of m) l ∙ ap (λ x. type_of x) (sym e)) in
     rw is at at
 
-pub counted : (table : Table) (t : Ty) → size table t ≤ 2 ^ 30 → IsCounted table t
+pub counted : (table : Table) (t : Ty) → size table t ≤ most_bytes → IsCounted table t
 counted table void h = tt
 counted table (integer t) h = tt
 counted table (struct n) h = tt
@@ -62,7 +62,7 @@ placed table xs i m end least needed here bytes offsets items l e part needed_is
     let is : get_or (types_in xs) i t ≡ t = get_or-map type_of xs i m t l ∙ ap (λ x. type_of x) (sym e) in
     let rest : drop i (types_in xs) ≡ t ∷ drop (i + 1) (types_in xs) =
     rw add-one (drop-cons (types_in xs) i t (rw (length-map xs type_of) l) ∙ ap (λ u. u ∷ drop (suc i) (types_in xs)) is) in
-    let small : size table t ≤ 2 ^ 30 = part.1 in
+    let small : size table t ≤ most_bytes = part.1 in
     record {
       places = rw (items_is, shown, bytes_is) (placed_next table (drop i (types_in xs)) (drop (i + 1) (types_in xs)) t end offsets rest ∙ s.places);
       ends = rw (shown, bytes_is) (ap (λ r. end_from table end r) (sym rest) ∙ s.ends);

@@ -116,13 +116,17 @@ offset table _ m = 0
 
 -- ---- the greatest sizes
 
--- a part of an object has at most 2^30 bytes
-abbrev pub IsSmall : Table → Ty → Type 0
-IsSmall table t = HasSize table t × (size table t ≤ 2 ^ 30)
+-- the most bytes of a type, and the most elements of an array: 2^30
+abbrev pub most_bytes : ℕ
+most_bytes = 1073741824
 
--- an array has at most 2^30 elements of at most 2^30 bytes each
+-- a part of an object has at most so many bytes
+abbrev pub IsSmall : Table → Ty → Type 0
+IsSmall table t = HasSize table t × (size table t ≤ most_bytes)
+
+-- an array has at most so many elements of at most so many bytes each
 abbrev pub HasSmallParts : Table → Ty → Type 0
-HasSmallParts table (array t n) = (n ≤ 2 ^ 30) × (size table t ≤ 2 ^ 30)
+HasSmallParts table (array t n) = (n ≤ most_bytes) × (size table t ≤ most_bytes)
 HasSmallParts table _ = Unit {0}
 
 -- the bytes of an array are counted by a number of 64 bits

@@ -3,13 +3,16 @@
 ghost use Rattle.std.specs.Prelude.{◌≡◌, ℕ, ◌+◌, ◌^◌, ◌<◌, ◌≤◌, IfOk, length, max};
 ghost use Rattle.std.specs.List.{All};
 ghost use Rattle.c_types.specs.Layout as words;
-ghost use Rattle.c_types.specs.Layout.{HasSize, IsCounted, IsSmall, laid_out, pointer_size};
+ghost use Rattle.c_types.specs.Layout.{HasSize, IsCounted, IsSmall, laid_out, pointer_size, most_bytes};
 ghost use Rattle.c_types.specs.Types.{type_of};
 ghost use Rattle.c_types.specs.Views.{layout_of, table_of, types_in};
 
 use crate::definition::Definition;
 use crate::types::CType;
 use std::alloc::{AllocError, Global};
+
+/// The most bytes of a type, and the most elements of an array.
+pub const MOST_BYTES: u64 = 0x4000_0000;
 
 /// The bytes of a pointer to a function.
 const FUNCTION_POINTER: u8 = 4;
@@ -98,7 +101,7 @@ pub fn lay_out(
     members: Vec<CType>,
 ) -> Result<Definition, AllocError>
     requires parts { All (IsSmall (table_of definitions.now)) (types_in members.items) }
-    requires count { length members.items ≤ 2 ^ 30 }
+    requires count { length members.items ≤ most_bytes }
     ensures { IfOk result (λ d. layout_of d ≡ laid_out (table_of definitions.now) (types_in members.items)) }
 {
     let mut offsets = Vec::new(alloc);

@@ -12,5 +12,6 @@ mod structs;
 mod types;
 
 pub use integers::{IntType, same_integer};
+pub use layout::MOST_BYTES;
 pub use structs::{Structs, align, offset, size};
 pub use types::{CType, Scalar, Signature};

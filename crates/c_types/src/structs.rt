@@ -3,7 +3,7 @@
 ghost use Rattle.std.specs.Prelude.{◌≡◌, ℕ, ◌^◌, ◌<◌, ◌≤◌, ◌↔◌, [], ◌∷◌, ◌++◌, IsTrue, MatchResult, length, slice_get, slice_set};
 ghost use Rattle.std.specs.List.{All};
 ghost use Rattle.c_types.specs.Layout as words;
-ghost use Rattle.c_types.specs.Layout.{HasSmallParts, HasSize, IsDefined, IsLaidOut, IsSmall, laid_out, members_of};
+ghost use Rattle.c_types.specs.Layout.{HasSmallParts, HasSize, IsDefined, IsLaidOut, IsSmall, laid_out, members_of, most_bytes};
 ghost use Rattle.c_types.specs.Types.{struct, type_of};
 ghost use Rattle.c_types.specs.Views.{types_in};
 
@@ -63,7 +63,7 @@ impl Structs {
     ) -> Result<(), AllocError>
         requires tag { slice_get self.old number ≡ Some None }
         requires parts { All (IsSmall self.old) (types_in members.items) }
-        requires count { length members.items ≤ 2 ^ 30 }
+        requires count { length members.items ≤ most_bytes }
         ensures { MatchResult result (λ _. self.new ≡ slice_set self.old number (Some (laid_out self.old (types_in members.items)))) (λ _. self.new ≡ self.old) }
     {
         let definition = lay_out(alloc, &self.definitions, members)?;

@@ -1,7 +1,7 @@
 -- Which types may stand in a unit (C11, 6.2.5, 6.7.6).
 use Rattle.std.specs.Prelude.{ℕ, ◌≤◌, ◌<◌, ◌^◌, length}
 use Rattle.c_types.specs.Types.{Ty, void, integer, struct, pointer, array, function, Tys, no_types, types}
-use Rattle.c_types.specs.Layout.{Table, IsSmall}
+use Rattle.c_types.specs.Layout.{Table, IsSmall, most_bytes}
 
 -- a type of which an object holds one value (6.2.5, paragraph 21)
 abbrev pub IsScalar : Ty → Type 0
@@ -29,7 +29,7 @@ abbrev mutual
   IsType table (integer t) = Unit {0}
   IsType table (struct n) = n < length table
   IsType table (pointer t) = MayBeLedTo t × IsType table t
-  IsType table (array t n) = IsType table t × IsSmall table (array t n) × (n ≤ 2 ^ 30)
+  IsType table (array t n) = IsType table t × IsSmall table (array t n) × (n ≤ most_bytes)
   IsType table (function r ps) = IsValue r × IsType table r × AreParameters table ps
 
   pub AreParameters : Table → Tys → Type 0

@@ -1,6 +1,6 @@
 use Rattle.std.proofs.Common.{◌≤◌, ◌^◌, length, ap, arith}
 use Rattle.c_types.proofs.Placing.{begun, part_at, counted, placed}
-use Rattle.c_types.specs.Layout.{size}
+use Rattle.c_types.specs.Layout.{size, most_bytes}
 use Rattle.c_types.specs.Types.{type_of}
 use Rattle.c_types.specs.Views.{table_of}
 use Rattle.c_types.proofs.layout.lay_out.Goals as goal
@@ -23,7 +23,7 @@ size_in-requires-clause-counted c =
 pub overflow_add-end : goal.overflow_add-end
 overflow_add-end c =
     let p = part_at _ _ _ _ _ c.requires.parts c.deref-member-items.ensures.value c.loop-member-test.true c.member-item.is in
-    let small : size (table_of c.args.definitions.now) (type_of c.member-item.result) ≤ 2 ^ 30 = p.1 in
+    let small : size (table_of c.args.definitions.now) (type_of c.member-item.result) ≤ most_bytes = p.1 in
     let few = ap (λ x. length x) c.deref-member-items.ensures.value in
     omega (arith, small, few)
 
