@@ -8,8 +8,10 @@ use Rattle.std.proofs.lemmas.Iterator.Adapters.{position_from-zero}
 use Rattle.std.proofs.lemmas.Option.{none-some}
 use Rattle.std.proofs.lemmas.Slice.Eq.{bytes_eq-Decides}
 use Rattle.ms_rules.specs.Modules.{AreDistinct, IsNotAmong}
+use Rattle.ms_words.specs.Commands as options
+use Rattle.ms_words.specs.Commands.{default_budget, default_memory}
 use Rattle.ms_job.specs.Bounds.{IsBounded}
-use Rattle.ms_job.specs.Jobs.{checked, has_outer_space, is_name, is_passed_over, job_in, job_of, no_lines, number_of, with_budget, with_dump, with_line, with_lines, with_memory, with_module, with_schedule, with_task, with_trace, with_turns, with_words}
+use Rattle.ms_job.specs.Jobs.{checked, has_outer_space, is_name, is_passed_over, job_in, job_of, no_lines, number_of, with_budget, with_dump, with_line, with_lines, with_memory, with_module, with_schedule, with_task, with_trace, with_turns, with_words, most_lines, most_turns}
 use Rattle.ms_job.specs.Words.{number_behind, number_within, within, words}
 use Rattle.ms_job.specs.declared.draft.Draft.{Draft}
 use Rattle.ms_job.specs.declared.job.Job.{Job}
@@ -18,10 +20,10 @@ use Rattle.ms_job.specs.declared.fault.JobFault.{JobFault}
 -- what holds of what the lines say so far
 record AreBounded (d : Draft) : Type 0 where
   names : AreDistinct (map (λ m. m.0) d.modules)
-  few : length d.tasks ≤ 64
+  few : length d.tasks ≤ most_lines
   turns : IfSome d.turns (λ n. 0 < n)
-  budget : IfSome d.budget (λ n. n ≤ 1000000000000)
-  memory : IfSome d.memory (λ n. n ≤ 16777216)
+  budget : IfSome d.budget (λ n. n ≤ options.budget.most)
+  memory : IfSome d.memory (λ n. n ≤ options.memory.most)
 
 -- a line that is taken leaves a draft within the bounds
 abbrev Keeps : Option Draft → Type 0
@@ -109,8 +111,8 @@ distinct_more name file i (m ∷ ms) e h =
 module _ (d : Draft) (h : AreBounded d) where
   module_keeps : (name file : List ℕ) → Keeps (with_module d name file)
   module_keeps name file =
-      where_true (is_name name && is_none (number_of d name) && nat_lt (length d.modules) 64) _ (λ e.
-      let named = both (is_name name && is_none (number_of d name)) (nat_lt (length d.modules) 64) e in
+      where_true (is_name name && is_none (number_of d name) && nat_lt (length d.modules) most_lines) _ (λ e.
+      let named = both (is_name name && is_none (number_of d name)) (nat_lt (length d.modules) most_lines) e in
       let new = both (is_name name) (is_none (number_of d name)) named.0 in
       let unused = sym (position_from-zero (λ (m : Entry). bytes_eq m.0 name) d.modules) ∙ empty (number_of d name) new.1 in
       record {
@@ -123,7 +125,7 @@ module _ (d : Draft) (h : AreBounded d) where
 
   task_keeps : (name export : List ℕ) → Keeps (with_task d name export)
   task_keeps name export =
-      where_true (nat_lt (length d.tasks) 64) _ (λ e.
+      where_true (nat_lt (length d.tasks) most_lines) _ (λ e.
       put (number_of d name) _ (λ n is.
       record {
         names = h.names;
@@ -135,11 +137,11 @@ module _ (d : Draft) (h : AreBounded d) where
 
   turns_keep : (word : List ℕ) → Keeps (with_turns d word)
   turns_keep word =
-      unless (is_some d.turns || is_some d.schedule) _ (put (number_within 1 1000000 word) _ (λ n is.
+      unless (is_some d.turns || is_some d.schedule) _ (put (number_within 1 most_turns word) _ (λ n is.
       record {
         names = h.names;
         few = h.few;
-        turns = omega (arith, (in_range 1 1000000 word n is).0);
+        turns = omega (arith, (in_range 1 most_turns word n is).0);
         budget = h.budget;
         memory = h.memory;
       }))
@@ -151,24 +153,24 @@ module _ (d : Draft) (h : AreBounded d) where
 
   budget_keeps : (word : List ℕ) → Keeps (with_budget d word)
   budget_keeps word =
-      unless (is_some d.budget) _ (put (number_within 0 1000000000000 word) _ (λ n is.
+      unless (is_some d.budget) _ (put (number_within options.budget.least options.budget.most word) _ (λ n is.
       record {
         names = h.names;
         few = h.few;
         turns = h.turns;
-        budget = (in_range 0 1000000000000 word n is).1;
+        budget = (in_range options.budget.least options.budget.most word n is).1;
         memory = h.memory;
       }))
 
   memory_keeps : (word : List ℕ) → Keeps (with_memory d word)
   memory_keeps word =
-      unless (is_some d.memory) _ (put (number_within 16 16777216 word) _ (λ n is.
+      unless (is_some d.memory) _ (put (number_within options.memory.least options.memory.most word) _ (λ n is.
       record {
         names = h.names;
         few = h.few;
         turns = h.turns;
         budget = h.budget;
-        memory = (in_range 16 16777216 word n is).1;
+        memory = (in_range options.memory.least options.memory.most word n is).1;
       }))
 
   trace_keeps : (file : List ℕ) → Keeps (with_trace d file)
@@ -221,8 +223,8 @@ job_bounded d h some = record {
   some = some;
   few = h.few;
   turns = or_else d.turns 1 (λ n. 0 < n) h.turns (omega arith);
-  budget = or_else d.budget 1000000 (λ n. n ≤ 1000000000000) h.budget (omega arith);
-  memory = or_else d.memory 1048576 (λ n. n ≤ 16777216) h.memory (omega arith);
+  budget = or_else d.budget default_budget (λ n. n ≤ options.budget.most) h.budget (omega arith);
+  memory = or_else d.memory default_memory (λ n. n ≤ options.memory.most) h.memory (omega arith);
 }
 
 nonzero : (n : ℕ) → (n == 0) ≡ false → 0 < n

@@ -5,11 +5,27 @@ use Rattle.std.specs.List.{list_all}
 use Rattle.std.specs.Option.{option_map_or}
 use Rattle.std.specs.Str.{bytes_eq, is_utf8}
 use Rattle.std.specs.Str.Lines.{lines}
+use Rattle.ms_words.specs.Commands as options
+use Rattle.ms_words.specs.Commands.{default_budget, default_memory}
 use Rattle.ms_job.specs.Words.{number_within, words}
 use Rattle.ms_job.specs.declared.draft.Draft.{Draft}
 use Rattle.ms_job.specs.declared.job.Job.{Job}
 use Rattle.ms_job.specs.declared.fault.JobFault.{JobFault}
 use Rattle.ms_job.specs.declared.fault.JobFault.TheVariants.{Budget, Line, NoTask}
+
+-- ---- limits; those of the budget and of the memory are those of the command line
+
+-- how many lines may name a module, and how many a task
+abbrev pub most_lines : ℕ
+most_lines = 64
+
+-- how many entries in a row may name one task
+abbrev pub most_turns : ℕ
+most_turns = 1000000
+
+-- the greatest budget of a run with a trace
+abbrev pub most_traced : ℕ
+most_traced = 1000000
 
 -- ---- what a line says: the job behind it, by the job so far
 
@@ -27,17 +43,17 @@ is_name word =
 abbrev pub number_of : Draft → List ℕ → Option ℕ
 number_of d name = position (λ entry. bytes_eq entry.0 name) d.modules
 
--- `module NAME FILE`: a new name, at most 64 such lines
+-- `module NAME FILE`: a new name, at most so many such lines
 abbrev pub with_module : Draft → List ℕ → List ℕ → Option Draft
 with_module d name file =
-    if is_name name && is_none (number_of d name) && nat_lt (length d.modules) 64
+    if is_name name && is_none (number_of d name) && nat_lt (length d.modules) most_lines
     then Some (record d { modules = d.modules ++ (name, file) ∷ [] })
     else None
 
--- `task MODULE EXPORT`: of a module named above, at most 64 such lines
+-- `task MODULE EXPORT`: of a module named above, at most so many such lines
 abbrev pub with_task : Draft → List ℕ → List ℕ → Option Draft
 with_task d name export =
-    if nat_lt (length d.tasks) 64
+    if nat_lt (length d.tasks) most_lines
     then option_map (λ number. record d { tasks = d.tasks ++ (number, export) ∷ [] }) (number_of d name)
     else None
 
@@ -45,7 +61,7 @@ with_task d name export =
 abbrev pub with_turns : Draft → List ℕ → Option Draft
 with_turns d word =
     if is_some d.turns || is_some d.schedule then None
-    else option_map (λ n. record d { turns = Some n }) (number_within 1 1000000 word)
+    else option_map (λ n. record d { turns = Some n }) (number_within 1 most_turns word)
 
 -- `schedule FILE`: once, and not beside turns
 abbrev pub with_schedule : Draft → List ℕ → Option Draft
@@ -54,12 +70,12 @@ with_schedule d file = if is_some d.turns || is_some d.schedule then None else S
 -- `budget N`: once
 abbrev pub with_budget : Draft → List ℕ → Option Draft
 with_budget d word =
-    if is_some d.budget then None else option_map (λ n. record d { budget = Some n }) (number_within 0 1000000000000 word)
+    if is_some d.budget then None else option_map (λ n. record d { budget = Some n }) (number_within options.budget.least options.budget.most word)
 
 -- `memory N`: once
 abbrev pub with_memory : Draft → List ℕ → Option Draft
 with_memory d word =
-    if is_some d.memory then None else option_map (λ n. record d { memory = Some n }) (number_within 16 16777216 word)
+    if is_some d.memory then None else option_map (λ n. record d { memory = Some n }) (number_within options.memory.least options.memory.most word)
 
 -- `trace FILE`, to which the events are written: once
 abbrev pub with_trace : Draft → List ℕ → Option Draft
@@ -127,8 +143,8 @@ job_of d = record {
   tasks = d.tasks;
   turns = unwrap_or d.turns 1;
   schedule = d.schedule;
-  budget = unwrap_or d.budget 1000000;
-  memory = unwrap_or d.memory 1048576;
+  budget = unwrap_or d.budget default_budget;
+  memory = unwrap_or d.memory default_memory;
   trace = d.trace;
   dump = d.dump;
 }
@@ -138,7 +154,7 @@ abbrev pub checked : Result Draft ℕ → Result Job JobFault
 checked (Err n) = Err (Line n)
 checked (Ok d) =
     if length d.tasks == 0 then Err NoTask
-    else if is_some d.trace && nat_lt 1000000 (unwrap_or d.budget 1000000) then Err Budget
+    else if is_some d.trace && nat_lt most_traced (unwrap_or d.budget default_budget) then Err Budget
     else Ok (job_of d)
 
 -- the job of a text, or its first fault. Lines are ended by LF or by CR LF, the last one perhaps by nothing

@@ -10,10 +10,14 @@ use crate::words::{is_name, number, words_of};
 use ms_module::Name;
 use ms_names::utf8;
 use ms_types::Vector;
+use ms_words::{BUDGET, MEMORY};
 use std::alloc::{AllocError, AllocFailed, Global};
 
 /// How many lines may name a module, and how many a task.
 const MOST_LINES: usize = 64;
+
+/// How many entries in a row may name one task.
+pub const MOST_TURNS: u64 = 1_000_000;
 
 /// What the lines of a job say so far.
 #[derive(Drop)]
@@ -181,7 +185,7 @@ impl Draft {
         if self.schedule.is_some() || self.turns.is_some() {
             return Err(Stop::Broken);
         }
-        let Some(turns) = number(word.as_bytes(), 1, 1_000_000) else {
+        let Some(turns) = number(word.as_bytes(), 1, MOST_TURNS) else {
             return Err(Stop::Broken);
         };
         self.turns = Some(turns as u32);
@@ -206,7 +210,7 @@ impl Draft {
         if self.budget.is_some() {
             return Err(Stop::Broken);
         }
-        let Some(budget) = number(word.as_bytes(), 0, 1_000_000_000_000) else {
+        let Some(budget) = number(word.as_bytes(), BUDGET.least, BUDGET.most) else {
             return Err(Stop::Broken);
         };
         self.budget = Some(budget);
@@ -220,7 +224,7 @@ impl Draft {
         if self.memory.is_some() {
             return Err(Stop::Broken);
         }
-        let Some(memory) = number(word.as_bytes(), 16, 16_777_216) else {
+        let Some(memory) = number(word.as_bytes(), MEMORY.least, MEMORY.most) else {
             return Err(Stop::Broken);
         };
         self.memory = Some(memory as u32);

@@ -13,6 +13,7 @@ mod lines;
 mod reader;
 mod words;
 
+pub use draft::MOST_TURNS;
 pub use entries::schedule;
 pub use fault::{JobFault, SchedFault};
 pub use job::Job;

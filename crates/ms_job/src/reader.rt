@@ -10,17 +10,14 @@ use crate::draft::{Draft, Stop};
 use crate::fault::JobFault;
 use crate::job::Job;
 use crate::lines::split_line;
+use ms_words::{DEFAULT_BUDGET, DEFAULT_MEMORY};
 use std::alloc::Global;
 
-/// How many entries a run with a trace has at most.
+/// The greatest budget of a run with a trace.
 const MOST_TRACED: u64 = 1_000_000;
 
-/// What a job has where no line says it.
+/// How many entries in a row name one task where no line says it.
 const TURNS: u32 = 1;
-
-const BUDGET: u64 = 1_000_000;
-
-const MEMORY: u32 = 1_048_576;
 
 /// The job that a text says, or its first fault.
 ///
@@ -59,7 +56,7 @@ fn finish(draft: Draft) -> Result<Job, JobFault>
     if draft.tasks.is_empty() {
         return Err(JobFault::NoTask);
     }
-    let budget = draft.budget.unwrap_or(BUDGET);
+    let budget = draft.budget.unwrap_or(DEFAULT_BUDGET);
     if draft.trace.is_some() && budget > MOST_TRACED {
         return Err(JobFault::Budget);
     }
@@ -69,7 +66,7 @@ fn finish(draft: Draft) -> Result<Job, JobFault>
         turns: draft.turns.unwrap_or(TURNS),
         schedule: draft.schedule,
         budget,
-        memory: draft.memory.unwrap_or(MEMORY),
+        memory: draft.memory.unwrap_or(DEFAULT_MEMORY),
         trace: draft.trace,
         dump: draft.dump,
     })

@@ -1,6 +1,7 @@
 -- What `exec` and `run` did, put together from its parts: reading the files of a job, and running it.
 use Rattle.std.proofs.Common.{◌≡◌, ◌∙◌, ◌≤◌, ◌≢◌, ℕ, suc, inr, List, ◌∷◌, length, map, refl, sym, ap, subst, arith}
 use Rattle.std.specs.Prelude.{Option, Some, None, Result, Ok, Err}
+use Rattle.ms_words.specs.Commands as options
 use Rattle.ms_job.specs.Bounds.{IsBounded}
 use Rattle.ms_job.specs.Jobs.{job_in}
 use Rattle.ms_job.specs.Reading.{ReadsJob}
@@ -266,5 +267,5 @@ loaded_names Has files modules (one_more name file m {files = fs} {modules = ms}
 pub names_apart : (Has : List ℕ → Found → Type 0) (job : Job) (modules : List (List ℕ × Module)) → AllLoaded Has job.modules modules → IsBounded job → AreDistinct (map (λ (m : List ℕ × Module). m.0) modules)
 names_apart Has job modules all bounds = subst AreDistinct (sym (loaded_names Has job.modules modules all)) bounds.names
 
-pub exec_bounded : (file : List ℕ) (budget memory : ℕ) → budget ≤ 1000000000000 → memory ≤ 16777216 → IsBounded (exec_job file budget memory)
+pub exec_bounded : (file : List ℕ) (budget memory : ℕ) → budget ≤ options.budget.most → memory ≤ options.memory.most → IsBounded (exec_job file budget memory)
 exec_bounded file budget memory few small = record { names = (tt, tt); some = omega arith; few = omega arith; turns = omega arith; budget = few; memory = small }

@@ -20,6 +20,7 @@ use Rattle.ms_tasks.specs.Ready.{IsReady}
 use Rattle.ms_tasks.specs.Tasks.{crew_of, threads_from}
 use Rattle.ms_tasks.proofs.Making.{crew_ready, crew_sound}
 use Rattle.ms_tasks.proofs.Safe.{run_accepted}
+use Rattle.ms_words.specs.Commands as options
 use Rattle.ms_job.specs.Jobs.{job_in}
 use Rattle.ms_job.specs.declared.job.Job.{Job}
 use Rattle.ms_job.proofs.Bounded.{job_is_bounded}
@@ -83,7 +84,7 @@ loaded_typed : (Has : List ℕ → Found → Type 0) (files : List (List ℕ × 
 loaded_typed Has files modules no_more = All-nil (λ (m : List ℕ × Module). WellTyped m.1)
 loaded_typed Has files modules (one_more name file m {files = fs} {modules = ms} h all) = All-cons (λ (m : List ℕ × Module). WellTyped m.1) (name, m) ms h.typed (loaded_typed Has fs ms all)
 
-pub run_is_accepted : (Has : List ℕ → Found → Type 0) (given : Input) (job : Job) (run : Run) → job.memory ≤ 16777216 → RunOfJob Has given job run → Accepts job.memory (events_of run.deeds)
+pub run_is_accepted : (Has : List ℕ → Found → Type 0) (given : Input) (job : Job) (run : Run) → job.memory ≤ options.memory.most → RunOfJob Has given job run → Accepts job.memory (events_of run.deeds)
 run_is_accepted Has given job run small h =
     execution_is_accepted h.modules job.tasks h.entries job.memory given (omega arith) (loaded_typed Has job.modules h.modules h.loaded) run h.ran
 
@@ -103,7 +104,7 @@ never_end statuses.TooLong unrun end = end
 no_end : (status other : Status) → status ≡ other → ¬ IsEnd other → IsEnd status → ⊥
 no_end status other e not end = not (subst IsEnd e end)
 
-module _ (s : Shelved) (r : Report) (f : Flow) (naming : Naming) (given : Input) (may : MayGive f.left_old given) (job : Job) (small : job.memory ≤ 16777216) where
+module _ (s : Shelved) (r : Report) (f : Flow) (naming : Naming) (given : Input) (may : MayGive f.left_old given) (job : Job) (small : job.memory ≤ options.memory.most) where
   module _ (ran : Option Run) (status : Status) (lines : List ℕ) (file : Option File) (flows : FlowsAs given f ran) (grown : Grows r lines) (written : HasWritten s file) (end : IsEnd status) where
     executed_safely : (modules : List (List ℕ × Module)) (entries : List ℕ) → AllLoaded (IsFound s) job.modules modules → HasEntries (IsFound s) job entries
         → (e : Execution) → execution modules job.tasks entries job.memory given ≡ e → AnswersAs (telling_of job) e ran status lines file → RanSafely s r f job status
@@ -155,7 +156,7 @@ delivered_whole Gives given s r f result end (cut counts files (out_failed rose 
 delivered_whole Gives given s r f result end (starved_run counts files kept) = absurd end
 
 module _ (s : Shelved) (r : Report) (f : Flow) (given : Input) (may : MayGive f.left_old given) where
-  pub job_safely : (naming : Naming) (job : Job) → job.memory ≤ 16777216 → (result : Status) → IsEnd result → DidRun (RunsJob (IsFound s) naming given job) given s r f result → RanSafely s r f job result
+  pub job_safely : (naming : Naming) (job : Job) → job.memory ≤ options.memory.most → (result : Status) → IsEnd result → DidRun (RunsJob (IsFound s) naming given job) given s r f result → RanSafely s r f job result
   job_safely naming job small result end did =
       let whole = delivered_whole (RunsJob (IsFound s) naming given job) given s r f result end did in
       answer_safely s r f naming given may job small whole.0 result whole.1 whole.2 whole.4 whole.5 whole.6 end whole.3

@@ -1,6 +1,6 @@
 -- What `exec` and `run` answer: the files of a job are read in order, their modules are linked, and its tasks are run.
 use Rattle.std.specs.Prelude.{◌≡◌, ℕ, suc, false, List, [], ◌∷◌, codes, length, take, Option, Some, None, Ok, Err}
-use Rattle.ms_job.specs.Jobs.{job_in}
+use Rattle.ms_job.specs.Jobs.{job_in, most_turns}
 use Rattle.ms_job.specs.Schedules.{schedule_in}
 use Rattle.ms_job.specs.declared.fault.JobFault.{JobFault}
 use Rattle.ms_job.specs.declared.fault.SchedFault.TheVariants.{At}
@@ -75,7 +75,7 @@ abbrev pub exec_job : (file : List ℕ) → (budget memory : ℕ) → Job
 exec_job file budget memory = record {
   modules = ([], file) ∷ [];
   tasks = (0, codes "main") ∷ [];
-  turns = 1000000;
+  turns = most_turns;
   schedule = None;
   budget = budget;
   memory = memory;

@@ -1,6 +1,7 @@
 //! `exec` and `run`: the files of a job are read, its modules are linked, and its tasks are run.
 
 ghost use Rattle.std.specs.Prelude.{◌≡◌, ◌≤◌, ◌<◌, ◌^◌, IfOk};
+ghost use Rattle.ms_words.specs.Commands as options;
 ghost use Rattle.ms_job.specs.Bounds.{IsBounded};
 ghost use Rattle.ms_machine.specs.Crews.{Input};
 ghost use Rattle.ms_machine.specs.Running.{MayGive};
@@ -16,16 +17,13 @@ use crate::gathering::{Naming, load_all, schedule_of};
 use crate::report::answer_job_fault;
 use crate::status::Status;
 use crate::telling::Telling;
-use ms_job::{Job, parse};
+use ms_job::{Job, MOST_TURNS, parse};
 use ms_live::{Gaps, TreeGaps};
 use ms_module::Name;
 use ms_outside::{Shelf, Sink, Source};
 use ms_tagged::{Granules, Tagged};
 use ms_types::Vector;
 use std::alloc::{AllocError, Global};
-
-/// How many entries in a row the task of `exec` has, which has all of them.
-const TURNS: u32 = 1_000_000;
 
 /// Runs a job whose text was read: reads the files that it names, validates and links its modules, and runs its start functions and
 /// its tasks, over stores whose segments are placed by `G` and kept by `T`. `exec` and `run` are this call over the stores of the
@@ -84,7 +82,7 @@ fn exec_job(alloc: Global, file: &str, budget: u64, memory: u32) -> Result<Job, 
     Ok(Job {
         modules: Vector::from_vec(vec![in alloc; (name, file)]?),
         tasks: Vector::from_vec(vec![in alloc; (0, main)]?),
-        turns: TURNS,
+        turns: MOST_TURNS as u32,
         schedule: None,
         budget,
         memory,
@@ -111,8 +109,8 @@ pub fn exec<F: Shelf, I: Source, O: Sink, R: Sink>(
     out: &mut O,
     report: &mut R,
 ) -> Status
-    requires budget { budget ≤ 1000000000000 }
-    requires memory { memory ≤ 16777216 }
+    requires budget { budget ≤ options.budget.most }
+    requires memory { memory ≤ options.memory.most }
     ensures { (given : Input) × MayGive (I.left input.old) given × DidRun
         (RunsJob (IsFound (shelved F.files F.read_faults F.write_faults shelf.old shelf.new)) Only given (exec_job file.now budget memory)) given
         (shelved F.files F.read_faults F.write_faults shelf.old shelf.new)

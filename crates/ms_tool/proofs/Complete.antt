@@ -12,6 +12,7 @@ use Rattle.ms_outside.specs.declared.sink.Put.TheVariants as putting
 use Rattle.ms_job.proofs.Bounded.{job_is_bounded}
 use Rattle.ms_job.specs.declared.job.Job.{Job}
 use Rattle.ms_words.specs.Asked.{Asked, Asm, Check, Dis, Exec, Judge, Run, asked_of, is_taken}
+use Rattle.ms_words.specs.Commands as options
 use Rattle.ms_words.specs.Commands.{usage_lines}
 use Rattle.ms_machine.specs.Crews.{Input, Run as MachineRun, events_of}
 use Rattle.ms_machine.specs.Running.{MayGive}
@@ -486,7 +487,7 @@ module _ (words : List (List ℕ)) (s : Shelved) (r : Report) (f : Flow) where
     responded_as a result e responds flows safely =
         (given, may, responds, flows_as s given f words (Some a) result e flows, subst (λ (o : Option Asked). Safely o result) (sym e) safely)
 
-    pub exec_responded : (file : List ℕ) (budget memory : ℕ) (result : Status) → memory ≤ 16777216 → asked_of words ≡ Some (Exec file budget memory) → DidRun (RunsJob (IsFound s) Only given (exec_job file budget memory)) given s r f result
+    pub exec_responded : (file : List ℕ) (budget memory : ℕ) (result : Status) → memory ≤ options.memory.most → asked_of words ≡ Some (Exec file budget memory) → DidRun (RunsJob (IsFound s) Only given (exec_job file budget memory)) given s r f result
         → Flows given (RunOfJob (Holds s.old) given (exec_job file budget memory)) f result → Responded result
     exec_responded file budget memory result small e done flows =
         let a = Exec file budget memory in

@@ -46,6 +46,9 @@ pub const BUDGET: NumberOption = NumberOption {
     default: "1000000",
 };
 
+/// The default of `BUDGET` as a number.
+pub const DEFAULT_BUDGET: u64 = 1_000_000;
+
 /// How many bytes the segment memory has.
 pub const MEMORY: NumberOption = NumberOption {
     name: "memory",
@@ -53,6 +56,9 @@ pub const MEMORY: NumberOption = NumberOption {
     most: 16_777_216,
     default: "1048576",
 };
+
+/// The default of `MEMORY` as a number.
+pub const DEFAULT_MEMORY: u32 = 1_048_576;
 
 /// Runs the module in a file.
 pub const EXEC: CommandRow = CommandRow {

@@ -11,6 +11,7 @@ mod matched;
 mod parse;
 mod request;
 
+pub use definition::{BUDGET, DEFAULT_BUDGET, DEFAULT_MEMORY, MEMORY, NumberOption};
 pub use lines::usage;
 pub use parse::parse_words;
 pub use request::{Request, WordsFault};
