@@ -1,10 +1,8 @@
-//! The writer of texts (WebAssembly 1.0, chapter 6).
+//! The writer of texts (WebAssembly 1.0, chapter 6), on `ms_flat`, which goes through bodies and has the keywords.
 //!
 //! `write` gives the one text of a module that `specs/Shown.antt`, to be read first, says: indices alone, flat instructions, a
-//! line a field. Within the limits of texts (`specs/Limits.antt`) it spells that module and no other, by the grammar of
-//! `ms_text_grammar`. The functions below it write a part each at the end of bytes, on `ms_flat`, which goes through bodies and
-//! has the keywords of instructions. Those of `laws.rt` say that each part that is written is read as what it is, and that a
-//! module that bytes spell by `ms_bin_grammar` is the one that its text spells.
+//! line a field. Within the limits of texts (`specs/Limits.antt`) it spells that module and no other, by `ms_text_grammar`.
+//! Those of `laws.rt` say that each part is read as what it is, and that a module that bytes spell is the one of its text.
 #![tactic(auto)]
 
 mod body;
