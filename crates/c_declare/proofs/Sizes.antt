@@ -1,5 +1,5 @@
 -- A type whose size is measured has one, and is small enough for a part of a struct.
-use Rattle.std.proofs.Common.{◌≡◌, ◌∙◌, ℕ, ◌*◌, ◌/◌, ◌^◌, ◌<◌, ◌≤◌, ◌&&◌, nat_le, nat_lt, Bool, true, false, Option, Some, None, IsSome, if◌then◌else◌, refl, ap, arith, rules}
+use Rattle.std.proofs.Common.{◌≡◌, ◌∙◌, ℕ, ◌*◌, ◌/◌, ◌<◌, ◌≤◌, ◌&&◌, nat_le, nat_lt, Bool, true, false, Option, Some, None, IsSome, if◌then◌else◌, refl, ap, arith, rules}
 use Rattle.std.proofs.lemmas.Bool.Decides.{nat_tests}
 use Rattle.c_types.specs.Integers.{bits}
 use Rattle.c_types.specs.declared.integers.IntType.{IntType}
@@ -11,12 +11,12 @@ use Rattle.c_check_types.specs.Types.{limited, measured, so_many}
 same : (a b : ℕ) → Some a ≡ Some b → a ≡ b
 same a b e = cc
 
-chosen : (b : Bool) (a n : ℕ) → (if b then Some a else None) ≡ Some n → (b ≡ true) × (a ≡ n)
+pub chosen : (b : Bool) (a n : ℕ) → (if b then Some a else None) ≡ Some n → (b ≡ true) × (a ≡ n)
 chosen true a n e = (refl, same a n e)
 chosen false a n e = let q : None ≡ Some n = e in absurd (cc)
 
 -- of a size that is measured
-abbrev IsMeasured : Table → Ty → ℕ → Type 0
+abbrev pub IsMeasured : Table → Ty → ℕ → Type 0
 IsMeasured table t n = HasSize table t × (size table t ≡ n) × (n ≤ most_bytes)
 
 struct_is : (o : Option Layout) (n : ℕ) → limited o ≡ Some n → IsSome o × (size_in o ≡ n) × (n ≤ most_bytes)
@@ -40,7 +40,7 @@ array_is : (table : Table) (t : Ty) (m : ℕ) (o : Option ℕ) (k : ℕ) → ((s
 array_is table t m None k h e = let q : None ≡ Some k = e in absurd (cc)
 array_is table t m (Some s) k h e = let it = h s refl in array_of table t m s k it.0 it.1 e
 
-integer_bits : (t : IntType) → bits t ≤ 64
+pub integer_bits : (t : IntType) → bits t ≤ 64
 integer_bits Char = omega arith
 integer_bits SignedChar = omega arith
 integer_bits UnsignedChar = omega arith
@@ -53,11 +53,11 @@ integer_bits UnsignedLong = omega arith
 integer_bits LongLong = omega arith
 integer_bits UnsignedLongLong = omega arith
 
-pointer_bytes : (b : Bool) → (if b then 4 else 16) ≤ most_bytes
+pub pointer_bytes : (b : Bool) → (if b then 4 else 16) ≤ most_bytes
 pointer_bytes true = omega arith
 pointer_bytes false = omega arith
 
-is_measured : (table : Table) (t : Ty) (n : ℕ) → measured table t ≡ Some n → IsMeasured table t n
+pub is_measured : (table : Table) (t : Ty) (n : ℕ) → measured table t ≡ Some n → IsMeasured table t n
 is_measured table void n e = let q : None ≡ Some n = e in absurd (cc)
 is_measured table (integer t) n e =
     let q = same (bits t / 8) n e in (tt, q, omega (arith, q, integer_bits t))

@@ -9,7 +9,7 @@ use Rattle.c_tree.specs.Tree.{Expr, Exprs, no_exprs, expr_and, Declarator, named
 use Rattle.c_tree.specs.declared.initialiser.Init.{Init}
 use Rattle.c_tree.specs.Statements.{Items, no_items, statement_and, declaration_and}
 use Rattle.c_tree.specs.declared.statement.Item.{Item}
-use Rattle.c_tree.specs.Heights.{expr_height, tallest, declarator_height, tallest_parameter, initialiser_height, tallest_initialiser, tallest_of}
+use Rattle.c_tree.specs.Heights.{declarator_height, tallest_of}
 use Rattle.c_tree.specs.StatementHeights.{tallest_item}
 use Rattle.c_tree.specs.declared.external.Piece.{Piece}
 use Rattle.c_tree.specs.Views.{with_expr, with_parameter}
@@ -35,10 +35,6 @@ pub fit_last : (xs : Exprs) (e : Expr) → FitArguments xs → an_assignment ≤
 fit_last no_exprs e f l h = (l, h, tt)
 fit_last (expr_and a xs) e f l h = (f.0, f.1, fit_last xs e f.2 l h)
 
-pub tallest_last : (xs : Exprs) (e : Expr) → tallest (with_expr xs e) ≡ max (tallest xs) (expr_height e)
-tallest_last no_exprs e = omega arith
-tallest_last (expr_and a xs) e = omega (arith, tallest_last xs e)
-
 -- ---- parameters
 
 spell_more_last : (ps : Parameters) (s : SpecifierNode) (d : Declarator) (q : List Word) → spell_more (with_parameter ps s d) q ≡ spell_more ps (mark marks.Comma (spell_specifier s (spell_declarator d q)))
@@ -52,10 +48,6 @@ pub fit_parameters_last : (ps : Parameters) (s : SpecifierNode) (d : Declarator)
 fit_parameters_last no_parameters s d f g h = (g, h, tt)
 fit_parameters_last (parameter_and a e ps) s d f g h = (f.0, f.1, fit_parameters_last ps s d f.2 g h)
 
-pub tallest_parameter_last : (ps : Parameters) (s : SpecifierNode) (d : Declarator) → tallest_parameter (with_parameter ps s d) ≡ max (tallest_parameter ps) (declarator_height d)
-tallest_parameter_last no_parameters s d = omega arith
-tallest_parameter_last (parameter_and a e ps) s d = omega (arith, tallest_parameter_last ps s d)
-
 -- ---- initializers in braces
 
 spell_values_last : (vs : Initialisers) (v : Initialiser) (q : List Word) → spell_values (with_initialiser vs v) q ≡ spell_values vs (mark marks.Comma (spell_initialiser v q))
@@ -68,10 +60,6 @@ initialisers_last a vs v q = ap (λ r. spell_initialiser a r) (spell_values_last
 pub fit_initialisers_last : (vs : Initialisers) (v : Initialiser) → FitInitialisers vs → FitsInitialiser v → FitInitialisers (with_initialiser vs v)
 fit_initialisers_last no_initialisers v f h = (h, tt)
 fit_initialisers_last (initialiser_and a vs) v f h = (f.0, fit_initialisers_last vs v f.1 h)
-
-pub tallest_initialiser_last : (vs : Initialisers) (v : Initialiser) → tallest_initialiser (with_initialiser vs v) ≡ max (tallest_initialiser vs) (initialiser_height v)
-tallest_initialiser_last no_initialisers v = omega arith
-tallest_initialiser_last (initialiser_and a vs) v = omega (arith, tallest_initialiser_last vs v)
 
 -- ---- declarators with initializers
 

@@ -53,7 +53,8 @@ use Rattle.c_rows.specs.Meaning.{inits_then, written, Val, OperandVal, an_expr, 
 use Rattle.c_rows.specs.Meaning as meaning
 use Rattle.c_goals.proofs.Words.{infix_is, step_is, access_is, prefix_is, integer_is, specifier_is, struct_is, sizeof_is, else_is, mark_is, word_is}
 use Rattle.c_goals.proofs.Closed.{closed_same, closed_fits, closed_high}
-use Rattle.c_goals.proofs.Lists.{append_nil, arguments_last, fit_last, tallest_last, parameters_last, fit_parameters_last, tallest_parameter_last, initialisers_last, fit_initialisers_last, tallest_initialiser_last, inits_then_last, inits_are, each_last, tallest_of_last, fit_inits_last, items_last, fit_items_last, tallest_item_last, members_last, declarators_last, named_high}
+use Rattle.c_goals.proofs.Lists.{append_nil, arguments_last, fit_last, parameters_last, fit_parameters_last, initialisers_last, fit_initialisers_last, inits_then_last, inits_are, each_last, tallest_of_last, fit_inits_last, items_last, fit_items_last, tallest_item_last, members_last, declarators_last, named_high}
+use Rattle.c_tree.proofs.Lists.{tallest_last, tallest_parameter_last, tallest_initialiser_last}
 
 pub record Joins (K : Kind) (v : Value) (w : Word) (u : Value) : Type 0 where
   pub same : (q : List Word) → written u q ≡ written v (w ∷ q)

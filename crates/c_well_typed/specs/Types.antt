@@ -1,5 +1,5 @@
 -- Which types may stand in a unit (C11, 6.2.5, 6.7.6).
-use Rattle.std.specs.Prelude.{ℕ, ◌≤◌, ◌<◌, ◌^◌, length}
+use Rattle.std.specs.Prelude.{ℕ, ◌≤◌, ◌<◌, length}
 use Rattle.c_types.specs.Types.{Ty, void, integer, struct, pointer, array, function, Tys, no_types, types}
 use Rattle.c_types.specs.Layout.{Table, IsSmall, most_bytes}
 

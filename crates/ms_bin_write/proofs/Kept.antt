@@ -14,7 +14,7 @@ use Rattle.ms_bin_write.specs.Types.{func_type_bytes, limits_bytes, table_bytes}
 use Rattle.ms_bin_write.specs.Ranges.{AllFit, CodeFits, ElementFits, FillFits, FuncFits, GlobalFits, ModuleFits}
 use Rattle.ms_bin_write.specs.Written.{IsLarge, IsTooMany, KeepsBounds, codes, element_bytes, elements, export_bytes, fill_bytes, func_bytes, global_bytes, import_bytes, sigs_of, exports, fills, globals, imports, indices, memories, tables, types, written}
 use Rattle.ms_bin_write.proofs.SpelledParts.{ElementKeeps, FillKeeps, FuncKeeps, GlobalKeeps}
-use Rattle.ms_bin_write.proofs.Wider.{one_spelled}
+use Rattle.ms_bin_grammar.proofs.Wider.{one_spelled}
 use Rattle.ms_bin_write.proofs.SpelledModule.{Keeps, module_spelled}
 
 -- ---- facts of all items
@@ -95,7 +95,7 @@ module _ (m : Module) (fits : ModuleFits m) (small : ¬ (IsLarge m)) (bytes : Li
   spelled = (wide m, omega arith, spelled_within (wide m) (keeps_wide m fits))
 
   pub no_other : (other : Module) → Spells bytes other → other ≡ m
-  no_other other h = one_spelled bytes other m h spelled
+  no_other other h = one_spelled h.0 spelled.0 bytes other m h.2 spelled.2
 
 -- ---- eleven parts, one after the other
 

@@ -6,5 +6,4 @@ pub mod SpelledInstrs
 pub mod SpelledBodies
 pub mod SpelledParts
 pub mod SpelledModule
-pub mod Wider
 pub mod Kept

@@ -12,12 +12,13 @@ use Rattle.ms_module.specs.declared.builder.Open.{Open}
 use Rattle.ms_module.specs.declared.instr.Instr.TheVariants as instr
 use Rattle.ms_module.specs.Building.{Builds, IsNumbered, State, begins, begun, closed_in, closes, current, first_state, is_turned, is_turned_in, may_turn, may_turn_in, opens, placed, placed_in, places, started, turned_blocks, turns, whole}
 use Rattle.ms_module.specs.Numbered.{IsPlain, sequence_at}
-use Rattle.ms_module.proofs.Order.{Fall, current_within, in_order, length-put, names_later}
+use Rattle.ms_module.proofs.Order.{Fall, current_within, in_order, length-put, names_later, longer}
 use Rattle.ms_flat.specs.Flat.{Item, Plain, Begin, Else, End, flat, items_of, items_within, sequence_items}
 use Rattle.ms_flat.specs.Rebuilt.{after, after_item}
-use Rattle.ms_flat.proofs.Sequences.{length-more, of_all_named, plain_names_none, within_is}
+use Rattle.ms_flat.proofs.Sequences.{plain_names_none, within_is}
 use Rattle.ms_flat.proofs.Growing.{Apart, Below, Kept, below, kept, kept_started, whole_apart}
 use Rattle.ms_flat.proofs.Rebuilding.{begun_items, begun_so_far, close_items, items_at, lower, more_at, more_so_far, none_at, put_so_far, so_far}
+use Rattle.ms_module.proofs.Nesting.{of_all_named}
 
 -- ---- items one after the other
 
@@ -165,7 +166,7 @@ started_len : (st : State) → length st.seqs ≤ length (started st).seqs
 started_len st = go (is_turned st.blocks) refl where
   go : (b : Bool) → is_turned st.blocks ≡ b → length st.seqs ≤ length (started st).seqs
   go false e = rw e (omega arith)
-  go true e = rw e (omega (arith, length-more st.seqs))
+  go true e = rw e (omega (arith, longer st.seqs))
 
 -- an instruction is placed
 module _ (d : ℕ) (st : State) (b : Builds st) where
@@ -230,7 +231,7 @@ pub reached : (d : ℕ) {st : State} → Builds st → length st.seqs ≤ d → 
 reached d begins le = (refl, tt)
 reached d (places {st = st} i plain b) le =
     reached_placed d st b i plain (reached d b (omega (arith, started_len st, length-put (started st).seqs (current (started st).blocks) i)))
-reached d (opens {st = st} opening ty b) le = reached_begun d st b opening ty (reached d b (omega (arith, started_len st, length-more (started st).seqs)))
+reached d (opens {st = st} opening ty b) le = reached_begun d st b opening ty (reached d b (omega (arith, started_len st, longer (started st).seqs)))
 reached d (turns {st = st} may b) le = reached_turned d st.blocks st.seqs may (reached d b le)
 reached d (closes {st = st} some b) le = reached_closed d st.blocks st.seqs b (closed_len st.blocks st.seqs le) some (reached d b (closed_len st.blocks st.seqs le)) where
   closed_len : (os : List Open) (ss : List (List Instr)) → length (closed_in os ss).seqs ≤ d → length ss ≤ d

@@ -55,15 +55,15 @@ shallow (suc d) (suc e) most n ss k h le rest g =
 
 -- ---- how many blocks are open
 
-second_len : (n : ℕ) (os : List Open) → length (in_second n os) ≡ length os
+pub second_len : (n : ℕ) (os : List Open) → length (in_second n os) ≡ length os
 second_len n [] = refl
 second_len n (o ∷ os) = refl
 
-turned_len : (os : List Open) → length (turned_blocks os) ≡ length os
+pub turned_len : (os : List Open) → length (turned_blocks os) ≡ length os
 turned_len [] = refl
 turned_len (o ∷ os) = refl
 
-started_blocks : (st : State) → length (started st).blocks ≡ length st.blocks
+pub started_blocks : (st : State) → length (started st).blocks ≡ length st.blocks
 started_blocks st = go (is_turned st.blocks) refl where
   go : (b : Bool) → is_turned st.blocks ≡ b → length (started st).blocks ≡ length st.blocks
   go false e = rw e refl

@@ -11,8 +11,9 @@ use Rattle.ms_module.specs.declared.builder.Open.{Open}
 use Rattle.ms_module.specs.Building.{Builds, State, begins, begun_in, closed_in, closes, current, in_second, is_turned, opens, placed_in, places, started, turned_blocks, turns, whole}
 use Rattle.ms_module.specs.Nesting.{OfAllNamed, OfNamed}
 use Rattle.ms_module.specs.Numbered.{sequence_at}
-use Rattle.ms_module.proofs.Order.{ArmFalls, Fall, InOrder, in_order}
-use Rattle.ms_flat.proofs.Sequences.{all_named_within, at_more, at_put, length-more, of_all_named, plain_names_none}
+use Rattle.ms_module.proofs.Order.{ArmFalls, Fall, InOrder, in_order, at_more, at_put, longer}
+use Rattle.ms_flat.proofs.Sequences.{all_named_within, plain_names_none}
+use Rattle.ms_module.proofs.Nesting.{of_all_named}
 
 -- a number is none of theirs
 abbrev pub Apart : ℕ → List Open → Type 0
@@ -51,7 +52,7 @@ arm_apart (Second before) os seq m h f = (h.1, below os m seq f (omega (arith, h
 abbrev pub Kept : State → Type 0
 Kept st = (k : ℕ) → OfAllNamed (λ n. Apart n st.blocks) (sequence_at st.seqs k)
 
-all_last : (P : ℕ → Type 0) (is : List Instr) (i : Instr) → OfAllNamed P is → OfNamed P i → OfAllNamed P (is ++ i ∷ [])
+pub all_last : (P : ℕ → Type 0) (is : List Instr) (i : Instr) → OfAllNamed P is → OfNamed P i → OfAllNamed P (is ++ i ∷ [])
 all_last P [] i h g = (g, tt)
 all_last P (j ∷ is) i h g = (h.0, all_last P is i h.1 g)
 
@@ -81,7 +82,7 @@ started_within st order h = go (is_turned st.blocks) refl where
   go true e =
       rw e (λ k. rw (at_more st.seqs k)
       (of_all_named (λ n. (k < n) × (n < length st.seqs) × Apart n st.blocks) (λ n. (n < length (st.seqs ++ [] ∷ [])) × Apart n (in_second (length st.seqs) st.blocks)) (sequence_at st.seqs k)
-      (λ n p. (omega (arith, p.1, length-more st.seqs), second_apart st.blocks n (length st.seqs) p.1 p.2)) (kept_within st order h k)))
+      (λ n p. (omega (arith, p.1, longer st.seqs), second_apart st.blocks n (length st.seqs) p.1 p.2)) (kept_within st order h k)))
 
 pub kept_started : (st : State) → InOrder st → Kept st → Kept (started st)
 kept_started st order h k =

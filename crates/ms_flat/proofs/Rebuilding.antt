@@ -14,10 +14,11 @@ use Rattle.ms_module.specs.declared.builder.Open.{Open}
 use Rattle.ms_module.specs.Building.{current, put, whole}
 use Rattle.ms_module.specs.Nesting.{OfAllNamed, OfNamed}
 use Rattle.ms_module.specs.Numbered.{sequence_at}
-use Rattle.ms_module.proofs.Order.{Fall}
+use Rattle.ms_module.proofs.Order.{Fall, at_more}
 use Rattle.ms_flat.specs.Flat.{Item, Begin, Else, End, items_of, items_within}
-use Rattle.ms_flat.proofs.Sequences.{Later, all_same, all_trivial, at_more, of_all_named, of_named, past_end, put_other, put_same, same_items, within-agrees, within-more, within_is}
+use Rattle.ms_flat.proofs.Sequences.{Later, all_same, all_trivial, past_end, put_other, put_same, same_items, within-agrees, within-more, within_is}
 use Rattle.ms_flat.proofs.Growing.{Apart, ArmBelow, Below, Kept, arm_apart}
+use Rattle.ms_module.proofs.Nesting.{of_all_named, of_named}
 
 -- the items of a sequence, by those of the sequences that it names
 abbrev pub items_at : (ℕ → List Item) → List (List Instr) → ℕ → List Item

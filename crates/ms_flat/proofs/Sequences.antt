@@ -2,27 +2,16 @@
 use Rattle.std.proofs.Common.{◌≡◌, ℕ, zero, suc, ◌+◌, ◌<◌, ◌≤◌, List, [], ◌∷◌, ◌++◌, length, refl, ap, ◌∙◌, arith}
 use Rattle.std.specs.Prelude.{◌≢◌, Some, None}
 use Rattle.std.specs.List.{flat_map}
-use Rattle.std.proofs.lemmas.List.{length-append}
 use Rattle.ms_module.specs.declared.instr.Instr.{Instr}
 use Rattle.ms_module.specs.declared.instr.Instr.TheVariants.{Block, Loop, If}
 use Rattle.ms_module.specs.Building.{IsNumbered, put}
 use Rattle.ms_module.specs.Nesting.{OfAllNamed, OfNamed}
 use Rattle.ms_module.specs.Numbered.{AllNameWithin, IsPlain, NamesWithin, sequence_at}
-use Rattle.ms_module.proofs.Order.{names_later}
+use Rattle.ms_module.proofs.Order.{names_later, at_more}
 use Rattle.ms_flat.specs.Flat.{Item, items_of, items_within, sequence_items}
+use Rattle.ms_module.proofs.Nesting.{of_all_named}
 
 -- ---- what holds of named sequences
-
-pub of_named : (P Q : ℕ → Type 0) (i : Instr) → ((n : ℕ) → P n → Q n) → OfNamed P i → OfNamed Q i
-of_named P Q (Block ty body) f h = f body h
-of_named P Q (Loop ty body) f h = f body h
-of_named P Q (If ty first None) f h = f first h
-of_named P Q (If ty first (Some second)) f h = (f first h.0, f second h.1)
-of_named P Q _ f h = tt
-
-pub of_all_named : (P Q : ℕ → Type 0) (is : List Instr) → ((n : ℕ) → P n → Q n) → OfAllNamed P is → OfAllNamed Q is
-of_all_named P Q [] f h = tt
-of_all_named P Q (i ∷ is) f h = (of_named P Q i f h.0, of_all_named P Q is f h.1)
 
 pub plain_names_none : (P : ℕ → Type 0) (i : Instr) → IsPlain i → OfNamed P i
 plain_names_none P (Block ty body) h = absurd h
@@ -106,24 +95,6 @@ put_other (s ∷ ss) zero zero i ne = absurd (ne refl)
 put_other (s ∷ ss) zero (suc k) i ne = refl
 put_other (s ∷ ss) (suc c) zero i ne = refl
 put_other (s ∷ ss) (suc c) (suc k) i ne = put_other ss c k i (λ e. ne (ap suc e))
-
--- what holds of each sequence holds still, if it does of the one that grows
-pub at_put : (P : ℕ → List Instr → Type 0) (ss : List (List Instr)) (c : ℕ) (i : Instr)
-    → ((k : ℕ) → P k (sequence_at ss k)) → ((is : List Instr) → P c is → P c (is ++ i ∷ [])) → (k : ℕ) → P k (sequence_at (put ss c i) k)
-at_put P [] c i h g k = h k
-at_put P (s ∷ ss) zero i h g zero = g s (h 0)
-at_put P (s ∷ ss) zero i h g (suc k) = h (suc k)
-at_put P (s ∷ ss) (suc c) i h g zero = h 0
-at_put P (s ∷ ss) (suc c) i h g (suc k) = at_put (λ n. P (suc n)) ss c i (λ j. h (suc j)) g k
-
-pub at_more : (ss : List (List Instr)) (k : ℕ) → sequence_at (ss ++ [] ∷ []) k ≡ sequence_at ss k
-at_more [] zero = refl
-at_more [] (suc k) = refl
-at_more (s ∷ ss) zero = refl
-at_more (s ∷ ss) (suc k) = at_more ss k
-
-pub length-more : (ss : List (List Instr)) → length (ss ++ [] ∷ []) ≡ suc (length ss)
-length-more ss = omega (arith, length-append ss ([] ∷ []))
 
 -- ---- items where sequences grow
 

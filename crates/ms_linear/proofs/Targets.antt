@@ -11,7 +11,7 @@ use Rattle.ms_linear.specs.declared.table.CallTrap.{CallTrap}
 use Rattle.ms_linear.specs.declared.table.CallTrap.TheVariants.{Signature}
 use Rattle.ms_linear.specs.Table.{IsTarget, outside, empty, other, found, same_sig, same_type, same_types, target_in, target_of}
 
-same_type-is : (t u : ValType) → same_type t u ≡ true → t ≡ u
+pub same_type-is : (t u : ValType) → same_type t u ≡ true → t ≡ u
 same_type-is I32 I32 e = refl
 same_type-is I64 I64 e = refl
 same_type-is Handle Handle e = refl

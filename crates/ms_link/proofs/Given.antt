@@ -5,7 +5,7 @@ use Rattle.ms_linear.specs.declared.global.GlobalInst.{GlobalInst}
 use Rattle.ms_linear.specs.Memory.{Memory as Linear}
 use Rattle.ms_linear.specs.Table.{Table as TableInst, same_type}
 use Rattle.ms_linear.specs.Values.{global_type_of}
-use Rattle.ms_linear.proofs.Targets.{same_sig-is}
+use Rattle.ms_linear.proofs.Targets.{same_sig-is, same_type-is}
 use Rattle.ms_module.specs.declared.module.Import.{Import}
 use Rattle.ms_module.specs.declared.module.ImportDesc.{ImportDesc}
 use Rattle.ms_module.specs.declared.module.ImportDesc.TheVariants as imports
@@ -39,17 +39,6 @@ AreGiven made sigs _ _ = ⊥
 same_given : (b : Bool) (e e' : Extern) → if_same b e ≡ Ok e' → (b ≡ true) × (e ≡ e')
 same_given true e e' is = (refl, cc)
 same_given false e e' is = cc
-
-same_type-is : (t u : ValType) → same_type t u ≡ true → t ≡ u
-same_type-is types.I32 types.I32 e = refl
-same_type-is types.I64 types.I64 e = refl
-same_type-is types.Handle types.Handle e = refl
-same_type-is types.I32 types.I64 e = cc
-same_type-is types.I32 types.Handle e = cc
-same_type-is types.I64 types.I32 e = cc
-same_type-is types.I64 types.Handle e = cc
-same_type-is types.Handle types.I32 e = cc
-same_type-is types.Handle types.I64 e = cc
 
 same_bool-is : (b c : Bool) → same_bool b c ≡ true → b ≡ c
 same_bool-is true c e = sym e

@@ -1,7 +1,18 @@
--- What `find` answers.
-use Rattle.std.proofs.Common.{◌≡◌, Bool, true, false, cond, ◌||◌, List, [], ◌∷◌, Some, None, is_some, refl, arith}
+-- What `find` answers, and tests of identities.
+use Rattle.std.proofs.Common.{◌≡◌, ◌≢◌, ◌==◌, ℕ, Bool, true, false, not, cond, ◌||◌, List, [], ◌∷◌, Some, None, is_some, refl, arith}
+use Rattle.std.proofs.lemmas.Bool.Decides.{nat_tests}
 use Rattle.std.specs.List.{All, Contains, find, list_any}
 use Rattle.std.proofs.lemmas.List.Elements.{All-nil, All-cons, Contains-append_right}
+
+pub same_id : (a b : ℕ) → (a == b) ≡ true → a ≡ b
+same_id a b h = grind (arith, nat_tests)
+
+pub other_id : (a b : ℕ) → a ≢ b → (a == b) ≡ false
+other_id a b h = grind (arith, nat_tests)
+
+pub not_false : (b : Bool) → not b ≡ true → b ≡ false
+not_false true h = absurd (cc)
+not_false false h = refl
 
 none-head : {X : Type 0} (p : X → Bool) (x : X) (xs : List X) (b : Bool) → p x ≡ b → (find p xs ≡ None → All (λ y. p y ≡ false) xs) → cond b (Some x) (find p xs) ≡ None → All (λ y. p y ≡ false) (x ∷ xs)
 none-head p x xs true q rest e = absurd (cc)

@@ -15,11 +15,11 @@ use Rattle.ms_live.specs.Kept.{filled, IsKept, Kept}
 use Rattle.ms_live.specs.Layout.{behind, Begins, Ends, IsBegun, IsLayout, IsRun}
 use Rattle.ms_live.specs.Place.{contains_id, without, IsAligned, IsFree, IsOutside, IsPlace}
 use Rattle.ms_live.specs.declared.gaps.Live.{Live}
-use Rattle.ms_live.specs.declared.gaps.TheConstants.{MOST_LIVE}
-use Rattle.ms_live.proofs.Found.{find-Some, is_some-find}
+use Rattle.ms_live.specs.declared.gaps.TheConstants.{MOST_LIVE, GAP_LEVELS}
+use Rattle.ms_live.proofs.Found.{find-Some, is_some-find, not_false, other_id, same_id}
 use Rattle.ms_live.proofs.Layouts.{begins, entered, entered_empty, layout_new, left, left_empty, near, Joins, Leaves}
 
-pub key_below : (levels key : ℕ) → levels ≡ 30 → key ≤ 268435456 → key < half levels
+pub key_below : (levels key : ℕ) → levels ≡ GAP_LEVELS → key ≤ 268435456 → key < half levels
 unfolding half
 key_below levels key e h = subst (λ (n : ℕ). key < 2 ^ n / 2) (sym e) (omega arith)
 
@@ -66,7 +66,7 @@ pub filled-append : (xs : List Live) (s : Live) → filled (xs ++ s ∷ []) ≡ 
 filled-append [] s = refl
 filled-append (x ∷ xs) s = let e = filled-append xs s in omega arith
 
-one_at_most : (b : Bool) → cond b 1 0 ≤ 1
+pub one_at_most : (b : Bool) → cond b 1 0 ≤ 1
 one_at_most true = omega arith
 one_at_most false = omega arith
 
@@ -79,16 +79,6 @@ filled_one s h = grind (arith, nat_tests)
 
 pub filled_none : (s : Live) → s.size ≡ 0 → cond {A = ℕ} (nat_lt 0 s.size) 1 0 ≡ 0
 filled_none s h = grind (arith, nat_tests)
-
-same_id : (a b : ℕ) → (a == b) ≡ true → a ≡ b
-same_id a b h = grind (arith, nat_tests)
-
-other_id : (a b : ℕ) → a ≢ b → (a == b) ≡ false
-other_id a b h = grind (arith, nat_tests)
-
-not_false : (b : Bool) → not b ≡ true → b ≡ false
-not_false true h = absurd (cc)
-not_false false h = refl
 
 -- later segments have other identities
 without_later : (id : ℕ) (xs : List Live) → All (λ (t : Live). id < t.id) xs → without id xs ≡ xs
@@ -185,10 +175,10 @@ begun live capacity f s l some p =
 
 -- ---- what always holds, after each change
 
-at_other : (capacity k : ℕ) → k ≢ 0 → cond (nat_eq k 0) (Some capacity) None ≡ None
+pub at_other : (capacity k : ℕ) → k ≢ 0 → cond (nat_eq k 0) (Some capacity) None ≡ None
 at_other capacity k n = cond_false (nat_eq k 0) (Some capacity) None (differ_test k 0 n)
 
-pub kept_new : (capacity : ℕ) (a : Arena) → capacity < 4294967296 → ((key : ℕ) → room_at a key ≡ cond (nat_eq key 0) (Some capacity) None) → size_of a ≡ 1 → a.levels ≡ 30 → a.most ≡ MOST_LIVE + 1 → IsKept (record { addresses = capacity; live = []; rooms = a })
+pub kept_new : (capacity : ℕ) (a : Arena) → capacity < 4294967296 → ((key : ℕ) → room_at a key ≡ cond (nat_eq key 0) (Some capacity) None) → size_of a ≡ 1 → a.levels ≡ GAP_LEVELS → a.most ≡ MOST_LIVE + 1 → IsKept (record { addresses = capacity; live = []; rooms = a })
 kept_new capacity a few rooms size levels most =
     record {
       layout = layout_new (Contains []) capacity (room_at a) (λ s c. let l = c.1 in omega arith) (rooms 0) (λ k n. rooms k ∙ at_other capacity k n);

@@ -41,7 +41,7 @@ one_behind IsLive capacity f l s t ls lt n m e =
 
 -- ---- a segment begins
 
-nothing : (o : Option ℕ) → ((r : ℕ) → o ≡ Some r → ⊥) → o ≡ None
+pub nothing : (o : Option ℕ) → ((r : ℕ) → o ≡ Some r → ⊥) → o ≡ None
 nothing None h = refl
 nothing (Some r) h = absurd (h r refl)
 
@@ -81,7 +81,7 @@ pub record Joins (Old New : Live → Type 0) (s : Live) : Type 0 where
   pub here : New s
 
 -- a key is the segment's, the one behind it, or another
-three : (k a b : ℕ) → (k ≡ a) ⊎ ((k ≡ b) ⊎ ((k ≢ a) × (k ≢ b)))
+pub three : (k a b : ℕ) → (k ≡ a) ⊎ ((k ≡ b) ⊎ ((k ≢ a) × (k ≢ b)))
 three k a b =
     elim (cases_lt k a) [
       | inl h ↦ elim (cases_lt k b) [
@@ -97,7 +97,7 @@ three k a b =
       ]
     ]
 
-same_room : (o : Option ℕ) (r q : ℕ) → o ≡ Some r → o ≡ Some q → r ≡ q
+pub same_room : (o : Option ℕ) (r q : ℕ) → o ≡ Some r → o ≡ Some q → r ≡ q
 same_room o r q h k = cc
 
 pub entered : (Old New : Live → Type 0) (capacity : ℕ) (f g : ℕ → Option ℕ) (s : Live) (key room : ℕ) → IsLayout Old capacity f → 0 < s.size → s.base % 16 ≡ 0 → IsRun Old capacity s.base (s.base + s.size) → IsBegun f s key room → Joins Old New s → Begins f g s key room → IsLayout New capacity g

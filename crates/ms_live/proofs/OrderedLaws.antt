@@ -1,5 +1,5 @@
 -- What is done on trees of segments, as what is done on the segments in order.
-use Rattle.std.proofs.Common.{◌≡◌, ◌≢◌, ◌==◌, ℕ, zero, suc, ◌+◌, ◌-◌, ◌<◌, ◌≤◌, Bool, true, false, not, cond, List, [], ◌∷◌, ◌++◌, length, Some, None, nat_eq, nat_lt, refl, arith, ap, sym, ◌∙◌, subst, append_assoc, inl, inr}
+use Rattle.std.proofs.Common.{◌≡◌, ◌≢◌, ◌==◌, ℕ, zero, suc, ◌+◌, ◌-◌, ◌<◌, ◌≤◌, Bool, false, not, cond, List, [], ◌∷◌, ◌++◌, length, Some, None, nat_eq, nat_lt, refl, arith, ap, sym, ◌∙◌, subst, append_assoc, inl, inr}
 use Rattle.std.specs.List.{All, find}
 use Rattle.std.specs.Prelude.{slice_get}
 use Rattle.std.proofs.lemmas.Bool.{cases_lt}
@@ -15,6 +15,7 @@ use Rattle.ms_live.specs.Place.{without}
 use Rattle.ms_live.specs.declared.branch.Branch.{Branch}
 use Rattle.ms_live.specs.declared.gaps.Live.{Live}
 use Rattle.ms_live.specs.declared.gaps.TheConstants.{MOST_LIVE}
+use Rattle.ms_live.proofs.Found.{other_id, same_id}
 
 -- ---- lists
 
@@ -49,12 +50,6 @@ get_right : {X : Type 0} (xs ys : List X) (k : ℕ) → length xs ≤ k → slic
 get_right [] ys k h = ap (slice_get ys) (omega arith)
 get_right (x ∷ xs) ys zero h = absurd (omega arith)
 get_right (x ∷ xs) ys (suc k) h = get_right xs ys k (omega arith) ∙ ap (slice_get ys) (omega arith)
-
-same_id : (a b : ℕ) → (a == b) ≡ true → a ≡ b
-same_id a b h = grind (arith, nat_tests)
-
-other_id : (a b : ℕ) → a ≢ b → (a == b) ≡ false
-other_id a b h = grind (arith, nat_tests)
 
 differ : (a b : ℕ) → (a == b) ≡ false → a ≢ b
 differ a b h e = grind (arith, nat_tests)

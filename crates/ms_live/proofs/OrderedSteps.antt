@@ -1,6 +1,5 @@
 -- What the code on trees of segments leaves is what is done on the trees.
 use Rattle.std.proofs.Common.{◌≡◌, ◌≢◌, ◌==◌, ℕ, zero, suc, ◌+◌, ◌-◌, ◌<◌, ◌≤◌, true, false, cond, List, Option, Some, None, set, nat_eq, nat_lt, refl, arith, length, ap, sym, ◌∙◌, ◌||◌, subst, get_or-set_same, get_or-set_other}
-use Rattle.std.proofs.lemmas.Bool.Decides.{nat_tests}
 use Rattle.ms_gap_tree.proofs.Inserted.{cond_false, cond_true, contrary, lt_false, lt_true}
 use Rattle.ms_gap_tree.proofs.Laws.{half_more, half_none, half_one}
 use Rattle.ms_gap_tree.proofs.Levels.{differ_test, or_false, or_joined, or_left, or_right, same_test, test_differ}
@@ -290,9 +289,6 @@ removed_upper old new level d low id root branch rest e h ne k p here tree other
     cond_false (s.id == id) (pop (Fork i n s l u)) (cond (nat_lt id (low + half d)) on_lower on_upper) ne ∙ cond_false (nat_lt id (low + half d)) on_lower on_upper (lt_false _ _ k) in
     ap (λ (b : Branch). tree_of (set new i v) level (Some b)) is
     ∙ (ap (λ (m : ℕ). tree_of (set new i v) m (Some (record { at = i; count = n - 1; segment = s }))) e ∙ (built ∙ (sym q ∙ (sym (ap (λ (m : ℕ). remove m low id (Fork i n s l u)) e) ∙ sym (ap (remove level low id) whole)))))
-
-pub other_id : (a b : ℕ) → (a ≡ b → ⊥) → (a == b) ≡ false
-other_id a b h = grind (arith, nat_tests)
 
 -- ---- a level more
 

@@ -3,7 +3,7 @@ use Rattle.std.specs.Prelude.{◌≡◌, ℕ, ◌+◌, ◌<◌, ◌≤◌, cond,
 use Rattle.ms_gap_tree.specs.Rooms.{Arena, nodes_looked_at, room_at, size_of}
 use Rattle.ms_live.specs.Layout.{IsLayout}
 use Rattle.ms_live.specs.declared.gaps.Live.{Live}
-use Rattle.ms_live.specs.declared.gaps.TheConstants.{MOST_LIVE}
+use Rattle.ms_live.specs.declared.gaps.TheConstants.{MOST_LIVE, GAP_LEVELS}
 
 -- how many addresses there are, the live segments, and the rooms of the gaps between them
 pub record Kept : Type 0 where
@@ -27,5 +27,5 @@ pub record IsKept (k : Kept) : Type 0 where
   pub rising : AllPairs (λ (s t : Live). s.id < t.id) k.live
   pub few : length k.live ≤ MOST_LIVE
   pub size : size_of k.rooms ≡ 1 + filled k.live
-  pub levels : k.rooms.levels ≡ 30
+  pub levels : k.rooms.levels ≡ GAP_LEVELS
   pub most : k.rooms.most ≡ MOST_LIVE + 1

@@ -5,6 +5,7 @@ ghost use Rattle.ms_gap_tree.specs.Rooms.{room_at, size_of};
 ghost use Rattle.ms_live.specs.Kept.{looked_at};
 ghost use Rattle.ms_live.specs.Layout.{Begins, Ends, IsBegun, behind};
 ghost use Rattle.ms_live.specs.Place.{IsPlace};
+ghost use Rattle.ms_live.specs.declared.gaps.TheConstants.{GAP_LEVELS};
 
 use crate::gaps::{ALIGNMENT, GAP_LEVELS, Gaps, Live, MOST_LIVE};
 use crate::ids::Ids;
@@ -44,7 +45,7 @@ fn behind(segment: Live) -> u64
 fn begin(rooms: &mut Rooms, segment: Live)
     requires begun { 0 < segment.size → (key : ℕ) × (room : ℕ) × IsBegun (room_at rooms.old) segment key room }
     requires near { (key room : ℕ) → room_at rooms.old key ≡ Some room → 16 * key + room ≤ 2 ^ 32 }
-    requires levels { rooms.old.levels ≡ 30 }
+    requires levels { rooms.old.levels ≡ GAP_LEVELS }
     requires few { size_of rooms.old < rooms.old.most }
     ensures begins { 0 < segment.size → (key room : ℕ) → IsBegun (room_at rooms.old) segment key room → Begins (room_at rooms.old) (room_at rooms.new) segment key room }
     ensures same { segment.size ≡ 0 → rooms.new ≡ rooms.old }
@@ -76,7 +77,7 @@ fn end(rooms: &mut Rooms, capacity: u32, segment: Live)
     requires back { 0 < segment.size → IsSome (room_at rooms.old (behind segment)) }
     requires near { (key room : ℕ) → room_at rooms.old key ≡ Some room → 16 * key + room ≤ 2 ^ 32 }
     requires within { 0 < segment.size → segment.base + segment.size ≤ capacity }
-    requires levels { rooms.old.levels ≡ 30 }
+    requires levels { rooms.old.levels ≡ GAP_LEVELS }
     ensures ends { 0 < segment.size → (key : ℕ) × (room : ℕ) × (rest : ℕ) × Ends capacity (room_at rooms.old) (room_at rooms.new) segment key room rest }
     ensures same { segment.size ≡ 0 → rooms.new ≡ rooms.old }
     ensures size { cond (nat_lt 0 segment.size) 1 0 + size_of rooms.new ≡ size_of rooms.old }

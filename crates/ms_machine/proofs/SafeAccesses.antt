@@ -1,9 +1,9 @@
 -- Reads and writes go through a known shade, to addresses that are painted inside of it.
-use Rattle.std.proofs.Common.{◌≡◌, ◌==◌, ℕ, zero, suc, ℤ, pos, negsuc, ◌+◌, ◌%◌, ◌≤◌, inl, inr, Bool, true, false, cond, List, [], ◌∷◌, Option, Some, None, Result, Ok, Err, length, refl, sym, ap, subst, arith}
+use Rattle.std.proofs.Common.{◌≡◌, ◌==◌, ℕ, ℤ, pos, negsuc, ◌+◌, ◌%◌, ◌≤◌, inl, inr, Bool, true, false, cond, List, Option, Some, None, Result, Ok, Err, length, refl, sym, ap, subst, arith}
 use Rattle.std.specs.Prelude.{nat_le}
-use Rattle.std.specs.List.{All, Contains}
+use Rattle.std.specs.List.{Contains}
 use Rattle.std.proofs.lemmas.Bool.{eqb-true, leb-true}
-use Rattle.std.proofs.lemmas.List.Elements.{All-cons, All-contains, All-map, All-nil}
+use Rattle.std.proofs.lemmas.List.Elements.{All-contains}
 use Rattle.ms_event.specs.declared.event.Event.{Event}
 use Rattle.ms_event.specs.Monitor.{MayAccess, State, shade_of}
 use Rattle.ms_handle.specs.declared.handle.Handle.{Handle}
@@ -17,8 +17,8 @@ use Rattle.ms_segment.specs.Memory.{Access, IsFit, IsSound, Memory, access, acce
 use Rattle.ms_segment.proofs.Finds.{Contains-drop, Contains-overwritten, Contains-take}
 use Rattle.ms_segment.proofs.Functions.{IsHandleAt-handle_at}
 use Rattle.ms_segment.proofs.Reach.{access-within, handle_access-within}
-use Rattle.ms_segment.proofs.Sound.{IsData}
-use Rattle.ms_tagged.specs.Bytes.{Byte, Data, IsHandleAt, Piece, cleared, data_of, number_at, pieces, range, torn, whole}
+use Rattle.ms_segment.proofs.Sound.{IsData, All-data_of, piece_of}
+use Rattle.ms_tagged.specs.Bytes.{Byte, IsHandleAt, Piece, cleared, data_of, number_at, pieces, range, torn, whole}
 use Rattle.ms_tagged.proofs.Numbers.{length-data_of}
 use Rattle.ms_tagged.proofs.Ranges.{length-overwritten, length-range}
 use Rattle.ms_machine.specs.Safety.{IsMonitored, KnowsHandle}
@@ -53,18 +53,6 @@ aligned_access (Ok c) a is = ap Ok (aligned_is (c.address % 16 == 0) c a is)
 aligned_access (Err e) a is = absurd (cc)
 
 -- ---- what is written
-
-All-data : (width value : ℕ) → All IsData (data_of width value)
-All-data zero value = All-nil IsData
-All-data (suc width) value = All-cons IsData _ _ tt (All-data width _)
-
--- a piece of this handle
-abbrev IsOf : Handle → Byte → Type 0
-IsOf v (Data n) = Unit {0}
-IsOf v (Piece h i) = h ≡ v
-
-piece_of : (v h : Handle) (i : ℕ) → Contains (pieces v) (Piece h i) → h ≡ v
-piece_of v h i has = All-contains (IsOf v) (pieces v) (Piece h i) (All-map (IsOf v) (Piece v) (0 ∷ 1 ∷ 2 ∷ 3 ∷ 4 ∷ 5 ∷ 6 ∷ 7 ∷ 8 ∷ 9 ∷ 10 ∷ 11 ∷ 12 ∷ 13 ∷ 14 ∷ 15 ∷ []) (λ k d below. refl)) has
 
 module _ (state : State) (m : Memory) (monitored : IsMonitored state m) where
   -- ---- what the monitor says of it
@@ -160,7 +148,7 @@ module _ (state : State) (m : Memory) (monitored : IsMonitored state m) where
   -- of a number
   pub store_follows : (h : Handle) (width value : ℕ) (c : Change) → IsSound m → IsFit m h → KnowsHandle state h → store m h width value ≡ Ok c → Follows state m (Some c.event) c.memory
   store_follows h width value c sound fit known is =
-      stored_at_follows (access m h width) (data_of width value) width c (λ a goes. (access_may h width a fit known goes, omega (arith, length-data_of width value, access-within m h width a sound fit goes))) (λ g i has. absurd (All-contains IsData (data_of width value) (Piece g i) (All-data width value) has)) is
+      stored_at_follows (access m h width) (data_of width value) width c (λ a goes. (access_may h width a fit known goes, omega (arith, length-data_of width value, access-within m h width a sound fit goes))) (λ g i has. absurd (All-contains IsData (data_of width value) (Piece g i) (All-data_of width value) has)) is
 
   -- of a handle that is known
   pub store_handle_follows : (h v : Handle) (c : Change) → IsSound m → IsFit m h → KnowsHandle state h → KnowsHandle state v → store_handle m h v ≡ Ok c → Follows state m (Some c.event) c.memory

@@ -8,14 +8,14 @@ use Rattle.ms_module.specs.Nesting.{NestsWithin, OfAllNamed, OfNamed}
 use Rattle.ms_module.specs.Numbered.{AllNameWithin, NamesWithin, sequence_at}
 use Rattle.ms_module.proofs.Order.{names_later}
 
-of_named : (P Q : ℕ → Type 0) (i : Instr) → ((n : ℕ) → P n → Q n) → OfNamed P i → OfNamed Q i
+pub of_named : (P Q : ℕ → Type 0) (i : Instr) → ((n : ℕ) → P n → Q n) → OfNamed P i → OfNamed Q i
 of_named P Q (Block ty body) f h = f body h
 of_named P Q (Loop ty body) f h = f body h
 of_named P Q (If ty first None) f h = f first h
 of_named P Q (If ty first (Some second)) f h = (f first h.0, f second h.1)
 of_named P Q _ f h = tt
 
-of_all_named : (P Q : ℕ → Type 0) (is : List Instr) → ((n : ℕ) → P n → Q n) → OfAllNamed P is → OfAllNamed Q is
+pub of_all_named : (P Q : ℕ → Type 0) (is : List Instr) → ((n : ℕ) → P n → Q n) → OfAllNamed P is → OfAllNamed Q is
 of_all_named P Q [] f h = tt
 of_all_named P Q (i ∷ is) f h = (of_named P Q i f h.0, of_all_named P Q is f h.1)
 

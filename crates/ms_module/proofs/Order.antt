@@ -21,7 +21,7 @@ length-put (s ∷ ss) zero i = refl
 length-put (s ∷ ss) (suc k) i = ap suc (length-put ss k i)
 
 -- what holds of each sequence holds still, if it does of the one that grows
-at_put : (P : ℕ → List Instr → Type 0) (ss : List (List Instr)) (c : ℕ) (i : Instr)
+pub at_put : (P : ℕ → List Instr → Type 0) (ss : List (List Instr)) (c : ℕ) (i : Instr)
     → ((k : ℕ) → P k (sequence_at ss k)) → ((is : List Instr) → P c is → P c (is ++ i ∷ [])) → (k : ℕ) → P k (sequence_at (put ss c i) k)
 at_put P [] c i h g k = h k
 at_put P (s ∷ ss) zero i h g zero = g s (h 0)
@@ -29,7 +29,7 @@ at_put P (s ∷ ss) zero i h g (suc k) = h (suc k)
 at_put P (s ∷ ss) (suc c) i h g zero = h 0
 at_put P (s ∷ ss) (suc c) i h g (suc k) = at_put (λ n. P (suc n)) ss c i (λ j. h (suc j)) g k
 
-at_more : (ss : List (List Instr)) (k : ℕ) → sequence_at (ss ++ [] ∷ []) k ≡ sequence_at ss k
+pub at_more : (ss : List (List Instr)) (k : ℕ) → sequence_at (ss ++ [] ∷ []) k ≡ sequence_at ss k
 at_more [] zero = refl
 at_more [] (suc k) = refl
 at_more (s ∷ ss) zero = refl
@@ -85,7 +85,7 @@ InOrder st = ((k : ℕ) → AllNameWithin (length st.seqs) k (sequence_at st.seq
 
 -- ---- each step keeps it
 
-longer : (ss : List (List Instr)) → length (ss ++ [] ∷ []) ≡ suc (length ss)
+pub longer : (ss : List (List Instr)) → length (ss ++ [] ∷ []) ≡ suc (length ss)
 longer ss = omega (arith, length-append ss ([] ∷ []))
 
 more_in_order : (ss : List (List Instr)) → ((k : ℕ) → AllNameWithin (length ss) k (sequence_at ss k)) → (k : ℕ) → AllNameWithin (length (ss ++ [] ∷ [])) k (sequence_at (ss ++ [] ∷ []) k)

@@ -1,18 +1,15 @@
 -- What is kept before any event.
-use Rattle.std.proofs.Common.{◌≡◌, ◌≢◌, ℕ, List, ◌+◌, ◌<◌, cond, nat_eq, [], Some, None, arith, ap, sym, ◌∙◌}
+use Rattle.std.proofs.Common.{◌≡◌, ℕ, List, ◌+◌, ◌<◌, cond, nat_eq, [], Some, None, arith, ap, sym, ◌∙◌}
 use Rattle.ms_event.specs.Monitor.{Shade, most_live}
 use Rattle.ms_gap_tree.specs.Rooms.{Arena, room_at, size_of}
-use Rattle.ms_gap_tree.proofs.Inserted.{cond_false}
-use Rattle.ms_gap_tree.proofs.Levels.{differ_test}
 use Rattle.ms_live.proofs.Layouts.{layout_new}
 use Rattle.ms_monitor.specs.Colours.{colour_of, filled_in, live_in}
 use Rattle.ms_monitor.specs.Kept.{IsKept, IsLive}
 use Rattle.ms_monitor.specs.declared.colours.Colour.{Colour}
+use Rattle.ms_live.specs.declared.gaps.TheConstants.{GAP_LEVELS}
+use Rattle.ms_live.proofs.Keeping.{at_other}
 
-at_other : (capacity k : ℕ) → k ≢ 0 → cond (nat_eq k 0) (Some capacity) None ≡ None
-at_other capacity k n = cond_false (nat_eq k 0) (Some capacity) None (differ_test k 0 n)
-
-pub begun_kept : (capacity : ℕ) (colours : List (ℕ × Colour)) (shades : List Shade) (rooms : Arena) → colours ≡ [] → capacity < 4294967296 → ((key : ℕ) → room_at rooms key ≡ cond (nat_eq key 0) (Some capacity) None) → size_of rooms ≡ 1 → rooms.levels ≡ 30 → rooms.most ≡ most_live + 1
+pub begun_kept : (capacity : ℕ) (colours : List (ℕ × Colour)) (shades : List Shade) (rooms : Arena) → colours ≡ [] → capacity < 4294967296 → ((key : ℕ) → room_at rooms key ≡ cond (nat_eq key 0) (Some capacity) None) → size_of rooms ≡ 1 → rooms.levels ≡ GAP_LEVELS → rooms.most ≡ most_live + 1
     → IsKept (record { capacity = capacity; colours = colours; shades = shades; rooms = rooms })
 begun_kept capacity colours shades rooms none below at size levels most =
     let l = ap live_in none in

@@ -10,6 +10,7 @@ use Rattle.std.proofs.lemmas.Map.Lookups.{exact_unsigned}
 use Rattle.std.proofs.lemmas.Map.Views.{tells_apart}
 use Rattle.ms_monitor.specs.Colours.{Adds, Ends, IsPutOut, colour_of, ended, filled_in, live_in, one_filled, one_live}
 use Rattle.ms_monitor.specs.declared.colours.Colour.{Colour}
+use Rattle.ms_live.proofs.Keeping.{one_at_most}
 
 by_test : (b : Bool) → (b ≡ true → ⊥) → b ≡ false
 by_test true h = absurd (h refl)
@@ -47,10 +48,6 @@ put_out_ends m n id c found out =
 
 pub live_one : (c : Colour) → c.is_live ≡ true → one_live c ≡ 1
 live_one c e = ap (λ (b : Bool). cond {A = ℕ} b 1 0) e
-
-one_at_most : (b : Bool) → cond b 1 0 ≤ 1
-one_at_most true = omega arith
-one_at_most false = omega arith
 
 -- no more colours have bytes than are live
 pub filled_few : (colours : List (ℕ × Colour)) → filled_in colours ≤ live_in colours

@@ -3,16 +3,7 @@ use Rattle.std.proofs.Common.{◌≡◌, ◌≢◌, ◌==◌, ℕ, zero, suc, �
 use Rattle.std.specs.List.{AllPairs, Contains, filter}
 use Rattle.std.proofs.lemmas.Bool.Decides.{nat_tests}
 use Rattle.std.proofs.lemmas.List.Elements.{All-contains, All-contains_itself, All-filter, Contains-append_right, filter_passes}
-
-pub same_id : (a b : ℕ) → (a == b) ≡ true → a ≡ b
-same_id a b h = grind (arith, nat_tests)
-
-pub other_id : (a b : ℕ) → a ≢ b → (a == b) ≡ false
-other_id a b h = grind (arith, nat_tests)
-
-pub not_false : (b : Bool) → not b ≡ true → b ≡ false
-not_false true h = absurd (cc)
-not_false false h = refl
+use Rattle.ms_live.proofs.Found.{other_id}
 
 -- what is left was there and passes
 pub is_left : {X : Type 0} → (p : X → Bool) (xs : List X) (x : X) → Contains (filter p xs) x → Contains xs x × (p x ≡ true)

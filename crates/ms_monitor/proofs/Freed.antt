@@ -18,8 +18,9 @@ use Rattle.ms_monitor.specs.Showing.{Shows}
 use Rattle.ms_monitor.specs.declared.colours.Colour.{Colour}
 use Rattle.ms_monitor.proofs.Allocated.{live_colour, no_colour, one_colour, same_segment}
 use Rattle.ms_monitor.proofs.Colouring.{live_one}
-use Rattle.ms_monitor.proofs.Filtering.{is_left, not_false, one_goes, other_id, stays}
+use Rattle.ms_monitor.proofs.Filtering.{is_left, one_goes, stays}
 use Rattle.ms_monitor.proofs.Seen.{is_live}
+use Rattle.ms_live.proofs.Found.{not_false, other_id}
 
 -- ---- when it may come
 

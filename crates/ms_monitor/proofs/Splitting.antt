@@ -1,22 +1,11 @@
 -- The layout of gaps is kept where an allocation begins anywhere in a gap.
-use Rattle.std.proofs.Common.{◌≡◌, ◌≢◌, ℕ, ◌+◌, ◌-◌, ◌*◌, ◌%◌, ◌<◌, ◌≤◌, Option, Some, None, refl, arith, ap, sym, ◌∙◌, subst, ◌⊎◌, inl, inr}
+use Rattle.std.proofs.Common.{◌≡◌, ℕ, ◌+◌, ◌-◌, ◌*◌, ◌%◌, ◌<◌, ◌≤◌, Option, Some, None, arith, ap, sym, ◌∙◌, subst, inl, inr}
 use Rattle.std.proofs.lemmas.Bool.{cases_eq, cases_lt}
 use Rattle.ms_live.specs.Layout.{behind, IsIn, IsLayout, IsOpen, IsRun}
 use Rattle.ms_live.specs.Place.{IsOutside}
 use Rattle.ms_live.specs.declared.gaps.Live.{Live}
-use Rattle.ms_live.proofs.Layouts.{behind_is, closed, wall, Joins}
+use Rattle.ms_live.proofs.Layouts.{behind_is, closed, wall, Joins, nothing, same_room, three}
 use Rattle.ms_monitor.specs.Gaps.{IsBefore, Splits}
-
-same_room : (o : Option ℕ) (r q : ℕ) → o ≡ Some r → o ≡ Some q → r ≡ q
-same_room o r q h k = cc
-
--- a key is the gap's, the one behind the allocation, or another
-three : (k a b : ℕ) → (k ≡ a) ⊎ ((k ≡ b) ⊎ ((k ≢ a) × (k ≢ b)))
-three k a b = elim (cases_eq k a) [ inl h ↦ inl h | inr h ↦ elim (cases_eq k b) [ inl i ↦ inr (inl i) | inr i ↦ inr (inr (h, i)) ] ]
-
-nothing : (o : Option ℕ) → ((r : ℕ) → o ≡ Some r → ⊥) → o ≡ None
-nothing None h = refl
-nothing (Some r) h = absurd (h r refl)
 
 -- an allocation in a gap: the key of the gap behind it is free
 pub no_gap_behind : (IsLive : Live → Type 0) (capacity : ℕ) (f : ℕ → Option ℕ) → IsLayout IsLive capacity f → (s : Live) (key room : ℕ) → 0 < s.size → s.base % 16 ≡ 0 → f key ≡ Some room → 16 * key ≤ s.base → s.base + s.size ≤ 16 * key + room → f (behind s) ≡ None

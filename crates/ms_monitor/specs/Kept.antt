@@ -7,6 +7,7 @@ use Rattle.ms_live.specs.Layout.{IsLayout}
 use Rattle.ms_live.specs.declared.gaps.Live.{Live}
 use Rattle.ms_monitor.specs.Colours.{colour_of, filled_in, live_in}
 use Rattle.ms_monitor.specs.declared.colours.Colour.{Colour}
+use Rattle.ms_live.specs.declared.gaps.TheConstants.{GAP_LEVELS}
 
 -- how many addresses there are, all colours used, the shades that were sliced, and the rooms of the gaps between live allocations
 pub record Kept : Type 0 where
@@ -25,5 +26,5 @@ pub record IsKept (k : Kept) : Type 0 where
   pub addresses : k.capacity < 4294967296
   pub few : live_in k.colours ≤ most_live
   pub size : size_of k.rooms ≡ 1 + filled_in k.colours
-  pub levels : k.rooms.levels ≡ 30
+  pub levels : k.rooms.levels ≡ GAP_LEVELS
   pub most : k.rooms.most ≡ most_live + 1

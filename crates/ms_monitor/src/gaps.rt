@@ -4,6 +4,7 @@ ghost use Rattle.std.specs.Prelude.{◌≡◌, ℕ, ◌+◌, ◌*◌, ◌/◌, �
 ghost use Rattle.ms_gap_tree.specs.Rooms.{HasRoom, room_at, size_of};
 ghost use Rattle.ms_live.specs.Layout as layout;
 ghost use Rattle.ms_monitor.specs.Gaps.{IsBefore, IsNear, Splits, back, segment};
+ghost use Rattle.ms_live.specs.declared.gaps.TheConstants.{GAP_LEVELS};
 
 use ms_gap_tree::{Item, Rooms, Steps};
 use ms_live::ALIGNMENT;
@@ -42,7 +43,7 @@ pub(crate) fn split(rooms: &mut Rooms, gap: Item, base: u32, size: u32)
     requires fits { 0 < size → base + size ≤ 16 * gap.key + gap.room }
     requires near { IsNear (room_at rooms.old) }
     requires absent { 0 < size → room_at rooms.old (back base size) ≡ None }
-    requires levels { rooms.old.levels ≡ 30 }
+    requires levels { rooms.old.levels ≡ GAP_LEVELS }
     requires few { size_of rooms.old < rooms.old.most }
     ensures splits { 0 < size → Splits (room_at rooms.old) (room_at rooms.new) base size gap.key gap.room }
     ensures same { size ≡ 0 → rooms.new ≡ rooms.old }
@@ -70,7 +71,7 @@ pub(crate) fn join(rooms: &mut Rooms, capacity: u32, base: u32, size: u32)
     requires back { 0 < size → IsSome (room_at rooms.old (back base size)) }
     requires near { IsNear (room_at rooms.old) }
     requires within { 0 < size → base + size ≤ capacity }
-    requires levels { rooms.old.levels ≡ 30 }
+    requires levels { rooms.old.levels ≡ GAP_LEVELS }
     ensures ends { 0 < size → (key : ℕ) × (room : ℕ) × (rest : ℕ) × layout.Ends capacity (room_at rooms.old) (room_at rooms.new) (segment 0 base size) key room rest }
     ensures same { size ≡ 0 → rooms.new ≡ rooms.old }
     ensures size { cond (nat_lt 0 size) 1 0 + size_of rooms.new ≡ size_of rooms.old }

@@ -68,7 +68,7 @@ pub untraced : (telling : Telling) (events : List Event) → telling.trace ≡ N
 untraced telling events none = ap (λ (o : Option (List ℕ)). option_map {U = File} (λ name. record { name = name; bytes = trace_text events }) o) none
 
 -- it has the name that is asked for
-same_file : (x y : File) → ◌≡◌ {A = Option File} (Some x) (Some y) → x ≡ y
+pub same_file : (x y : File) → ◌≡◌ {A = Option File} (Some x) (Some y) → x ≡ y
 same_file x y e = cc
 
 pub traced_name : (telling : Telling) (events : List Event) (file : File) → traced telling events ≡ Some file → telling.trace ≡ Some file.name

@@ -9,7 +9,7 @@ use Rattle.ms_bin_grammar.specs.Bounds.{usual}
 use Rattle.ms_bin_grammar.specs.Module.{Stops as BinaryStops, module_format}
 use Rattle.ms_bin_grammar.proofs.Spelling.{one_module as one_binary}
 use Rattle.ms_bin_write.specs.Written.{IsLarge, written}
-use Rattle.ms_text_read.proofs.Texts.{no_reason, one_module as one_text, reasons_alike}
+use Rattle.ms_text_read.proofs.Texts.{no_reason, reasons_alike}
 use Rattle.ms_text_write.specs.Shown.{shown}
 use Rattle.ms_job.specs.Jobs.{job_in}
 use Rattle.ms_job.specs.Schedules.{schedule_in}
@@ -43,6 +43,7 @@ use Rattle.ms_run.specs.declared.gathering.Naming.TheVariants.{Numbered}
 use Rattle.ms_run.specs.declared.status.Status.{Status}
 use Rattle.ms_run.specs.declared.status.Status.TheVariants as statuses
 use Rattle.ms_run.specs.declared.telling.Telling.{Telling}
+use Rattle.ms_text_grammar.proofs.Files.{one_module as one_text}
 
 -- ---- bytes that spell no module
 

@@ -28,7 +28,7 @@ IsData (Piece h i) = ⊥
 no_piece : (new : List Byte) → All IsData new → (h : Handle) (i : ℕ) → Contains new (Piece h i) → ⊥
 no_piece new data' h i has = All-contains IsData new (Piece h i) data' has
 
-All-data_of : (width value : ℕ) → All IsData (data_of width value)
+pub All-data_of : (width value : ℕ) → All IsData (data_of width value)
 All-data_of zero value = All-nil IsData
 All-data_of (suc width) value = All-cons IsData _ _ tt (All-data_of width _)
 
@@ -38,7 +38,7 @@ IsOf v (Data n) = Unit {0}
 IsOf v (Piece h i) = h ≡ v
 
 -- the pieces of a handle are its own
-piece_of : (v h : Handle) (i : ℕ) → Contains (pieces v) (Piece h i) → h ≡ v
+pub piece_of : (v h : Handle) (i : ℕ) → Contains (pieces v) (Piece h i) → h ≡ v
 piece_of v h i has = All-contains (IsOf v) (pieces v) (Piece h i) (All-map (IsOf v) (Piece v) (0 ∷ 1 ∷ 2 ∷ 3 ∷ 4 ∷ 5 ∷ 6 ∷ 7 ∷ 8 ∷ 9 ∷ 10 ∷ 11 ∷ 12 ∷ 13 ∷ 14 ∷ 15 ∷ []) (λ k d below. refl)) has
 
 -- ---- after a write

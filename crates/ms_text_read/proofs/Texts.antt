@@ -1,5 +1,5 @@
 -- A text spells one module at most, or has one reason why it spells none.
-use Rattle.std.proofs.Common.{◌≡◌, ◌⊎◌, inl, inr, ℕ, ◌≤◌, ◌<◌, List, [], ◌∷◌, Option, Some, None, Result, Ok, Err, All, Contains, length, refl, sym, ap, subst, ◌∙◌, arith, slice_index_or}
+use Rattle.std.proofs.Common.{◌≡◌, ◌⊎◌, inl, inr, ℕ, ◌≤◌, ◌<◌, List, [], Option, Some, Ok, Err, All, Contains, length, refl, sym, ap, subst, ◌∙◌, arith}
 use Rattle.ms_module.specs.declared.module.Module.{Module}
 use Rattle.ms_text_lex.specs.declared.token.Token.{Token}
 use Rattle.ms_text_lex.specs.declared.fault.LexFault.{LexFault}
@@ -18,7 +18,7 @@ use Rattle.ms_text_grammar.specs.TextSpells.TextStop.{lex, name, syntax}
 use Rattle.ms_text_read.specs.Fields.{IsFirstStop}
 use Rattle.ms_text_read.proofs.Stops.{no_stop, one_answer}
 use Rattle.ms_text_resolve.specs.Answers.{Resolves}
-use Rattle.ms_text_read.specs.Answers.{Reads, Tells, lexing_fault, error_of}
+use Rattle.ms_text_read.specs.Answers.{Tells, lexing_fault, error_of}
 
 -- ---- one list of tokens, one list of fields
 
@@ -38,11 +38,6 @@ same_fields bytes tokens others fields gs h spelled k spelled_so =
     one_answer bytes tokens fields gs spelled (subst (λ (ts : List Token). FieldsSpelled bytes ts gs) (sym same) spelled_so)
 
 -- ---- the laws
-
-pub one_module : (bytes : List ℕ) (m n : Module) → TextSpells bytes m → TextSpells bytes n → m ≡ n
-one_module bytes m n h k =
-    let same = same_fields bytes h.tokens k.tokens h.fields k.fields h.lexed h.spelled k.lexed k.spelled in
-    h.is ∙ ap (λ (fs : List Field). (module_of bytes fs).value) same ∙ sym k.is
 
 not_in_none : (at : ℕ) (ns : List ℕ) → ns ≡ [] → Contains ns at → ⊥
 not_in_none at ns e h = let k : h.0 < length ns = h.1 in let z : length ns ≡ 0 = ap length e in omega arith

@@ -1,7 +1,7 @@
 -- How deep blocks are in one another in a body, by how many were open while it was built: each sequence has a level, and
 -- each block in it names sequences of the next level.
 use Rattle.std.proofs.Common.{◌≡◌, ℕ, zero, suc, ◌+◌, ◌<◌, ◌≤◌, Bool, true, false, List, [], ◌∷◌, ◌++◌, length, refl, sym, ap, subst, arith}
-use Rattle.std.specs.Prelude.{Option, Some, None}
+use Rattle.std.specs.Prelude.{Option}
 use Rattle.ms_types.specs.declared.types.ValType.{ValType}
 use Rattle.ms_module.specs.declared.instr.Instr.{Instr}
 use Rattle.ms_module.specs.declared.instr.Instr.TheVariants as instr
@@ -13,6 +13,10 @@ use Rattle.ms_module.specs.declared.builder.Opening.TheVariants.{Block, If, Loop
 use Rattle.ms_module.specs.Building.{State, begun, begun_in, closed, closed_in, current, first_state, in_second, is_turned, placed, placed_in, put, started, turned, turned_blocks, whole}
 use Rattle.ms_module.specs.Nesting.{NestsWithin, OfAllNamed, OfNamed}
 use Rattle.ms_module.specs.Numbered.{IsPlain, sequence_at}
+use Rattle.ms_module.proofs.Nesting.{of_all_named}
+use Rattle.ms_flat.proofs.Sequences.{plain_names_none}
+use Rattle.ms_flat.proofs.Growing.{all_last}
+use Rattle.ms_flat.proofs.Depths.{second_len, started_blocks, turned_len}
 
 -- ---- levels by the numbers of sequences
 
@@ -48,27 +52,6 @@ at_most most (l ∷ ls) (suc k) d h at = at_most most ls k d h.1 at
 
 -- ---- what stands in sequences, by their levels
 
-of_named : (P Q : ℕ → Type 0) (i : Instr) → ((n : ℕ) → P n → Q n) → OfNamed P i → OfNamed Q i
-of_named P Q (instr.Block ty body) f h = f body h
-of_named P Q (instr.Loop ty body) f h = f body h
-of_named P Q (instr.If ty first None) f h = f first h
-of_named P Q (instr.If ty first (Some second)) f h = (f first h.0, f second h.1)
-of_named P Q _ f h = tt
-
-of_all_named : (P Q : ℕ → Type 0) (is : List Instr) → ((n : ℕ) → P n → Q n) → OfAllNamed P is → OfAllNamed Q is
-of_all_named P Q [] f h = tt
-of_all_named P Q (i ∷ is) f h = (of_named P Q i f h.0, of_all_named P Q is f h.1)
-
-of_last : (P : ℕ → Type 0) (is : List Instr) (i : Instr) → OfAllNamed P is → OfNamed P i → OfAllNamed P (is ++ i ∷ [])
-of_last P [] i h g = (g, tt)
-of_last P (j ∷ is) i h g = (h.0, of_last P is i h.1 g)
-
-plain_names : (P : ℕ → Type 0) (i : Instr) → IsPlain i → OfNamed P i
-plain_names P (instr.Block ty body) h = absurd h
-plain_names P (instr.Loop ty body) h = absurd h
-plain_names P (instr.If ty first other) h = absurd h
-plain_names P _ h = tt
-
 -- the names in sequences of these levels are of the next one, by the levels of all
 abbrev Levelled : List ℕ → List ℕ → List (List Instr) → Type 0
 Levelled all [] [] = Unit {0}
@@ -93,7 +76,7 @@ levels_put : (all ds : List ℕ) (ss : List (List Instr)) (k d : ℕ) (i : Instr
 levels_put all [] ss k d i at g h = absurd at
 levels_put all (l ∷ ds) [] k d i at g h = absurd h
 levels_put all (l ∷ ds) (is ∷ ss) zero d i at g h =
-    (of_last (λ n. IsAt all n (suc l)) is i h.0 (subst (λ (m : ℕ). OfNamed (λ n. IsAt all n (suc m)) i) (sym at) g), h.1)
+    (all_last (λ n. IsAt all n (suc l)) is i h.0 (subst (λ (m : ℕ). OfNamed (λ n. IsAt all n (suc m)) i) (sym at) g), h.1)
 levels_put all (l ∷ ds) (is ∷ ss) (suc k) d i at g h = (h.0, levels_put all ds ss k d i at g h.1)
 
 names_at : (all ds : List ℕ) (ss : List (List Instr)) (k d : ℕ) → IsAt ds k d → Levelled all ds ss → OfAllNamed (λ n. IsAt all n (suc d)) (sequence_at ss k)
@@ -158,20 +141,6 @@ pub record HasLevels (most : ℕ) (st : State) : Type 0 where
   pub bounded : AtMost most levels
   pub few : length st.blocks ≤ most
 
-second_len : (n : ℕ) (os : List Open) → length (in_second n os) ≡ length os
-second_len n [] = refl
-second_len n (o ∷ os) = refl
-
-turned_len : (os : List Open) → length (turned_blocks os) ≡ length os
-turned_len [] = refl
-turned_len (o ∷ os) = refl
-
-started_len : (st : State) → length (started st).blocks ≡ length st.blocks
-started_len st = go (is_turned st.blocks) refl where
-  go : (b : Bool) → is_turned st.blocks ≡ b → length (started st).blocks ≡ length st.blocks
-  go false e = rw e refl
-  go true e = rw e (second_len (length st.seqs) st.blocks)
-
 module _ (most : ℕ) where
   pub first_levels : HasLevels most first_state
   first_levels = record { levels = 0 ∷ []; names = (tt, tt); opened = refl; bounded = (omega arith, tt); few = omega arith }
@@ -203,7 +172,7 @@ module _ (most : ℕ) where
   pub placed_levels : (st : State) (i : Instr) → IsPlain i → HasLevels most st → HasLevels most (placed st i)
   placed_levels st i plain h =
       let k = started_levels st h in
-      put_levels (started st) i k (plain_names (λ n. IsAt k.levels n (suc (length (started st).blocks))) i plain)
+      put_levels (started st) i k (plain_names_none (λ n. IsAt k.levels n (suc (length (started st).blocks))) i plain)
 
   begun_in_levels : (st : State) (opening : Opening) (ty : Option ValType) → length st.blocks < most → HasLevels most st → HasLevels most (begun_in st opening ty)
   begun_in_levels st opening ty room h =
@@ -217,7 +186,7 @@ module _ (most : ℕ) where
       }
 
   pub begun_levels : (st : State) (opening : Opening) (ty : Option ValType) → length st.blocks < most → HasLevels most st → HasLevels most (begun st opening ty)
-  begun_levels st opening ty room h = begun_in_levels (started st) opening ty (let n = started_len st in omega arith) (started_levels st h)
+  begun_levels st opening ty room h = begun_in_levels (started st) opening ty (let n = started_blocks st in omega arith) (started_levels st h)
 
   pub turned_levels : (st : State) → HasLevels most st → HasLevels most (turned st)
   turned_levels st h = record {

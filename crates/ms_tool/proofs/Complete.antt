@@ -32,7 +32,7 @@ use Rattle.ms_run.specs.declared.gathering.Naming.TheVariants.{Numbered, Only}
 use Rattle.ms_run.specs.declared.status.Status.{Status}
 use Rattle.ms_run.specs.declared.status.Status.TheVariants as statuses
 use Rattle.ms_run.specs.declared.telling.Telling.{Telling}
-use Rattle.ms_run.proofs.Ending.{traced_name}
+use Rattle.ms_run.proofs.Ending.{traced_name, same_file}
 use Rattle.ms_run.proofs.Jobs.{flows_more}
 use Rattle.ms_run.proofs.Safe.{file_safely, job_safely, run_is_accepted}
 use Rattle.ms_run.proofs.Once.{IsOrdinary, RunsOne, Same, SameRun, assembles_once, assembles_ordinary, checks_known, checks_once, checks_ordinary, disassembles_once, disassembles_ordinary, file_known, file_once, file_ordinary, found_held, holds_one, judges_known, judges_once, judges_ordinary, runs_file_known, runs_file_once, runs_file_ordinary, runs_job_known, runs_job_once, runs_job_ordinary}
@@ -152,21 +152,17 @@ unfaulty : (Has : List ℕ → Found → Type 0) (given : Input) (o : Option Ask
 unfaulty Has given None which status line file h = subst IsUnfaulty (sym h.0) tt
 unfaulty Has given (Some a) which status line file h = of_ordinary status (ordinary Has given a which status line file h)
 
--- what a written file is to the words
-some_file : (x y : File) → ◌≡◌ {A = Option File} (Some x) (Some y) → x ≡ y
-some_file x y e = cc
-
 never_none : {A : Type 0} (o : Option A) (x : A) → o ≡ None → o ≡ Some x → ⊥
 never_none o x none some = let both = sym none ∙ some in cc
 
 assembled_target : (name out bytes : List ℕ) (status : Status) (line : List ℕ) (file : File) (f : Option File) → f ≡ Some file → Assembles out bytes status line f → file.name ≡ out
 assembled_target name out bytes status line file f e (table.unread_text h) = absurd cc
 assembled_target name out bytes status line file f e (table.large m h is) = absurd cc
-assembled_target name out bytes status line file f e (table.assembled m h not) = ap (λ (x : File). x.name) (sym (some_file _ file e))
+assembled_target name out bytes status line file f e (table.assembled m h not) = ap (λ (x : File). x.name) (sym (same_file _ file e))
 
 disassembled_target : (name out bytes : List ℕ) (status : Status) (line : List ℕ) (file : File) (f : Option File) → f ≡ Some file → Disassembles out bytes status line f → file.name ≡ out
 disassembled_target name out bytes status line file f e (table.unread_binary h) = absurd cc
-disassembled_target name out bytes status line file f e (table.disassembled m h) = ap (λ (x : File). x.name) (sym (some_file _ file e))
+disassembled_target name out bytes status line file f e (table.disassembled m h) = ap (λ (x : File). x.name) (sym (same_file _ file e))
 
 module _ (Has : List ℕ → Found → Type 0) where
   file_target : (name out : List ℕ) (Does : table.Command) (status : Status) (line : List ℕ) (file : File) (f : Option File)

@@ -1,4 +1,4 @@
-use Rattle.std.proofs.Common.{◌≤◌, ◌^◌, length, ap, arith}
+use Rattle.std.proofs.Common.{◌≤◌, length, ap, arith}
 use Rattle.c_types.proofs.Placing.{begun, part_at, counted, placed}
 use Rattle.c_types.specs.Layout.{size, most_bytes}
 use Rattle.c_types.specs.Types.{type_of}

@@ -1,7 +1,8 @@
 use Rattle.std.proofs.Common.{◌+◌, ◌-◌, ℕ, arith, ap, ◌∙◌}
 use Rattle.ms_live.specs.Ordered.{at, remove, tree_of}
-use Rattle.ms_live.proofs.OrderedSteps.{middle_is, other_id, others_kept, parts, removed_lower, removed_upper}
+use Rattle.ms_live.proofs.OrderedSteps.{middle_is, others_kept, parts, removed_lower, removed_upper}
 use Rattle.ms_live.proofs.order.+remove.Goals as goal
+use Rattle.ms_live.proofs.Found.{other_id}
 
 pub overflow_add-middle : goal.overflow_add-middle
 overflow_add-middle t c = let m = middle_is c.args.level c.args.low (omega arith) (omega arith) c.requires.range in omega (arith, c.half.ensures, m.fits)

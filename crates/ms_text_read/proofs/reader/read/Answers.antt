@@ -1,8 +1,9 @@
 use Rattle.std.proofs.Common.{ap, inl, inr, Ok, Err, Result}
 use Rattle.ms_module.specs.declared.module.Module.{Module}
 use Rattle.ms_text_grammar.specs.declared.fault.TextFault.{TextFault}
-use Rattle.ms_text_read.proofs.Texts.{no_reason, one_module, tells_only, tells_stops}
+use Rattle.ms_text_read.proofs.Texts.{no_reason, tells_only, tells_stops}
 use Rattle.ms_text_read.proofs.reader.read.Goals as goal
+use Rattle.ms_text_grammar.proofs.Files.{one_module}
 
 abbrev answered : TextFault → Result Module TextFault
 answered e = Err e

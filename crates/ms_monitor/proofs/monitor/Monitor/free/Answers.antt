@@ -5,9 +5,9 @@ use Rattle.ms_monitor.specs.Kept.{Kept}
 use Rattle.ms_monitor.specs.declared.monitor.Verdict.TheVariants.{Reject}
 use Rattle.ms_monitor.proofs.Allocated.{near_is}
 use Rattle.ms_monitor.proofs.Freed.{back_is, first_is, free_kept, free_shows, not_live, not_used, true_from, within_is}
-use Rattle.ms_monitor.proofs.Filtering.{not_false}
 use Rattle.ms_monitor.proofs.Fields.{kept}
 use Rattle.ms_monitor.proofs.monitor.Monitor.free.Goals as goal
+use Rattle.ms_live.proofs.Found.{not_false}
 
 pub returns-in_default : goal.returns-in_default
 returns-in_default c =
