@@ -2,7 +2,7 @@
 use Rattle.std.proofs.Common.{◌≡◌, ℕ, zero, suc, ◌+◌, ◌<◌, ◌≤◌, Bool, true, false, cond, ◌&&◌, List, length, Option, Some, None, IsSome, nat_eq, refl, arith, ap, sym, ◌∙◌, subst}
 use Rattle.ms_gap_tree.specs.Arena.{at, tree_of}
 use Rattle.ms_gap_tree.specs.Rooms.{Arena, IsHeld, IsPool, room_at, size_of, tree}
-use Rattle.ms_gap_tree.specs.Tree.{Tree, Empty, Fork, exchange, half, has, is_below, link_below, look, size, yields, IsApart, IsBelow, IsSound, IsWithin}
+use Rattle.ms_gap_tree.specs.Tree.{Tree, Empty, Fork, exchange, half, has, is_below, link_below, look, size, yields, IsApart, IsBelow, IsInOrder, IsWithin}
 use Rattle.ms_gap_tree.specs.declared.node.Item.{Item}
 use Rattle.ms_gap_tree.specs.declared.node.Link.{Link}
 use Rattle.ms_gap_tree.specs.declared.node.Node.{Node}
@@ -59,10 +59,10 @@ exchanged_is nodes level d root link new e h = rw (e, h) refl
 
 -- ---- what the tree keeps
 
-sound_exchange : (d low key : ℕ) (new : Item) (tree : Tree) → IsSound d low tree → yields d key new.room tree ≡ true → low ≤ new.key → new.key < low + half d → look d low new.key tree ≡ None → IsSound d low (exchange new tree)
-sound_exchange zero low key new tree s y a b n = let q : false ≡ true = y in absurd (cc)
-sound_exchange (suc d) low key new Empty s y a b n = s
-sound_exchange (suc d) low key new (Fork i item left right) s y a b n =
+in_order_exchange : (d low key : ℕ) (new : Item) (tree : Tree) → IsInOrder d low tree → yields d key new.room tree ≡ true → low ≤ new.key → new.key < low + half d → look d low new.key tree ≡ None → IsInOrder d low (exchange new tree)
+in_order_exchange zero low key new tree s y a b n = let q : false ≡ true = y in absurd (cc)
+in_order_exchange (suc d) low key new Empty s y a b n = s
+in_order_exchange (suc d) low key new (Fork i item left right) s y a b n =
     let out = absent (nat_eq new.key item.key) item.room _ n in
     let t = both _ _ y in
     let u = both _ _ t.1 in
@@ -73,7 +73,7 @@ exchanged_look true gone r s rest f = refl
 exchanged_look false true r s rest f = f refl
 exchanged_look false false r s rest f = refl
 
-look_exchange : (d low key : ℕ) (new : Item) (tree : Tree) (k : ℕ) → IsSound d low tree → yields d key new.room tree ≡ true → look d low k (exchange new tree) ≡ cond (nat_eq k new.key) (Some new.room) (cond (nat_eq k key) None (look d low k tree))
+look_exchange : (d low key : ℕ) (new : Item) (tree : Tree) (k : ℕ) → IsInOrder d low tree → yields d key new.room tree ≡ true → look d low k (exchange new tree) ≡ cond (nat_eq k new.key) (Some new.room) (cond (nat_eq k key) None (look d low k tree))
 look_exchange zero low key new tree k s y = let q : false ≡ true = y in absurd (cc)
 look_exchange (suc d) low key new Empty k s y = let q : false ≡ true = y in absurd (cc)
 look_exchange (suc d) low key new (Fork i item left right) k s y =
@@ -106,7 +106,7 @@ held_exchanged a free key item root held y below absent e =
     record {
       within = subst (IsWithin (length a.nodes)) (sym e) (within_exchange (length a.nodes) item t held.within);
       apart = subst IsApart (sym e) (apart_exchange item t held.apart);
-      sound = subst (IsSound a.levels 0) (sym e) (sound_exchange a.levels 0 key item t held.sound y (omega arith) (omega arith) absent);
+      in_order = subst (IsInOrder a.levels 0) (sym e) (in_order_exchange a.levels 0 key item t held.in_order y (omega arith) (omega arith) absent);
       pool = subst (λ (x : Tree). IsPool (length a.nodes) (λ j. has j x) (size x) free) (sym e) (pool_exchange (length a.nodes) item t free held.pool);
       few = held.few;
     }
@@ -114,7 +114,7 @@ held_exchanged a free key item root held y below absent e =
 pub room_exchanged : (a : Arena) (free : List ℕ) (key : ℕ) (item : Item) (root : Option Link) → IsHeld a free → yields a.levels key item.room (tree a) ≡ true
     → tree_of a.nodes a.levels root ≡ exchange item (tree a) → (k : ℕ) → room_at (record { nodes = a.nodes; root = root; levels = a.levels; most = a.most }) k ≡ cond (nat_eq k item.key) (Some item.room) (cond (nat_eq k key) None (room_at a k))
 unfolding room_at
-room_exchanged a free key item root held y e k = ap (look a.levels 0 k) e ∙ look_exchange a.levels 0 key item (tree a) k held.sound y
+room_exchanged a free key item root held y e k = ap (look a.levels 0 k) e ∙ look_exchange a.levels 0 key item (tree a) k held.in_order y
 
 pub size_exchanged : (a : Arena) (item : Item) (root : Option Link) → tree_of a.nodes a.levels root ≡ exchange item (tree a) → size_of (record { nodes = a.nodes; root = root; levels = a.levels; most = a.most }) ≡ size_of a
 unfolding size_of
@@ -125,5 +125,5 @@ pub inside_is : (a : Arena) (free : List ℕ) (key : ℕ) → IsHeld a free → 
 unfolding room_at
 inside_is a free key held h =
     let x = some_is (look a.levels 0 key (tree a)) h in
-    let r = in_range a.levels 0 (tree a) key x.0 held.sound x.1 in
+    let r = in_range a.levels 0 (tree a) key x.0 held.in_order x.1 in
     omega (arith, r.1)

@@ -2,7 +2,7 @@
 use Rattle.std.proofs.Common.{◌≡◌, ◌≢◌, ℕ, zero, suc, ◌+◌, ◌<◌, ◌≤◌, cond, Option, Some, None, nat_eq, nat_lt, nat_le, refl, arith, ap, sym, ◌∙◌, subst, inl, inr}
 use Rattle.std.proofs.lemmas.Bool.{cases_lt}
 use Rattle.ms_gap_tree.specs.Rooms.{IsLast}
-use Rattle.ms_gap_tree.specs.Tree.{Tree, Empty, Fork, either, half, last, look, nearer, IsSound}
+use Rattle.ms_gap_tree.specs.Tree.{Tree, Empty, Fork, either, half, last, look, nearer, IsInOrder}
 use Rattle.ms_gap_tree.specs.declared.node.Item.{Item}
 use Rattle.ms_gap_tree.proofs.Inserted.{cond_true, cond_false, lt_true, lt_false}
 use Rattle.ms_gap_tree.proofs.Levels.{differ_test, same_test}
@@ -76,7 +76,7 @@ of_root item key f (Some x) n l =
           subst (IsLast (with_root item f) key) (sym (cond_false (nat_le item.key key) (cond (nat_le x.key item.key) (Some item) (Some x)) (Some x) e)) (at_other item f x.key apart ∙ l.0, l.1, λ other a b. at_other item f other (omega arith) ∙ l.2 other a b)
     ]
 
-pub last_law : (d low key : ℕ) (tree : Tree) → IsSound d low tree → IsLast (λ j. look d low j tree) key (last d low key tree)
+pub last_law : (d low key : ℕ) (tree : Tree) → IsInOrder d low tree → IsLast (λ j. look d low j tree) key (last d low key tree)
 last_law zero low key tree s = λ other b. refl
 last_law (suc d) low key Empty s = λ other b. refl
 last_law (suc d) low key (Fork i item left right) s =

@@ -3,7 +3,7 @@ use Rattle.std.proofs.Common.{◌≡◌, ◌≢◌, ℕ, zero, suc, ◌+◌, ◌
 use Rattle.std.proofs.Math.Nat.{two-pow-succ}
 use Rattle.std.proofs.lemmas.Bool.{cases_lt}
 use Rattle.std.proofs.lemmas.Bool.Decides.{nat_tests}
-use Rattle.ms_gap_tree.specs.Tree.{Tree, Empty, Fork, half, insert, look, lower, IsSound}
+use Rattle.ms_gap_tree.specs.Tree.{Tree, Empty, Fork, half, insert, look, lower, IsInOrder}
 use Rattle.ms_gap_tree.specs.declared.node.Item.{Item}
 use Rattle.ms_gap_tree.proofs.Inserted.{cond_true, cond_false, lt_true, lt_false}
 use Rattle.ms_gap_tree.proofs.Levels.{test_differ, look_empty}
@@ -77,7 +77,7 @@ place d low slot i top rest left right = cond (nat_lt rest.key (low + half d)) (
 abbrev Law : ℕ → ℕ → ℕ → ℕ → Tree → Type 0
 Law d low slot k tree = (x : Item) → low ≤ x.key → x.key < low + half d → look d low x.key tree ≡ None → look d low k (insert d low slot x tree) ≡ cond (nat_eq k x.key) (Some x.room) (look d low k tree)
 
-look_under : (d low slot i : ℕ) (item new : Item) (left right : Tree) (k : ℕ) → IsSound (suc d) low (Fork i item left right) → low ≤ new.key → new.key < low + half (suc d) → look (suc d) low new.key (Fork i item left right) ≡ None → Law d low slot k left → Law d (low + half d) slot k right
+look_under : (d low slot i : ℕ) (item new : Item) (left right : Tree) (k : ℕ) → IsInOrder (suc d) low (Fork i item left right) → low ≤ new.key → new.key < low + half (suc d) → look (suc d) low new.key (Fork i item left right) ≡ None → Law d low slot k left → Law d (low + half d) slot k right
     → look (suc d) low k (place d low slot i item new left right) ≡ cond (nat_eq k new.key) (Some new.room) (look (suc d) low k (Fork i item left right))
 look_under d low slot i item new left right k s a b n l r =
     let out = absent (nat_eq new.key item.key) item.room _ n in
@@ -93,7 +93,7 @@ look_under d low slot i item new left right k s a b n l r =
           (r new h (upper_range d low new.key item.key a b s.0 s.1 ne h) (sym (cond_false _ _ _ (lt_false _ _ h)) ∙ out.1))
     ]
 
-look_over : (d low slot i : ℕ) (item new : Item) (left right : Tree) (k : ℕ) → IsSound (suc d) low (Fork i item left right) → low ≤ new.key → new.key < low + half (suc d) → look (suc d) low new.key (Fork i item left right) ≡ None → Law d low slot k left → Law d (low + half d) slot k right
+look_over : (d low slot i : ℕ) (item new : Item) (left right : Tree) (k : ℕ) → IsInOrder (suc d) low (Fork i item left right) → low ≤ new.key → new.key < low + half (suc d) → look (suc d) low new.key (Fork i item left right) ≡ None → Law d low slot k left → Law d (low + half d) slot k right
     → look (suc d) low k (place d low slot i new item left right) ≡ cond (nat_eq k new.key) (Some new.room) (look (suc d) low k (Fork i item left right))
 look_over d low slot i item new left right k s a b n l r =
     let out = absent (nat_eq new.key item.key) item.room _ n in
@@ -110,7 +110,7 @@ look_over d low slot i item new left right k s a b n l r =
     ]
 
 -- under its key there is the room of the new item, and what was there under each other key
-pub look_insert : (d low slot : ℕ) (tree : Tree) (k : ℕ) → IsSound d low tree → Law d low slot k tree
+pub look_insert : (d low slot : ℕ) (tree : Tree) (k : ℕ) → IsInOrder d low tree → Law d low slot k tree
 look_insert zero low slot tree k s new a b n = let x = half_none in absurd (omega arith)
 look_insert (suc d) low slot Empty k s new a b n =
     let e : (cond (nat_lt k (low + half d)) (look d low k Empty) (look d (low + half d) k Empty)) ≡ None = elim (nat_lt k (low + half d)) as (λ t. cond t (look d low k Empty) (look d (low + half d) k Empty) ≡ None) [ true ↦ look_empty d low k | false ↦ look_empty d (low + half d) k ] in

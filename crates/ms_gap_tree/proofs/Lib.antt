@@ -13,5 +13,5 @@ pub mod RemoveSlots
 pub mod RemoveSteps
 pub mod SizeLaws
 pub mod SlotLaws
-pub mod SoundLaws
+pub mod OrderLaws
 pub mod WayDown

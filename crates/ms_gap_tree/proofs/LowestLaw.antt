@@ -2,7 +2,7 @@
 use Rattle.std.proofs.Common.{◌≡◌, ℕ, zero, suc, ◌+◌, ◌<◌, ◌≤◌, min, Bool, true, false, cond, Option, Some, None, nat_eq, nat_lt, nat_le, refl, arith, sym, ◌∙◌, subst, ◌⊎◌, inl, inr}
 use Rattle.std.proofs.lemmas.Bool.{cases_lt}
 use Rattle.std.proofs.lemmas.Bool.Decides.{nat_tests}
-use Rattle.ms_gap_tree.specs.Tree.{Tree, Empty, Fork, fits, half, least, look, lowest, HasRoom, IsBelow, IsLowest, IsSound}
+use Rattle.ms_gap_tree.specs.Tree.{Tree, Empty, Fork, fits, half, least, look, lowest, HasRoom, IsBelow, IsLowest, IsInOrder}
 use Rattle.ms_gap_tree.specs.declared.node.Item.{Item}
 use Rattle.ms_gap_tree.proofs.Inserted.{cond_true, cond_false, lt_true, lt_false}
 use Rattle.ms_gap_tree.proofs.Laws.{half_more, half_none, half_one}
@@ -47,7 +47,7 @@ places d low i item left right k r h =
           ]
     ]
 
-pub heap : (d low : ℕ) (tree : Tree) (m k r : ℕ) → IsSound d low tree → IsBelow m tree → look d low k tree ≡ Some r → r ≤ m
+pub heap : (d low : ℕ) (tree : Tree) (m k r : ℕ) → IsInOrder d low tree → IsBelow m tree → look d low k tree ≡ Some r → r ≤ m
 heap zero low tree m k r s b h = absurd (nothing r h)
 heap (suc d) low Empty m k r s b h = absurd (nothing r h)
 heap (suc d) low (Fork i item left right) m k r s b h =
@@ -59,7 +59,7 @@ heap (suc d) low (Fork i item left right) m k r s b h =
       ]
     ]
 
-pub in_range : (d low : ℕ) (tree : Tree) (k r : ℕ) → IsSound d low tree → look d low k tree ≡ Some r → (low ≤ k) × (k < low + half d)
+pub in_range : (d low : ℕ) (tree : Tree) (k r : ℕ) → IsInOrder d low tree → look d low k tree ≡ Some r → (low ≤ k) × (k < low + half d)
 in_range zero low tree k r s h = absurd (nothing r h)
 in_range (suc d) low Empty k r s h = absurd (nothing r h)
 in_range (suc d) low (Fork i item left right) k r s h =
@@ -72,19 +72,19 @@ in_range (suc d) low (Fork i item left right) k r s h =
       ]
     ]
 
-fits_yes : (d low n : ℕ) (tree : Tree) → IsSound d low tree → fits n tree ≡ true → (k : ℕ) × HasRoom d low n tree k
+fits_yes : (d low n : ℕ) (tree : Tree) → IsInOrder d low tree → fits n tree ≡ true → (k : ℕ) × HasRoom d low n tree k
 fits_yes d low n Empty s h = let q : false ≡ true = h in absurd (cc)
 fits_yes zero low n (Fork i item left right) s h = absurd s
 fits_yes (suc d) low n (Fork i item left right) s h = (item.key, (item.room, cond_true _ _ _ (same_test item.key), test_le n item.room h))
 
-fits_no : (d low n : ℕ) (tree : Tree) → IsSound d low tree → fits n tree ≡ false → (k : ℕ) → HasRoom d low n tree k → ⊥
+fits_no : (d low n : ℕ) (tree : Tree) → IsInOrder d low tree → fits n tree ≡ false → (k : ℕ) → HasRoom d low n tree k → ⊥
 fits_no d low n Empty s h k p = nothing p.0 (sym (look_empty d low k) ∙ p.1)
 fits_no d low n (Fork i item left right) s h k p = let x = heap d low (Fork i item left right) item.room k p.0 s (omega arith) p.1 in let y = test_gt n item.room h in let z = p.2 in omega arith
 
 at_root : (d low n i : ℕ) (item : Item) (left right : Tree) → n ≤ item.room → HasRoom (suc d) low n (Fork i item left right) item.key
 at_root d low n i item left right h = (item.room, cond_true _ _ _ (same_test item.key), h)
 
-at_left : (d low n i : ℕ) (item : Item) (left right : Tree) (k : ℕ) → n ≤ item.room → IsSound d low left → HasRoom d low n left k → HasRoom (suc d) low n (Fork i item left right) k
+at_left : (d low n i : ℕ) (item : Item) (left right : Tree) (k : ℕ) → n ≤ item.room → IsInOrder d low left → HasRoom d low n left k → HasRoom (suc d) low n (Fork i item left right) k
 at_left d low n i item left right k h s p =
     let x = in_range d low left k p.0 s p.1 in
     elim (bool_cases (nat_eq k item.key)) [
@@ -92,7 +92,7 @@ at_left d low n i item left right k h s p =
       | inr e ↦ (p.0, cond_false _ _ _ e ∙ (cond_true _ _ _ (lt_true _ _ x.1) ∙ p.1), p.2)
     ]
 
-at_right : (d low n i : ℕ) (item : Item) (left right : Tree) (k : ℕ) → n ≤ item.room → IsSound d (low + half d) right → HasRoom d (low + half d) n right k → HasRoom (suc d) low n (Fork i item left right) k
+at_right : (d low n i : ℕ) (item : Item) (left right : Tree) (k : ℕ) → n ≤ item.room → IsInOrder d (low + half d) right → HasRoom d (low + half d) n right k → HasRoom (suc d) low n (Fork i item left right) k
 at_right d low n i item left right k h s p =
     let x = in_range d (low + half d) right k p.0 s p.1 in
     elim (bool_cases (nat_eq k item.key)) [
@@ -100,7 +100,7 @@ at_right d low n i item left right k h s p =
       | inr e ↦ (p.0, cond_false _ _ _ e ∙ (cond_false _ _ _ (lt_false _ _ x.0) ∙ p.1), p.2)
     ]
 
-by_left : (d low n i : ℕ) (item : Item) (left right : Tree) (o : Option ℕ) → n ≤ item.room → IsSound (suc d) low (Fork i item left right) → (k : ℕ) → HasRoom d low n left k → IsLowest d low n left o → IsLowest (suc d) low n (Fork i item left right) (Some (least item.key o))
+by_left : (d low n i : ℕ) (item : Item) (left right : Tree) (o : Option ℕ) → n ≤ item.room → IsInOrder (suc d) low (Fork i item left right) → (k : ℕ) → HasRoom d low n left k → IsLowest d low n left o → IsLowest (suc d) low n (Fork i item left right) (Some (least item.key o))
 by_left d low n i item left right None h s k p l = absurd (l k p)
 by_left d low n i item left right (Some key) h s k p l =
     let x = in_range d low left key l.0.0 s.5 l.0.1 in (
@@ -117,7 +117,7 @@ by_left d low n i item left right (Some key) h s k p l =
       ],
     )
 
-by_right : (d low n i : ℕ) (item : Item) (left right : Tree) (o : Option ℕ) → n ≤ item.room → IsSound (suc d) low (Fork i item left right) → ((k : ℕ) → HasRoom d low n left k → ⊥) → IsLowest d (low + half d) n right o → IsLowest (suc d) low n (Fork i item left right) (Some (least item.key o))
+by_right : (d low n i : ℕ) (item : Item) (left right : Tree) (o : Option ℕ) → n ≤ item.room → IsInOrder (suc d) low (Fork i item left right) → ((k : ℕ) → HasRoom d low n left k → ⊥) → IsLowest d (low + half d) n right o → IsLowest (suc d) low n (Fork i item left right) (Some (least item.key o))
 by_right d low n i item left right None h s f l = (
   at_root d low n i item left right h,
   λ other b q. elim (places d low i item left right other q.0 q.1) [
@@ -143,7 +143,7 @@ by_right d low n i item left right (Some key) h s f l = (
 )
 
 -- what the way down finds is the least key with the room
-pub lowest_law : (d low n : ℕ) (tree : Tree) → IsSound d low tree → IsLowest d low n tree (lowest n tree)
+pub lowest_law : (d low n : ℕ) (tree : Tree) → IsInOrder d low tree → IsLowest d low n tree (lowest n tree)
 lowest_law d low n Empty s = λ k p. nothing p.0 (sym (look_empty d low k) ∙ p.1)
 lowest_law zero low n (Fork i item left right) s = absurd s
 lowest_law (suc d) low n (Fork i item left right) s =

@@ -7,19 +7,19 @@ use Rattle.std.proofs.lemmas.List.Elements.{All-nil, All-push}
 use Rattle.std.proofs.lemmas.List.Quantifiers.{all_pairs_push}
 use Rattle.ms_gap_tree.specs.Arena.{blank, tree_of}
 use Rattle.ms_gap_tree.specs.Rooms.{Arena, IsHeld, IsPool, room_at, size_of, tree}
-use Rattle.ms_gap_tree.specs.Tree.{Tree, Empty, Fork, half, has, insert, look, remove, size, IsApart, IsSound, IsWithin}
+use Rattle.ms_gap_tree.specs.Tree.{Tree, Empty, Fork, half, has, insert, look, remove, size, IsApart, IsInOrder, IsWithin}
 use Rattle.ms_gap_tree.specs.declared.node.Item.{Item}
 use Rattle.ms_gap_tree.specs.declared.node.Link.{Link}
 use Rattle.ms_gap_tree.specs.declared.node.Node.{Node}
 use Rattle.ms_gap_tree.proofs.Frame.{framed, has_insert}
 use Rattle.ms_gap_tree.proofs.Laws.{look_insert}
 use Rattle.ms_gap_tree.proofs.Levels.{or_joined, differ_test}
-use Rattle.ms_gap_tree.proofs.RemoveLaws.{look_remove, sound_remove}
+use Rattle.ms_gap_tree.proofs.RemoveLaws.{look_remove, in_order_remove}
 use Rattle.ms_gap_tree.proofs.RemoveSlots.{apart_remove, within_remove, IsFreed}
 use Rattle.ms_gap_tree.proofs.RemoveSteps.{has_remove}
 use Rattle.ms_gap_tree.proofs.SizeLaws.{size_insert, size_remove}
 use Rattle.ms_gap_tree.proofs.SlotLaws.{apart_insert, within_insert}
-use Rattle.ms_gap_tree.proofs.SoundLaws.{sound_insert}
+use Rattle.ms_gap_tree.proofs.OrderLaws.{in_order_insert}
 
 -- ---- slots
 
@@ -129,13 +129,13 @@ held_put a old free nodes new result slot item held spare key absent e l =
     let q = put_is a nodes new result slot item free spare e in
     let within : IsWithin (length nodes) i = within_insert a.levels 0 slot item t (length nodes) spare.next.there spare.within in
     let apart = apart_insert a.levels 0 slot item t spare.next.fresh held.apart in
-    let sound = sound_insert a.levels 0 slot t held.sound item (omega arith) (omega arith) absent in
-    let pool = spare.next.pool (λ j. has j i) (size i) (size_insert a.levels 0 slot t held.sound item (omega arith) (omega arith) absent) (λ j n h. has_insert a.levels 0 slot item t j h n) in
+    let in_order = in_order_insert a.levels 0 slot t held.in_order item (omega arith) (omega arith) absent in
+    let pool = spare.next.pool (λ j. has j i) (size i) (size_insert a.levels 0 slot t held.in_order item (omega arith) (omega arith) absent) (λ j n h. has_insert a.levels 0 slot item t j h n) in
     let few = spare.few in
     record {
       within = subst (λ (n : ℕ). IsWithin n (tree_of new a.levels result)) (sym l) (subst (IsWithin (length nodes)) (sym q) within);
       apart = subst IsApart (sym q) apart;
-      sound = subst (IsSound a.levels 0) (sym q) sound;
+      in_order = subst (IsInOrder a.levels 0) (sym q) in_order;
       pool = subst (λ (n : ℕ). IsPool n (λ j. has j (tree_of new a.levels result)) (size (tree_of new a.levels result)) free) (sym l) (subst (λ (x : Tree). IsPool (length nodes) (λ j. has j x) (size x) free) (sym q) pool);
       few = omega arith;
     }
@@ -144,13 +144,13 @@ pub room_put : (a : Arena) (old free : List ℕ) (nodes new : List Node) (result
     → tree_of new a.levels result ≡ insert a.levels 0 slot item (tree_of nodes a.levels a.root) → (key : ℕ) → room_at (record { nodes = new; root = result; levels = a.levels; most = a.most }) key ≡ cond (nat_eq key item.key) (Some item.room) (room_at a key)
 unfolding room_at
 room_put a old free nodes new result slot item held spare below absent e key =
-    ap (look a.levels 0 key) (put_is a nodes new result slot item free spare e) ∙ look_insert a.levels 0 slot (tree a) key held.sound item (omega arith) (omega arith) absent
+    ap (look a.levels 0 key) (put_is a nodes new result slot item free spare e) ∙ look_insert a.levels 0 slot (tree a) key held.in_order item (omega arith) (omega arith) absent
 
 pub size_put : (a : Arena) (old free : List ℕ) (nodes new : List Node) (result : Option Link) (slot : ℕ) (item : Item) → IsHeld a old → IsSpare a nodes free slot → item.key < half a.levels → room_at a item.key ≡ None
     → tree_of new a.levels result ≡ insert a.levels 0 slot item (tree_of nodes a.levels a.root) → size_of (record { nodes = new; root = result; levels = a.levels; most = a.most }) ≡ 1 + size_of a
 unfolding room_at size_of
 size_put a old free nodes new result slot item held spare below absent e =
-    ap size (put_is a nodes new result slot item free spare e) ∙ size_insert a.levels 0 slot (tree a) held.sound item (omega arith) (omega arith) absent
+    ap size (put_is a nodes new result slot item free spare e) ∙ size_insert a.levels 0 slot (tree a) held.in_order item (omega arith) (omega arith) absent
 
 -- ---- an item less
 
@@ -165,7 +165,7 @@ held_taken a free new rest key room slot held there freed e l =
     record {
       within = subst (λ (m : ℕ). IsWithin m (tree_of new a.levels rest)) (sym l) (subst (IsWithin n) (sym e) within);
       apart = subst IsApart (sym e) (apart_remove a.levels 0 key t held.apart);
-      sound = subst (IsSound a.levels 0) (sym e) (sound_remove a.levels 0 key t held.sound);
+      in_order = subst (IsInOrder a.levels 0) (sym e) (in_order_remove a.levels 0 key t held.in_order);
       pool = subst (λ (m : ℕ). IsPool m (λ j. has j (tree_of new a.levels rest)) (size (tree_of new a.levels rest)) (free ++ slot ∷ [])) (sym l) (subst (λ (x : Tree). IsPool n (λ j. has j x) (size x) (free ++ slot ∷ [])) (sym e) pool);
       few = omega arith;
     }
@@ -173,7 +173,7 @@ held_taken a free new rest key room slot held there freed e l =
 pub room_taken : (a : Arena) (free : List ℕ) (new : List Node) (rest : Option Link) (key : ℕ) → IsHeld a free → tree_of new a.levels rest ≡ remove a.levels 0 key (tree a)
     → (other : ℕ) → room_at (record { nodes = new; root = rest; levels = a.levels; most = a.most }) other ≡ cond (nat_eq other key) None (room_at a other)
 unfolding room_at
-room_taken a free new rest key held e other = ap (look a.levels 0 other) e ∙ look_remove a.levels 0 key (tree a) other held.sound
+room_taken a free new rest key held e other = ap (look a.levels 0 other) e ∙ look_remove a.levels 0 key (tree a) other held.in_order
 
 pub size_taken : (a : Arena) (new : List Node) (rest : Option Link) (key room : ℕ) → room_at a key ≡ Some room → tree_of new a.levels rest ≡ remove a.levels 0 key (tree a) → 1 + size_of (record { nodes = new; root = rest; levels = a.levels; most = a.most }) ≡ size_of a
 unfolding room_at size_of

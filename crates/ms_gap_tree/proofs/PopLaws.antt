@@ -1,15 +1,15 @@
--- What `pop` and `remove` do to the rooms that are kept, and that they keep a tree sound.
+-- What `pop` and `remove` do to the rooms that are kept, and that they keep a tree in order.
 use Rattle.std.proofs.Common.{◌≡◌, ◌≢◌, ℕ, zero, suc, ◌+◌, ◌≤◌, Bool, true, false, cond, Option, Some, None, nat_eq, nat_lt, refl, arith, ap, sym, ◌∙◌, subst, inl, inr}
-use Rattle.ms_gap_tree.specs.Tree.{Tree, Empty, Fork, first, half, is_empty, look, pop, root, IsBelow, IsSound}
+use Rattle.ms_gap_tree.specs.Tree.{Tree, Empty, Fork, first, half, is_empty, look, pop, root, IsBelow, IsInOrder}
 use Rattle.ms_gap_tree.specs.declared.node.Item.{Item}
 use Rattle.ms_gap_tree.proofs.Inserted.{cond_true, cond_false, lt_true, lt_false}
 use Rattle.ms_gap_tree.proofs.Laws.{eq_lt, eq_ge}
 use Rattle.ms_gap_tree.proofs.Levels.{differ_test, look_empty, same_test}
 use Rattle.ms_gap_tree.proofs.LowestLaw.{bool_cases, in_range, test_eq, test_le, test_gt, two_halves}
-use Rattle.ms_gap_tree.proofs.SoundLaws.{sound_empty}
+use Rattle.ms_gap_tree.proofs.OrderLaws.{in_order_empty}
 
 -- under the key of a root there is its room
-look_root : (d low : ℕ) (tree : Tree) → IsSound d low tree → is_empty tree ≡ false → look d low (root tree).key tree ≡ Some (root tree).room
+look_root : (d low : ℕ) (tree : Tree) → IsInOrder d low tree → is_empty tree ≡ false → look d low (root tree).key tree ≡ Some (root tree).room
 look_root d low Empty s e = let q : true ≡ false = e in absurd (cc)
 look_root zero low (Fork i item left right) s e = absurd s
 look_root (suc d) low (Fork i item left right) s e = cond_true _ _ _ (same_test item.key)
@@ -64,7 +64,7 @@ abbrev PopLaw : ℕ → ℕ → ℕ → Tree → Type 0
 PopLaw d low k tree = is_empty tree ≡ false → look d low k (pop tree) ≡ cond (nat_eq k (root tree).key) None (look d low k tree)
 
 -- the root of a half is not the root, and has its side
-apart_left : (d low i : ℕ) (item : Item) (left right : Tree) → IsSound (suc d) low (Fork i item left right) → is_empty left ≡ false → item.key ≢ (root left).key
+apart_left : (d low i : ℕ) (item : Item) (left right : Tree) → IsInOrder (suc d) low (Fork i item left right) → is_empty left ≡ false → item.key ≢ (root left).key
 apart_left d low i item left right s e q =
     let x = look_root d low left s.5 e in
     let y = in_range d low left (root left).key (root left).room s.5 x in
@@ -73,7 +73,7 @@ apart_left d low i item left right s e q =
     let w = sym (ap (λ (n : ℕ). look d low n left) q) ∙ z in
     let v = sym x ∙ w in absurd (cc)
 
-apart_right : (d low i : ℕ) (item : Item) (left right : Tree) → IsSound (suc d) low (Fork i item left right) → is_empty right ≡ false → item.key ≢ (root right).key
+apart_right : (d low i : ℕ) (item : Item) (left right : Tree) → IsInOrder (suc d) low (Fork i item left right) → is_empty right ≡ false → item.key ≢ (root right).key
 apart_right d low i item left right s e q =
     let x = look_root d (low + half d) right s.6 e in
     let y = in_range d (low + half d) right (root right).key (root right).room s.6 x in
@@ -86,7 +86,7 @@ apart_right d low i item left right s e q =
 pub gone_at : (d low : ℕ) (key k : ℕ) (left right : Tree) → cond (nat_lt key (low + half d)) (look d low key left) (look d (low + half d) key right) ≡ None → nat_eq k key ≡ true → cond (nat_lt k (low + half d)) (look d low k left) (look d (low + half d) k right) ≡ None
 gone_at d low key k left right g e = subst (λ (n : ℕ). cond (nat_lt n (low + half d)) (look d low n left) (look d (low + half d) n right) ≡ None) (sym (test_eq k key e)) g
 
-pub look_pop : (d low : ℕ) (tree : Tree) (k : ℕ) → IsSound d low tree → PopLaw d low k tree
+pub look_pop : (d low : ℕ) (tree : Tree) (k : ℕ) → IsInOrder d low tree → PopLaw d low k tree
 look_pop d low Empty k s e = let q : true ≡ false = e in absurd (cc)
 look_pop zero low (Fork i item left right) k s e = absurd s
 look_pop (suc d) low (Fork i item left right) k s e =
@@ -124,7 +124,7 @@ below_root Empty m b = omega arith
 below_root (Fork i item left right) m b = b
 
 -- no room is above that of the root that went
-pub below_pop : (d low : ℕ) (tree : Tree) → IsSound d low tree → IsBelow (root tree).room (pop tree)
+pub below_pop : (d low : ℕ) (tree : Tree) → IsInOrder d low tree → IsBelow (root tree).room (pop tree)
 below_pop d low Empty s = tt
 below_pop zero low (Fork i item left right) s = absurd s
 below_pop (suc d) low (Fork i item left right) s =
@@ -133,10 +133,10 @@ below_pop (suc d) low (Fork i item left right) s =
       | false ↦ elim (is_empty right) as (λ b. IsBelow item.room (cond b Empty (Fork i (root right) left (pop right)))) [ true ↦ tt | false ↦ below_root right item.room s.4 ]
     ]
 
-pub sound_pop : (d low : ℕ) (tree : Tree) → IsSound d low tree → IsSound d low (pop tree)
-sound_pop d low Empty s = s
-sound_pop zero low (Fork i item left right) s = absurd s
-sound_pop (suc d) low (Fork i item left right) s =
+pub in_order_pop : (d low : ℕ) (tree : Tree) → IsInOrder d low tree → IsInOrder d low (pop tree)
+in_order_pop d low Empty s = s
+in_order_pop zero low (Fork i item left right) s = absurd s
+in_order_pop (suc d) low (Fork i item left right) s =
     let middle = low + half d in
     let t = two_halves d in
     let lifted_left = Fork i (root left) (pop left) right in
@@ -147,15 +147,15 @@ sound_pop (suc d) low (Fork i item left right) s =
           let y = in_range d low left (root left).key (root left).room s.5 (look_root d low left s.5 some) in
           let now : cond (nat_lt (root left).key middle) (look d low (root left).key (pop left)) (look d middle (root left).key right) ≡ None =
           cond_true _ _ _ (lt_true _ _ y.1) ∙ (look_pop d low left (root left).key s.5 some ∙ cond_true _ _ _ (same_test (root left).key)) in
-          subst (IsSound (suc d) low) (sym (cond_true (first left right) lifted_left (cond (is_empty right) Empty lifted_right) f))
-          (y.0, omega arith, now, below_pop d low left s.5, first_below left right f, sound_pop d low left s.5, s.6)
+          subst (IsInOrder (suc d) low) (sym (cond_true (first left right) lifted_left (cond (is_empty right) Empty lifted_right) f))
+          (y.0, omega arith, now, below_pop d low left s.5, first_below left right f, in_order_pop d low left s.5, s.6)
       | inr f ↦ elim (bool_cases (is_empty right)) [
-        | inl none ↦ subst (IsSound (suc d) low) (sym (cond_false (first left right) lifted_left (cond (is_empty right) Empty lifted_right) f ∙ cond_true (is_empty right) Empty lifted_right none)) (sound_empty (suc d) low)
+        | inl none ↦ subst (IsInOrder (suc d) low) (sym (cond_false (first left right) lifted_left (cond (is_empty right) Empty lifted_right) f ∙ cond_true (is_empty right) Empty lifted_right none)) (in_order_empty (suc d) low)
         | inr some ↦
             let y = in_range d middle right (root right).key (root right).room s.6 (look_root d middle right s.6 some) in
             let now : cond (nat_lt (root right).key middle) (look d low (root right).key left) (look d middle (root right).key (pop right)) ≡ None =
             cond_false _ _ _ (lt_false _ _ y.0) ∙ (look_pop d middle right (root right).key s.6 some ∙ cond_true _ _ _ (same_test (root right).key)) in
-            subst (IsSound (suc d) low) (sym (cond_false (first left right) lifted_left (cond (is_empty right) Empty lifted_right) f ∙ cond_false (is_empty right) Empty lifted_right some))
-            (omega arith, omega arith, now, second_below left right f some, below_pop d middle right s.6, s.5, sound_pop d middle right s.6)
+            subst (IsInOrder (suc d) low) (sym (cond_false (first left right) lifted_left (cond (is_empty right) Empty lifted_right) f ∙ cond_false (is_empty right) Empty lifted_right some))
+            (omega arith, omega arith, now, second_below left right f some, below_pop d middle right s.6, s.5, in_order_pop d middle right s.6)
       ]
     ]

@@ -1,13 +1,13 @@
--- What `remove` does to the rooms that are kept, and that it keeps a tree sound.
+-- What `remove` does to the rooms that are kept, and that it keeps a tree in order.
 use Rattle.std.proofs.Common.{◌≡◌, ℕ, zero, suc, ◌+◌, Bool, true, false, cond, Option, Some, None, nat_eq, nat_lt, refl, ap, sym, ◌∙◌, subst, inl, inr}
 use Rattle.std.proofs.lemmas.Bool.{cases_lt}
-use Rattle.ms_gap_tree.specs.Tree.{Tree, Empty, Fork, half, look, pop, remove, IsBelow, IsSound}
+use Rattle.ms_gap_tree.specs.Tree.{Tree, Empty, Fork, half, look, pop, remove, IsBelow, IsInOrder}
 use Rattle.ms_gap_tree.proofs.Inserted.{cond_true, cond_false, lt_true, lt_false}
 use Rattle.ms_gap_tree.proofs.Laws.{eq_lt, eq_ge}
 use Rattle.ms_gap_tree.proofs.Levels.{differ_test, test_differ}
 use Rattle.ms_gap_tree.proofs.LowestLaw.{bool_cases, test_eq}
-use Rattle.ms_gap_tree.proofs.PopLaws.{below_pop, look_pop, sound_pop}
-use Rattle.ms_gap_tree.proofs.SoundLaws.{below_more}
+use Rattle.ms_gap_tree.proofs.PopLaws.{below_pop, look_pop, in_order_pop}
+use Rattle.ms_gap_tree.proofs.OrderLaws.{below_more}
 
 -- the root stays, and something goes from the lower half
 from_left : (root gone less : Bool) (old kept other : Option ℕ) (r : ℕ) → (root ≡ true → gone ≡ false) → (gone ≡ true → less ≡ true) → kept ≡ cond gone None old → cond root (Some r) (cond less kept other) ≡ cond gone None (cond root (Some r) (cond less old other))
@@ -34,7 +34,7 @@ other_key : (k key top : ℕ) → nat_eq key top ≡ false → nat_eq k top ≡ 
 other_key k key top n e = differ_test k key (λ q. test_differ key top n (sym q ∙ test_eq k top e))
 
 -- under the key there is nothing then, and under each other key what was there
-pub look_remove : (d low key : ℕ) (tree : Tree) (k : ℕ) → IsSound d low tree → look d low k (remove d low key tree) ≡ cond (nat_eq k key) None (look d low k tree)
+pub look_remove : (d low key : ℕ) (tree : Tree) (k : ℕ) → IsInOrder d low tree → look d low k (remove d low key tree) ≡ cond (nat_eq k key) None (look d low k tree)
 look_remove zero low key tree k s = sym (none_still (nat_eq k key))
 look_remove (suc d) low key Empty k s = sym (none_still (nat_eq k key))
 look_remove (suc d) low key (Fork i item left right) k s =
@@ -55,7 +55,7 @@ look_remove (suc d) low key (Fork i item left right) k s =
       ]
     ]
 
-below_remove : (d low key : ℕ) (tree : Tree) (m : ℕ) → IsSound d low tree → IsBelow m tree → IsBelow m (remove d low key tree)
+below_remove : (d low key : ℕ) (tree : Tree) (m : ℕ) → IsInOrder d low tree → IsBelow m tree → IsBelow m (remove d low key tree)
 below_remove zero low key tree m s b = b
 below_remove (suc d) low key Empty m s b = b
 below_remove (suc d) low key (Fork i item left right) m s b =
@@ -76,23 +76,23 @@ gone_side : (d low key : ℕ) (left right left' right' : Tree) → cond (nat_lt 
     → cond (nat_lt key (low + half d)) (look d low key left') (look d (low + half d) key right') ≡ None
 gone_side d low key left right left' right' h f g = sides (nat_lt key (low + half d)) _ _ _ _ h f g
 
-pub sound_remove : (d low key : ℕ) (tree : Tree) → IsSound d low tree → IsSound d low (remove d low key tree)
-sound_remove zero low key tree s = s
-sound_remove (suc d) low key Empty s = s
-sound_remove (suc d) low key (Fork i item left right) s =
+pub in_order_remove : (d low key : ℕ) (tree : Tree) → IsInOrder d low tree → IsInOrder d low (remove d low key tree)
+in_order_remove zero low key tree s = s
+in_order_remove (suc d) low key Empty s = s
+in_order_remove (suc d) low key (Fork i item left right) s =
     let middle = low + half d in
     let on_left = Fork i item (remove d low key left) right in
     let on_right = Fork i item left (remove d middle key right) in
     elim (bool_cases (nat_eq key item.key)) [
-      | inl e ↦ subst (IsSound (suc d) low) (sym (cond_true (nat_eq key item.key) (pop (Fork i item left right)) (cond (nat_lt key middle) on_left on_right) e)) (sound_pop (suc d) low (Fork i item left right) s)
+      | inl e ↦ subst (IsInOrder (suc d) low) (sym (cond_true (nat_eq key item.key) (pop (Fork i item left right)) (cond (nat_lt key middle) on_left on_right) e)) (in_order_pop (suc d) low (Fork i item left right) s)
       | inr e ↦ elim (cases_lt key middle) [
         | inl h ↦
             let now = gone_side d low item.key left right (remove d low key left) right s.2 (λ q. look_remove d low key left item.key s.5 ∙ drop_none (nat_eq item.key key) (look d low item.key left) q) (λ q. q) in
-            subst (IsSound (suc d) low) (sym (cond_false (nat_eq key item.key) (pop (Fork i item left right)) (cond (nat_lt key middle) on_left on_right) e ∙ cond_true (nat_lt key middle) on_left on_right (lt_true key middle h)))
-            (s.0, s.1, now, below_remove d low key left item.room s.5 s.3, s.4, sound_remove d low key left s.5, s.6)
+            subst (IsInOrder (suc d) low) (sym (cond_false (nat_eq key item.key) (pop (Fork i item left right)) (cond (nat_lt key middle) on_left on_right) e ∙ cond_true (nat_lt key middle) on_left on_right (lt_true key middle h)))
+            (s.0, s.1, now, below_remove d low key left item.room s.5 s.3, s.4, in_order_remove d low key left s.5, s.6)
         | inr h ↦
             let now = gone_side d low item.key left right left (remove d middle key right) s.2 (λ q. q) (λ q. look_remove d middle key right item.key s.6 ∙ drop_none (nat_eq item.key key) (look d middle item.key right) q) in
-            subst (IsSound (suc d) low) (sym (cond_false (nat_eq key item.key) (pop (Fork i item left right)) (cond (nat_lt key middle) on_left on_right) e ∙ cond_false (nat_lt key middle) on_left on_right (lt_false key middle h)))
-            (s.0, s.1, now, s.3, below_remove d middle key right item.room s.6 s.4, s.5, sound_remove d middle key right s.6)
+            subst (IsInOrder (suc d) low) (sym (cond_false (nat_eq key item.key) (pop (Fork i item left right)) (cond (nat_lt key middle) on_left on_right) e ∙ cond_false (nat_lt key middle) on_left on_right (lt_false key middle h)))
+            (s.0, s.1, now, s.3, below_remove d middle key right item.room s.6 s.4, s.5, in_order_remove d middle key right s.6)
       ]
     ]

@@ -1,7 +1,7 @@
 -- How many items a tree has after each operation.
 use Rattle.std.proofs.Common.{◌≡◌, ◌≢◌, ℕ, zero, suc, ◌+◌, ◌<◌, ◌≤◌, true, false, cond, Some, None, nat_eq, nat_lt, refl, arith, ap, sym, ◌∙◌, inl, inr}
 use Rattle.std.proofs.lemmas.Bool.{cases_lt}
-use Rattle.ms_gap_tree.specs.Tree.{Tree, Empty, Fork, first, half, insert, is_empty, look, lower, pop, remove, root, size, IsSound}
+use Rattle.ms_gap_tree.specs.Tree.{Tree, Empty, Fork, first, half, insert, is_empty, look, lower, pop, remove, root, size, IsInOrder}
 use Rattle.ms_gap_tree.specs.declared.node.Item.{Item}
 use Rattle.ms_gap_tree.proofs.Inserted.{cond_true, cond_false, lt_true, lt_false}
 use Rattle.ms_gap_tree.proofs.Laws.{absent, half_none, upper_range}
@@ -25,7 +25,7 @@ size_placed d low slot i top rest left right a b a' b' n l r g =
           ap size (cond_false (nat_lt rest.key (low + half d)) (Fork i top (insert d low slot rest left) right) (Fork i top left (insert d (low + half d) slot rest right)) (lt_false _ _ h)) ∙ omega (arith, e)
     ]
 
-pub size_insert : (d low slot : ℕ) (tree : Tree) → IsSound d low tree → (new : Item) → low ≤ new.key → new.key < low + half d → look d low new.key tree ≡ None → size (insert d low slot new tree) ≡ 1 + size tree
+pub size_insert : (d low slot : ℕ) (tree : Tree) → IsInOrder d low tree → (new : Item) → low ≤ new.key → new.key < low + half d → look d low new.key tree ≡ None → size (insert d low slot new tree) ≡ 1 + size tree
 size_insert zero low slot tree s new a b n = let x = half_none in absurd (omega arith)
 size_insert (suc d) low slot Empty s new a b n = refl
 size_insert (suc d) low slot (Fork i item left right) s new a b n =

@@ -1,7 +1,7 @@
 -- Rooms under keys, and the arena that keeps them.
 use Rattle.std.specs.Prelude.{◌≡◌, ◌≢◌, ℕ, ◌+◌, ◌<◌, ◌≤◌, Bool, List, Option, Some, None, All, AllPairs, length, false}
 use Rattle.ms_gap_tree.specs.Arena.{tree_of}
-use Rattle.ms_gap_tree.specs.Tree.{Tree, has, look, looked, size, IsApart, IsSound, IsWithin}
+use Rattle.ms_gap_tree.specs.Tree.{Tree, has, look, looked, size, IsApart, IsInOrder, IsWithin}
 use Rattle.ms_gap_tree.specs.declared.node.Item.{Item}
 use Rattle.ms_gap_tree.specs.declared.node.Link.{Link}
 use Rattle.ms_gap_tree.specs.declared.node.Node.{Node}
@@ -48,10 +48,10 @@ pub record IsPool (n : ℕ) (is_had : ℕ → Bool) (size : ℕ) (free : List �
   pub once : AllPairs (λ i j. i ≢ j) free
   pub count : size + length free ≡ n
 
--- the arena holds a sound tree, each slot once
+-- the arena holds a tree in order, each slot once
 pub record IsHeld (a : Arena) (free : List ℕ) : Type 0 where
   pub within : IsWithin (length a.nodes) (tree a)
   pub apart : IsApart (tree a)
-  pub sound : IsSound a.levels 0 (tree a)
+  pub in_order : IsInOrder a.levels 0 (tree a)
   pub pool : IsPool (length a.nodes) (λ j. has j (tree a)) (size (tree a)) free
   pub few : length a.nodes ≤ a.most

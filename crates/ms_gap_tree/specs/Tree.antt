@@ -77,14 +77,14 @@ lowest n Empty = None
 lowest n (Fork at item left right) = cond (nat_lt item.room n) None (Some (least item.key (cond (fits n left) (lowest n left) (lowest n right))))
 
 -- keys, rooms and halves are in order: each key is in its range and occurs once, and no room is above the root's
-abbrev pub IsSound : ℕ → ℕ → Tree → Type 0
-IsSound zero low Empty = ⊤
-IsSound zero low (Fork at item left right) = ⊥
-IsSound (suc d) low Empty = ⊤
-IsSound (suc d) low (Fork at item left right) =
+abbrev pub IsInOrder : ℕ → ℕ → Tree → Type 0
+IsInOrder zero low Empty = ⊤
+IsInOrder zero low (Fork at item left right) = ⊥
+IsInOrder (suc d) low Empty = ⊤
+IsInOrder (suc d) low (Fork at item left right) =
     (low ≤ item.key) × (item.key < low + half (suc d))
     × (cond (nat_lt item.key (low + half d)) (look d low item.key left) (look d (low + half d) item.key right) ≡ None)
-    × IsBelow item.room left × IsBelow item.room right × IsSound d low left × IsSound d (low + half d) right
+    × IsBelow item.room left × IsBelow item.room right × IsInOrder d low left × IsInOrder d (low + half d) right
 
 -- the item at the root
 abbrev pub root : Tree → Item

@@ -10,7 +10,7 @@ use Rattle.ms_gap_tree.proofs.Inserted.{cond_false, cond_true, lt_false, lt_true
 use Rattle.ms_gap_tree.proofs.Laws.{half_none, upper_range}
 use Rattle.ms_gap_tree.proofs.LowestLaw.{bool_cases, two_halves}
 use Rattle.ms_gap_tree.specs.Tree.{half}
-use Rattle.ms_live.specs.Ordered.{Ordered, Empty, Fork, count, pick, pop, push, remove, root, seek, segments, IsSound}
+use Rattle.ms_live.specs.Ordered.{Ordered, Empty, Fork, count, pick, pop, push, remove, root, seek, segments, IsInOrder}
 use Rattle.ms_live.specs.Place.{without}
 use Rattle.ms_live.specs.declared.branch.Branch.{Branch}
 use Rattle.ms_live.specs.declared.gaps.Live.{Live}
@@ -69,7 +69,7 @@ IsIn d low s = (low ≤ s.id) × (s.id < low + half d)
 abbrev Newer : Live → Live → Type 0
 Newer s t = s.id < t.id
 
-pub in_range : (d low : ℕ) (tree : Ordered) → IsSound d low tree → All (IsIn d low) (segments tree)
+pub in_range : (d low : ℕ) (tree : Ordered) → IsInOrder d low tree → All (IsIn d low) (segments tree)
 in_range d low Empty s = All-nil (IsIn d low)
 in_range zero low (Fork i n s l u) h = absurd h
 in_range (suc d) low (Fork i n s l u) h =
@@ -78,9 +78,9 @@ in_range (suc d) low (Fork i n s l u) h =
     (All-append (IsIn (suc d) low) (segments l) (segments u) (All-weaker (IsIn d low) (IsIn (suc d) low) (λ x p. (p.0, let q = p.1 in omega arith)) (segments l) (in_range d low l h.5))
     (All-weaker (IsIn d (low + half d)) (IsIn (suc d) low) (λ x p. let p0 = p.0 in let p1 = p.1 in (omega arith, omega arith)) (segments u) (in_range d (low + half d) u h.6)))
 
-pub sound_empty : (d low : ℕ) → IsSound d low Empty
-sound_empty zero low = tt
-sound_empty (suc d) low = tt
+pub in_order_empty : (d low : ℕ) → IsInOrder d low Empty
+in_order_empty zero low = tt
+in_order_empty (suc d) low = tt
 
 other_zero : (k : ℕ) → nat_eq (suc k) 0 ≡ false
 other_zero k = grind (arith, nat_tests)
@@ -89,26 +89,26 @@ other_zero k = grind (arith, nat_tests)
 
 pub record Few (d low counted : ℕ) (l u : Ordered) : Type 0 where
   pub count : counted < MOST_LIVE + 1
-  pub sound_lower : IsSound d low l
-  pub sound_upper : IsSound d (low + half d) u
+  pub in_order_lower : IsInOrder d low l
+  pub in_order_upper : IsInOrder d (low + half d) u
   pub few_lower : length (segments l) < MOST_LIVE
   pub few_upper : length (segments u) < MOST_LIVE
 
-pub few_halves : (level d low : ℕ) (root : Branch) (l u tree : Ordered) → level ≡ suc d → tree ≡ Fork root.at root.count root.segment l u → IsSound level low tree → length (segments tree) < MOST_LIVE → Few d low root.count l u
-few_halves level d low root l u tree e t sound few =
+pub few_halves : (level d low : ℕ) (root : Branch) (l u tree : Ordered) → level ≡ suc d → tree ≡ Fork root.at root.count root.segment l u → IsInOrder level low tree → length (segments tree) < MOST_LIVE → Few d low root.count l u
+few_halves level d low root l u tree e t in_order few =
     let whole = Fork root.at root.count root.segment l u in
-    let s = subst (λ (n : ℕ). IsSound n low whole) e (subst (IsSound level low) t sound) in
+    let s = subst (λ (n : ℕ). IsInOrder n low whole) e (subst (IsInOrder level low) t in_order) in
     let f : length (segments whole) < MOST_LIVE = subst (λ (x : Ordered). length (segments x) < MOST_LIVE) t few in
     let n : length (segments l ++ segments u) ≡ length (segments l) + length (segments u) = length-append (segments l) (segments u) in
     let c = s.2 in
-    record { count = omega arith; sound_lower = s.5; sound_upper = s.6; few_lower = omega arith; few_upper = omega arith }
+    record { count = omega arith; in_order_lower = s.5; in_order_upper = s.6; few_lower = omega arith; few_upper = omega arith }
 
 -- ---- a segment more
 
 newer_tail : (s : Live) (xs ys : List Live) (new : Live) → All (λ (t : Live). t.id < new.id) (s ∷ (xs ++ ys)) → All (λ (t : Live). t.id < new.id) (xs ++ ys)
 newer_tail s xs ys new a = All-tail (λ (t : Live). t.id < new.id) s (xs ++ ys) a
 
-pub segments_push : (d low slot : ℕ) (new : Live) (tree : Ordered) → IsSound d low tree → All (λ (t : Live). t.id < new.id) (segments tree) → low ≤ new.id → new.id < low + half d → segments (push d low slot new tree) ≡ segments tree ++ new ∷ []
+pub segments_push : (d low slot : ℕ) (new : Live) (tree : Ordered) → IsInOrder d low tree → All (λ (t : Live). t.id < new.id) (segments tree) → low ≤ new.id → new.id < low + half d → segments (push d low slot new tree) ≡ segments tree ++ new ∷ []
 segments_push zero low slot new tree h a b c = let x = half_none in absurd (omega arith)
 segments_push (suc d) low slot new Empty h a b c = refl
 segments_push (suc d) low slot new (Fork i n s l u) h a b c =
@@ -130,10 +130,10 @@ segments_push (suc d) low slot new (Fork i n s l u) h a b c =
           ∙ ap (λ (xs : List Live). s ∷ xs) (ap (λ (ys : List Live). segments l ++ ys) e ∙ sym (append_assoc (segments l) (segments u) (new ∷ [])))
     ]
 
-pub sound_push : (d low slot : ℕ) (new : Live) (tree : Ordered) → IsSound d low tree → All (λ (t : Live). t.id < new.id) (segments tree) → low ≤ new.id → new.id < low + half d → IsSound d low (push d low slot new tree)
-sound_push zero low slot new tree h a b c = let x = half_none in absurd (omega arith)
-sound_push (suc d) low slot new Empty h a b c = (b, c, refl, All-nil (Newer new), All-nil (Newer new), sound_empty d low, sound_empty d (low + half d))
-sound_push (suc d) low slot new (Fork i n s l u) h a b c =
+pub in_order_push : (d low slot : ℕ) (new : Live) (tree : Ordered) → IsInOrder d low tree → All (λ (t : Live). t.id < new.id) (segments tree) → low ≤ new.id → new.id < low + half d → IsInOrder d low (push d low slot new tree)
+in_order_push zero low slot new tree h a b c = let x = half_none in absurd (omega arith)
+in_order_push (suc d) low slot new Empty h a b c = (b, c, refl, All-nil (Newer new), All-nil (Newer new), in_order_empty d low, in_order_empty d (low + half d))
+in_order_push (suc d) low slot new (Fork i n s l u) h a b c =
     let middle = low + half d in
     let P = λ (t : Live). t.id < new.id in
     let rest = newer_tail s (segments l) (segments u) new a in
@@ -147,16 +147,16 @@ sound_push (suc d) low slot new (Fork i n s l u) h a b c =
           let e = segments_push d low slot new l h.5 all b k in
           let len : length (segments l ++ new ∷ []) ≡ length (segments l) + 1 = length-append (segments l) (new ∷ []) in
           let len2 = ap length e in
-          subst (IsSound (suc d) low) (sym (cond_true (nat_lt new.id middle) on_lower on_upper (lt_true _ _ k)))
-          (h.0, h.1, omega arith, All-same (Newer s) _ _ e (All-push (Newer s) (segments l) new h.3 older), h.4, sound_push d low slot new l h.5 all b k, h.6)
+          subst (IsInOrder (suc d) low) (sym (cond_true (nat_lt new.id middle) on_lower on_upper (lt_true _ _ k)))
+          (h.0, h.1, omega arith, All-same (Newer s) _ _ e (All-push (Newer s) (segments l) new h.3 older), h.4, in_order_push d low slot new l h.5 all b k, h.6)
       | inr k ↦
           let all = All-right P (segments l) (segments u) rest in
           let inside = upper_range d low new.id s.id b c h.0 h.1 (λ q. let p : ⊥ = omega arith in p) k in
           let e = segments_push d middle slot new u h.6 all k inside in
           let len : length (segments u ++ new ∷ []) ≡ length (segments u) + 1 = length-append (segments u) (new ∷ []) in
           let len2 = ap length e in
-          subst (IsSound (suc d) low) (sym (cond_false (nat_lt new.id middle) on_lower on_upper (lt_false _ _ k)))
-          (h.0, h.1, omega arith, h.3, All-same (Newer s) _ _ e (All-push (Newer s) (segments u) new h.4 older), h.5, sound_push d middle slot new u h.6 all k inside)
+          subst (IsInOrder (suc d) low) (sym (cond_false (nat_lt new.id middle) on_lower on_upper (lt_false _ _ k)))
+          (h.0, h.1, omega arith, h.3, All-same (Newer s) _ _ e (All-push (Newer s) (segments u) new h.4 older), h.5, in_order_push d middle slot new u h.6 all k inside)
     ]
 
 -- ---- the oldest goes
@@ -176,18 +176,18 @@ rest_is (Fork i n s (Fork j m t l u) upper) = ap (λ (xs : List Live). t ∷ (xs
 pub segments_pop : (i n : ℕ) (s : Live) (l u : Ordered) → segments l ++ segments u ≡ segments (pop (Fork i n s l u))
 segments_pop i n s l u = rest_is (Fork i n s l u)
 
-pub newer_below : (d low i n : ℕ) (s : Live) (l u : Ordered) → IsSound (suc d) low (Fork i n s l u) → All (Newer s) (segments (pop (Fork i n s l u)))
+pub newer_below : (d low i n : ℕ) (s : Live) (l u : Ordered) → IsInOrder (suc d) low (Fork i n s l u) → All (Newer s) (segments (pop (Fork i n s l u)))
 newer_below d low i n s l u h = All-same (Newer s) _ _ (sym (segments_pop i n s l u)) (All-append (Newer s) (segments l) (segments u) h.3 h.4)
 
 fewer : (i n : ℕ) (s : Live) (l u : Ordered) → length (segments l) + length (segments u) ≡ length (segments (pop (Fork i n s l u)))
 fewer i n s l u = sym (length-append (segments l) (segments u)) ∙ ap length (segments_pop i n s l u)
 
-pub sound_pop : (d low : ℕ) (tree : Ordered) → IsSound d low tree → IsSound d low (pop tree)
-sound_pop d low Empty h = h
-sound_pop zero low (Fork i n s l u) h = absurd h
-sound_pop (suc d) low (Fork i n s Empty Empty) h = sound_empty (suc d) low
-sound_pop (suc zero) low (Fork i n s Empty (Fork j m t l u)) h = absurd h.6
-sound_pop (suc (suc d)) low (Fork i n s Empty (Fork j m t l u)) h =
+pub in_order_pop : (d low : ℕ) (tree : Ordered) → IsInOrder d low tree → IsInOrder d low (pop tree)
+in_order_pop d low Empty h = h
+in_order_pop zero low (Fork i n s l u) h = absurd h
+in_order_pop (suc d) low (Fork i n s Empty Empty) h = in_order_empty (suc d) low
+in_order_pop (suc zero) low (Fork i n s Empty (Fork j m t l u)) h = absurd h.6
+in_order_pop (suc (suc d)) low (Fork i n s Empty (Fork j m t l u)) h =
     let two = two_halves (suc d) in
     let g = h.6 in
     let g0 = g.0 in
@@ -195,9 +195,9 @@ sound_pop (suc (suc d)) low (Fork i n s Empty (Fork j m t l u)) h =
     let h2 = h.2 in
     let f = fewer j m t l u in
     let len : length (segments l ++ segments u) ≡ length (segments l) + length (segments u) = length-append (segments l) (segments u) in
-    (omega arith, omega arith, omega arith, All-nil (Newer t), newer_below d (low + half (suc d)) j m t l u g, sound_empty (suc d) low, sound_pop (suc d) (low + half (suc d)) (Fork j m t l u) g)
-sound_pop (suc zero) low (Fork i n s (Fork j m t l u) upper) h = absurd h.5
-sound_pop (suc (suc d)) low (Fork i n s (Fork j m t l u) upper) h =
+    (omega arith, omega arith, omega arith, All-nil (Newer t), newer_below d (low + half (suc d)) j m t l u g, in_order_empty (suc d) low, in_order_pop (suc d) (low + half (suc d)) (Fork j m t l u) g)
+in_order_pop (suc zero) low (Fork i n s (Fork j m t l u) upper) h = absurd h.5
+in_order_pop (suc (suc d)) low (Fork i n s (Fork j m t l u) upper) h =
     let two = two_halves (suc d) in
     let g = h.5 in
     let g0 = g.0 in
@@ -210,13 +210,13 @@ sound_pop (suc (suc d)) low (Fork i n s (Fork j m t l u) upper) h =
       omega arith,
       newer_below d low j m t l u g,
       All-weaker (IsIn (suc d) (low + half (suc d))) (Newer t) (λ x p. let p0 = p.0 in omega arith) (segments upper) (in_range (suc d) (low + half (suc d)) upper h.6),
-      sound_pop (suc d) low (Fork j m t l u) g,
+      in_order_pop (suc d) low (Fork j m t l u) g,
       h.6,
     )
 
 -- ---- a segment goes
 
-pub segments_remove : (d low id : ℕ) (tree : Ordered) → IsSound d low tree → segments (remove d low id tree) ≡ without id (segments tree)
+pub segments_remove : (d low id : ℕ) (tree : Ordered) → IsInOrder d low tree → segments (remove d low id tree) ≡ without id (segments tree)
 segments_remove zero low id Empty h = refl
 segments_remove zero low id (Fork i n s l u) h = absurd h
 segments_remove (suc d) low id Empty h = refl
@@ -274,10 +274,10 @@ length_remove (suc d) low id (Fork i n s l u) x h =
           ]
     ]
 
-pub sound_remove : (d low id : ℕ) (tree : Ordered) (x : Live) → IsSound d low tree → seek d low id tree ≡ Some x → IsSound d low (remove d low id tree)
-sound_remove zero low id tree x h f = let q : None ≡ Some x = f in absurd (cc)
-sound_remove (suc d) low id Empty x h f = h
-sound_remove (suc d) low id (Fork i n s l u) x h f =
+pub in_order_remove : (d low id : ℕ) (tree : Ordered) (x : Live) → IsInOrder d low tree → seek d low id tree ≡ Some x → IsInOrder d low (remove d low id tree)
+in_order_remove zero low id tree x h f = let q : None ≡ Some x = f in absurd (cc)
+in_order_remove (suc d) low id Empty x h f = h
+in_order_remove (suc d) low id (Fork i n s l u) x h f =
     let middle = low + half d in
     let whole = Fork i n s l u in
     let on_lower = Fork i (n - 1) s (remove d low id l) u in
@@ -285,26 +285,26 @@ sound_remove (suc d) low id (Fork i n s l u) x h f =
     let p = λ (t : Live). not (t.id == id) in
     let h2 = h.2 in
     elim (bool_cases (s.id == id)) [
-      | inl e ↦ subst (IsSound (suc d) low) (sym (cond_true (s.id == id) (pop whole) (cond (nat_lt id middle) on_lower on_upper) e)) (sound_pop (suc d) low whole h)
+      | inl e ↦ subst (IsInOrder (suc d) low) (sym (cond_true (s.id == id) (pop whole) (cond (nat_lt id middle) on_lower on_upper) e)) (in_order_pop (suc d) low whole h)
       | inr e ↦
           let q = sym (cond_false (s.id == id) (Some s) (cond (nat_lt id middle) (seek d low id l) (seek d middle id u)) e) ∙ f in
           elim (cases_lt id middle) [
             | inl k ↦
                 let there = sym (cond_true (nat_lt id middle) (seek d low id l) (seek d middle id u) (lt_true _ _ k)) ∙ q in
                 let r = length_remove d low id l x there in
-                subst (IsSound (suc d) low) (sym (cond_false (s.id == id) (pop whole) (cond (nat_lt id middle) on_lower on_upper) e ∙ cond_true (nat_lt id middle) on_lower on_upper (lt_true _ _ k)))
-                (h.0, h.1, omega arith, All-same (Newer s) _ _ (segments_remove d low id l h.5) (All-filter p (Newer s) (segments l) h.3), h.4, sound_remove d low id l x h.5 there, h.6)
+                subst (IsInOrder (suc d) low) (sym (cond_false (s.id == id) (pop whole) (cond (nat_lt id middle) on_lower on_upper) e ∙ cond_true (nat_lt id middle) on_lower on_upper (lt_true _ _ k)))
+                (h.0, h.1, omega arith, All-same (Newer s) _ _ (segments_remove d low id l h.5) (All-filter p (Newer s) (segments l) h.3), h.4, in_order_remove d low id l x h.5 there, h.6)
             | inr k ↦
                 let there = sym (cond_false (nat_lt id middle) (seek d low id l) (seek d middle id u) (lt_false _ _ k)) ∙ q in
                 let r = length_remove d middle id u x there in
-                subst (IsSound (suc d) low) (sym (cond_false (s.id == id) (pop whole) (cond (nat_lt id middle) on_lower on_upper) e ∙ cond_false (nat_lt id middle) on_lower on_upper (lt_false _ _ k)))
-                (h.0, h.1, omega arith, h.3, All-same (Newer s) _ _ (segments_remove d middle id u h.6) (All-filter p (Newer s) (segments u) h.4), h.5, sound_remove d middle id u x h.6 there)
+                subst (IsInOrder (suc d) low) (sym (cond_false (s.id == id) (pop whole) (cond (nat_lt id middle) on_lower on_upper) e ∙ cond_false (nat_lt id middle) on_lower on_upper (lt_false _ _ k)))
+                (h.0, h.1, omega arith, h.3, All-same (Newer s) _ _ (segments_remove d middle id u h.6) (All-filter p (Newer s) (segments u) h.4), h.5, in_order_remove d middle id u x h.6 there)
           ]
     ]
 
 -- ---- searches
 
-pub seek_law : (d low id : ℕ) (tree : Ordered) → IsSound d low tree → seek d low id tree ≡ find (λ (t : Live). t.id == id) (segments tree)
+pub seek_law : (d low id : ℕ) (tree : Ordered) → IsInOrder d low tree → seek d low id tree ≡ find (λ (t : Live). t.id == id) (segments tree)
 seek_law zero low id Empty h = refl
 seek_law zero low id (Fork i n s l u) h = absurd h
 seek_law (suc d) low id Empty h = refl
@@ -320,12 +320,12 @@ seek_law (suc d) low id (Fork i n s l u) h =
           cond_false (nat_lt id middle) (seek d low id l) (seek d middle id u) (lt_false _ _ k) ∙ (seek_law d middle id u h.6 ∙ sym (find_right p (segments l) (segments u) out))
     ])
 
-pub count_is : (d low : ℕ) (tree : Ordered) → IsSound d low tree → count tree ≡ length (segments tree)
+pub count_is : (d low : ℕ) (tree : Ordered) → IsInOrder d low tree → count tree ≡ length (segments tree)
 count_is d low Empty h = refl
 count_is zero low (Fork i n s l u) h = absurd h
 count_is (suc d) low (Fork i n s l u) h = let len : length (segments l ++ segments u) ≡ length (segments l) + length (segments u) = length-append (segments l) (segments u) in let h2 = h.2 in omega arith
 
-pub pick_law : (d low k : ℕ) (tree : Ordered) → IsSound d low tree → pick d k tree ≡ slice_get (segments tree) k
+pub pick_law : (d low k : ℕ) (tree : Ordered) → IsInOrder d low tree → pick d k tree ≡ slice_get (segments tree) k
 pick_law zero low k Empty h = refl
 pick_law zero low k (Fork i n s l u) h = absurd h
 pick_law (suc d) low k Empty h = refl

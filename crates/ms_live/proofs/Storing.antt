@@ -9,14 +9,14 @@ use Rattle.ms_gap_tree.proofs.LowestLaw.{two_halves}
 use Rattle.ms_gap_tree.proofs.Pool.{given_back, next_new, next_old, IsNext}
 use Rattle.ms_gap_tree.specs.Rooms.{IsPool}
 use Rattle.ms_gap_tree.specs.Tree.{half}
-use Rattle.ms_live.specs.Ordered.{Ordered, Empty, Fork, blank, has, lifted, pop, push, remove, seek, segments, tree_of, IsApart, IsSound, IsStored, IsWithin}
+use Rattle.ms_live.specs.Ordered.{Ordered, Empty, Fork, blank, has, lifted, pop, push, remove, seek, segments, tree_of, IsApart, IsInOrder, IsStored, IsWithin}
 use Rattle.ms_live.specs.Place.{contains_id, without}
 use Rattle.ms_live.specs.declared.branch.Branch.{Branch}
 use Rattle.ms_live.specs.declared.branch.Halves.{Halves}
 use Rattle.ms_live.specs.declared.gaps.Live.{Live}
 use Rattle.ms_live.specs.declared.gaps.TheConstants.{MOST_LIVE}
 use Rattle.ms_live.proofs.Found.{is_some-find}
-use Rattle.ms_live.proofs.OrderedLaws.{count_is, length_remove, newer_below, seek_law, segments_pop, segments_push, segments_remove, sound_empty, sound_pop, sound_push, sound_remove}
+use Rattle.ms_live.proofs.OrderedLaws.{count_is, length_remove, newer_below, seek_law, segments_pop, segments_push, segments_remove, in_order_empty, in_order_pop, in_order_push, in_order_remove}
 use Rattle.ms_live.proofs.OrderedSlots.{apart_push, apart_remove, beyond, has_within, within_more, within_push, within_remove, IsFreed}
 use Rattle.ms_live.proofs.OrderedSteps.{framed, has_push, has_remove, tree_none}
 
@@ -36,23 +36,23 @@ pub segments_lifted : (t : Ordered) → segments (lifted t) ≡ segments t
 segments_lifted Empty = refl
 segments_lifted (Fork i n s l u) = ap (λ (xs : List Live). s ∷ xs) (append-nil (segments (pop (Fork i n s l u))) ∙ sym (segments_pop i n s l u))
 
-pub sound_lifted : (d up : ℕ) (t : Ordered) → up ≡ suc d → IsSound d 0 t → IsSound up 0 (lifted t)
-sound_lifted d up Empty e h = sound_empty up 0
-sound_lifted zero up (Fork i n s l u) e h = absurd h
-sound_lifted (suc d) up (Fork i n s l u) e h =
+pub in_order_lifted : (d up : ℕ) (t : Ordered) → up ≡ suc d → IsInOrder d 0 t → IsInOrder up 0 (lifted t)
+in_order_lifted d up Empty e h = in_order_empty up 0
+in_order_lifted zero up (Fork i n s l u) e h = absurd h
+in_order_lifted (suc d) up (Fork i n s l u) e h =
     let two = two_halves (suc d) in
     let h1 = h.1 in
     let h2 = h.2 in
     let len : length (segments (pop (Fork i n s l u))) ≡ length (segments l) + length (segments u) = sym (ap length (segments_pop i n s l u)) ∙ length-append (segments l) (segments u) in
-    subst (λ (m : ℕ). IsSound m 0 (lifted (Fork i n s l u))) (sym e)
-    (omega arith, omega arith, omega arith, newer_below d 0 i n s l u h, All-nil (λ (t : Live). s.id < t.id), sound_pop (suc d) 0 (Fork i n s l u) h, sound_empty (suc d) (0 + half (suc d)))
+    subst (λ (m : ℕ). IsInOrder m 0 (lifted (Fork i n s l u))) (sym e)
+    (omega arith, omega arith, omega arith, newer_below d 0 i n s l u h, All-nil (λ (t : Live). s.id < t.id), in_order_pop (suc d) 0 (Fork i n s l u) h, in_order_empty (suc d) (0 + half (suc d)))
 
 -- ---- a segment more
 
 -- what holds after the tree has grown
-pub stored_grown : (old new : List Halves) (levels up : ℕ) (root top : Option Branch) (free : List ℕ) → IsStored old levels root free → segments (tree_of new up top) ≡ segments (tree_of old levels root) → IsWithin (length old) (tree_of new up top) → IsApart (tree_of new up top) → IsSound up 0 (tree_of new up top)
+pub stored_grown : (old new : List Halves) (levels up : ℕ) (root top : Option Branch) (free : List ℕ) → IsStored old levels root free → segments (tree_of new up top) ≡ segments (tree_of old levels root) → IsWithin (length old) (tree_of new up top) → IsApart (tree_of new up top) → IsInOrder up 0 (tree_of new up top)
     → ((j : ℕ) → has j (tree_of old levels root) ≡ false → has j (tree_of new up top) ≡ false) → up ≤ 65 → length new ≡ length old → IsStored new up top free
-stored_grown old new levels up root top free s same within apart sound slots few len =
+stored_grown old new levels up root top free s same within apart in_order slots few len =
     let p = s.pool in
     let c = p.count in
     let n = ap length same in
@@ -60,7 +60,7 @@ stored_grown old new levels up root top free s same within apart sound slots few
     record {
       within = subst (λ (m : ℕ). IsWithin m (tree_of new up top)) (sym len) within;
       apart = apart;
-      sound = sound;
+      in_order = in_order;
       pool = record {
         there = λ k d h. let q = p.there k d h in let q0 = q.0 in (omega arith, slots _ q.1);
         once = p.once;
@@ -102,7 +102,7 @@ pub segments_put : (nodes mid new : List Halves) (levels : ℕ) (root result : O
     → tree_of new levels result ≡ push levels 0 slot x (tree_of mid levels root) → segments (tree_of new levels result) ≡ segments (tree_of nodes levels root) ++ x ∷ []
 segments_put nodes mid new levels root result free rest slot x s spare newest room e =
     let t = tree_of nodes levels root in
-    ap segments (e ∙ ap (push levels 0 slot x) spare.same) ∙ segments_push levels 0 slot x t s.sound newest (omega arith) (omega arith)
+    ap segments (e ∙ ap (push levels 0 slot x) spare.same) ∙ segments_push levels 0 slot x t s.in_order newest (omega arith) (omega arith)
 
 pub stored_put : (nodes mid new : List Halves) (levels : ℕ) (root result : Option Branch) (free rest : List ℕ) (slot : ℕ) (x : Live) → IsStored nodes levels root free → IsSpare nodes mid levels root rest slot → All (λ (t : Live). t.id < x.id) (segments (tree_of nodes levels root)) → x.id < half levels
     → tree_of new levels result ≡ push levels 0 slot x (tree_of mid levels root) → length new ≡ length mid → IsStored new levels result rest
@@ -110,14 +110,14 @@ stored_put nodes mid new levels root result free rest slot x s spare newest room
     let t = tree_of nodes levels root in
     let p = push levels 0 slot x t in
     let q = e ∙ ap (push levels 0 slot x) spare.same in
-    let more = segments_push levels 0 slot x t s.sound newest (omega arith) (omega arith) in
+    let more = segments_push levels 0 slot x t s.in_order newest (omega arith) (omega arith) in
     let count : length (segments p) ≡ 1 + length (segments t) = ap length more ∙ (length-append (segments t) (x ∷ []) ∙ omega arith) in
     let few = spare.few in
     let pool = spare.next.pool (λ j. has j p) (length (segments p)) count (λ j n h. has_push levels 0 slot x t j h n) in
     record {
       within = subst (λ (n : ℕ). IsWithin n (tree_of new levels result)) (sym l) (subst (IsWithin (length mid)) (sym q) (within_push levels 0 slot x t (length mid) spare.next.there spare.within));
       apart = subst IsApart (sym q) (apart_push levels 0 slot x t spare.next.fresh s.apart);
-      sound = subst (IsSound levels 0) (sym q) (sound_push levels 0 slot x t s.sound newest (omega arith) (omega arith));
+      in_order = subst (IsInOrder levels 0) (sym q) (in_order_push levels 0 slot x t s.in_order newest (omega arith) (omega arith));
       pool = subst (λ (n : ℕ). IsPool n (λ j. has j (tree_of new levels result)) (length (segments (tree_of new levels result))) rest) (sym l) (subst (λ (y : Ordered). IsPool (length mid) (λ j. has j y) (length (segments y)) rest) (sym q) pool);
       few = omega arith;
       levels = s.levels;
@@ -133,10 +133,10 @@ pub there_is : (nodes : List Halves) (levels id : ℕ) (root : Option Branch) (f
 there_is nodes levels id root free s there =
     let t = tree_of nodes levels root in
     let p = some_is (find (λ (t : Live). t.id == id) (segments t)) (is_some-find (λ (t : Live). t.id == id) (segments t) ∙ there) in
-    (p.0, seek_law levels 0 id t s.sound ∙ p.1)
+    (p.0, seek_law levels 0 id t s.in_order ∙ p.1)
 
 pub segments_taken : (nodes new : List Halves) (levels id : ℕ) (root rest : Option Branch) (free : List ℕ) → IsStored nodes levels root free → tree_of new levels rest ≡ remove levels 0 id (tree_of nodes levels root) → segments (tree_of new levels rest) ≡ without id (segments (tree_of nodes levels root))
-segments_taken nodes new levels id root rest free s e = ap segments e ∙ segments_remove levels 0 id (tree_of nodes levels root) s.sound
+segments_taken nodes new levels id root rest free s e = ap segments e ∙ segments_remove levels 0 id (tree_of nodes levels root) s.in_order
 
 pub stored_taken : (nodes new : List Halves) (levels id slot : ℕ) (root rest : Option Branch) (free : List ℕ) (x : Live) → IsStored nodes levels root free → seek levels 0 id (tree_of nodes levels root) ≡ Some x → IsFreed levels 0 id (tree_of nodes levels root) slot
     → tree_of new levels rest ≡ remove levels 0 id (tree_of nodes levels root) → length new ≡ length nodes → IsStored new levels rest (free ++ slot ∷ [])
@@ -149,7 +149,7 @@ stored_taken nodes new levels id slot root rest free x s there freed e l =
     record {
       within = subst (λ (m : ℕ). IsWithin m (tree_of new levels rest)) (sym l) (subst (IsWithin n) (sym e) (within_remove levels 0 id t n s.within));
       apart = subst IsApart (sym e) (apart_remove levels 0 id t s.apart);
-      sound = subst (IsSound levels 0) (sym e) (sound_remove levels 0 id t x s.sound there);
+      in_order = subst (IsInOrder levels 0) (sym e) (in_order_remove levels 0 id t x s.in_order there);
       pool = subst (λ (m : ℕ). IsPool m (λ j. has j (tree_of new levels rest)) (length (segments (tree_of new levels rest))) (free ++ slot ∷ [])) (sym l) (subst (λ (y : Ordered). IsPool n (λ j. has j y) (length (segments y)) (free ++ slot ∷ [])) (sym e) pool);
       few = omega arith;
       levels = s.levels;
@@ -157,7 +157,7 @@ stored_taken nodes new levels id slot root rest free x s there freed e l =
 
 -- ---- how many, and the one with so many older ones
 
-pub count_root : (nodes : List Halves) (levels : ℕ) (root : Branch) → IsSound levels 0 (tree_of nodes levels (Some root)) → root.count ≡ length (segments (tree_of nodes levels (Some root)))
+pub count_root : (nodes : List Halves) (levels : ℕ) (root : Branch) → IsInOrder levels 0 (tree_of nodes levels (Some root)) → root.count ≡ length (segments (tree_of nodes levels (Some root)))
 count_root nodes zero root h = absurd h
 count_root nodes (suc d) root h = count_is (suc d) 0 (tree_of nodes (suc d) (Some root)) h
 

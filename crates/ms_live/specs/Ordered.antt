@@ -52,13 +52,13 @@ IsApart Empty = ⊤
 IsApart (Fork i n s l u) = (has i l ≡ false) × (has i u ≡ false) × ((j : ℕ) → has j l ≡ true → has j u ≡ false) × IsApart l × IsApart u
 
 -- identities are in their ranges and below those of the halves, and counts are right
-abbrev pub IsSound : ℕ → ℕ → Ordered → Type 0
-IsSound zero low Empty = ⊤
-IsSound zero low (Fork i n s l u) = ⊥
-IsSound (suc d) low Empty = ⊤
-IsSound (suc d) low (Fork i n s l u) =
+abbrev pub IsInOrder : ℕ → ℕ → Ordered → Type 0
+IsInOrder zero low Empty = ⊤
+IsInOrder zero low (Fork i n s l u) = ⊥
+IsInOrder (suc d) low Empty = ⊤
+IsInOrder (suc d) low (Fork i n s l u) =
     (low ≤ s.id) × (s.id < low + half (suc d)) × (n ≡ 1 + (length (segments l) + length (segments u)))
-    × All (λ (t : Live). s.id < t.id) (segments l) × All (λ (t : Live). s.id < t.id) (segments u) × IsSound d low l × IsSound d (low + half d) u
+    × All (λ (t : Live). s.id < t.id) (segments l) × All (λ (t : Live). s.id < t.id) (segments u) × IsInOrder d low l × IsInOrder d (low + half d) u
 
 -- ---- what is done
 
@@ -123,7 +123,7 @@ pick (suc d) k (Fork i n s l u) = cond (nat_eq k 0) (Some s) (cond (nat_lt (k - 
 pub record IsStored (nodes : List Halves) (depth : ℕ) (top : Option Branch) (free : List ℕ) : Type 0 where
   pub within : IsWithin (length nodes) (tree_of nodes depth top)
   pub apart : IsApart (tree_of nodes depth top)
-  pub sound : IsSound depth 0 (tree_of nodes depth top)
+  pub in_order : IsInOrder depth 0 (tree_of nodes depth top)
   pub pool : IsPool (length nodes) (λ j. has j (tree_of nodes depth top)) (length (segments (tree_of nodes depth top))) free
   pub few : length nodes ≤ MOST_LIVE
   pub levels : depth ≤ 65

@@ -2,7 +2,7 @@
 
 ghost use Rattle.std.specs.Prelude.{◌≡◌, ◌==◌, ◌+◌, ◌<◌, ◌≤◌, ◌^◌, ◌++◌, ◌∷◌, ℕ, [], Some, All, IfOk, IsSome, length, find, slice_get, true, false, vec_capacity};
 ghost use Rattle.ms_gap_tree.specs.Tree.{half};
-ghost use Rattle.ms_live.specs.Ordered.{has, push, remove, removed, segments, tree_of, IsApart, IsSound, IsWithin};
+ghost use Rattle.ms_live.specs.Ordered.{has, push, remove, removed, segments, tree_of, IsApart, IsInOrder, IsWithin};
 ghost use Rattle.ms_live.specs.Place.{contains_id, without};
 
 use crate::branch::{BLANK, Branch, Halves};
@@ -50,11 +50,11 @@ fn grow(nodes: &mut [Halves], levels: u32, root: Option<Branch>, id: u64) -> Gro
     requires levels { levels ≤ 65 }
     requires within { IsWithin (length nodes.old) (tree_of nodes.old levels root) }
     requires apart { IsApart (tree_of nodes.old levels root) }
-    requires sound { IsSound levels 0 (tree_of nodes.old levels root) }
+    requires in_order { IsInOrder levels 0 (tree_of nodes.old levels root) }
     ensures same { segments (tree_of nodes.new result.levels result.root) ≡ segments (tree_of nodes.old levels root) }
     ensures within { IsWithin (length nodes.old) (tree_of nodes.new result.levels result.root) }
     ensures apart { IsApart (tree_of nodes.new result.levels result.root) }
-    ensures sound { IsSound result.levels 0 (tree_of nodes.new result.levels result.root) }
+    ensures in_order { IsInOrder result.levels 0 (tree_of nodes.new result.levels result.root) }
     ensures slots { (j : ℕ) → has j (tree_of nodes.old levels root) ≡ false → has j (tree_of nodes.new result.levels result.root) ≡ false }
     ensures levels { result.levels ≤ 65 }
     ensures room { id < half result.levels }
@@ -79,11 +79,11 @@ fn widen(nodes: &mut Vec<Halves>, levels: u32, root: Option<Branch>, id: u64) ->
     requires levels { levels ≤ 65 }
     requires within { IsWithin (length nodes.old.items) (tree_of nodes.old.items levels root) }
     requires apart { IsApart (tree_of nodes.old.items levels root) }
-    requires sound { IsSound levels 0 (tree_of nodes.old.items levels root) }
+    requires in_order { IsInOrder levels 0 (tree_of nodes.old.items levels root) }
     ensures same { segments (tree_of nodes.new.items result.levels result.root) ≡ segments (tree_of nodes.old.items levels root) }
     ensures within { IsWithin (length nodes.old.items) (tree_of nodes.new.items result.levels result.root) }
     ensures apart { IsApart (tree_of nodes.new.items result.levels result.root) }
-    ensures sound { IsSound result.levels 0 (tree_of nodes.new.items result.levels result.root) }
+    ensures in_order { IsInOrder result.levels 0 (tree_of nodes.new.items result.levels result.root) }
     ensures slots { (j : ℕ) → has j (tree_of nodes.old.items levels root) ≡ false → has j (tree_of nodes.new.items result.levels result.root) ≡ false }
     ensures levels { result.levels ≤ 65 }
     ensures room { id < half result.levels }
@@ -107,7 +107,7 @@ fn put(
     requires apart { IsApart (tree_of nodes.old.items levels root) }
     requires fresh { has slot (tree_of nodes.old.items levels root) ≡ false }
     requires there { slot < length nodes.old.items }
-    requires sound { IsSound levels 0 (tree_of nodes.old.items levels root) }
+    requires in_order { IsInOrder levels 0 (tree_of nodes.old.items levels root) }
     requires few { length (segments (tree_of nodes.old.items levels root)) < MOST_LIVE }
     ensures tree { tree_of nodes.new.items levels result ≡ push levels 0 slot segment (tree_of nodes.old.items levels root) }
     ensures length { length nodes.new.items ≡ length nodes.old.items }

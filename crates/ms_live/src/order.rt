@@ -3,7 +3,7 @@
 ghost use Rattle.std.specs.Prelude.{◌≡◌, ◌≢◌, ◌+◌, ◌-◌, ◌<◌, ◌≤◌, ◌^◌, ℕ, List, length, true, false, Some};
 ghost use Rattle.ms_gap_tree.specs.Tree.{half};
 ghost use Rattle.ms_live.specs.declared.gaps.TheConstants.{MOST_LIVE};
-ghost use Rattle.ms_live.specs.Ordered.{at, count, freed, has, lifted, pick, pop, push, remove, removed, seek, segments, tree_of, IsApart, IsSound, IsWithin};
+ghost use Rattle.ms_live.specs.Ordered.{at, count, freed, has, lifted, pick, pop, push, remove, removed, seek, segments, tree_of, IsApart, IsInOrder, IsWithin};
 
 use crate::branch::{BLANK, Branch, Halves};
 use crate::gaps::Live;
@@ -84,7 +84,7 @@ pub(crate) fn push(
     requires apart { IsApart (tree_of nodes.old level branch) }
     requires fresh { has slot (tree_of nodes.old level branch) ≡ false }
     requires there { slot < length nodes.old }
-    requires sound { IsSound level low (tree_of nodes.old level branch) }
+    requires in_order { IsInOrder level low (tree_of nodes.old level branch) }
     requires few { length (segments (tree_of nodes.old level branch)) < MOST_LIVE }
     ensures tree { tree_of nodes.new level result ≡ push level low slot new (tree_of nodes.old level branch) }
     ensures others { (j : ℕ) → has j (tree_of nodes.old level branch) ≡ false → j ≢ slot → at nodes.new j ≡ at nodes.old j }

@@ -1,5 +1,5 @@
 use Rattle.std.proofs.Common.{◌+◌, ◌-◌, ℕ, arith, ap, sym, ◌∙◌, subst}
-use Rattle.ms_live.specs.Ordered.{at, has, push, tree_of, IsSound}
+use Rattle.ms_live.specs.Ordered.{at, has, push, tree_of, IsInOrder}
 use Rattle.ms_live.proofs.OrderedSteps.{linked, middle_is, other_slot, parts, pushed_first, pushed_lower, pushed_others, pushed_upper}
 use Rattle.ms_live.proofs.OrderedLaws.{few_halves}
 use Rattle.ms_live.proofs.order.+push.Goals as goal
@@ -10,7 +10,7 @@ overflow_add-middle t c = let m = middle_is c.args.level c.args.low (omega arith
 pub overflow_add-more : goal.overflow_add-more
 overflow_add-more t c =
     let tree = linked c.args.nodes.now c.args.level (c.args.level - 1) c.in-Some.root c.args.branch (omega arith) c.in-Some.is in
-    let f = few_halves c.args.level (c.args.level - 1) c.args.low c.in-Some.root _ _ (tree_of c.args.nodes.now c.args.level c.args.branch) (omega arith) tree c.requires.sound c.requires.few in
+    let f = few_halves c.args.level (c.args.level - 1) c.args.low c.in-Some.root _ _ (tree_of c.args.nodes.now c.args.level c.args.branch) (omega arith) tree c.requires.in_order c.requires.few in
     omega (arith, f.count)
 
 pub push-lower-requires : goal.push-lower-requires
@@ -19,8 +19,8 @@ push-lower-requires t c =
     let p = parts c.args.nodes.now c.args.level (c.args.level - 1) c.in-Some.root c.args.branch (omega arith) c.in-Some.is c.requires.within c.requires.apart in
     let tree = linked c.args.nodes.now c.args.level (c.args.level - 1) c.in-Some.root c.args.branch (omega arith) c.in-Some.is in
     let o = other_slot c.args.slot c.in-Some.root.at c.in-Some.root.count c.in-Some.root.segment _ _ (sym (ap (has c.args.slot) tree) ∙ c.requires.fresh) in
-    let f = few_halves c.args.level (c.args.level - 1) c.args.low c.in-Some.root _ _ (tree_of c.args.nodes.now c.args.level c.args.branch) (omega arith) tree c.requires.sound c.requires.few in
-    (omega arith, (omega arith, (omega (arith, m.lower), (p.within_lower, (p.apart_lower, (o.1, (c.requires.there, (f.sound_lower, f.few_lower))))))))
+    let f = few_halves c.args.level (c.args.level - 1) c.args.low c.in-Some.root _ _ (tree_of c.args.nodes.now c.args.level c.args.branch) (omega arith) tree c.requires.in_order c.requires.few in
+    (omega arith, (omega arith, (omega (arith, m.lower), (p.within_lower, (p.apart_lower, (o.1, (c.requires.there, (f.in_order_lower, f.few_lower))))))))
 
 pub push-upper-requires : goal.push-upper-requires
 push-upper-requires t c =
@@ -28,9 +28,9 @@ push-upper-requires t c =
     let p = parts c.args.nodes.now c.args.level (c.args.level - 1) c.in-Some.root c.args.branch (omega arith) c.in-Some.is c.requires.within c.requires.apart in
     let tree = linked c.args.nodes.now c.args.level (c.args.level - 1) c.in-Some.root c.args.branch (omega arith) c.in-Some.is in
     let o = other_slot c.args.slot c.in-Some.root.at c.in-Some.root.count c.in-Some.root.segment _ _ (sym (ap (has c.args.slot) tree) ∙ c.requires.fresh) in
-    let f = few_halves c.args.level (c.args.level - 1) c.args.low c.in-Some.root _ _ (tree_of c.args.nodes.now c.args.level c.args.branch) (omega arith) tree c.requires.sound c.requires.few in
-    let sound = subst (λ (h : ℕ). IsSound (c.args.level - 1) (c.args.low + h) (tree_of c.args.nodes.now (c.args.level - 1) (at c.args.nodes.now c.in-Some.root.at).upper)) (sym c.half.ensures) f.sound_upper in
-    (omega arith, (omega arith, (omega (arith, m.upper, c.half.ensures), (p.within_upper, (p.apart_upper, (o.2, (c.requires.there, (sound, f.few_upper))))))))
+    let f = few_halves c.args.level (c.args.level - 1) c.args.low c.in-Some.root _ _ (tree_of c.args.nodes.now c.args.level c.args.branch) (omega arith) tree c.requires.in_order c.requires.few in
+    let in_order = subst (λ (h : ℕ). IsInOrder (c.args.level - 1) (c.args.low + h) (tree_of c.args.nodes.now (c.args.level - 1) (at c.args.nodes.now c.in-Some.root.at).upper)) (sym c.half.ensures) f.in_order_upper in
+    (omega arith, (omega arith, (omega (arith, m.upper, c.half.ensures), (p.within_upper, (p.apart_upper, (o.2, (c.requires.there, (in_order, f.few_upper))))))))
 
 pub returns-in-None-clause-tree : goal.returns-in-None-clause-tree
 returns-in-None-clause-tree t c = pushed_first c.args.nodes.now c.args.level (c.args.level - 1) c.args.low c.args.slot c.args.new c.args.branch (omega arith) c.in-None.is c.requires.there

@@ -12,4 +12,4 @@ returns c =
     let levels = c.self.inside.levels in
     let t = tree_of c.self.inside.nodes.items levels c.self.inside.root in
     let e = c.last.ensures ∙ ap (λ (nodes : List Node). last levels 0 c.args.key (tree_of nodes levels c.self.inside.root)) c.as_slice.ensures.value in
-    subst (λ (a : Arena). IsLast (room_at a) c.args.key c.last.result) c.self.view_is (subst (IsLast _ c.args.key) (sym e) (last_law levels 0 c.args.key t c.self.invariant.0.sound))
+    subst (λ (a : Arena). IsLast (room_at a) c.args.key c.last.result) c.self.view_is (subst (IsLast _ c.args.key) (sym e) (last_law levels 0 c.args.key t c.self.invariant.0.in_order))

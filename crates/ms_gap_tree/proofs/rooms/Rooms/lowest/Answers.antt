@@ -12,7 +12,7 @@ returns-clause-found g c =
     let levels = c.self.inside.levels in
     let t = tree_of c.self.inside.nodes.items levels c.self.inside.root in
     let e = c.lowest.ensures.found ∙ ap (λ (nodes : List Node). lowest c.args.n (tree_of nodes levels c.self.inside.root)) c.as_slice.ensures.value in
-    subst (λ (a : Arena). IsLowest (room_at a) c.args.n c.lowest.result) c.self.view_is (subst (IsLowest _ c.args.n) (sym e) (lowest_law levels 0 c.args.n t c.self.invariant.0.sound))
+    subst (λ (a : Arena). IsLowest (room_at a) c.args.n c.lowest.result) c.self.view_is (subst (IsLowest _ c.args.n) (sym e) (lowest_law levels 0 c.args.n t c.self.invariant.0.in_order))
 
 pub returns-clause-steps : goal.returns-clause-steps
 unfolding nodes_looked_at

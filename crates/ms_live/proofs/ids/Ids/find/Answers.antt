@@ -20,4 +20,4 @@ returns c =
     let s = c.self.inside in
     c.seek.ensures
     ∙ (ap (λ (nodes : List Halves). seek s.levels 0 c.args.id (tree_of nodes s.levels s.root)) c.as_slice.ensures.value
-    ∙ (seek_law s.levels 0 c.args.id (tree_of s.nodes.items s.levels s.root) c.self.invariant.0.sound ∙ ap (find (λ (t : Live). t.id == c.args.id)) c.self.view_is))
+    ∙ (seek_law s.levels 0 c.args.id (tree_of s.nodes.items s.levels s.root) c.self.invariant.0.in_order ∙ ap (find (λ (t : Live). t.id == c.args.id)) c.self.view_is))

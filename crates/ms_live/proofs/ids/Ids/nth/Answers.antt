@@ -14,12 +14,12 @@ pub unreachable-requires : goal.unreachable-requires
 unreachable-requires c =
     let s = c.self.inside in
     let e = ap (λ (nodes : List Halves). pick s.levels c.args.i (tree_of nodes s.levels s.root)) c.as_slice.ensures.value in
-    let l = pick_law s.levels 0 c.args.i (tree_of s.nodes.items s.levels s.root) c.self.invariant.0.sound in
+    let l = pick_law s.levels 0 c.args.i (tree_of s.nodes.items s.levels s.root) c.self.invariant.0.in_order in
     get_some c.args.self.now c.args.i c.requires (sym (c.pick.ensures ∙ (e ∙ (l ∙ ap (λ (xs : List Live). slice_get xs c.args.i) c.self.view_is))) ∙ c.in_default.is)
 
 pub returns : goal.returns
 returns c =
     let s = c.self.inside in
     let e = ap (λ (nodes : List Halves). pick s.levels c.args.i (tree_of nodes s.levels s.root)) c.as_slice.ensures.value in
-    let l = pick_law s.levels 0 c.args.i (tree_of s.nodes.items s.levels s.root) c.self.invariant.0.sound in
+    let l = pick_law s.levels 0 c.args.i (tree_of s.nodes.items s.levels s.root) c.self.invariant.0.in_order in
     sym (c.pick.ensures ∙ (e ∙ (l ∙ ap (λ (xs : List Live). slice_get xs c.args.i) c.self.view_is))) ∙ c.in-Some.is

@@ -14,7 +14,7 @@ put-self-inside-requires-clause-within c =
     let s = c.self.inside in
     let w = c.widen-grown in
     let now = tree_of w.new.nodes.items w.result.levels w.result.root in
-    let grown = stored_grown s.nodes.items w.new.nodes.items s.levels w.result.levels s.root w.result.root s.free.items c.self.invariant.0 w.ensures.same w.ensures.within w.ensures.apart w.ensures.sound w.ensures.slots w.ensures.levels w.ensures.length in
+    let grown = stored_grown s.nodes.items w.new.nodes.items s.levels w.result.levels s.root w.result.root s.free.items c.self.invariant.0 w.ensures.same w.ensures.within w.ensures.apart w.ensures.in_order w.ensures.slots w.ensures.levels w.ensures.length in
     let few : length (segments now) < MOST_LIVE = let e = ap length (w.ensures.same ∙ c.self.view_is) in let f = c.requires.few in omega arith in
     let spare = spare_is w.new.nodes.items c.spare-slot.new.nodes.items w.result.levels w.result.root s.free.items c.spare-slot.new.free.items c.spare-slot.result grown few c.spare-slot.ensures.slot in
     subst (IsWithin (length c.spare-slot.new.nodes.items)) (sym spare.same) spare.within
@@ -24,7 +24,7 @@ put-self-inside-requires-clause-fresh c =
     let s = c.self.inside in
     let w = c.widen-grown in
     let now = tree_of w.new.nodes.items w.result.levels w.result.root in
-    let grown = stored_grown s.nodes.items w.new.nodes.items s.levels w.result.levels s.root w.result.root s.free.items c.self.invariant.0 w.ensures.same w.ensures.within w.ensures.apart w.ensures.sound w.ensures.slots w.ensures.levels w.ensures.length in
+    let grown = stored_grown s.nodes.items w.new.nodes.items s.levels w.result.levels s.root w.result.root s.free.items c.self.invariant.0 w.ensures.same w.ensures.within w.ensures.apart w.ensures.in_order w.ensures.slots w.ensures.levels w.ensures.length in
     let few : length (segments now) < MOST_LIVE = let e = ap length (w.ensures.same ∙ c.self.view_is) in let f = c.requires.few in omega arith in
     let spare = spare_is w.new.nodes.items c.spare-slot.new.nodes.items w.result.levels w.result.root s.free.items c.spare-slot.new.free.items c.spare-slot.result grown few c.spare-slot.ensures.slot in
     ap (has c.spare-slot.result) spare.same ∙ spare.next.fresh
@@ -34,7 +34,7 @@ invariant_of-self c =
     let s = c.self.inside in
     let w = c.widen-grown in
     let now = tree_of w.new.nodes.items w.result.levels w.result.root in
-    let grown = stored_grown s.nodes.items w.new.nodes.items s.levels w.result.levels s.root w.result.root s.free.items c.self.invariant.0 w.ensures.same w.ensures.within w.ensures.apart w.ensures.sound w.ensures.slots w.ensures.levels w.ensures.length in
+    let grown = stored_grown s.nodes.items w.new.nodes.items s.levels w.result.levels s.root w.result.root s.free.items c.self.invariant.0 w.ensures.same w.ensures.within w.ensures.apart w.ensures.in_order w.ensures.slots w.ensures.levels w.ensures.length in
     let few : length (segments now) < MOST_LIVE = let e = ap length (w.ensures.same ∙ c.self.view_is) in let f = c.requires.few in omega arith in
     let spare = spare_is w.new.nodes.items c.spare-slot.new.nodes.items w.result.levels w.result.root s.free.items c.spare-slot.new.free.items c.spare-slot.result grown few c.spare-slot.ensures.slot in
     let newest = All-same (λ (t : Live). t.id < c.args.segment.id) _ _ (w.ensures.same ∙ c.self.view_is) c.requires.newest in
@@ -50,7 +50,7 @@ returns c =
     let s = c.self.inside in
     let w = c.widen-grown in
     let now = tree_of w.new.nodes.items w.result.levels w.result.root in
-    let grown = stored_grown s.nodes.items w.new.nodes.items s.levels w.result.levels s.root w.result.root s.free.items c.self.invariant.0 w.ensures.same w.ensures.within w.ensures.apart w.ensures.sound w.ensures.slots w.ensures.levels w.ensures.length in
+    let grown = stored_grown s.nodes.items w.new.nodes.items s.levels w.result.levels s.root w.result.root s.free.items c.self.invariant.0 w.ensures.same w.ensures.within w.ensures.apart w.ensures.in_order w.ensures.slots w.ensures.levels w.ensures.length in
     let few : length (segments now) < MOST_LIVE = let e = ap length (w.ensures.same ∙ c.self.view_is) in let f = c.requires.few in omega arith in
     let spare = spare_is w.new.nodes.items c.spare-slot.new.nodes.items w.result.levels w.result.root s.free.items c.spare-slot.new.free.items c.spare-slot.result grown few c.spare-slot.ensures.slot in
     let newest = All-same (λ (t : Live). t.id < c.args.segment.id) _ _ (w.ensures.same ∙ c.self.view_is) c.requires.newest in
