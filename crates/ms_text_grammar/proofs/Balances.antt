@@ -41,35 +41,35 @@ adds : (fs gs : List Frame) (ops : List Op) (o : Op) → Agrees fs ops → ((os 
 adds fs gs ops o a next = λ os h. subst (λ (l : List Op). Balanced [] l) (sym (append_assoc ops (o ∷ []) os)) (a (o ∷ os) (next os h))
 
 -- the state agrees
-abbrev Sound : State → Type 0
-Sound st = Agrees st.frames st.ops
+abbrev InStep : State → Type 0
+InStep st = Agrees st.frames st.ops
 
 abbrev Keeps : Textual State → Type 0
-Keeps f = (s : List Token) (next : State) (t : List Token) → f.spelled s next t → Sound next
+Keeps f = (s : List Token) (next : State) (t : List Token) → f.spelled s next t → InStep next
 
-it_is : (next st : State) → next ≡ st → Sound st → Sound next
-it_is next st e h = subst (λ (x : State). Sound x) (sym e) h
+it_is : (next st : State) → next ≡ st → InStep st → InStep next
+it_is next st e h = subst (λ (x : State). InStep x) (sym e) h
 
 module _ (source : List ℕ) (most : ℕ) where
-  flat_block_keeps : (st : State) (o : Opening) → Sound st → Keeps (flat_block source most st o)
+  flat_block_keeps : (st : State) (o : Opening) → InStep st → Keeps (flat_block source most st o)
   unfolding flat_block
   flat_block_keeps st o a s next t h = it_is next _ h.3.0 (adds st.frames (Flat h.0.0 (may_else o) ∷ st.frames) st.ops (op.Begin o h.0.0 h.0.1) a (λ os k. k))
 
-  flat_plain_keeps : (st : State) → Sound st → Keeps (flat_plain source most st)
+  flat_plain_keeps : (st : State) → InStep st → Keeps (flat_plain source most st)
   unfolding flat_plain
   flat_plain_keeps st a s next t h = it_is next _ h.3.0 (adds st.frames st.frames st.ops _ a (λ os k. k))
 
-  folded_block_keeps : (st : State) (o : Opening) → Sound st → Keeps (folded_block source most st o)
+  folded_block_keeps : (st : State) (o : Opening) → InStep st → Keeps (folded_block source most st o)
   unfolding folded_block
   folded_block_keeps st If a s next t h = it_is next _ h.3.0 a
   folded_block_keeps st Block a s next t h = it_is next _ h.3.0 (adds st.frames (Folded ∷ st.frames) st.ops (op.Begin Block h.0.0 h.0.1) a (λ os k. k))
   folded_block_keeps st Loop a s next t h = it_is next _ h.3.0 (adds st.frames (Folded ∷ st.frames) st.ops (op.Begin Loop h.0.0 h.0.1) a (λ os k. k))
 
-  folded_plain_keeps : (st : State) → Sound st → Keeps (folded_plain source most st)
+  folded_plain_keeps : (st : State) → InStep st → Keeps (folded_plain source most st)
   unfolding folded_plain
   folded_plain_keeps st a s next t h = it_is next _ h.3.0 a
 
-  folded_on_keeps : (st : State) (x : Sign) → Sound st → Keeps (folded_on source most st x)
+  folded_on_keeps : (st : State) (x : Sign) → InStep st → Keeps (folded_on source most st x)
   unfolding folded_on
   folded_on_keeps st (sign.Heads o) a = folded_block_keeps st o a
   folded_on_keeps st sign.Left a = folded_plain_keeps st a
@@ -79,11 +79,11 @@ module _ (source : List ℕ) (most : ℕ) where
   folded_on_keeps st sign.Thens a = folded_plain_keeps st a
   folded_on_keeps st sign.Other a = folded_plain_keeps st a
 
-  folded_keeps : (st : State) → Sound st → Keeps (folded source most st)
+  folded_keeps : (st : State) → InStep st → Keeps (folded source most st)
   unfolding folded
   folded_keeps st a s next t h = folded_on_keeps st (sign_of source h.1) a h.1 next t h.3
 
-  condition_on_keeps : (label : Option Token) (ty : Option ValType) (fs : List Frame) (st : State) (x : Sign) → Sound st → Agrees fs st.ops → Keeps (condition_on source most label ty fs st x)
+  condition_on_keeps : (label : Option Token) (ty : Option ValType) (fs : List Frame) (st : State) (x : Sign) → InStep st → Agrees fs st.ops → Keeps (condition_on source most label ty fs st x)
   unfolding condition_on
   condition_on_keeps label ty fs st sign.Thens a b = λ s next t h. it_is next _ h.3.0 (adds fs (Arm ∷ Then ∷ fs) st.ops (op.Begin If label ty) b (λ os k. k))
   condition_on_keeps label ty fs st (sign.Heads o) a b = folded_on_keeps st (sign.Heads o) a
@@ -93,7 +93,7 @@ module _ (source : List ℕ) (most : ℕ) where
   condition_on_keeps label ty fs st sign.Elses a b = folded_on_keeps st sign.Elses a
   condition_on_keeps label ty fs st sign.Other a b = folded_on_keeps st sign.Other a
 
-  condition_keeps : (label : Option Token) (ty : Option ValType) (fs : List Frame) (st : State) → Sound st → Agrees fs st.ops → Keeps (condition source most label ty fs st)
+  condition_keeps : (label : Option Token) (ty : Option ValType) (fs : List Frame) (st : State) → InStep st → Agrees fs st.ops → Keeps (condition source most label ty fs st)
   unfolding condition
   condition_keeps label ty fs st a b s next t h = condition_on_keeps label ty fs st (sign_of source h.1) a b h.1 next t h.3
 
@@ -101,11 +101,11 @@ module _ (source : List ℕ) (most : ℕ) where
   unfolding else_arm
   else_arm_keeps fs st b s next t h = it_is next _ h.3.3.0 (adds (Then ∷ fs) (Arm ∷ Other ∷ fs) st.ops op.Else b (λ os k. (refl, k)))
 
-  closed_keeps : (st : State) → Sound st → Keeps (closed source most st)
+  closed_keeps : (st : State) → InStep st → Keeps (closed source most st)
   unfolding closed
   closed_keeps st a s next t h = it_is next st h.3.0 a
 
-  marked_keeps : (text : List ℕ) (label : Option Token) (st : State) → Sound st → Keeps (marked source most text label st)
+  marked_keeps : (text : List ℕ) (label : Option Token) (st : State) → InStep st → Keeps (marked source most text label st)
   unfolding marked
   marked_keeps text label st a s next t h = it_is next st h.3.3.0 a
 
@@ -114,7 +114,7 @@ module _ (source : List ℕ) (most : ℕ) where
   flat_else_keeps label true fs st b = marked_keeps _ label _ (adds (Flat label true ∷ fs) (Flat label false ∷ fs) st.ops op.Else b (λ os k. (refl, k)))
   flat_else_keeps label false fs st b = λ s next t h. absurd h
 
-  instructions_keep : (st after : State) (x : Sign) → Sound st → Sound after → Keeps (instructions source most st after x)
+  instructions_keep : (st after : State) (x : Sign) → InStep st → InStep after → Keeps (instructions source most st after x)
   unfolding instructions
   instructions_keep st after sign.Left a b = folded_keeps st a
   instructions_keep st after (sign.Heads o) a b = flat_block_keeps st o a
@@ -128,7 +128,7 @@ module _ (source : List ℕ) (most : ℕ) where
   ended_agrees f fs ops may e b = adds (f ∷ fs) fs ops op.End b (λ os k. subst (λ (bs : List Bool). Balanced bs (op.End ∷ os)) (sym e) k)
 
   -- by the innermost frame of a state whose frames are these
-  turn_on_keeps : (st : State) (fs : List Frame) (x : Sign) → Sound st → Agrees fs st.ops → Keeps (turn_on source most st fs x)
+  turn_on_keeps : (st : State) (fs : List Frame) (x : Sign) → InStep st → Agrees fs st.ops → Keeps (turn_on source most st fs x)
   unfolding turn_on
   turn_on_keeps st [] x a b = instructions_keep st st x a a
   turn_on_keeps st (Flat label may ∷ fs) sign.Ends a b = marked_keeps _ label (ended fs st) (ended_agrees (Flat label may) fs st.ops may refl b)
@@ -148,11 +148,11 @@ module _ (source : List ℕ) (most : ℕ) where
   turn_on_keeps st (Then ∷ fs) _ a b = closed_keeps (ended fs st) (ended_agrees Then fs st.ops true refl b)
   turn_on_keeps st (Other ∷ fs) _ a b = closed_keeps (ended fs st) (ended_agrees Other fs st.ops false refl b)
 
-  turn_keeps : (st : State) → Sound st → Keeps (turn source most st)
+  turn_keeps : (st : State) → InStep st → Keeps (turn source most st)
   unfolding turn
   turn_keeps st a s next t h = turn_on_keeps st st.frames (sign_of source s) a a s next t h
 
-  turns_keep : (going : State → List Token → Bool) {st last : State} {s u : List Token} → Runs {F = TextFault} going (turn source most) st s last u → Sound st → Sound last
+  turns_keep : (going : State → List Token → Bool) {st last : State} {s u : List Token} → Runs {F = TextFault} going (turn source most) st s last u → InStep st → InStep last
   turns_keep going (rests h) a = a
   turns_keep going (goes {st = st} {s = s} {t = t} next g h more) a = turns_keep going more (turn_keeps st a s next t h)
 
@@ -170,7 +170,7 @@ module _ (source : List ℕ) (most : ℕ) where
   none_open [] e = refl
   none_open (f ∷ fs) e = absurd (wrong (subst (λ (x : Bool). not x ≡ false) (not_none (length fs)) e))
 
-  complete : (last : State) → Sound last → last.frames ≡ [] → Balanced [] last.ops
+  complete : (last : State) → InStep last → last.frames ≡ [] → Balanced [] last.ops
   complete last a e = subst (λ (l : List Op). Balanced [] l) (append-nil last.ops) (subst (λ (fs : List Frame). Agrees fs last.ops) e a [] refl)
 
   pub body_balanced : (s : List Token) (b : Body) (t : List Token) → (body source most).spelled s b t → Balanced [] b.ops
