@@ -14,7 +14,7 @@ use Rattle.ms_tasks.proofs.Deeds.{events_kept}
 use Rattle.ms_tasks.specs.Outside.{HasBegun, HasRun}
 use Rattle.ms_tasks.specs.Runs.{CountsInput, CountsOut, DoesRun}
 use Rattle.ms_tasks.specs.declared.ran.Ran.TheVariants as answers
-use Rattle.ms_run.specs.Answers.{File}
+use Rattle.ms_run.specs.Answers.{Answer, File}
 use Rattle.ms_run.specs.Executions.{EndsAs, TellsOf}
 use Rattle.ms_run.specs.Flows.{Flowed, RunsPart, RunsWhole, TellsEnd, end_cut, end_printed, end_unprinted, input_failed, out_failed}
 use Rattle.ms_run.specs.Lines.{budget_line, input_fault_line, result_line, result_lines, trap_line}
@@ -34,10 +34,10 @@ module _ (P : Status → Type 0) (status : Status) (line : List ℕ) (r : Report
   of_reports a b c (inr (inl h)) = subst P (sym h.0) b
   of_reports a b c (inr (inr h)) = subst P (sym h.0) c
 
-pub of_delivers : (P : Status → Type 0) (status : Status) (line : List ℕ) (file : Option File) (s : Shelved) (r : Report) (result : Status) → P status → P WriteFault → P OutOfMemory → Delivers status line file s r result → P result
-of_delivers P status line file s r result a b c (put written reports) = of_reports P status line r result a b c reports
-of_delivers P status line file s r result a b c (failed part kept) = b
-of_delivers P status line file s r result a b c (starved files kept) = c
+pub of_delivers : (P : Status → Type 0) (a : Answer) (s : Shelved) (r : Report) (result : Status) → P a.status → P WriteFault → P OutOfMemory → Delivers a s r result → P result
+of_delivers P a s r result is fault memory (put written reports) = of_reports P a.status a.report r result is fault memory reports
+of_delivers P a s r result is fault memory (failed part kept) = fault
+of_delivers P a s r result is fault memory (starved files kept) = memory
 
 -- ---- the input and the output
 
@@ -80,8 +80,12 @@ traced_name telling events file e = by telling.trace refl e where
 -- ---- the answers of the run of a crew
 
 module _ (telling : Telling) (run_over : Input → Run) (c : Crew) (s : Shelved) (r : Report) (f : Flow) (old new : Log) (result : Status) where
+  -- the answer of a run that ended with these lines
+  abbrev with_lines : Status → List ℕ → Answer
+  with_lines status lines = record { status = status; report = lines ++ dumped telling c.store.segments; file = traced telling new.trace.events }
+
   abbrev Printed_of : Status → List ℕ → Type 0
-  Printed_of status lines = Delivers status (lines ++ dumped telling c.store.segments) (traced telling new.trace.events) s r result
+  Printed_of status lines = Delivers (with_lines status lines) s r result
 
   module _ (keeps : old.trace.keep ≡ is_some telling.trace) (none : old.trace.events ≡ []) where
     ended : (given : Input) (end : End) (status : Status) (lines : List ℕ) → (run_over given).end ≡ end → EndsAs end status lines → (run_over given).crew ≡ begun c → f.takes_new ≡ f.takes_old → f.puts_new ≡ f.puts_old
@@ -90,9 +94,9 @@ module _ (telling : Telling) (run_over : Input → Run) (c : Crew) (s : Shelved)
         let run = run_over given in
         let events : traced telling new.trace.events ≡ traced telling (events_of run.deeds) =
         ap (λ (x : Log). traced telling x.trace.events) has.log ∙ traced_same telling.trace old.trace (events_of run.deeds) keeps none in
-        let tells : TellsOf telling run status (lines ++ dumped telling c.store.segments) (traced telling new.trace.events) =
+        let tells : TellsOf telling run (with_lines status lines) =
         (lines, subst (λ (e : End). EndsAs e status lines) (sym is) ends, ap (λ (x : Crew). lines ++ dumped telling x.store.segments) (sym crew), events) in
-        end_printed given status (lines ++ dumped telling c.store.segments) (traced telling new.trace.events) tells (whole_of f old new given run takes puts has) delivers
+        end_printed given (with_lines status lines) tells (whole_of f old new given run takes puts has) delivers
 
     pub results_printed : CountsInput answers.Results f.takes_old f.takes_new → CountsOut answers.Results f.puts_old f.puts_new → (given : Input) × DoesRun answers.Results c f.left_old f.left_new f.held_old f.held_new old new given (run_over given)
         → Printed_of Done (result_lines (results c.tasks)) → TellsEnd telling run_over s r f result

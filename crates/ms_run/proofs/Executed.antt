@@ -65,11 +65,11 @@ module _ (telling : Telling) (s : Shelved) (r : Report) (f : Flow) where
 
   module _ (tasks : List (ℕ × List ℕ)) (entries : List ℕ) where
     pub no_task_printed : (store : Store) (number : ℕ) → threads_from store tasks 0 ≡ Err number → IsQuiet f → (result : Status) → KeepsFiles s → Reports Refused (task_line number) r result → TellsExecution telling (in_store tasks entries store) s r f result
-    no_task_printed store number found still result files reports = refused (NoTask number) (task_line number) (λ given. ap (with_threads entries store given) found) (refl, refl, refl, refl) still files reports
+    no_task_printed store number found still result files reports = refused (NoTask number) (task_line number) (λ given. ap (with_threads entries store given) found) (refl, refl) still files reports
 
     module _ (modules : List (List ℕ × Module)) (capacity : ℕ) where
       pub linked_printed : (store : Store) → linked modules capacity ≡ Ok store → (result : Status) → TellsExecution telling (in_store tasks entries store) s r f result → TellsExecution telling (execution modules tasks entries capacity) s r f result
       linked_printed store e result tell = same_printed (in_store tasks entries store) (execution modules tasks entries capacity) (λ given. ap (if_linked tasks entries given) e) result tell
 
       pub unlinked_printed : (fault : Fault) → linked modules capacity ≡ Err fault → IsQuiet f → (result : Status) → KeepsFiles s → Reports Refused (link_line fault) r result → TellsExecution telling (execution modules tasks entries capacity) s r f result
-      unlinked_printed fault e still result files reports = refused (Unlinked fault) (link_line fault) (λ given. ap (if_linked tasks entries given) e) (refl, refl, refl, refl) still files reports
+      unlinked_printed fault e still result files reports = refused (Unlinked fault) (link_line fault) (λ given. ap (if_linked tasks entries given) e) (refl, refl) still files reports

@@ -4,13 +4,12 @@ use Rattle.std.specs.Prelude.{Option, length}
 use Rattle.ms_module.specs.declared.module.Module.{Module}
 use Rattle.ms_machine.specs.Crews.{Input, Run}
 use Rattle.ms_job.specs.declared.job.Job.{Job}
-use Rattle.ms_run.specs.Answers.{Command, Contents, Fault, File, Found, HasBytes, HasModule, OnFile, Unfound, Unloaded, Checks, checked, unchecked, invalid, no_file, on_file, overlong, unfound, unread, unreadable}
+use Rattle.ms_run.specs.Answers.{Answer, Command, Contents, Fault, Found, HasBytes, HasModule, OnFile, Unfound, Unloaded, Checks, checked, unchecked, invalid, no_file, on_file, overlong, unfound, unread, unreadable}
 use Rattle.ms_run.specs.Jobs.{AllLoaded, FirstUnloaded, HasEntries, HasNumbers, RunOfJob, RunsJob, Unnumbered, Unscheduled, executed, here, in_turns, later, listed, no_more, no_number, one_more, unlisted, unloaded, unscheduled}
 use Rattle.ms_run.specs.Jobs as jobs
 use Rattle.ms_run.specs.Observed.{Shelved}
 use Rattle.ms_run.specs.Reporting.{Holds, IsFound}
 use Rattle.ms_run.specs.declared.gathering.Naming.{Naming}
-use Rattle.ms_run.specs.declared.status.Status.{Status}
 
 -- ---- two ways to know of files, of which the second knows what the first does
 
@@ -18,52 +17,52 @@ module _ (Has Has' : List ℕ → Found → Type 0) (more : (name : List ℕ) (f
   pub bytes_more : (name bytes : List ℕ) → HasBytes Has name bytes → HasBytes Has' name bytes
   bytes_more name bytes h = (more name (Contents bytes) h.0, h.1)
 
-  pub unfound_more : (name : List ℕ) (status : Status) (line : List ℕ) → Unfound Has name status line → Unfound Has' name status line
-  unfound_more name status line (unreadable h) = unreadable (more name Fault h)
-  unfound_more name status line (overlong bytes h long) = overlong bytes (more name (Contents bytes) h) long
+  pub unfound_more : (name : List ℕ) (a : Answer) → Unfound Has name a → Unfound Has' name a
+  unfound_more name a (unreadable h) = unreadable (more name Fault h)
+  unfound_more name a (overlong bytes h long) = overlong bytes (more name (Contents bytes) h) long
 
   pub module_more : (name : List ℕ) (m : Module) → HasModule Has name m → HasModule Has' name m
   module_more name m h = record { bytes = h.bytes; found = bytes_more name h.bytes h.found; spelled = h.spelled; typed = h.typed }
 
-  pub unloaded_more : (what name : List ℕ) (status : Status) (line : List ℕ) → Unloaded Has what name status line → Unloaded Has' what name status line
-  unloaded_more what name status line (unfound h) = unfound (unfound_more name status line h)
-  unloaded_more what name status line (unread bytes h not) = unread bytes (bytes_more name bytes h) not
-  unloaded_more what name status line (invalid bytes m part h spelled wrong) = invalid bytes m part (bytes_more name bytes h) spelled wrong
+  pub unloaded_more : (what name : List ℕ) (a : Answer) → Unloaded Has what name a → Unloaded Has' what name a
+  unloaded_more what name a (unfound h) = unfound (unfound_more name a h)
+  unloaded_more what name a (unread bytes h not) = unread bytes (bytes_more name bytes h) not
+  unloaded_more what name a (invalid bytes m part h spelled wrong) = invalid bytes m part (bytes_more name bytes h) spelled wrong
 
-  pub checks_more : (name : List ℕ) (status : Status) (line : List ℕ) → Checks Has name status line → Checks Has' name status line
-  checks_more name status line (unchecked h) = unchecked (unloaded_more [] name status line h)
-  checks_more name status line (checked m h) = checked m (module_more name m h)
+  pub checks_more : (name : List ℕ) (a : Answer) → Checks Has name a → Checks Has' name a
+  checks_more name a (unchecked h) = unchecked (unloaded_more [] name a h)
+  checks_more name a (checked m h) = checked m (module_more name m h)
 
-  pub file_more : (name : List ℕ) (Does : Command) (status : Status) (line : List ℕ) (file : Option File) → OnFile Has name Does status line file → OnFile Has' name Does status line file
-  file_more name Does status line file (no_file h) = no_file (unfound_more name status line h)
-  file_more name Does status line file (on_file bytes h does) = on_file bytes (bytes_more name bytes h) does
+  pub file_more : (name : List ℕ) (Does : Command) (a : Answer) → OnFile Has name Does a → OnFile Has' name Does a
+  file_more name Does a (no_file h) = no_file (unfound_more name a h)
+  file_more name Does a (on_file bytes h does) = on_file bytes (bytes_more name bytes h) does
 
   pub all_more : (files : List (List ℕ × List ℕ)) (modules : List (List ℕ × Module)) → AllLoaded Has files modules → AllLoaded Has' files modules
   all_more files modules no_more = no_more
   all_more files modules (one_more name file m {files = fs} {modules = ms} h all) = one_more name file m (module_more file m h) (all_more fs ms all)
 
-  pub first_more : (naming : Naming) (number : ℕ) (files : List (List ℕ × List ℕ)) (status : Status) (line : List ℕ) → FirstUnloaded Has naming number files status line → FirstUnloaded Has' naming number files status line
-  first_more naming number files status line (here n name file fs h) = here n name file fs (unloaded_more _ file status line h)
-  first_more naming number files status line (later n name file m fs h first) = later n name file m fs (module_more file m h) (first_more naming (suc n) fs status line first)
+  pub first_more : (naming : Naming) (number : ℕ) (files : List (List ℕ × List ℕ)) (a : Answer) → FirstUnloaded Has naming number files a → FirstUnloaded Has' naming number files a
+  first_more naming number files a (here n name file fs h) = here n name file fs (unloaded_more _ file a h)
+  first_more naming number files a (later n name file m fs h first) = later n name file m fs (module_more file m h) (first_more naming (suc n) fs a first)
 
   pub numbers_more : (name numbers : List ℕ) → HasNumbers Has name numbers → HasNumbers Has' name numbers
   numbers_more name numbers h = record { bytes = h.bytes; found = bytes_more name h.bytes h.found; read = h.read }
 
-  pub unnumbered_more : (name : List ℕ) (status : Status) (line : List ℕ) → Unnumbered Has name status line → Unnumbered Has' name status line
-  unnumbered_more name status line (jobs.no_file h) = jobs.no_file (unfound_more name status line h)
-  unnumbered_more name status line (no_number bytes at h not) = no_number bytes at (bytes_more name bytes h) not
+  pub unnumbered_more : (name : List ℕ) (a : Answer) → Unnumbered Has name a → Unnumbered Has' name a
+  unnumbered_more name a (jobs.no_file h) = jobs.no_file (unfound_more name a h)
+  unnumbered_more name a (no_number bytes at h not) = no_number bytes at (bytes_more name bytes h) not
 
   pub entries_more : (job : Job) (entries : List ℕ) → HasEntries Has job entries → HasEntries Has' job entries
   entries_more job entries (in_turns e) = in_turns e
   entries_more job entries (listed name numbers e h) = listed name numbers e (numbers_more name numbers h)
 
-  pub unscheduled_more : (job : Job) (status : Status) (line : List ℕ) → Unscheduled Has job status line → Unscheduled Has' job status line
-  unscheduled_more job status line (unlisted name e h) = unlisted name e (unnumbered_more name status line h)
+  pub unscheduled_more : (job : Job) (a : Answer) → Unscheduled Has job a → Unscheduled Has' job a
+  unscheduled_more job a (unlisted name e h) = unlisted name e (unnumbered_more name a h)
 
-  pub runs_job_more : (naming : Naming) (given : Input) (job : Job) (ran : Option Run) (status : Status) (line : List ℕ) (file : Option File) → RunsJob Has naming given job ran status line file → RunsJob Has' naming given job ran status line file
-  runs_job_more naming given job ran status line file (unloaded h) = unloaded (first_more naming 0 job.modules status line h)
-  runs_job_more naming given job ran status line file (unscheduled ms all h) = unscheduled ms (all_more job.modules ms all) (unscheduled_more job status line h)
-  runs_job_more naming given job ran status line file (executed ms entries all h answers) = executed ms entries (all_more job.modules ms all) (entries_more job entries h) answers
+  pub runs_job_more : (naming : Naming) (given : Input) (job : Job) (ran : Option Run) (a : Answer) → RunsJob Has naming given job ran a → RunsJob Has' naming given job ran a
+  runs_job_more naming given job ran a (unloaded h) = unloaded (first_more naming 0 job.modules a h)
+  runs_job_more naming given job ran a (unscheduled ms all h) = unscheduled ms (all_more job.modules ms all) (unscheduled_more job a h)
+  runs_job_more naming given job ran a (executed ms entries all h answers) = executed ms entries (all_more job.modules ms all) (entries_more job entries h) answers
 
   pub run_of_job_more : (given : Input) (job : Job) (run : Run) → RunOfJob Has given job run → RunOfJob Has' given job run
   run_of_job_more given job run h =
@@ -77,11 +76,11 @@ module _ (Has : List ℕ → Found → Type 0) where
   all_then front loaded name file m (one_more n f k {files = fs} {modules = ms} is all) h = one_more n f k is (all_then fs ms name file m all h)
 
   -- the first without a module stands behind those that have one
-  pub first_after : (naming : Naming) (number : ℕ) (front rest : List (List ℕ × List ℕ)) (loaded : List (List ℕ × Module)) (status : Status) (line : List ℕ)
-      → AllLoaded Has front loaded → FirstUnloaded Has naming (number + length loaded) rest status line → FirstUnloaded Has naming number (front ++ rest) status line
-  first_after naming number front rest loaded status line no_more h = subst (λ n. FirstUnloaded Has naming n rest status line) (omega arith) h
-  first_after naming number front rest loaded status line (one_more name file m {files = fs} {modules = ms} is all) h =
-      later number name file m (fs ++ rest) is (first_after naming (suc number) fs rest ms status line all (subst (λ n. FirstUnloaded Has naming n rest status line) (omega arith) h))
+  pub first_after : (naming : Naming) (number : ℕ) (front rest : List (List ℕ × List ℕ)) (loaded : List (List ℕ × Module)) (a : Answer)
+      → AllLoaded Has front loaded → FirstUnloaded Has naming (number + length loaded) rest a → FirstUnloaded Has naming number (front ++ rest) a
+  first_after naming number front rest loaded a no_more h = subst (λ n. FirstUnloaded Has naming n rest a) (omega arith) h
+  first_after naming number front rest loaded a (one_more name file m {files = fs} {modules = ms} is all) h =
+      later number name file m (fs ++ rest) is (first_after naming (suc number) fs rest ms a all (subst (λ n. FirstUnloaded Has naming n rest a) (omega arith) h))
 
 -- ---- what is known of files at first
 

@@ -6,7 +6,7 @@ use Rattle.ms_module.specs.declared.module.Module.{Module}
 use Rattle.ms_outside.specs.Files.{Files}
 use Rattle.ms_outside.specs.Shelf.{SameCounts}
 use Rattle.ms_tasks.proofs.Chaining.{drop_at}
-use Rattle.ms_run.specs.Answers.{HasBytes, HasModule, Unloaded}
+use Rattle.ms_run.specs.Answers.{Answer, HasBytes, HasModule, Unloaded}
 use Rattle.ms_run.specs.Jobs.{AllLoaded, FirstUnloaded, Unnumbered, here, no_more, no_number, what_of}
 use Rattle.ms_run.specs.Lines.{schedule_line}
 use Rattle.ms_run.specs.Observed.{Report, Shelved}
@@ -50,15 +50,15 @@ module _ (files : Option Files) (whole : List (List ℕ × List ℕ)) (modules :
 
 -- the next one has no module
 pub first_printed : (s : Shelved) (naming : Naming) (whole : List (List ℕ × List ℕ)) (modules : List (List ℕ × Module)) (number k : ℕ) (item : List ℕ × List ℕ) → slice_get whole k ≡ Some item → IsLoading s.old whole (drop k whole) modules number
-    → (status : Status) (line : List ℕ) → Unloaded (IsFound s) (what_of naming number) item.1 status line → FirstUnloaded (IsFound s) naming 0 whole status line
-first_printed s naming whole modules number k item found so_far status line h =
+    → (a : Answer) → Unloaded (IsFound s) (what_of naming number) item.1 a → FirstUnloaded (IsFound s) naming 0 whole a
+first_printed s naming whole modules number k item found so_far a h =
     let rest = drop (suc k) whole in
-    let there : FirstUnloaded (IsFound s) naming (0 + length modules) (item ∷ rest) status line =
+    let there : FirstUnloaded (IsFound s) naming (0 + length modules) (item ∷ rest) a =
     let is = so_far.number_is in
     let same : number ≡ 0 + length modules = omega (arith, is) in
-    subst (λ n. FirstUnloaded (IsFound s) naming n (item ∷ rest) status line) same (here number item.0 item.1 rest h) in
-    subst (λ (x : List (List ℕ × List ℕ)). FirstUnloaded (IsFound s) naming 0 x status line) (ap (λ x. so_far.front ++ x) (sym (drop_at whole k item found)) ∙ so_far.is_front)
-    (first_after (IsFound s) naming 0 so_far.front (item ∷ rest) modules status line (all_more (Holds s.old) (IsFound s) (held_found s) so_far.front modules so_far.loaded) there)
+    subst (λ n. FirstUnloaded (IsFound s) naming n (item ∷ rest) a) same (here number item.0 item.1 rest h) in
+    subst (λ (x : List (List ℕ × List ℕ)). FirstUnloaded (IsFound s) naming 0 x a) (ap (λ x. so_far.front ++ x) (sym (drop_at whole k item found)) ∙ so_far.is_front)
+    (first_after (IsFound s) naming 0 so_far.front (item ∷ rest) modules a (all_more (Holds s.old) (IsFound s) (held_found s) so_far.front modules so_far.loaded) there)
 
 -- ---- a schedule
 
@@ -67,5 +67,5 @@ no_number_printed s r name bytes at result has is counts files reports = printed
 
 -- ---- memory ran out
 
-pub starved_printed : (Gives : Status → List ℕ → Type 0) (s : Shelved) (r : Report) → IsUntouched s r → Tells Gives s r OutOfMemory
+pub starved_printed : (Gives : Answer → Type 0) (s : Shelved) (r : Report) → IsUntouched s r → Tells Gives s r OutOfMemory
 starved_printed Gives s r h = unprinted h.counts h.files h.report

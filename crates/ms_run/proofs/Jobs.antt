@@ -23,7 +23,7 @@ use Rattle.ms_tasks.specs.Schedules.{entries_of}
 use Rattle.ms_tasks.specs.Tasks.{crew_of, threads_from}
 use Rattle.ms_tasks.specs.declared.schedule.Schedule.{Schedule}
 use Rattle.ms_tasks.proofs.Leaving.{run_leaves}
-use Rattle.ms_run.specs.Answers.{File, Found, Unfound, Unloaded, HasBytes, invalid, overlong, unfound, unread, unreadable}
+use Rattle.ms_run.specs.Answers.{Answer, Found, Unfound, Unloaded, HasBytes, invalid, overlong, says, unfound, unread, unreadable}
 use Rattle.ms_run.specs.Executions.{AnswersAs, EndsAs, Execution, Ran, execution, if_linked, with_threads}
 use Rattle.ms_run.specs.Flows.{DidRun, Flowed, Flows, IsQuiet, IsUnrun, RunsWhole, TellsExecution, cut, delivered, end_cut, end_printed, end_unprinted, nothing_printed, quiet, ran, refused, run_printed, starved_run}
 use Rattle.ms_run.specs.Jobs.{AllLoaded, FirstUnloaded, HasEntries, RunOfFile, RunOfJob, RunsFile, RunsJob, Unnumbered, Unscheduled, exec_job, executed, here, job as of_job, later, no_job, no_job_file, no_more, no_number, one_more, unlisted, unloaded, unscheduled}
@@ -59,39 +59,40 @@ execution_leaves modules tasks entries capacity given run e = linked_leave tasks
 
 -- ---- answers of no run
 
-pub unfound_unrun : (Has : List ℕ → Found → Type 0) (name : List ℕ) (status : Status) (line : List ℕ) → Unfound Has name status line → IsUnrun status
-unfound_unrun Has name status line (unreadable h) = tt
-unfound_unrun Has name status line (overlong bytes h long) = tt
+pub unfound_unrun : (Has : List ℕ → Found → Type 0) (name : List ℕ) (a : Answer) → Unfound Has name a → IsUnrun a.status
+unfound_unrun Has name a (unreadable h) = tt
+unfound_unrun Has name a (overlong bytes h long) = tt
 
-unloaded_unrun : (Has : List ℕ → Found → Type 0) (what name : List ℕ) (status : Status) (line : List ℕ) → Unloaded Has what name status line → IsUnrun status
-unloaded_unrun Has what name status line (unfound h) = unfound_unrun Has name status line h
-unloaded_unrun Has what name status line (unread bytes h not) = tt
-unloaded_unrun Has what name status line (invalid bytes m part h spelled wrong) = tt
+unloaded_unrun : (Has : List ℕ → Found → Type 0) (what name : List ℕ) (a : Answer) → Unloaded Has what name a → IsUnrun a.status
+unloaded_unrun Has what name a (unfound h) = unfound_unrun Has name a h
+unloaded_unrun Has what name a (unread bytes h not) = tt
+unloaded_unrun Has what name a (invalid bytes m part h spelled wrong) = tt
 
-pub first_unrun : (Has : List ℕ → Found → Type 0) (naming : Naming) (number : ℕ) (files : List (List ℕ × List ℕ)) (status : Status) (line : List ℕ) → FirstUnloaded Has naming number files status line → IsUnrun status
-first_unrun Has naming number files status line (here n name file fs h) = unloaded_unrun Has _ file status line h
-first_unrun Has naming number files status line (later n name file m fs h rest) = first_unrun Has naming (suc n) fs status line rest
+pub first_unrun : (Has : List ℕ → Found → Type 0) (naming : Naming) (number : ℕ) (files : List (List ℕ × List ℕ)) (a : Answer) → FirstUnloaded Has naming number files a → IsUnrun a.status
+first_unrun Has naming number files a (here n name file fs h) = unloaded_unrun Has _ file a h
+first_unrun Has naming number files a (later n name file m fs h rest) = first_unrun Has naming (suc n) fs a rest
 
-unnumbered_unrun : (Has : List ℕ → Found → Type 0) (name : List ℕ) (status : Status) (line : List ℕ) → Unnumbered Has name status line → IsUnrun status
-unnumbered_unrun Has name status line (jobs.no_file h) = unfound_unrun Has name status line h
-unnumbered_unrun Has name status line (no_number bytes at h not) = tt
+unnumbered_unrun : (Has : List ℕ → Found → Type 0) (name : List ℕ) (a : Answer) → Unnumbered Has name a → IsUnrun a.status
+unnumbered_unrun Has name a (jobs.no_file h) = unfound_unrun Has name a h
+unnumbered_unrun Has name a (no_number bytes at h not) = tt
 
-pub unscheduled_unrun : (Has : List ℕ → Found → Type 0) (job : Job) (status : Status) (line : List ℕ) → Unscheduled Has job status line → IsUnrun status
-unscheduled_unrun Has job status line (unlisted name e h) = unnumbered_unrun Has name status line h
+pub unscheduled_unrun : (Has : List ℕ → Found → Type 0) (job : Job) (a : Answer) → Unscheduled Has job a → IsUnrun a.status
+unscheduled_unrun Has job a (unlisted name e h) = unnumbered_unrun Has name a h
 
 -- ---- what was done
 
 -- over an input of which something is known
-abbrev pub Answered : (Gives : Input → Option Run → Status → List ℕ → Option File → Type 0) → (IsRun : Input → Run → Type 0) → Shelved → Report → Flow → Status → Type 0
+abbrev pub Answered : (Gives : Input → Option Run → Answer → Type 0) → (IsRun : Input → Run → Type 0) → Shelved → Report → Flow → Status → Type 0
 Answered Gives IsRun s r f result = (given : Input) × MayGive f.left_old given × DidRun (Gives given) given s r f result × Flows given (IsRun given) f result
 
-module _ (Gives : Input → Option Run → Status → List ℕ → Option File → Type 0) (IsRun : Input → Run → Type 0) (s : Shelved) (r : Report) (f : Flow) where
+module _ (Gives : Input → Option Run → Answer → Type 0) (IsRun : Input → Run → Type 0) (s : Shelved) (r : Report) (f : Flow) where
   -- nothing was run
-  unrun_answered : (G : Status → List ℕ → Type 0) → ((given : Input) (status : Status) (line : List ℕ) → G status line → Gives given None status line None) → ((status : Status) (line : List ℕ) → G status line → IsUnrun status) → IsQuiet f → (result : Status) → Tells G s r result
+  unrun_answered : (G : Answer → Type 0) → ((given : Input) (a : Answer) → G a → Gives given None a) → ((a : Answer) → G a → IsUnrun a.status) → IsQuiet f → (result : Status) → Tells G s r result
       → Answered Gives IsRun s r f result
   unrun_answered G more unrun still result (printed status line gives counts files reports) =
       let input = some_input f.left_old in
-      (input.0, input.1, delivered None status line None (more input.0 status line gives) counts still (put files reports), quiet (of_reports IsUnrun status line r result (unrun status line gives) tt tt reports) still)
+      let a = says status line in
+      (input.0, input.1, delivered None a (more input.0 a gives) counts still (put files reports), quiet (of_reports IsUnrun status line r result (unrun a gives) tt tt reports) still)
   unrun_answered G more unrun still result (unprinted counts files kept) =
       let input = some_input f.left_old in
       (input.0, input.1, starved_run counts files kept, quiet tt still)
@@ -112,7 +113,7 @@ module _ (given : Input) (f : Flow) (run : Run) where
   ends_flowed Stuck status line h done = absurd h
 
 module _ (naming : Naming) (job : Job) (s : Shelved) (r : Report) (f : Flow) where
-  abbrev Gives : Input → Option Run → Status → List ℕ → Option File → Type 0
+  abbrev Gives : Input → Option Run → Answer → Type 0
   Gives given = RunsJob (IsFound s) naming given job
 
   abbrev IsRun : Input → Run → Type 0
@@ -124,19 +125,19 @@ module _ (naming : Naming) (job : Job) (s : Shelved) (r : Report) (f : Flow) whe
   pub unloaded_answered : (files : List (List ℕ × List ℕ)) → files ≡ job.modules → IsQuiet f → (result : Status) → Tells (FirstUnloaded (IsFound s) naming 0 files) s r result → Answered Gives IsRun s r f result
   unloaded_answered files same still result h =
       unrun_answered Gives IsRun s r f (FirstUnloaded (IsFound s) naming 0 files)
-      (λ given status line u. unloaded (subst (λ (fs : List (List ℕ × List ℕ)). FirstUnloaded (IsFound s) naming 0 fs status line) same u)) (first_unrun (IsFound s) naming 0 files) still result h
+      (λ given a u. unloaded (subst (λ (fs : List (List ℕ × List ℕ)). FirstUnloaded (IsFound s) naming 0 fs a) same u)) (first_unrun (IsFound s) naming 0 files) still result h
 
   module _ (modules : List (List ℕ × Module)) (all : AllLoaded (Holds s.old) job.modules modules) where
     unscheduled_answered : IsQuiet f → (result : Status) → Tells (Unscheduled (IsFound s) job) s r result → Answered Gives IsRun s r f result
     unscheduled_answered still result h =
-        unrun_answered Gives IsRun s r f (Unscheduled (IsFound s) job) (λ given status line u. unscheduled modules (all_more (Holds s.old) (IsFound s) (held_found s) job.modules modules all) u) (unscheduled_unrun (IsFound s) job) still result h
+        unrun_answered Gives IsRun s r f (Unscheduled (IsFound s) job) (λ given a u. unscheduled modules (all_more (Holds s.old) (IsFound s) (held_found s) job.modules modules all) u) (unscheduled_unrun (IsFound s) job) still result h
 
     module _ (entries : List ℕ) (scheduled : HasEntries (Holds s.old) job entries) (counts : SameCounts s.reads_old s.reads_new) where
       abbrev run_over : Input → Execution
       run_over = execution modules job.tasks entries job.memory
 
-      gives : (given : Input) (ran : Option Run) (status : Status) (report : List ℕ) (file : Option File) → AnswersAs (telling_of job) (run_over given) ran status report file → Gives given ran status report file
-      gives given which status report file answers =
+      gives : (given : Input) (ran : Option Run) (a : Answer) → AnswersAs (telling_of job) (run_over given) ran a → Gives given ran a
+      gives given which a answers =
           executed modules entries (all_more (Holds s.old) (IsFound s) (held_found s) job.modules modules all) (entries_more (Holds s.old) (IsFound s) (held_found s) job entries scheduled) answers
 
       is_run : (given : Input) (run : Run) → run_over given ≡ Ran run → IsRun given run
@@ -145,14 +146,15 @@ module _ (naming : Naming) (job : Job) (s : Shelved) (r : Report) (f : Flow) whe
       executed_answered : (result : Status) → TellsExecution (telling_of job) run_over s r f result → Answered Gives IsRun s r f result
       executed_answered result (refused e line is answers still files reports) =
           let input = some_input f.left_old in
-          let gave = gives input.0 None Refused line None (subst (λ (x : Execution). AnswersAs (telling_of job) x None Refused line None) (sym (is input.0)) answers) in
-          (input.0, input.1, delivered None Refused line None gave (inr counts) still (put files reports), quiet (of_reports IsUnrun Refused line r result tt tt tt reports) still)
-      executed_answered result (run_printed runs is (end_printed given status report file tells done delivers)) =
+          let a = says Refused line in
+          let gave = gives input.0 None a (subst (λ (x : Execution). AnswersAs (telling_of job) x None a) (sym (is input.0)) answers) in
+          (input.0, input.1, delivered None a gave (inr counts) still (put files reports), quiet (of_reports IsUnrun Refused line r result tt tt tt reports) still)
+      executed_answered result (run_printed runs is (end_printed given a tells done delivers)) =
           let run = runs given in
           let part = whole_part f given run (execution_leaves modules job.tasks entries job.memory given run (is given)) done in
-          let gave = gives given (Some run) status report file (subst (λ (x : Execution). AnswersAs (telling_of job) x (Some run) status report file) (sym (is given)) (refl, tells)) in
-          let flowed = of_delivers (Flowed given f run) status report file s r result (ends_flowed given f run run.end status tells.0 tells.1 done) part part delivers in
-          (given, done.may, delivered (Some run) status report file gave (inr counts) done delivers, ran run (is_run given run (is given)) flowed)
+          let gave = gives given (Some run) a (subst (λ (x : Execution). AnswersAs (telling_of job) x (Some run) a) (sym (is given)) (refl, tells)) in
+          let flowed = of_delivers (Flowed given f run) a s r result (ends_flowed given f run run.end a.status tells.0 tells.1 done) part part delivers in
+          (given, done.may, delivered (Some run) a gave (inr counts) done delivers, ran run (is_run given run (is given)) flowed)
       executed_answered result (run_printed runs is (end_cut given part flowed files cuts)) =
           (given, part.may, cut counts files cuts, ran (runs given) (is_run given (runs given) (is given)) flowed)
       executed_answered result (run_printed runs is (end_unprinted given part files kept)) =
@@ -194,7 +196,7 @@ module _ (old mid new : Option Files) (reads_old reads_mid reads_new : List ℕ 
         may,
         run_later old mid new reads_old reads_mid reads_new writes_old writes_mid writes_new held held_mid held_new puts puts_mid puts_new
             (RunsJob (IsFound after_that) Numbered given j) (RunsFile (IsFound all_in_all) given name)
-            (λ ran status report file h. of_job bytes j has is (runs_job_more (IsFound after_that) (IsFound all_in_all) found Numbered given j ran status report file h)) before given f result tell,
+            (λ ran a h. of_job bytes j has is (runs_job_more (IsFound after_that) (IsFound all_in_all) found Numbered given j ran a h)) before given f result tell,
         flows_more given (RunOfJob (Holds mid) given j) (RunOfFile (Holds old) given name)
             (λ run h. record { bytes = bytes; job = j; found = has; is_job = is; runs = subst (λ (x : Option Files). RunOfJob (Holds x) given j run) before.files.0 h }) f result flows,
       )
@@ -229,20 +231,20 @@ module _ (old mid new : Option Files) (reads_old reads_mid reads_new : List ℕ 
 
 -- the file of the job wasn't read, or is none
 module _ (name : List ℕ) (s : Shelved) (r : Report) (f : Flow) where
-  abbrev GivesFile : Input → Option Run → Status → List ℕ → Option File → Type 0
+  abbrev GivesFile : Input → Option Run → Answer → Type 0
   GivesFile given = RunsFile (IsFound s) given name
 
   abbrev IsFileRun : Input → Run → Type 0
   IsFileRun given = RunOfFile (Holds s.old) given name
 
   pub unfound_answered : IsQuiet f → (result : Status) → Tells (Unfound (IsFound s) name) s r result → Answered GivesFile IsFileRun s r f result
-  unfound_answered still result h = unrun_answered GivesFile IsFileRun s r f (Unfound (IsFound s) name) (λ given status line u. no_job_file u) (unfound_unrun (IsFound s) name) still result h
+  unfound_answered still result h = unrun_answered GivesFile IsFileRun s r f (Unfound (IsFound s) name) (λ given a u. no_job_file u) (unfound_unrun (IsFound s) name) still result h
 
   no_job_answered : (bytes : List ℕ) (fault : JobFault) → HasBytes (Holds s.old) name bytes → job_in bytes ≡ Err fault → SameCounts s.reads_old s.reads_new → KeepsFiles s → IsQuiet f → (result : Status) → Reports Refused (job_line fault) r result
       → Answered GivesFile IsFileRun s r f result
   no_job_answered bytes fault has is counts files still result reports =
       let input = some_input f.left_old in
-      (input.0, input.1, delivered None Refused (job_line fault) None (no_job bytes fault has is) (inr counts) still (put files reports), quiet (of_reports IsUnrun Refused (job_line fault) r result tt tt tt reports) still)
+      (input.0, input.1, delivered None (says Refused (job_line fault)) (no_job bytes fault has is) (inr counts) still (put files reports), quiet (of_reports IsUnrun Refused (job_line fault) r result tt tt tt reports) still)
 
   pub fault_answered : (bytes : List ℕ) (fault : JobFault) → HasBytes (Holds s.old) name bytes → ReadsJob (job_in bytes) (Err fault) → SameCounts s.reads_old s.reads_new → KeepsFiles s → IsQuiet f → (result : Status) → ReportsJobFault fault r result
       → Answered GivesFile IsFileRun s r f result

@@ -4,12 +4,12 @@ use Rattle.std.specs.Prelude.{Option, Some, None}
 use Rattle.ms_outside.specs.Faults.{Rose}
 use Rattle.ms_outside.specs.Files.{Files}
 use Rattle.ms_outside.specs.Shelf.{SameCounts, IfKnown}
-use Rattle.ms_run.specs.Answers.{Command, Contents, Fault, File, Found}
+use Rattle.ms_run.specs.Answers.{Answer, Command, Contents, Fault, File, Found, says}
 use Rattle.ms_machine.specs.Crews.{Input, Run}
 use Rattle.ms_run.specs.Executions.{Execution}
 use Rattle.ms_run.specs.Flows.{Cuts, DidRun, TellsEnd, TellsExecution, cut, delivered, end_cut, end_printed, end_unprinted, nothing_printed, refused, run_printed, starved_run}
 use Rattle.ms_run.specs.Observed.{Flow, Report, Shelved}
-use Rattle.ms_run.specs.Reporting.{CountsReads, Delivers, Did, IsFound, IsKept, IsUntouched, KeepsFiles, Makes, Reports, Tells, answered, failed, made, made_none, put, ran_out, starved, printed, unprinted}
+use Rattle.ms_run.specs.Reporting.{CountsReads, Delivers, Did, HasFailed, HasWritten, IsFound, IsKept, IsUntouched, KeepsFiles, Makes, Reports, Tells, answered, failed, made, made_none, put, ran_out, starved, printed, unprinted}
 use Rattle.ms_run.specs.declared.status.Status.{Status}
 use Rattle.ms_run.specs.declared.status.Status.TheVariants.{Refused}
 use Rattle.ms_run.specs.declared.telling.Telling.{Telling}
@@ -25,9 +25,9 @@ over_report P old mid new puts_old puts_mid puts_new kept h =
 
 -- ---- a table, by another one
 
-module _ (Gives Gives' : Status → List ℕ → Type 0) (more : (status : Status) (line : List ℕ) → Gives status line → Gives' status line) where
+module _ (Gives Gives' : Answer → Type 0) (more : (a : Answer) → Gives a → Gives' a) where
   pub tells_more : (s : Shelved) (r : Report) (result : Status) → Tells Gives s r result → Tells Gives' s r result
-  tells_more s r result (printed status line gives counts files reports) = printed status line (more status line gives) counts files reports
+  tells_more s r result (printed status line gives counts files reports) = printed status line (more (says status line) gives) counts files reports
   tells_more s r result (unprinted counts files kept) = unprinted counts files kept
 
 -- ---- the shelf
@@ -80,9 +80,9 @@ module _ (old mid new : Option Files) (reads_old reads_mid reads_new : List ℕ 
   untouched_later before after =
       record { counts = λ n. after.counts n ∙ before.counts n; files = files_later before after.files; report = kept_later before after.report }
 
-  pub tells_later : (Gives Gives' : Status → List ℕ → Type 0) → ((status : Status) (line : List ℕ) → Gives status line → Gives' status line) → Before → (result : Status) → Tells Gives second second_report result → Tells Gives' whole whole_report result
+  pub tells_later : (Gives Gives' : Answer → Type 0) → ((a : Answer) → Gives a → Gives' a) → Before → (result : Status) → Tells Gives second second_report result → Tells Gives' whole whole_report result
   tells_later Gives Gives' more before result (printed status line gives counts files reports) =
-      printed status line (more status line gives) (counts_later before status counts) (files_later before files) (reports_later before status line result reports)
+      printed status line (more (says status line) gives) (counts_later before status counts) (files_later before files) (reports_later before status line result reports)
   tells_later Gives Gives' more before result (unprinted counts files kept) =
       unprinted (λ n. counts n ∙ before.counts n) (files_later before files) (kept_later before kept)
 
@@ -91,30 +91,36 @@ module _ (old mid new : Option Files) (reads_old reads_mid reads_new : List ℕ 
 
   -- ---- what was made of bytes, where a file may be written
 
-  delivers_later : Before → (status : Status) (line : List ℕ) (file : Option File) (result : Status) → Delivers status line file second second_report result → Delivers status line file whole whole_report result
-  delivers_later before status line file result h =
-      subst (λ (n : ℕ). Delivers status line file (shelved_of old new reads_old reads_new n writes_new) whole_report result) before.files.1
-      (subst (λ (x : Option Files). Delivers status line file (shelved_of x new reads_old reads_new writes_mid writes_new) whole_report result) before.files.0
-      (of_counts status line file result (over_report (λ (r : Report). Delivers status line file second r result) held held_mid held_new puts puts_mid puts_new before.report h)))
-    where
-      -- what is delivered doesn't speak of reads
-      of_counts : (status : Status) (line : List ℕ) (file : Option File) (result : Status) → Delivers status line file second whole_report result → Delivers status line file (shelved_of mid new reads_old reads_new writes_mid writes_new) whole_report result
-      of_counts status line None result (put written reports) = put written reports
-      of_counts status line (Some file) result (put written reports) = put written reports
-      of_counts status line None result (failed f kept) = absurd f
-      of_counts status line (Some file) result (failed f kept) = failed f kept
-      of_counts status line file result (starved files kept) = starved files kept
+  -- what is written doesn't speak of reads
+  written_later : (file : Option File) → HasWritten second file → HasWritten (shelved_of mid new reads_old reads_new writes_mid writes_new) file
+  written_later None h = h
+  written_later (Some file) h = h
 
-  pub run_later : (Gives Gives' : Option Run → Status → List ℕ → Option File → Type 0) → ((ran : Option Run) (status : Status) (report : List ℕ) (file : Option File) → Gives ran status report file → Gives' ran status report file)
+  failed_later : (file : Option File) → HasFailed second file → HasFailed (shelved_of mid new reads_old reads_new writes_mid writes_new) file
+  failed_later None h = h
+  failed_later (Some file) h = h
+
+  delivers_later : Before → (a : Answer) (result : Status) → Delivers a second second_report result → Delivers a whole whole_report result
+  delivers_later before a result h =
+      subst (λ (n : ℕ). Delivers a (shelved_of old new reads_old reads_new n writes_new) whole_report result) before.files.1
+      (subst (λ (x : Option Files). Delivers a (shelved_of x new reads_old reads_new writes_mid writes_new) whole_report result) before.files.0
+      (of_counts result (over_report (λ (r : Report). Delivers a second r result) held held_mid held_new puts puts_mid puts_new before.report h)))
+    where
+      of_counts : (result : Status) → Delivers a second whole_report result → Delivers a (shelved_of mid new reads_old reads_new writes_mid writes_new) whole_report result
+      of_counts result (put written reports) = put (written_later a.file written) reports
+      of_counts result (failed part kept) = failed (failed_later a.file part) kept
+      of_counts result (starved files kept) = starved files kept
+
+  pub run_later : (Gives Gives' : Option Run → Answer → Type 0) → ((ran : Option Run) (a : Answer) → Gives ran a → Gives' ran a)
       → Before → (given : Input) (f : Flow) (result : Status) → DidRun Gives given second second_report f result → DidRun Gives' given whole whole_report f result
-  run_later Gives Gives' more before given f result (delivered ran status report file gives counts flows delivers) =
-      delivered ran status report file (more ran status report file gives) (counts_later before status counts) flows (delivers_later before status report file result delivers)
+  run_later Gives Gives' more before given f result (delivered ran a gives counts flows delivers) =
+      delivered ran a (more ran a gives) (counts_later before a.status counts) flows (delivers_later before a result delivers)
   run_later Gives Gives' more before given f result (cut counts files h) = cut (λ n. counts n ∙ before.counts n) (files_later before files) (cuts_later before f result h)
   run_later Gives Gives' more before given f result (starved_run counts files kept) = starved_run (λ n. counts n ∙ before.counts n) (files_later before files) (kept_later before kept)
 
   module _ (telling : Telling) (before : Before) (f : Flow) where
     end_later : (run_over : Input → Run) (result : Status) → TellsEnd telling run_over second second_report f result → TellsEnd telling run_over whole whole_report f result
-    end_later run_over result (end_printed given status report file tells done delivers) = end_printed given status report file tells done (delivers_later before status report file result delivers)
+    end_later run_over result (end_printed given a tells done delivers) = end_printed given a tells done (delivers_later before a result delivers)
     end_later run_over result (end_cut given part flowed files cuts) = end_cut given part flowed (files_later before files) (cuts_later before f result cuts)
     end_later run_over result (end_unprinted given part files kept) = end_unprinted given part (files_later before files) (kept_later before kept)
 
@@ -124,14 +130,13 @@ module _ (old mid new : Option Files) (reads_old reads_mid reads_new : List ℕ 
     execution_later executed result (nothing_printed still files kept) = nothing_printed still (files_later before files) (kept_later before kept)
 
   -- the table of what is made is one of answers
-  pub makes_later : (Gives : Status → List ℕ → Option File → Type 0) (Does : Command) (bytes : List ℕ) → ((status : Status) (line : List ℕ) (file : Option File) → Does bytes status line file → Gives status line file) → Before → SameCounts reads_mid reads_new
+  pub makes_later : (Gives : Answer → Type 0) (Does : Command) (bytes : List ℕ) → ((a : Answer) → Does bytes a → Gives a) → Before → SameCounts reads_mid reads_new
       → (result : Status) → Makes Does bytes second second_report result → Did Gives whole whole_report result
-  makes_later Gives Does bytes more before same result (made status line file does delivers) =
-      answered status line file (more status line file does) (inr (λ n. same n ∙ before.counts n)) (delivers_later before status line file result delivers)
+  makes_later Gives Does bytes more before same result (made a does delivers) = answered a (more a does) (inr (λ n. same n ∙ before.counts n)) (delivers_later before a result delivers)
   makes_later Gives Does bytes more before same result (made_none files kept) = ran_out (λ n. same n ∙ before.counts n) (files_later before files) (kept_later before kept)
 
 -- ---- an answer without a file
 
-pub did_without : (Gives : Status → List ℕ → Type 0) (Gives' : Status → List ℕ → Option File → Type 0) → ((status : Status) (line : List ℕ) → Gives status line → Gives' status line None) → (s : Shelved) (r : Report) (result : Status) → Tells Gives s r result → Did Gives' s r result
-did_without Gives Gives' more s r result (printed status line gives counts files reports) = answered status line None (more status line gives) counts (put files reports)
+pub did_without : (Gives Gives' : Answer → Type 0) → ((a : Answer) → Gives a → Gives' a) → (s : Shelved) (r : Report) (result : Status) → Tells Gives s r result → Did Gives' s r result
+did_without Gives Gives' more s r result (printed status line gives counts files reports) = answered (says status line) (more (says status line) gives) counts (put files reports)
 did_without Gives Gives' more s r result (unprinted counts files kept) = ran_out counts files kept

@@ -11,3 +11,4 @@ pub mod Gathered
 pub mod Jobs
 pub mod Safe
 pub mod Dumping
+pub mod Targets

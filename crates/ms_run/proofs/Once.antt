@@ -1,6 +1,6 @@
 -- The tables of answers give one answer at most, and none of usage, of a fault of writing, or of want of memory.
 use Rattle.std.proofs.Common.{◌≡◌, ◌∙◌, ◌<◌, ℕ, suc, ◌⊎◌, inl, inr, List, [], ◌∷◌, length, refl, sym, ap, subst, arith}
-use Rattle.std.specs.Prelude.{◌++◌, Option, Some, None, Result, Ok, Err, All, slice_get, take}
+use Rattle.std.specs.Prelude.{◌++◌, Option, Some, Result, Ok, Err, All, slice_get, take}
 use Rattle.std.proofs.lemmas.List.Elements.{All-get_or}
 use Rattle.std.proofs.lemmas.Bool.{cases_lt}
 use Rattle.std.proofs.lemmas.Option.{slice_get_cases}
@@ -13,6 +13,7 @@ use Rattle.ms_text_read.proofs.Texts.{no_reason, reasons_alike}
 use Rattle.ms_text_write.specs.Shown.{shown}
 use Rattle.ms_job.specs.Jobs.{job_in}
 use Rattle.ms_job.specs.Schedules.{schedule_in}
+use Rattle.ms_job.specs.declared.fault.JobFault.{JobFault}
 use Rattle.ms_job.specs.declared.fault.SchedFault.TheVariants.{At}
 use Rattle.ms_job.specs.declared.job.Job.{Job}
 use Rattle.ms_event.specs.declared.event.Event.{Event}
@@ -29,11 +30,11 @@ use Rattle.ms_rules.specs.Modules.{FuncTyped, IsFirstUntyped, WellTyped}
 use Rattle.ms_valid.specs.Refusals.{IsWrong}
 use Rattle.ms_valid.specs.declared.refusal.Part.{Part}
 use Rattle.ms_valid.specs.declared.refusal.Part.TheVariants as parts
-use Rattle.ms_run.specs.Answers.{Assembles, Checks, Command, Contents, Disassembles, Fault, File, Found, HasBytes, HasModule, Judges, OnFile, Unfound, Unloaded, Verdict, accepted, assembled, checked, disassembled, invalid, judged, large, no_event, no_file, on_file, overlong, rejected, unchecked, unfound, unjudged, unread, unread_binary, unread_text, unreadable}
+use Rattle.ms_run.specs.Answers.{Answer, Assembles, Checks, Command, Contents, Disassembles, Fault, File, Found, HasBytes, HasModule, Judges, OnFile, Unfound, Unloaded, Verdict, accepted, assembled, checked, disassembled, invalid, judged, large, no_event, no_file, on_file, overlong, rejected, says, unchecked, unfound, unjudged, unread, unread_binary, unread_text, unreadable, writes}
 use Rattle.ms_run.specs.Executions.{AnswersAs, EndsAs, Execution, NoTask, Ran, TellsOf, Unlinked, execution}
 use Rattle.ms_run.specs.Jobs.{AllLoaded, FirstUnloaded, HasEntries, HasNumbers, RunsFile, RunsJob, Unnumbered, Unscheduled, executed, here, in_turns, later, listed, no_job, no_job_file, no_more, no_number, one_more, unlisted, unloaded, unscheduled, what_of}
 use Rattle.ms_run.specs.Jobs as jobs
-use Rattle.ms_run.specs.Lines.{accepted_line, fault_words, job_line, part_words, refused_line, rejected_line, schedule_line, text_fault_words, trace_line, written_line}
+use Rattle.ms_run.specs.Lines.{accepted_line, fault_words, job_line, part_words, refused_line, rejected_line, schedule_line, text_fault_words, trace_line}
 use Rattle.ms_run.specs.Loading.{Binary, Form, Spells, Text, Unread, binary, form_of, text}
 use Rattle.ms_run.specs.Observed.{Shelved}
 use Rattle.ms_run.specs.Reporting.{Holds, IsFound}
@@ -101,77 +102,58 @@ never_wrong m (parts.Function n) well wrong =
 
 -- ---- one answer
 
--- a table gives one status and one line at most
-abbrev pub GivesOne : (Status → List ℕ → Type 0) → Type 0
-GivesOne Gives = (s : Status) (t : List ℕ) (s' : Status) (t' : List ℕ) → Gives s t → Gives s' t' → (s ≡ s') × (t ≡ t')
+-- a table gives one answer at most
+abbrev pub GivesOne : (Answer → Type 0) → Type 0
+GivesOne Gives = (a a' : Answer) → Gives a → Gives a' → a ≡ a'
 
--- an answer, and the same one
-pub record Same (s : Status) (t : List ℕ) (f : Option File) (s' : Status) (t' : List ℕ) (f' : Option File) : Type 0 where
-  pub status : s ≡ s'
-  pub line : t ≡ t'
-  pub file : f ≡ f'
+-- and tells of one run at most
+abbrev pub RunsOne : (Option Run → Answer → Type 0) → Type 0
+RunsOne Gives = (p : Option Run) (a : Answer) (p' : Option Run) (a' : Answer) → Gives p a → Gives p' a' → (p ≡ p') × (a ≡ a')
 
--- it gives one file at most, too
-abbrev pub DoesOne : (Status → List ℕ → Option File → Type 0) → Type 0
-DoesOne Does = (s : Status) (t : List ℕ) (f : Option File) (s' : Status) (t' : List ℕ) (f' : Option File) → Does s t f → Does s' t' f' → Same s t f s' t' f'
+abbrev answer_of : Status → (report : List ℕ) → Option File → Answer
+answer_of status report file = record { status = status; report = report; file = file }
 
--- an answer that may tell of a run, and the same one
-pub record SameRun (p : Option Run) (s : Status) (t : List ℕ) (f : Option File) (p' : Option Run) (s' : Status) (t' : List ℕ) (f' : Option File) : Type 0 where
-  pub ran : p ≡ p'
-  pub status : s ≡ s'
-  pub line : t ≡ t'
-  pub file : f ≡ f'
-
--- a table gives one such answer at most
-abbrev pub RunsOne : (Option Run → Status → List ℕ → Option File → Type 0) → Type 0
-RunsOne Gives = (p : Option Run) (s : Status) (t : List ℕ) (f : Option File) (p' : Option Run) (s' : Status) (t' : List ℕ) (f' : Option File) → Gives p s t f → Gives p' s' t' f' → SameRun p s t f p' s' t' f'
-
--- one that tells of none
-unrun_once : {s : Status} {t : List ℕ} {s' : Status} {t' : List ℕ} → (s ≡ s') × (t ≡ t') → SameRun None s t None None s' t' None
-unrun_once same = record { ran = refl; status = same.0; line = same.1; file = refl }
+same_answer : (a a' : Answer) → a.status ≡ a'.status → a.report ≡ a'.report → a.file ≡ a'.file → a ≡ a'
+same_answer a a' same_status same_report same_file =
+    ap (λ (s : Status). answer_of s a.report a.file) same_status
+    ∙ (ap (λ (r : List ℕ). answer_of a'.status r a.file) same_report ∙ ap (answer_of a'.status a'.report) same_file)
 
 -- ---- what is made of a module
 
-same_written : (out : List ℕ) (bytes_of : Module → List ℕ) (m n : Module) → m ≡ n
-    → Same statuses.Done (written_line (length (bytes_of m))) (Some (record { name = out; bytes = bytes_of m })) statuses.Done (written_line (length (bytes_of n))) (Some (record { name = out; bytes = bytes_of n }))
-same_written out bytes_of m n e = subst (λ (x : Module). Same statuses.Done (written_line (length (bytes_of m))) (Some (record { name = out; bytes = bytes_of m })) statuses.Done (written_line (length (bytes_of x))) (Some (record { name = out; bytes = bytes_of x }))) e (record { status = refl; line = refl; file = refl })
+pub assembles_once : (out bytes : List ℕ) → GivesOne (Assembles out bytes)
+assembles_once out bytes a a' (unread_text {words = v} h) (unread_text {words = w} k) = ap (λ (x : List ℕ). says statuses.Refused (refused_line [] x)) (one_wording bytes Text v w h k)
+assembles_once out bytes a a' (unread_text {words = v} h) (large m k is) = absurd (never_both bytes Text v m h k)
+assembles_once out bytes a a' (unread_text {words = v} h) (assembled m k not) = absurd (never_both bytes Text v m h k)
+assembles_once out bytes a a' (large m h is) (unread_text {words = w} k) = absurd (never_both bytes Text w m k h)
+assembles_once out bytes a a' (large m h is) (large n k is') = refl
+assembles_once out bytes a a' (large m h is) (assembled n k not) = absurd (not (subst IsLarge (one_text bytes m n h k) is))
+assembles_once out bytes a a' (assembled m h not) (unread_text {words = w} k) = absurd (never_both bytes Text w m k h)
+assembles_once out bytes a a' (assembled m h not) (large n k is) = absurd (not (subst IsLarge (one_text bytes n m k h) is))
+assembles_once out bytes a a' (assembled m h not) (assembled n k not') = ap (λ (x : Module). writes out (written x)) (one_text bytes m n h k)
 
-pub assembles_once : (out bytes : List ℕ) → DoesOne (Assembles out bytes)
-assembles_once out bytes s t f s' t' f' (unread_text {words = a} h) (unread_text {words = b} k) = record { status = refl; line = ap (refused_line []) (one_wording bytes Text a b h k); file = refl }
-assembles_once out bytes s t f s' t' f' (unread_text {words = a} h) (large m k is) = absurd (never_both bytes Text a m h k)
-assembles_once out bytes s t f s' t' f' (unread_text {words = a} h) (assembled m k not) = absurd (never_both bytes Text a m h k)
-assembles_once out bytes s t f s' t' f' (large m h is) (unread_text {words = b} k) = absurd (never_both bytes Text b m k h)
-assembles_once out bytes s t f s' t' f' (large m h is) (large n k is') = record { status = refl; line = refl; file = refl }
-assembles_once out bytes s t f s' t' f' (large m h is) (assembled n k not) = absurd (not (subst IsLarge (one_text bytes m n h k) is))
-assembles_once out bytes s t f s' t' f' (assembled m h not) (unread_text {words = b} k) = absurd (never_both bytes Text b m k h)
-assembles_once out bytes s t f s' t' f' (assembled m h not) (large n k is) = absurd (not (subst IsLarge (one_text bytes n m k h) is))
-assembles_once out bytes s t f s' t' f' (assembled m h not) (assembled n k not') = same_written out written m n (one_text bytes m n h k)
-
-pub disassembles_once : (out bytes : List ℕ) → DoesOne (Disassembles out bytes)
-disassembles_once out bytes s t f s' t' f' (unread_binary {words = a} h) (unread_binary {words = b} k) = record { status = refl; line = ap (refused_line []) (one_wording bytes Binary a b h k); file = refl }
-disassembles_once out bytes s t f s' t' f' (unread_binary {words = a} h) (disassembled m k) = absurd (never_both bytes Binary a m h k)
-disassembles_once out bytes s t f s' t' f' (disassembled m h) (unread_binary {words = b} k) = absurd (never_both bytes Binary b m k h)
-disassembles_once out bytes s t f s' t' f' (disassembled m h) (disassembled n k) = same_written out shown m n (one_binary usual bytes m n h k)
+pub disassembles_once : (out bytes : List ℕ) → GivesOne (Disassembles out bytes)
+disassembles_once out bytes a a' (unread_binary {words = v} h) (unread_binary {words = w} k) = ap (λ (x : List ℕ). says statuses.Refused (refused_line [] x)) (one_wording bytes Binary v w h k)
+disassembles_once out bytes a a' (unread_binary {words = v} h) (disassembled m k) = absurd (never_both bytes Binary v m h k)
+disassembles_once out bytes a a' (disassembled m h) (unread_binary {words = w} k) = absurd (never_both bytes Binary w m k h)
+disassembles_once out bytes a a' (disassembled m h) (disassembled n k) = ap (λ (x : Module). writes out (shown x)) (one_binary usual bytes m n h k)
 
 -- ---- what an execution answers
 
-ends_once : (end : End) → GivesOne (EndsAs end)
+ends_once : (end : End) (s : Status) (t : List ℕ) (s' : Status) (t' : List ℕ) → EndsAs end s t → EndsAs end s' t' → (s ≡ s') × (t ≡ t')
 ends_once (Results values) s t s' t' h k = (h.0 ∙ sym k.0, h.1 ∙ sym k.1)
 ends_once (Trap whose trap) s t s' t' h k = (h.0 ∙ sym k.0, h.1 ∙ sym k.1)
 ends_once OutOfBudget s t s' t' h k = (h.0 ∙ sym k.0, h.1 ∙ sym k.1)
 ends_once Stuck s t s' t' h k = absurd h
 
-tells_once : (telling : Telling) (run : Run) (s : Status) (t : List ℕ) (f : Option File) (s' : Status) (t' : List ℕ) (f' : Option File) → TellsOf telling run s t f → TellsOf telling run s' t' f' → Same s t f s' t' f'
-tells_once telling run s t f s' t' f' h k =
-    let same = ends_once run.end s h.0 s' k.0 h.1 k.1 in
-    record { status = same.0; line = h.2 ∙ (ap (λ (x : List ℕ). x ++ dumped telling run.crew.store.segments) same.1 ∙ sym k.2); file = h.3 ∙ sym k.3 }
+tells_once : (telling : Telling) (run : Run) → GivesOne (TellsOf telling run)
+tells_once telling run a a' h k =
+    let same = ends_once run.end a.status h.0 a'.status k.0 h.1 k.1 in
+    same_answer a a' same.0 (h.2 ∙ (ap (λ (x : List ℕ). x ++ dumped telling run.crew.store.segments) same.1 ∙ sym k.2)) (h.3 ∙ sym k.3)
 
 pub execution_once : (telling : Telling) (e : Execution) → RunsOne (AnswersAs telling e)
-execution_once telling (Unlinked fault) p s t f p' s' t' f' h k = record { ran = h.0 ∙ sym k.0; status = h.1 ∙ sym k.1; line = h.2 ∙ sym k.2; file = h.3 ∙ sym k.3 }
-execution_once telling (NoTask number) p s t f p' s' t' f' h k = record { ran = h.0 ∙ sym k.0; status = h.1 ∙ sym k.1; line = h.2 ∙ sym k.2; file = h.3 ∙ sym k.3 }
-execution_once telling (Ran run) p s t f p' s' t' f' h k =
-    let same = tells_once telling run s t f s' t' f' h.1 k.1 in
-    record { ran = h.0 ∙ sym k.0; status = same.status; line = same.line; file = same.file }
+execution_once telling (Unlinked fault) p a p' a' h k = (h.0 ∙ sym k.0, h.1 ∙ sym k.1)
+execution_once telling (NoTask number) p a p' a' h k = (h.0 ∙ sym k.0, h.1 ∙ sym k.1)
+execution_once telling (Ran run) p a p' a' h k = (h.0 ∙ sym k.0, tells_once telling run a a' h.1 k.1)
 
 -- ---- the verdict on a trace
 
@@ -180,15 +162,15 @@ module _ (capacity : ℕ) (bytes : List ℕ) where
   of_trace P es fs h k p = subst P (one_trace bytes es fs h k) p
 
   verdict_once : GivesOne (Verdict capacity bytes)
-  verdict_once s t s' t' (no_event m h) (no_event n k) = (refl, ap trace_line (one_malformed bytes m n h k))
-  verdict_once s t s' t' (no_event m h) (rejected es n k bad) = absurd (trace_or_none bytes es m k h)
-  verdict_once s t s' t' (no_event m h) (accepted es k good) = absurd (trace_or_none bytes es m k h)
-  verdict_once s t s' t' (rejected es n h bad) (no_event m k) = absurd (trace_or_none bytes es m h k)
-  verdict_once s t s' t' (rejected es m h bad) (rejected fs n k bad') = (refl, ap rejected_line (one_rejected capacity fs m n (of_trace (λ x. RejectsAt capacity x m) es fs h k bad) bad'))
-  verdict_once s t s' t' (rejected es m h bad) (accepted fs k good) = absurd (accepted_or_rejected capacity fs m good (of_trace (λ x. RejectsAt capacity x m) es fs h k bad))
-  verdict_once s t s' t' (accepted es h good) (no_event m k) = absurd (trace_or_none bytes es m h k)
-  verdict_once s t s' t' (accepted es h good) (rejected fs n k bad) = absurd (accepted_or_rejected capacity fs n (of_trace (λ x. Accepts capacity x) es fs h k good) bad)
-  verdict_once s t s' t' (accepted es h good) (accepted fs k good') = (refl, ap (λ (x : List Event). accepted_line (length x)) (one_trace bytes es fs h k))
+  verdict_once a a' (no_event m h) (no_event n k) = ap (λ (n : ℕ). says statuses.Refused (trace_line n)) (one_malformed bytes m n h k)
+  verdict_once a a' (no_event m h) (rejected es n k bad) = absurd (trace_or_none bytes es m k h)
+  verdict_once a a' (no_event m h) (accepted es k good) = absurd (trace_or_none bytes es m k h)
+  verdict_once a a' (rejected es n h bad) (no_event m k) = absurd (trace_or_none bytes es m h k)
+  verdict_once a a' (rejected es m h bad) (rejected fs n k bad') = ap (λ (n : ℕ). says statuses.Trapped (rejected_line n)) (one_rejected capacity fs m n (of_trace (λ x. RejectsAt capacity x m) es fs h k bad) bad')
+  verdict_once a a' (rejected es m h bad) (accepted fs k good) = absurd (accepted_or_rejected capacity fs m good (of_trace (λ x. RejectsAt capacity x m) es fs h k bad))
+  verdict_once a a' (accepted es h good) (no_event m k) = absurd (trace_or_none bytes es m h k)
+  verdict_once a a' (accepted es h good) (rejected fs n k bad) = absurd (accepted_or_rejected capacity fs n (of_trace (λ x. Accepts capacity x) es fs h k good) bad)
+  verdict_once a a' (accepted es h good) (accepted fs k good') = ap (λ (x : List Event). says statuses.Done (accepted_line (length x))) (one_trace bytes es fs h k)
 
 -- ---- numbers, of bytes
 
@@ -218,56 +200,56 @@ module _ (Has : List ℕ → Found → Type 0) (one_found : (name : List ℕ) (a
   of_bytes P name a b h k p = subst P (one_content name a b h.0 k.0) p
 
   pub unfound_once : (name : List ℕ) → GivesOne (Unfound Has name)
-  unfound_once name s t s' t' (unreadable h) (unreadable k) = (refl, refl)
-  unfound_once name s t s' t' (unreadable h) (overlong bytes k long) = absurd (never_fault name bytes h k)
-  unfound_once name s t s' t' (overlong bytes h long) (unreadable k) = absurd (never_fault name bytes k h)
-  unfound_once name s t s' t' (overlong a h long) (overlong b k long') = (refl, refl)
+  unfound_once name a a' (unreadable h) (unreadable k) = refl
+  unfound_once name a a' (unreadable h) (overlong bytes k long) = absurd (never_fault name bytes h k)
+  unfound_once name a a' (overlong bytes h long) (unreadable k) = absurd (never_fault name bytes k h)
+  unfound_once name a a' (overlong bytes h long) (overlong other k long') = refl
 
-  never_unfound : (name bytes : List ℕ) (s : Status) (t : List ℕ) → HasBytes Has name bytes → Unfound Has name s t → ⊥
-  never_unfound name bytes s t h (unreadable k) = never_fault name bytes k h.0
-  never_unfound name bytes s t h (overlong b k long) = let within = h.1 in let same = ap length (one_content name bytes b h.0 k) in omega arith
+  never_unfound : (name bytes : List ℕ) (a : Answer) → HasBytes Has name bytes → Unfound Has name a → ⊥
+  never_unfound name bytes a h (unreadable k) = never_fault name bytes k h.0
+  never_unfound name bytes a h (overlong b k long) = let within = h.1 in let same = ap length (one_content name bytes b h.0 k) in omega arith
 
   -- ---- modules
 
   pub module_once : (name : List ℕ) (m n : Module) → HasModule Has name m → HasModule Has name n → m ≡ n
   module_once name m n h k = one_module (form_of name) k.bytes m n (of_bytes (λ bytes. Spells (form_of name) bytes m) name h.bytes k.bytes h.found k.found h.spelled) k.spelled
 
-  never_loaded : (what name : List ℕ) (m : Module) (s : Status) (t : List ℕ) → HasModule Has name m → Unloaded Has what name s t → ⊥
-  never_loaded what name m s t h (unfound k) = never_unfound name h.bytes s t h.found k
-  never_loaded what name m s t h (unread {words = words} bytes k not) =
+  never_loaded : (what name : List ℕ) (m : Module) (a : Answer) → HasModule Has name m → Unloaded Has what name a → ⊥
+  never_loaded what name m a h (unfound k) = never_unfound name h.bytes a h.found k
+  never_loaded what name m a h (unread {words = words} bytes k not) =
       never_both bytes (form_of name) words m not (of_bytes (λ b. Spells (form_of name) b m) name h.bytes bytes h.found k h.spelled)
-  never_loaded what name m s t h (invalid bytes n part k spelled wrong) =
+  never_loaded what name m a h (invalid bytes n part k spelled wrong) =
       let same = one_module (form_of name) bytes m n (of_bytes (λ b. Spells (form_of name) b m) name h.bytes bytes h.found k h.spelled) spelled in
       never_wrong n part (subst WellTyped same h.typed) wrong
 
   pub unloaded_once : (what name : List ℕ) → GivesOne (Unloaded Has what name)
-  unloaded_once what name s t s' t' (unfound h) (unfound k) = unfound_once name s t s' t' h k
-  unloaded_once what name s t s' t' (unfound h) (unread bytes k not) = absurd (never_unfound name bytes s t k h)
-  unloaded_once what name s t s' t' (unfound h) (invalid bytes m part k spelled wrong) = absurd (never_unfound name bytes s t k h)
-  unloaded_once what name s t s' t' (unread bytes h not) (unfound k) = absurd (never_unfound name bytes s' t' h k)
-  unloaded_once what name s t s' t' (unread {words = a} bytes h not) (unread {words = b} other k not') =
-      (refl, ap (refused_line what) (one_wording other (form_of name) a b (of_bytes (λ x. Unread x (form_of name) a) name bytes other h k not) not'))
-  unloaded_once what name s t s' t' (unread {words = a} bytes h not) (invalid other m part k spelled wrong) =
-      absurd (never_both other (form_of name) a m (of_bytes (λ x. Unread x (form_of name) a) name bytes other h k not) spelled)
-  unloaded_once what name s t s' t' (invalid bytes m part h spelled wrong) (unfound k) = absurd (never_unfound name bytes s' t' h k)
-  unloaded_once what name s t s' t' (invalid bytes m part h spelled wrong) (unread {words = b} other k not) =
-      absurd (never_both other (form_of name) b m not (of_bytes (λ x. Spells (form_of name) x m) name bytes other h k spelled))
-  unloaded_once what name s t s' t' (invalid bytes m a h spelled wrong) (invalid other n b k spelled' wrong') =
+  unloaded_once what name a a' (unfound h) (unfound k) = unfound_once name a a' h k
+  unloaded_once what name a a' (unfound h) (unread bytes k not) = absurd (never_unfound name bytes a k h)
+  unloaded_once what name a a' (unfound h) (invalid bytes m part k spelled wrong) = absurd (never_unfound name bytes a k h)
+  unloaded_once what name a a' (unread bytes h not) (unfound k) = absurd (never_unfound name bytes a' h k)
+  unloaded_once what name a a' (unread {words = v} bytes h not) (unread {words = w} other k not') =
+      ap (λ (x : List ℕ). says statuses.Refused (refused_line what x)) (one_wording other (form_of name) v w (of_bytes (λ x. Unread x (form_of name) v) name bytes other h k not) not')
+  unloaded_once what name a a' (unread {words = v} bytes h not) (invalid other m part k spelled wrong) =
+      absurd (never_both other (form_of name) v m (of_bytes (λ x. Unread x (form_of name) v) name bytes other h k not) spelled)
+  unloaded_once what name a a' (invalid bytes m part h spelled wrong) (unfound k) = absurd (never_unfound name bytes a' h k)
+  unloaded_once what name a a' (invalid bytes m part h spelled wrong) (unread {words = w} other k not) =
+      absurd (never_both other (form_of name) w m not (of_bytes (λ x. Spells (form_of name) x m) name bytes other h k spelled))
+  unloaded_once what name a a' (invalid bytes m p h spelled wrong) (invalid other n q k spelled' wrong') =
       let same = one_module (form_of name) other m n (of_bytes (λ x. Spells (form_of name) x m) name bytes other h k spelled) spelled' in
-      (refl, ap (λ (part : Part). refused_line what (part_words part)) (one_part n a b (subst (λ (x : Module). IsWrong x a) same wrong) wrong'))
+      ap (λ (part : Part). says statuses.Refused (refused_line what (part_words part))) (one_part n p q (subst (λ (x : Module). IsWrong x p) same wrong) wrong')
 
   pub checks_once : (name : List ℕ) → GivesOne (Checks Has name)
-  checks_once name s t s' t' (unchecked h) (unchecked k) = unloaded_once [] name s t s' t' h k
-  checks_once name s t s' t' (unchecked h) (checked m k) = absurd (never_loaded [] name m s t k h)
-  checks_once name s t s' t' (checked m h) (unchecked k) = absurd (never_loaded [] name m s' t' h k)
-  checks_once name s t s' t' (checked m h) (checked n k) = (refl, refl)
+  checks_once name a a' (unchecked h) (unchecked k) = unloaded_once [] name a a' h k
+  checks_once name a a' (unchecked h) (checked m k) = absurd (never_loaded [] name m a k h)
+  checks_once name a a' (checked m h) (unchecked k) = absurd (never_loaded [] name m a' h k)
+  checks_once name a a' (checked m h) (checked n k) = refl
 
-  pub file_once : (name : List ℕ) (Does : Command) → ((bytes : List ℕ) → DoesOne (Does bytes)) → DoesOne (OnFile Has name Does)
-  file_once name Does once s t f s' t' f' (no_file h) (no_file k) = let same = unfound_once name s t s' t' h k in record { status = same.0; line = same.1; file = refl }
-  file_once name Does once s t f s' t' f' (no_file h) (on_file bytes k does) = absurd (never_unfound name bytes s t k h)
-  file_once name Does once s t f s' t' f' (on_file bytes h does) (no_file k) = absurd (never_unfound name bytes s' t' h k)
-  file_once name Does once s t f s' t' f' (on_file bytes h does) (on_file other k does') =
-      once other s t f s' t' f' (of_bytes (λ x. Does x s t f) name bytes other h k does) does'
+  pub file_once : (name : List ℕ) (Does : Command) → ((bytes : List ℕ) → GivesOne (Does bytes)) → GivesOne (OnFile Has name Does)
+  file_once name Does once a a' (no_file h) (no_file k) = unfound_once name a a' h k
+  file_once name Does once a a' (no_file h) (on_file bytes k does) = absurd (never_unfound name bytes a k h)
+  file_once name Does once a a' (on_file bytes h does) (no_file k) = absurd (never_unfound name bytes a' h k)
+  file_once name Does once a a' (on_file bytes h does) (on_file other k does') =
+      once other a a' (of_bytes (λ x. Does x a) name bytes other h k does) does'
 
   -- ---- the modules of a job
 
@@ -278,15 +260,15 @@ module _ (Has : List ℕ → Found → Type 0) (one_found : (name : List ℕ) (a
       ap (λ (x : Module). (name, x) ∷ more) same ∙ ap (λ (xs : List (List ℕ × Module)). (name, n) ∷ xs) (all_once fs more more' all all')
 
   pub first_once : (naming : Naming) (number : ℕ) (files : List (List ℕ × List ℕ)) → GivesOne (FirstUnloaded Has naming number files)
-  first_once naming number files s t s' t' (here n name file fs h) (here n' name' file' fs' k) = unloaded_once (what_of naming n) file s t s' t' h k
-  first_once naming number files s t s' t' (here n name file fs h) (later n' name' file' m fs' k first) = absurd (never_loaded (what_of naming n) file m s t k h)
-  first_once naming number files s t s' t' (later n name file m fs h first) (here n' name' file' fs' k) = absurd (never_loaded (what_of naming n) file m s' t' h k)
-  first_once naming number files s t s' t' (later n name file m fs h first) (later n' name' file' m' fs' k first') = first_once naming (suc n) fs s t s' t' first first'
+  first_once naming number files a a' (here n name file fs h) (here n' name' file' fs' k) = unloaded_once (what_of naming n) file a a' h k
+  first_once naming number files a a' (here n name file fs h) (later n' name' file' m fs' k first) = absurd (never_loaded (what_of naming n) file m a k h)
+  first_once naming number files a a' (later n name file m fs h first) (here n' name' file' fs' k) = absurd (never_loaded (what_of naming n) file m a' h k)
+  first_once naming number files a a' (later n name file m fs h first) (later n' name' file' m' fs' k first') = first_once naming (suc n) fs a a' first first'
 
-  never_all : (naming : Naming) (number : ℕ) (files : List (List ℕ × List ℕ)) (ms : List (List ℕ × Module)) (s : Status) (t : List ℕ) → AllLoaded Has files ms → FirstUnloaded Has naming number files s t → ⊥
-  never_all naming number files ms s t no_more first = elim first [ ]
-  never_all naming number files ms s t (one_more name file m {files = fs} {modules = more} h all) (here n name' file' fs' k) = never_loaded (what_of naming n) file m s t h k
-  never_all naming number files ms s t (one_more name file m {files = fs} {modules = more} h all) (later n name' file' m' fs' k first) = never_all naming (suc n) fs more s t all first
+  never_all : (naming : Naming) (number : ℕ) (files : List (List ℕ × List ℕ)) (ms : List (List ℕ × Module)) (a : Answer) → AllLoaded Has files ms → FirstUnloaded Has naming number files a → ⊥
+  never_all naming number files ms a no_more first = elim first [ ]
+  never_all naming number files ms a (one_more name file m {files = fs} {modules = more} h all) (here n name' file' fs' k) = never_loaded (what_of naming n) file m a h k
+  never_all naming number files ms a (one_more name file m {files = fs} {modules = more} h all) (later n name' file' m' fs' k first) = never_all naming (suc n) fs more a all first
 
   -- ---- schedules
 
@@ -294,15 +276,15 @@ module _ (Has : List ℕ → Found → Type 0) (one_found : (name : List ℕ) (a
   numbers_once name a b h k = same_ok a b (sym (of_bytes (λ x. schedule_in x ≡ Ok a) name h.bytes k.bytes h.found k.found h.read) ∙ k.read)
 
   pub unnumbered_once : (name : List ℕ) → GivesOne (Unnumbered Has name)
-  unnumbered_once name s t s' t' (jobs.no_file h) (jobs.no_file k) = unfound_once name s t s' t' h k
-  unnumbered_once name s t s' t' (jobs.no_file h) (no_number bytes at k not) = absurd (never_unfound name bytes s t k h)
-  unnumbered_once name s t s' t' (no_number bytes at h not) (jobs.no_file k) = absurd (never_unfound name bytes s' t' h k)
-  unnumbered_once name s t s' t' (no_number bytes a h not) (no_number other b k not') =
-      (refl, ap schedule_line (same_place a b (same_err (At a) (At b) (sym (of_bytes (λ x. schedule_in x ≡ Err (At a)) name bytes other h k not) ∙ not'))))
+  unnumbered_once name a a' (jobs.no_file h) (jobs.no_file k) = unfound_once name a a' h k
+  unnumbered_once name a a' (jobs.no_file h) (no_number bytes at k not) = absurd (never_unfound name bytes a k h)
+  unnumbered_once name a a' (no_number bytes at h not) (jobs.no_file k) = absurd (never_unfound name bytes a' h k)
+  unnumbered_once name a a' (no_number bytes i h not) (no_number other j k not') =
+      ap (λ (n : ℕ). says statuses.Refused (schedule_line n)) (same_place i j (same_err (At i) (At j) (sym (of_bytes (λ x. schedule_in x ≡ Err (At i)) name bytes other h k not) ∙ not')))
 
-  never_numbered : (name numbers : List ℕ) (s : Status) (t : List ℕ) → HasNumbers Has name numbers → Unnumbered Has name s t → ⊥
-  never_numbered name numbers s t h (jobs.no_file k) = never_unfound name h.bytes s t h.found k
-  never_numbered name numbers s t h (no_number bytes at k not) =
+  never_numbered : (name numbers : List ℕ) (a : Answer) → HasNumbers Has name numbers → Unnumbered Has name a → ⊥
+  never_numbered name numbers a h (jobs.no_file k) = never_unfound name h.bytes a h.found k
+  never_numbered name numbers a h (no_number bytes at k not) =
       never_ok numbers (At at) (sym (of_bytes (λ x. schedule_in x ≡ Ok numbers) name h.bytes bytes h.found k h.read) ∙ not)
 
   pub entries_once : (job : Job) (a b : List ℕ) → HasEntries Has job a → HasEntries Has job b → a ≡ b
@@ -314,58 +296,58 @@ module _ (Has : List ℕ → Found → Type 0) (one_found : (name : List ℕ) (a
       ap (take job.budget) (numbers_once other numbers numbers' (subst (λ x. HasNumbers Has x numbers) same h) k)
 
   pub unscheduled_once : (job : Job) → GivesOne (Unscheduled Has job)
-  unscheduled_once job s t s' t' (unlisted name e h) (unlisted other f k) =
+  unscheduled_once job a a' (unlisted name e h) (unlisted other f k) =
       let same : name ≡ other = some_is name other (sym e ∙ f) in
-      unnumbered_once other s t s' t' (subst (λ x. Unnumbered Has x s t) same h) k
+      unnumbered_once other a a' (subst (λ x. Unnumbered Has x a) same h) k
 
-  never_scheduled : (job : Job) (entries : List ℕ) (s : Status) (t : List ℕ) → HasEntries Has job entries → Unscheduled Has job s t → ⊥
-  never_scheduled job entries s t (in_turns e) (unlisted name f k) = let both = sym e ∙ f in cc
-  never_scheduled job entries s t (listed name numbers e h) (unlisted other f k) =
+  never_scheduled : (job : Job) (entries : List ℕ) (a : Answer) → HasEntries Has job entries → Unscheduled Has job a → ⊥
+  never_scheduled job entries a (in_turns e) (unlisted name f k) = let both = sym e ∙ f in cc
+  never_scheduled job entries a (listed name numbers e h) (unlisted other f k) =
       let same : name ≡ other = some_is name other (sym e ∙ f) in
-      never_numbered other numbers s t (subst (λ x. HasNumbers Has x numbers) same h) k
+      never_numbered other numbers a (subst (λ x. HasNumbers Has x numbers) same h) k
 
   -- ---- jobs
 
   pub runs_job_once : (naming : Naming) (given : Input) (job : Job) → RunsOne (RunsJob Has naming given job)
-  runs_job_once naming given job p s t f p' s' t' f' (unloaded h) (unloaded k) = unrun_once (first_once naming 0 job.modules s t s' t' h k)
-  runs_job_once naming given job p s t f p' s' t' f' (unloaded h) (unscheduled ms all k) = absurd (never_all naming 0 job.modules ms s t all h)
-  runs_job_once naming given job p s t f p' s' t' f' (unloaded h) (executed ms entries all k answers) = absurd (never_all naming 0 job.modules ms s t all h)
-  runs_job_once naming given job p s t f p' s' t' f' (unscheduled ms all h) (unloaded k) = absurd (never_all naming 0 job.modules ms s' t' all k)
-  runs_job_once naming given job p s t f p' s' t' f' (unscheduled ms all h) (unscheduled ns all' k) = unrun_once (unscheduled_once job s t s' t' h k)
-  runs_job_once naming given job p s t f p' s' t' f' (unscheduled ms all h) (executed ns entries all' k answers) = absurd (never_scheduled job entries s t k h)
-  runs_job_once naming given job p s t f p' s' t' f' (executed ms entries all h answers) (unloaded k) = absurd (never_all naming 0 job.modules ms s' t' all k)
-  runs_job_once naming given job p s t f p' s' t' f' (executed ms entries all h answers) (unscheduled ns all' k) = absurd (never_scheduled job entries s' t' h k)
-  runs_job_once naming given job p s t f p' s' t' f' (executed ms entries all h answers) (executed ns entries' all' k answers') =
+  runs_job_once naming given job p a p' a' (unloaded h) (unloaded k) = (refl, first_once naming 0 job.modules a a' h k)
+  runs_job_once naming given job p a p' a' (unloaded h) (unscheduled ms all k) = absurd (never_all naming 0 job.modules ms a all h)
+  runs_job_once naming given job p a p' a' (unloaded h) (executed ms entries all k answers) = absurd (never_all naming 0 job.modules ms a all h)
+  runs_job_once naming given job p a p' a' (unscheduled ms all h) (unloaded k) = absurd (never_all naming 0 job.modules ms a' all k)
+  runs_job_once naming given job p a p' a' (unscheduled ms all h) (unscheduled ns all' k) = (refl, unscheduled_once job a a' h k)
+  runs_job_once naming given job p a p' a' (unscheduled ms all h) (executed ns entries all' k answers) = absurd (never_scheduled job entries a k h)
+  runs_job_once naming given job p a p' a' (executed ms entries all h answers) (unloaded k) = absurd (never_all naming 0 job.modules ms a' all k)
+  runs_job_once naming given job p a p' a' (executed ms entries all h answers) (unscheduled ns all' k) = absurd (never_scheduled job entries a' h k)
+  runs_job_once naming given job p a p' a' (executed ms entries all h answers) (executed ns entries' all' k answers') =
       let same_entries = entries_once job entries entries' h k in
       let same_modules = all_once job.modules ms ns all all' in
-      execution_once (telling_of job) (execution ns job.tasks entries' job.memory given) p s t f p' s' t' f'
-      (subst (λ (x : List (List ℕ × Module)). AnswersAs (telling_of job) (execution x job.tasks entries' job.memory given) p s t f) same_modules
-      (subst (λ x. AnswersAs (telling_of job) (execution ms job.tasks x job.memory given) p s t f) same_entries answers)) answers'
+      execution_once (telling_of job) (execution ns job.tasks entries' job.memory given) p a p' a'
+      (subst (λ (x : List (List ℕ × Module)). AnswersAs (telling_of job) (execution x job.tasks entries' job.memory given) p a) same_modules
+      (subst (λ x. AnswersAs (telling_of job) (execution ms job.tasks x job.memory given) p a) same_entries answers)) answers'
 
   pub runs_file_once : (given : Input) (name : List ℕ) → RunsOne (RunsFile Has given name)
-  runs_file_once given name p s t f p' s' t' f' (no_job_file h) (no_job_file k) = unrun_once (unfound_once name s t s' t' h k)
-  runs_file_once given name p s t f p' s' t' f' (no_job_file h) (no_job bytes fault k not) = absurd (never_unfound name bytes s t k h)
-  runs_file_once given name p s t f p' s' t' f' (no_job_file h) (jobs.job bytes j k is runs) = absurd (never_unfound name bytes s t k h)
-  runs_file_once given name p s t f p' s' t' f' (no_job bytes fault h not) (no_job_file k) = absurd (never_unfound name bytes s' t' h k)
-  runs_file_once given name p s t f p' s' t' f' (no_job bytes a h not) (no_job other b k not') =
-      unrun_once (refl, ap job_line (same_err a b (sym (of_bytes (λ x. job_in x ≡ Err a) name bytes other h k not) ∙ not')))
-  runs_file_once given name p s t f p' s' t' f' (no_job bytes fault h not) (jobs.job other j k is runs) =
+  runs_file_once given name p a p' a' (no_job_file h) (no_job_file k) = (refl, unfound_once name a a' h k)
+  runs_file_once given name p a p' a' (no_job_file h) (no_job bytes fault k not) = absurd (never_unfound name bytes a k h)
+  runs_file_once given name p a p' a' (no_job_file h) (jobs.job bytes j k is runs) = absurd (never_unfound name bytes a k h)
+  runs_file_once given name p a p' a' (no_job bytes fault h not) (no_job_file k) = absurd (never_unfound name bytes a' h k)
+  runs_file_once given name p a p' a' (no_job bytes fault h not) (no_job other fault' k not') =
+      (refl, ap (λ (x : JobFault). says statuses.Refused (job_line x)) (same_err fault fault' (sym (of_bytes (λ x. job_in x ≡ Err fault) name bytes other h k not) ∙ not')))
+  runs_file_once given name p a p' a' (no_job bytes fault h not) (jobs.job other j k is runs) =
       absurd (never_ok j fault (sym is ∙ of_bytes (λ x. job_in x ≡ Err fault) name bytes other h k not))
-  runs_file_once given name p s t f p' s' t' f' (jobs.job bytes j h is runs) (no_job_file k) = absurd (never_unfound name bytes s' t' h k)
-  runs_file_once given name p s t f p' s' t' f' (jobs.job bytes j h is runs) (no_job other fault k not) =
+  runs_file_once given name p a p' a' (jobs.job bytes j h is runs) (no_job_file k) = absurd (never_unfound name bytes a' h k)
+  runs_file_once given name p a p' a' (jobs.job bytes j h is runs) (no_job other fault k not) =
       absurd (never_ok j fault (sym (of_bytes (λ x. job_in x ≡ Ok j) name bytes other h k is) ∙ not))
-  runs_file_once given name p s t f p' s' t' f' (jobs.job bytes j h is runs) (jobs.job other i k is' runs') =
+  runs_file_once given name p a p' a' (jobs.job bytes j h is runs) (jobs.job other i k is' runs') =
       let same : j ≡ i = same_ok j i (sym (of_bytes (λ x. job_in x ≡ Ok j) name bytes other h k is) ∙ is') in
-      runs_job_once Numbered given i p s t f p' s' t' f' (subst (λ (x : Job). RunsJob Has Numbered given x p s t f) same runs) runs'
+      runs_job_once Numbered given i p a p' a' (subst (λ (x : Job). RunsJob Has Numbered given x p a) same runs) runs'
 
   -- ---- traces
 
   pub judges_once : (name : List ℕ) (capacity : ℕ) → GivesOne (Judges Has name capacity)
-  judges_once name capacity s t s' t' (unjudged h) (unjudged k) = unfound_once name s t s' t' h k
-  judges_once name capacity s t s' t' (unjudged h) (judged bytes k verdict) = absurd (never_unfound name bytes s t k h)
-  judges_once name capacity s t s' t' (judged bytes h verdict) (unjudged k) = absurd (never_unfound name bytes s' t' h k)
-  judges_once name capacity s t s' t' (judged bytes h verdict) (judged other k verdict') =
-      verdict_once capacity other s t s' t' (of_bytes (λ x. Verdict capacity x s t) name bytes other h k verdict) verdict'
+  judges_once name capacity a a' (unjudged h) (unjudged k) = unfound_once name a a' h k
+  judges_once name capacity a a' (unjudged h) (judged bytes k verdict) = absurd (never_unfound name bytes a k h)
+  judges_once name capacity a a' (judged bytes h verdict) (unjudged k) = absurd (never_unfound name bytes a' h k)
+  judges_once name capacity a a' (judged bytes h verdict) (judged other k verdict') =
+      verdict_once capacity other a a' (of_bytes (λ x. Verdict capacity x a) name bytes other h k verdict) verdict'
 
 -- ---- files that are known
 
@@ -384,50 +366,50 @@ module _ (Has Has' : List ℕ → Found → Type 0) (known : (name bytes : List 
   bytes_known : (name bytes : List ℕ) → HasBytes Has name bytes → HasBytes Has' name bytes
   bytes_known name bytes h = (known name bytes h.0, h.1)
 
-  pub unfound_known : (name : List ℕ) (s : Status) (t : List ℕ) → Unfound Has name s t → (s ≡ statuses.ReadFault) ⊎ Unfound Has' name s t
-  unfound_known name s t (unreadable h) = inl refl
-  unfound_known name s t (overlong bytes h long) = inr (overlong bytes (known name bytes h) long)
+  pub unfound_known : (name : List ℕ) (a : Answer) → Unfound Has name a → (a.status ≡ statuses.ReadFault) ⊎ Unfound Has' name a
+  unfound_known name a (unreadable h) = inl refl
+  unfound_known name a (overlong bytes h long) = inr (overlong bytes (known name bytes h) long)
 
   module_known : (name : List ℕ) (m : Module) → HasModule Has name m → HasModule Has' name m
   module_known name m h = record { bytes = h.bytes; found = bytes_known name h.bytes h.found; spelled = h.spelled; typed = h.typed }
 
-  pub unloaded_known : (what name : List ℕ) (s : Status) (t : List ℕ) → Unloaded Has what name s t → (s ≡ statuses.ReadFault) ⊎ Unloaded Has' what name s t
-  unloaded_known what name s t (unfound h) =
-      elim (unfound_known name s t h) [
+  pub unloaded_known : (what name : List ℕ) (a : Answer) → Unloaded Has what name a → (a.status ≡ statuses.ReadFault) ⊎ Unloaded Has' what name a
+  unloaded_known what name a (unfound h) =
+      elim (unfound_known name a h) [
         | inl e ↦ inl e
         | inr k ↦ inr (unfound k)
       ]
-  unloaded_known what name s t (unread bytes h not) = inr (unread bytes (bytes_known name bytes h) not)
-  unloaded_known what name s t (invalid bytes m part h spelled wrong) = inr (invalid bytes m part (bytes_known name bytes h) spelled wrong)
+  unloaded_known what name a (unread bytes h not) = inr (unread bytes (bytes_known name bytes h) not)
+  unloaded_known what name a (invalid bytes m part h spelled wrong) = inr (invalid bytes m part (bytes_known name bytes h) spelled wrong)
 
-  pub checks_known : (name : List ℕ) (s : Status) (t : List ℕ) → Checks Has name s t → (s ≡ statuses.ReadFault) ⊎ Checks Has' name s t
-  checks_known name s t (unchecked h) =
-      elim (unloaded_known [] name s t h) [
+  pub checks_known : (name : List ℕ) (a : Answer) → Checks Has name a → (a.status ≡ statuses.ReadFault) ⊎ Checks Has' name a
+  checks_known name a (unchecked h) =
+      elim (unloaded_known [] name a h) [
         | inl e ↦ inl e
         | inr k ↦ inr (unchecked k)
       ]
-  checks_known name s t (checked m h) = inr (checked m (module_known name m h))
+  checks_known name a (checked m h) = inr (checked m (module_known name m h))
 
-  pub file_known : (name : List ℕ) (Does : Command) (s : Status) (t : List ℕ) (f : Option File) → OnFile Has name Does s t f → (s ≡ statuses.ReadFault) ⊎ OnFile Has' name Does s t f
-  file_known name Does s t f (no_file h) =
-      elim (unfound_known name s t h) [
+  pub file_known : (name : List ℕ) (Does : Command) (a : Answer) → OnFile Has name Does a → (a.status ≡ statuses.ReadFault) ⊎ OnFile Has' name Does a
+  file_known name Does a (no_file h) =
+      elim (unfound_known name a h) [
         | inl e ↦ inl e
         | inr k ↦ inr (no_file k)
       ]
-  file_known name Does s t f (on_file bytes h does) = inr (on_file bytes (bytes_known name bytes h) does)
+  file_known name Does a (on_file bytes h does) = inr (on_file bytes (bytes_known name bytes h) does)
 
   pub all_known : (files : List (List ℕ × List ℕ)) (ms : List (List ℕ × Module)) → AllLoaded Has files ms → AllLoaded Has' files ms
   all_known files ms no_more = no_more
   all_known files ms (one_more name file m {files = fs} {modules = more} h all) = one_more name file m (module_known file m h) (all_known fs more all)
 
-  first_known : (naming : Naming) (number : ℕ) (files : List (List ℕ × List ℕ)) (s : Status) (t : List ℕ) → FirstUnloaded Has naming number files s t → (s ≡ statuses.ReadFault) ⊎ FirstUnloaded Has' naming number files s t
-  first_known naming number files s t (here n name file fs h) =
-      elim (unloaded_known (what_of naming n) file s t h) [
+  first_known : (naming : Naming) (number : ℕ) (files : List (List ℕ × List ℕ)) (a : Answer) → FirstUnloaded Has naming number files a → (a.status ≡ statuses.ReadFault) ⊎ FirstUnloaded Has' naming number files a
+  first_known naming number files a (here n name file fs h) =
+      elim (unloaded_known (what_of naming n) file a h) [
         | inl e ↦ inl e
         | inr k ↦ inr (here n name file fs k)
       ]
-  first_known naming number files s t (later n name file m fs h first) =
-      elim (first_known naming (suc n) fs s t first) [
+  first_known naming number files a (later n name file m fs h first) =
+      elim (first_known naming (suc n) fs a first) [
         | inl e ↦ inl e
         | inr k ↦ inr (later n name file m fs (module_known file m h) k)
       ]
@@ -439,55 +421,55 @@ module _ (Has Has' : List ℕ → Found → Type 0) (known : (name bytes : List 
   entries_known job entries (in_turns e) = in_turns e
   entries_known job entries (listed name numbers e h) = listed name numbers e (numbers_known name numbers h)
 
-  unnumbered_known : (name : List ℕ) (s : Status) (t : List ℕ) → Unnumbered Has name s t → (s ≡ statuses.ReadFault) ⊎ Unnumbered Has' name s t
-  unnumbered_known name s t (jobs.no_file h) =
-      elim (unfound_known name s t h) [
+  unnumbered_known : (name : List ℕ) (a : Answer) → Unnumbered Has name a → (a.status ≡ statuses.ReadFault) ⊎ Unnumbered Has' name a
+  unnumbered_known name a (jobs.no_file h) =
+      elim (unfound_known name a h) [
         | inl e ↦ inl e
         | inr k ↦ inr (jobs.no_file k)
       ]
-  unnumbered_known name s t (no_number bytes at h not) = inr (no_number bytes at (bytes_known name bytes h) not)
+  unnumbered_known name a (no_number bytes at h not) = inr (no_number bytes at (bytes_known name bytes h) not)
 
-  unscheduled_known : (job : Job) (s : Status) (t : List ℕ) → Unscheduled Has job s t → (s ≡ statuses.ReadFault) ⊎ Unscheduled Has' job s t
-  unscheduled_known job s t (unlisted name e h) =
-      elim (unnumbered_known name s t h) [
+  unscheduled_known : (job : Job) (a : Answer) → Unscheduled Has job a → (a.status ≡ statuses.ReadFault) ⊎ Unscheduled Has' job a
+  unscheduled_known job a (unlisted name e h) =
+      elim (unnumbered_known name a h) [
         | inl is ↦ inl is
         | inr k ↦ inr (unlisted name e k)
       ]
 
-  pub runs_job_known : (naming : Naming) (given : Input) (job : Job) (p : Option Run) (s : Status) (t : List ℕ) (f : Option File) → RunsJob Has naming given job p s t f → (s ≡ statuses.ReadFault) ⊎ RunsJob Has' naming given job p s t f
-  runs_job_known naming given job p s t f (unloaded h) =
-      elim (first_known naming 0 job.modules s t h) [
+  pub runs_job_known : (naming : Naming) (given : Input) (job : Job) (p : Option Run) (a : Answer) → RunsJob Has naming given job p a → (a.status ≡ statuses.ReadFault) ⊎ RunsJob Has' naming given job p a
+  runs_job_known naming given job p a (unloaded h) =
+      elim (first_known naming 0 job.modules a h) [
         | inl e ↦ inl e
         | inr k ↦ inr (unloaded k)
       ]
-  runs_job_known naming given job p s t f (unscheduled ms all h) =
-      elim (unscheduled_known job s t h) [
+  runs_job_known naming given job p a (unscheduled ms all h) =
+      elim (unscheduled_known job a h) [
         | inl e ↦ inl e
         | inr k ↦ inr (unscheduled ms (all_known job.modules ms all) k)
       ]
-  runs_job_known naming given job p s t f (executed ms entries all h answers) =
+  runs_job_known naming given job p a (executed ms entries all h answers) =
       inr (executed ms entries (all_known job.modules ms all) (entries_known job entries h) answers)
 
-  pub runs_file_known : (given : Input) (name : List ℕ) (p : Option Run) (s : Status) (t : List ℕ) (f : Option File) → RunsFile Has given name p s t f → (s ≡ statuses.ReadFault) ⊎ RunsFile Has' given name p s t f
-  runs_file_known given name p s t f (no_job_file h) =
-      elim (unfound_known name s t h) [
+  pub runs_file_known : (given : Input) (name : List ℕ) (p : Option Run) (a : Answer) → RunsFile Has given name p a → (a.status ≡ statuses.ReadFault) ⊎ RunsFile Has' given name p a
+  runs_file_known given name p a (no_job_file h) =
+      elim (unfound_known name a h) [
         | inl e ↦ inl e
         | inr k ↦ inr (no_job_file k)
       ]
-  runs_file_known given name p s t f (no_job bytes fault h not) = inr (no_job bytes fault (bytes_known name bytes h) not)
-  runs_file_known given name p s t f (jobs.job bytes j h is runs) =
-      elim (runs_job_known Numbered given j p s t f runs) [
+  runs_file_known given name p a (no_job bytes fault h not) = inr (no_job bytes fault (bytes_known name bytes h) not)
+  runs_file_known given name p a (jobs.job bytes j h is runs) =
+      elim (runs_job_known Numbered given j p a runs) [
         | inl e ↦ inl e
         | inr k ↦ inr (jobs.job bytes j (bytes_known name bytes h) is k)
       ]
 
-  pub judges_known : (name : List ℕ) (capacity : ℕ) (s : Status) (t : List ℕ) → Judges Has name capacity s t → (s ≡ statuses.ReadFault) ⊎ Judges Has' name capacity s t
-  judges_known name capacity s t (unjudged h) =
-      elim (unfound_known name s t h) [
+  pub judges_known : (name : List ℕ) (capacity : ℕ) (a : Answer) → Judges Has name capacity a → (a.status ≡ statuses.ReadFault) ⊎ Judges Has' name capacity a
+  judges_known name capacity a (unjudged h) =
+      elim (unfound_known name a h) [
         | inl e ↦ inl e
         | inr k ↦ inr (unjudged k)
       ]
-  judges_known name capacity s t (judged bytes h verdict) = inr (judged bytes (bytes_known name bytes h) verdict)
+  judges_known name capacity a (judged bytes h verdict) = inr (judged bytes (bytes_known name bytes h) verdict)
 
 -- ---- no command answers by usage, by a fault of writing, or by want of memory
 
@@ -506,65 +488,65 @@ ends_ordinary (Trap whose trap) s t h = ordinary_as s statuses.Trapped h.0 tt
 ends_ordinary OutOfBudget s t h = ordinary_as s statuses.OutOfBudget h.0 tt
 ends_ordinary Stuck s t h = absurd h
 
-execution_ordinary : (telling : Telling) (e : Execution) (p : Option Run) (s : Status) (t : List ℕ) (f : Option File) → AnswersAs telling e p s t f → IsOrdinary s
-execution_ordinary telling (Unlinked fault) p s t f h = ordinary_as s statuses.Refused h.1 tt
-execution_ordinary telling (NoTask number) p s t f h = ordinary_as s statuses.Refused h.1 tt
-execution_ordinary telling (Ran run) p s t f h = ends_ordinary run.end s h.1.0 h.1.1
+execution_ordinary : (telling : Telling) (e : Execution) (p : Option Run) (a : Answer) → AnswersAs telling e p a → IsOrdinary a.status
+execution_ordinary telling (Unlinked fault) p a h = subst (λ (x : Answer). IsOrdinary x.status) (sym h.1) tt
+execution_ordinary telling (NoTask number) p a h = subst (λ (x : Answer). IsOrdinary x.status) (sym h.1) tt
+execution_ordinary telling (Ran run) p a h = ends_ordinary run.end a.status h.1.0 h.1.1
 
-verdict_ordinary : (capacity : ℕ) (bytes : List ℕ) (s : Status) (t : List ℕ) → Verdict capacity bytes s t → IsOrdinary s
-verdict_ordinary capacity bytes s t (no_event n h) = tt
-verdict_ordinary capacity bytes s t (rejected es n h bad) = tt
-verdict_ordinary capacity bytes s t (accepted es h good) = tt
+verdict_ordinary : (capacity : ℕ) (bytes : List ℕ) (a : Answer) → Verdict capacity bytes a → IsOrdinary a.status
+verdict_ordinary capacity bytes a (no_event n h) = tt
+verdict_ordinary capacity bytes a (rejected es n h bad) = tt
+verdict_ordinary capacity bytes a (accepted es h good) = tt
 
-pub assembles_ordinary : (out bytes : List ℕ) (s : Status) (t : List ℕ) (f : Option File) → Assembles out bytes s t f → IsOrdinary s
-assembles_ordinary out bytes s t f (unread_text h) = tt
-assembles_ordinary out bytes s t f (large m h is) = tt
-assembles_ordinary out bytes s t f (assembled m h not) = tt
+pub assembles_ordinary : (out bytes : List ℕ) (a : Answer) → Assembles out bytes a → IsOrdinary a.status
+assembles_ordinary out bytes a (unread_text h) = tt
+assembles_ordinary out bytes a (large m h is) = tt
+assembles_ordinary out bytes a (assembled m h not) = tt
 
-pub disassembles_ordinary : (out bytes : List ℕ) (s : Status) (t : List ℕ) (f : Option File) → Disassembles out bytes s t f → IsOrdinary s
-disassembles_ordinary out bytes s t f (unread_binary h) = tt
-disassembles_ordinary out bytes s t f (disassembled m h) = tt
+pub disassembles_ordinary : (out bytes : List ℕ) (a : Answer) → Disassembles out bytes a → IsOrdinary a.status
+disassembles_ordinary out bytes a (unread_binary h) = tt
+disassembles_ordinary out bytes a (disassembled m h) = tt
 
 module _ (Has : List ℕ → Found → Type 0) where
-  unfound_ordinary : (name : List ℕ) (s : Status) (t : List ℕ) → Unfound Has name s t → IsOrdinary s
-  unfound_ordinary name s t (unreadable h) = tt
-  unfound_ordinary name s t (overlong bytes h long) = tt
+  unfound_ordinary : (name : List ℕ) (a : Answer) → Unfound Has name a → IsOrdinary a.status
+  unfound_ordinary name a (unreadable h) = tt
+  unfound_ordinary name a (overlong bytes h long) = tt
 
-  unloaded_ordinary : (what name : List ℕ) (s : Status) (t : List ℕ) → Unloaded Has what name s t → IsOrdinary s
-  unloaded_ordinary what name s t (unfound h) = unfound_ordinary name s t h
-  unloaded_ordinary what name s t (unread bytes h not) = tt
-  unloaded_ordinary what name s t (invalid bytes m part h spelled wrong) = tt
+  unloaded_ordinary : (what name : List ℕ) (a : Answer) → Unloaded Has what name a → IsOrdinary a.status
+  unloaded_ordinary what name a (unfound h) = unfound_ordinary name a h
+  unloaded_ordinary what name a (unread bytes h not) = tt
+  unloaded_ordinary what name a (invalid bytes m part h spelled wrong) = tt
 
-  pub checks_ordinary : (name : List ℕ) (s : Status) (t : List ℕ) → Checks Has name s t → IsOrdinary s
-  checks_ordinary name s t (unchecked h) = unloaded_ordinary [] name s t h
-  checks_ordinary name s t (checked m h) = tt
+  pub checks_ordinary : (name : List ℕ) (a : Answer) → Checks Has name a → IsOrdinary a.status
+  checks_ordinary name a (unchecked h) = unloaded_ordinary [] name a h
+  checks_ordinary name a (checked m h) = tt
 
-  pub file_ordinary : (name : List ℕ) (Does : Command) → ((bytes : List ℕ) (s : Status) (t : List ℕ) (f : Option File) → Does bytes s t f → IsOrdinary s)
-      → (s : Status) (t : List ℕ) (f : Option File) → OnFile Has name Does s t f → IsOrdinary s
-  file_ordinary name Does all s t f (no_file h) = unfound_ordinary name s t h
-  file_ordinary name Does all s t f (on_file bytes h does) = all bytes s t f does
+  pub file_ordinary : (name : List ℕ) (Does : Command) → ((bytes : List ℕ) (a : Answer) → Does bytes a → IsOrdinary a.status)
+      → (a : Answer) → OnFile Has name Does a → IsOrdinary a.status
+  file_ordinary name Does all a (no_file h) = unfound_ordinary name a h
+  file_ordinary name Does all a (on_file bytes h does) = all bytes a does
 
-  first_ordinary : (naming : Naming) (number : ℕ) (files : List (List ℕ × List ℕ)) (s : Status) (t : List ℕ) → FirstUnloaded Has naming number files s t → IsOrdinary s
-  first_ordinary naming number files s t (here n name file fs h) = unloaded_ordinary (what_of naming n) file s t h
-  first_ordinary naming number files s t (later n name file m fs h first) = first_ordinary naming (suc n) fs s t first
+  first_ordinary : (naming : Naming) (number : ℕ) (files : List (List ℕ × List ℕ)) (a : Answer) → FirstUnloaded Has naming number files a → IsOrdinary a.status
+  first_ordinary naming number files a (here n name file fs h) = unloaded_ordinary (what_of naming n) file a h
+  first_ordinary naming number files a (later n name file m fs h first) = first_ordinary naming (suc n) fs a first
 
-  unnumbered_ordinary : (name : List ℕ) (s : Status) (t : List ℕ) → Unnumbered Has name s t → IsOrdinary s
-  unnumbered_ordinary name s t (jobs.no_file h) = unfound_ordinary name s t h
-  unnumbered_ordinary name s t (no_number bytes at h not) = tt
+  unnumbered_ordinary : (name : List ℕ) (a : Answer) → Unnumbered Has name a → IsOrdinary a.status
+  unnumbered_ordinary name a (jobs.no_file h) = unfound_ordinary name a h
+  unnumbered_ordinary name a (no_number bytes at h not) = tt
 
-  unscheduled_ordinary : (job : Job) (s : Status) (t : List ℕ) → Unscheduled Has job s t → IsOrdinary s
-  unscheduled_ordinary job s t (unlisted name e h) = unnumbered_ordinary name s t h
+  unscheduled_ordinary : (job : Job) (a : Answer) → Unscheduled Has job a → IsOrdinary a.status
+  unscheduled_ordinary job a (unlisted name e h) = unnumbered_ordinary name a h
 
-  pub judges_ordinary : (name : List ℕ) (capacity : ℕ) (s : Status) (t : List ℕ) → Judges Has name capacity s t → IsOrdinary s
-  judges_ordinary name capacity s t (unjudged h) = unfound_ordinary name s t h
-  judges_ordinary name capacity s t (judged bytes h verdict) = verdict_ordinary capacity bytes s t verdict
+  pub judges_ordinary : (name : List ℕ) (capacity : ℕ) (a : Answer) → Judges Has name capacity a → IsOrdinary a.status
+  judges_ordinary name capacity a (unjudged h) = unfound_ordinary name a h
+  judges_ordinary name capacity a (judged bytes h verdict) = verdict_ordinary capacity bytes a verdict
 
-  pub runs_job_ordinary : (naming : Naming) (given : Input) (job : Job) (p : Option Run) (s : Status) (t : List ℕ) (f : Option File) → RunsJob Has naming given job p s t f → IsOrdinary s
-  runs_job_ordinary naming given job p s t f (unloaded h) = first_ordinary naming 0 job.modules s t h
-  runs_job_ordinary naming given job p s t f (unscheduled ms all h) = unscheduled_ordinary job s t h
-  runs_job_ordinary naming given job p s t f (executed ms entries all h answers) = execution_ordinary (telling_of job) (execution ms job.tasks entries job.memory given) p s t f answers
+  pub runs_job_ordinary : (naming : Naming) (given : Input) (job : Job) (p : Option Run) (a : Answer) → RunsJob Has naming given job p a → IsOrdinary a.status
+  runs_job_ordinary naming given job p a (unloaded h) = first_ordinary naming 0 job.modules a h
+  runs_job_ordinary naming given job p a (unscheduled ms all h) = unscheduled_ordinary job a h
+  runs_job_ordinary naming given job p a (executed ms entries all h answers) = execution_ordinary (telling_of job) (execution ms job.tasks entries job.memory given) p a answers
 
-  pub runs_file_ordinary : (given : Input) (name : List ℕ) (p : Option Run) (s : Status) (t : List ℕ) (f : Option File) → RunsFile Has given name p s t f → IsOrdinary s
-  runs_file_ordinary given name p s t f (no_job_file h) = unfound_ordinary name s t h
-  runs_file_ordinary given name p s t f (no_job bytes fault h not) = tt
-  runs_file_ordinary given name p s t f (jobs.job bytes j h is runs) = runs_job_ordinary Numbered given j p s t f runs
+  pub runs_file_ordinary : (given : Input) (name : List ℕ) (p : Option Run) (a : Answer) → RunsFile Has given name p a → IsOrdinary a.status
+  runs_file_ordinary given name p a (no_job_file h) = unfound_ordinary name a h
+  runs_file_ordinary given name p a (no_job bytes fault h not) = tt
+  runs_file_ordinary given name p a (jobs.job bytes j h is runs) = runs_job_ordinary Numbered given j p a runs

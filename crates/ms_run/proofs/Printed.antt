@@ -10,7 +10,7 @@ use Rattle.ms_outside.specs.Shelf.{SameCounts}
 use Rattle.ms_rules.specs.Modules.{WellTyped}
 use Rattle.ms_valid.specs.declared.refusal.Refusal.{Refusal}
 use Rattle.ms_valid.specs.declared.refusal.Refusal.TheVariants as refusals
-use Rattle.ms_run.specs.Answers.{Found, HasBytes, Judges, Unloaded, invalid, judged, unread}
+use Rattle.ms_run.specs.Answers.{Found, HasBytes, Judges, Unloaded, invalid, judged, says, unread}
 use Rattle.ms_run.specs.Lines.{fault_words, refused_line, text_fault_words}
 use Rattle.ms_run.specs.Loading.{Binary, Form, IsInvalid, IsRead, Refuses, Spells, Text, Unread, binary, form_of, load_words, text}
 use Rattle.ms_run.specs.Observed.{Report, Shelved}
@@ -33,7 +33,7 @@ unread_text bytes fault why is stops = subst (λ (f : TextFault). Unread bytes T
 
 module _ (Has : List ℕ → Found → Type 0) (what name bytes : List ℕ) (has : HasBytes Has name bytes) where
   abbrev Unprinted : List ℕ → Type 0
-  Unprinted words = Unloaded Has what name Refused (refused_line what words)
+  Unprinted words = Unloaded Has what name (says Refused (refused_line what words))
 
   of_form : (form : Form) → form_of name ≡ form → (fault : LoadFault) → fault ≢ faults.Memory → Refuses form bytes fault → Unprinted (load_words fault)
   of_form Binary is (faults.Read fault) not h = unread bytes has (subst (λ (f : Form). Unread bytes f (fault_words fault)) (sym is) (unread_binary bytes fault h.0 h.1))

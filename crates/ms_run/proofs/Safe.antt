@@ -1,6 +1,6 @@
 -- The events of an execution of well-typed modules are a trace that the colour monitor accepts; and so are those of the run of which
 -- an answer tells.
-use Rattle.std.proofs.Common.{◌≡◌, ◌<◌, ◌≤◌, ◌^◌, ℕ, List, [], inl, inr, length, Option, Result, Ok, Err, refl, sym, subst, arith}
+use Rattle.std.proofs.Common.{◌≡◌, ◌<◌, ◌≤◌, ◌^◌, ℕ, List, [], inl, inr, length, Option, Result, Ok, Err, refl, ap, subst, arith}
 use Rattle.std.specs.List.{All}
 use Rattle.std.proofs.lemmas.List.Elements.{All-cons, All-nil}
 use Rattle.std.proofs.lemmas.List.{length-replicate}
@@ -24,7 +24,7 @@ use Rattle.ms_words.specs.Commands as options
 use Rattle.ms_job.specs.Jobs.{job_in}
 use Rattle.ms_job.specs.declared.job.Job.{Job}
 use Rattle.ms_job.proofs.Bounded.{job_is_bounded}
-use Rattle.ms_run.specs.Answers.{File, Found, HasBytes}
+use Rattle.ms_run.specs.Answers.{Answer, Found, HasBytes}
 use Rattle.ms_run.specs.Executions.{AnswersAs, Execution, NoTask, Ran, Unlinked, execution, if_linked, with_threads}
 use Rattle.ms_run.specs.Flows.{DidRun, FlowsAs, IsUnrun, cut, delivered, input_failed, out_failed, starved_run}
 use Rattle.ms_run.specs.Jobs.{AllLoaded, HasEntries, RunOfJob, RunsFile, RunsJob, executed, job as of_file, no_job, no_job_file, no_more, one_more, unloaded, unscheduled}
@@ -105,11 +105,11 @@ no_end : (status other : Status) → status ≡ other → ¬ IsEnd other → IsE
 no_end status other e not end = not (subst IsEnd e end)
 
 module _ (s : Shelved) (r : Report) (f : Flow) (naming : Naming) (given : Input) (may : MayGive f.left_old given) (job : Job) (small : job.memory ≤ options.memory.most) where
-  module _ (ran : Option Run) (status : Status) (lines : List ℕ) (file : Option File) (flows : FlowsAs given f ran) (grown : Grows r lines) (written : HasWritten s file) (end : IsEnd status) where
+  module _ (ran : Option Run) (a : Answer) (flows : FlowsAs given f ran) (grown : Grows r a.report) (written : HasWritten s a.file) (result : Status) (status_is : result ≡ a.status) (end : IsEnd a.status) where
     executed_safely : (modules : List (List ℕ × Module)) (entries : List ℕ) → AllLoaded (IsFound s) job.modules modules → HasEntries (IsFound s) job entries
-        → (e : Execution) → execution modules job.tasks entries job.memory given ≡ e → AnswersAs (telling_of job) e ran status lines file → RanSafely s r f job status
-    executed_safely modules entries all scheduled (Unlinked fault) is h = absurd (no_end status statuses.Refused h.1 (λ x. x) end)
-    executed_safely modules entries all scheduled (NoTask number) is h = absurd (no_end status statuses.Refused h.1 (λ x. x) end)
+        → (e : Execution) → execution modules job.tasks entries job.memory given ≡ e → AnswersAs (telling_of job) e ran a → RanSafely s r f job result
+    executed_safely modules entries all scheduled (Unlinked fault) is h = absurd (no_end a.status statuses.Refused (ap (λ (x : Answer). x.status) h.1) (λ x. x) end)
+    executed_safely modules entries all scheduled (NoTask number) is h = absurd (no_end a.status statuses.Refused (ap (λ (x : Answer). x.status) h.1) (λ x. x) end)
     executed_safely modules entries all scheduled (Ran run) is h =
         let of_job : RunOfJob (Holds s.old) given job run = record {
           modules = modules;
@@ -123,32 +123,31 @@ module _ (s : Shelved) (r : Report) (f : Flow) (naming : Naming) (given : Input)
           run = run;
           may = may;
           of_job = of_job;
-          lines = lines;
-          file = file;
+          answer = a;
           tells = h.1;
+          status_is = status_is;
           grown = grown;
           written = written;
           flowed = subst (FlowsAs given f) h.0 flows;
           accepted = run_is_accepted (Holds s.old) given job run small of_job;
         }
 
-  answer_safely : (ran : Option Run) (status : Status) (lines : List ℕ) (file : Option File) → FlowsAs given f ran → Grows r lines → HasWritten s file → IsEnd status → RunsJob (IsFound s) naming given job ran status lines file → RanSafely s r f job status
-  answer_safely ran status lines file flows grown written end (unloaded h) = absurd (never_end status (first_unrun (IsFound s) naming 0 job.modules status lines h) end)
-  answer_safely ran status lines file flows grown written end (unscheduled modules all h) = absurd (never_end status (unscheduled_unrun (IsFound s) job status lines h) end)
-  answer_safely ran status lines file flows grown written end (executed modules entries all scheduled h) =
-      executed_safely ran status lines file flows grown written end modules entries all scheduled (execution modules job.tasks entries job.memory given) refl h
+  answer_safely : (ran : Option Run) (a : Answer) → FlowsAs given f ran → Grows r a.report → HasWritten s a.file → (result : Status) → result ≡ a.status → IsEnd a.status → RunsJob (IsFound s) naming given job ran a → RanSafely s r f job result
+  answer_safely ran a flows grown written result is end (unloaded h) = absurd (never_end a.status (first_unrun (IsFound s) naming 0 job.modules a h) end)
+  answer_safely ran a flows grown written result is end (unscheduled modules all h) = absurd (never_end a.status (unscheduled_unrun (IsFound s) job a h) end)
+  answer_safely ran a flows grown written result is end (executed modules entries all scheduled h) =
+      executed_safely ran a flows grown written result is end modules entries all scheduled (execution modules job.tasks entries job.memory given) refl h
 
 -- the answer was delivered whole
-abbrev pub IsDelivered : (Option Run → Status → List ℕ → Option File → Type 0) → (given : Input) → Shelved → Report → Flow → Status → Type 0
-IsDelivered Gives given s r f result = (ran : Option Run) × (lines : List ℕ) × (file : Option File) × Gives ran result lines file × FlowsAs given f ran × Grows r lines × HasWritten s file
+abbrev pub IsDelivered : (Option Run → Answer → Type 0) → (given : Input) → Shelved → Report → Flow → Status → Type 0
+IsDelivered Gives given s r f result = (ran : Option Run) × (a : Answer) × Gives ran a × FlowsAs given f ran × Grows r a.report × HasWritten s a.file × (result ≡ a.status)
 
-pub delivered_whole : (Gives : Option Run → Status → List ℕ → Option File → Type 0) (given : Input) (s : Shelved) (r : Report) (f : Flow) (result : Status) → IsEnd result → DidRun Gives given s r f result → IsDelivered Gives given s r f result
-delivered_whole Gives given s r f result end (delivered ran status lines file gives counts flows (put written (inl h))) =
-    (ran, lines, file, subst (λ (x : Status). Gives ran x lines file) (sym h.0) gives, flows, h.1, written)
-delivered_whole Gives given s r f result end (delivered ran status lines file gives counts flows (put written (inr (inl h)))) = absurd (no_end result statuses.WriteFault h.0 (λ x. x) end)
-delivered_whole Gives given s r f result end (delivered ran status lines file gives counts flows (put written (inr (inr h)))) = absurd (no_end result statuses.OutOfMemory h.0 (λ x. x) end)
-delivered_whole Gives given s r f result end (delivered ran status lines file gives counts flows (failed part kept)) = absurd end
-delivered_whole Gives given s r f result end (delivered ran status lines file gives counts flows (starved files kept)) = absurd end
+pub delivered_whole : (Gives : Option Run → Answer → Type 0) (given : Input) (s : Shelved) (r : Report) (f : Flow) (result : Status) → IsEnd result → DidRun Gives given s r f result → IsDelivered Gives given s r f result
+delivered_whole Gives given s r f result end (delivered ran a gives counts flows (put written (inl h))) = (ran, a, gives, flows, h.1, written, h.0)
+delivered_whole Gives given s r f result end (delivered ran a gives counts flows (put written (inr (inl h)))) = absurd (no_end result statuses.WriteFault h.0 (λ x. x) end)
+delivered_whole Gives given s r f result end (delivered ran a gives counts flows (put written (inr (inr h)))) = absurd (no_end result statuses.OutOfMemory h.0 (λ x. x) end)
+delivered_whole Gives given s r f result end (delivered ran a gives counts flows (failed part kept)) = absurd end
+delivered_whole Gives given s r f result end (delivered ran a gives counts flows (starved files kept)) = absurd end
 delivered_whole Gives given s r f result end (cut counts files (input_failed rose (inl h))) = absurd (no_end result statuses.ReadFault h.0 (λ x. x) end)
 delivered_whole Gives given s r f result end (cut counts files (input_failed rose (inr (inl h)))) = absurd (no_end result statuses.WriteFault h.0 (λ x. x) end)
 delivered_whole Gives given s r f result end (cut counts files (input_failed rose (inr (inr h)))) = absurd (no_end result statuses.OutOfMemory h.0 (λ x. x) end)
@@ -159,20 +158,20 @@ module _ (s : Shelved) (r : Report) (f : Flow) (given : Input) (may : MayGive f.
   pub job_safely : (naming : Naming) (job : Job) → job.memory ≤ options.memory.most → (result : Status) → IsEnd result → DidRun (RunsJob (IsFound s) naming given job) given s r f result → RanSafely s r f job result
   job_safely naming job small result end did =
       let whole = delivered_whole (RunsJob (IsFound s) naming given job) given s r f result end did in
-      answer_safely s r f naming given may job small whole.0 result whole.1 whole.2 whole.4 whole.5 whole.6 end whole.3
+      answer_safely s r f naming given may job small whole.0 whole.1 whole.3 whole.4 whole.5 result whole.6 (subst IsEnd whole.6 end) whole.2
 
   -- the job of a file
   abbrev pub FileSafely : List ℕ → Status → Type 0
   FileSafely name result = (job : Job) × ((bytes : List ℕ) × HasBytes (Holds s.old) name bytes × (job_in bytes ≡ Ok job)) × RanSafely s r f job result
 
-  file_by : (name : List ℕ) (ran : Option Run) (result : Status) (lines : List ℕ) (file : Option File) → FlowsAs given f ran → Grows r lines → HasWritten s file → IsEnd result → RunsFile (IsFound s) given name ran result lines file → FileSafely name result
-  file_by name ran result lines file flows grown written end (no_job_file h) = absurd (never_end result (unfound_unrun (IsFound s) name result lines h) end)
-  file_by name ran result lines file flows grown written end (no_job bytes fault h is) = absurd end
-  file_by name ran result lines file flows grown written end (of_file bytes job h is runs) =
+  file_by : (name : List ℕ) (ran : Option Run) (a : Answer) → FlowsAs given f ran → Grows r a.report → HasWritten s a.file → (result : Status) → result ≡ a.status → IsEnd a.status → RunsFile (IsFound s) given name ran a → FileSafely name result
+  file_by name ran a flows grown written result same end (no_job_file h) = absurd (never_end a.status (unfound_unrun (IsFound s) name a h) end)
+  file_by name ran a flows grown written result same end (no_job bytes fault h is) = absurd end
+  file_by name ran a flows grown written result same end (of_file bytes job h is runs) =
       let bounds = job_is_bounded bytes job is in
-      (job, (bytes, h, is), answer_safely s r f Numbered given may job bounds.memory ran result lines file flows grown written end runs)
+      (job, (bytes, h, is), answer_safely s r f Numbered given may job bounds.memory ran a flows grown written result same end runs)
 
   pub file_safely : (name : List ℕ) (result : Status) → IsEnd result → DidRun (RunsFile (IsFound s) given name) given s r f result → FileSafely name result
   file_safely name result end did =
       let whole = delivered_whole (RunsFile (IsFound s) given name) given s r f result end did in
-      file_by name whole.0 result whole.1 whole.2 whole.4 whole.5 whole.6 end whole.3
+      file_by name whole.0 whole.1 whole.3 whole.4 whole.5 result whole.6 (subst IsEnd whole.6 end) whole.2

@@ -1,21 +1,20 @@
 -- What was made of a file's bytes where a module is written in the other form.
-use Rattle.std.proofs.Common.{◌≡◌, ℕ, List, [], length, sym, subst}
-use Rattle.std.specs.Prelude.{Some, None}
+use Rattle.std.proofs.Common.{◌≡◌, ℕ, List, [], sym, subst}
 use Rattle.ms_bin_grammar.specs.Bounds.{usual}
 use Rattle.ms_bin_grammar.specs.Module.{SpellsWithin}
 use Rattle.ms_bin_write.specs.Written.{IsLarge, written}
 use Rattle.ms_module.specs.declared.module.Module.{Module}
 use Rattle.ms_text_grammar.specs.TextSpells.{TextSpells}
 use Rattle.ms_text_write.specs.Shown.{shown}
-use Rattle.ms_run.specs.Answers.{Assembles, Command, Disassembles, assembled, disassembled, large, unread_binary as not_binary, unread_text as not_text}
-use Rattle.ms_run.specs.Lines.{fault_words, large_line, refused_line, text_fault_words, written_line}
+use Rattle.ms_run.specs.Answers.{Assembles, Command, Disassembles, assembled, disassembled, large, says, unread_binary as not_binary, unread_text as not_text, writes}
+use Rattle.ms_run.specs.Lines.{fault_words, large_line, refused_line, text_fault_words}
 use Rattle.ms_run.specs.Loading.{Binary, IsOfReading, Refuses, Text}
 use Rattle.ms_run.specs.Observed.{Report, Shelved}
 use Rattle.ms_run.specs.Reporting.{Delivers, IsStarved, KeepsFiles, Makes, Reports, ReportsFault, made, made_none, put}
 use Rattle.ms_run.specs.declared.loading.LoadFault.{LoadFault}
 use Rattle.ms_run.specs.declared.loading.LoadFault.TheVariants as faults
 use Rattle.ms_run.specs.declared.status.Status.{Status}
-use Rattle.ms_run.specs.declared.status.Status.TheVariants.{Done, Refused}
+use Rattle.ms_run.specs.declared.status.Status.TheVariants.{Refused}
 use Rattle.ms_run.proofs.Printed.{unread_binary, unread_text}
 
 starved_makes : (Does : Command) (bytes : List ℕ) (s : Shelved) (r : Report) (result : Status) → KeepsFiles s → IsStarved r result → Makes Does bytes s r result
@@ -26,29 +25,27 @@ module _ (out bytes : List ℕ) (s : Shelved) (r : Report) (result : Status) whe
 
   pub text_fault_makes : (fault : LoadFault) → Refuses Text bytes fault → IsOfReading fault → KeepsFiles s → ReportsFault [] fault r result → Makes (Assembles out) bytes s r result
   text_fault_makes (faults.Read fault) h reading kept reports = absurd h
-  text_fault_makes (faults.Text fault) h reading kept reports = made Refused (refused_line [] (text_fault_words fault)) None (not_text (unread_text bytes fault h.0 h.1 h.2)) (put kept reports)
+  text_fault_makes (faults.Text fault) h reading kept reports = made (says Refused (refused_line [] (text_fault_words fault))) (not_text (unread_text bytes fault h.0 h.1 h.2)) (put kept reports)
   text_fault_makes (faults.Invalid refusal) h reading kept reports = absurd reading
   text_fault_makes faults.Memory h reading kept reports = starved_makes (Assembles out) bytes s r result kept reports
 
   pub large_makes : (m : Module) → TextSpells bytes m → IsLarge m → KeepsFiles s → Reports Refused large_line r result → Makes (Assembles out) bytes s r result
-  large_makes m spelled is kept reports = made Refused large_line None (large m spelled is) (put kept reports)
+  large_makes m spelled is kept reports = made (says Refused large_line) (large m spelled is) (put kept reports)
 
   pub assembled_makes : (m : Module) (held : List ℕ) → held ≡ written m → TextSpells bytes m → ¬ IsLarge m
-      → Delivers Done (written_line (length held)) (Some (record { name = out; bytes = held })) s r result → Makes (Assembles out) bytes s r result
+      → Delivers (writes out held) s r result → Makes (Assembles out) bytes s r result
   assembled_makes m held e spelled not delivers =
-      made Done (written_line (length (written m))) (Some (record { name = out; bytes = written m })) (assembled m spelled not)
-      (subst (λ (b : List ℕ). Delivers Done (written_line (length b)) (Some (record { name = out; bytes = b })) s r result) e delivers)
+      made (writes out (written m)) (assembled m spelled not) (subst (λ (b : List ℕ). Delivers (writes out b) s r result) e delivers)
 
   -- ---- from binary to text
 
   pub binary_fault_makes : (fault : LoadFault) → Refuses Binary bytes fault → IsOfReading fault → KeepsFiles s → ReportsFault [] fault r result → Makes (Disassembles out) bytes s r result
-  binary_fault_makes (faults.Read fault) h reading kept reports = made Refused (refused_line [] (fault_words fault)) None (not_binary (unread_binary bytes fault h.0 h.1)) (put kept reports)
+  binary_fault_makes (faults.Read fault) h reading kept reports = made (says Refused (refused_line [] (fault_words fault))) (not_binary (unread_binary bytes fault h.0 h.1)) (put kept reports)
   binary_fault_makes (faults.Text fault) h reading kept reports = absurd h
   binary_fault_makes (faults.Invalid refusal) h reading kept reports = absurd reading
   binary_fault_makes faults.Memory h reading kept reports = starved_makes (Disassembles out) bytes s r result kept reports
 
   pub disassembled_makes : (m : Module) (held : List ℕ) → held ≡ shown m → SpellsWithin usual bytes m
-      → Delivers Done (written_line (length held)) (Some (record { name = out; bytes = held })) s r result → Makes (Disassembles out) bytes s r result
+      → Delivers (writes out held) s r result → Makes (Disassembles out) bytes s r result
   disassembled_makes m held e spelled delivers =
-      made Done (written_line (length (shown m))) (Some (record { name = out; bytes = shown m })) (disassembled m spelled)
-      (subst (λ (b : List ℕ). Delivers Done (written_line (length b)) (Some (record { name = out; bytes = b })) s r result) e delivers)
+      made (writes out (shown m)) (disassembled m spelled) (subst (λ (b : List ℕ). Delivers (writes out b) s r result) e delivers)

@@ -7,7 +7,7 @@ use Rattle.ms_machine.specs.Externs.{Fault}
 use Rattle.ms_machine.specs.Linked.{linked}
 use Rattle.ms_machine.specs.Store.{Store}
 use Rattle.ms_tasks.specs.Tasks.{crew_of, threads_from}
-use Rattle.ms_run.specs.Answers.{File}
+use Rattle.ms_run.specs.Answers.{Answer, says}
 use Rattle.ms_run.specs.Lines.{budget_line, link_line, result_lines, task_line, trap_line}
 use Rattle.ms_run.specs.Telling.{dumped, traced}
 use Rattle.ms_run.specs.declared.status.Status.{Status}
@@ -46,14 +46,14 @@ EndsAs (Trap whose kind) status report = (status ≡ Trapped) × (report ≡ tra
 EndsAs BudgetEnd status report = (status ≡ OutOfBudget) × (report ≡ budget_line)
 EndsAs Stuck status report = ⊥
 
--- The status, the report and the file of a run: the report has the lines of its end and then those of the segments that are
--- live after it, if these are asked for; the file, if one is, has its events.
-abbrev pub TellsOf : Telling → Run → Status → List ℕ → Option File → Type 0
-TellsOf telling run status report file =
-    (lines : List ℕ) × EndsAs run.end status lines × (report ≡ lines ++ dumped telling run.crew.store.segments) × (file ≡ traced telling (events_of run.deeds))
+-- The answer that tells of a run: the report has the lines of its end and then those of the segments that are live after it, if
+-- these are asked for; the file, if one is, has its events.
+abbrev pub TellsOf : Telling → Run → Answer → Type 0
+TellsOf telling run a =
+    (lines : List ℕ) × EndsAs run.end a.status lines × (a.report ≡ lines ++ dumped telling run.crew.store.segments) × (a.file ≡ traced telling (events_of run.deeds))
 
 -- The answer to an execution, and the run of which it tells.
-abbrev pub AnswersAs : Telling → Execution → Option Run → Status → List ℕ → Option File → Type 0
-AnswersAs telling (Unlinked fault) ran status report file = (ran ≡ None) × (status ≡ Refused) × (report ≡ link_line fault) × (file ≡ None)
-AnswersAs telling (NoTask number) ran status report file = (ran ≡ None) × (status ≡ Refused) × (report ≡ task_line number) × (file ≡ None)
-AnswersAs telling (Ran run) ran status report file = (ran ≡ Some run) × TellsOf telling run status report file
+abbrev pub AnswersAs : Telling → Execution → Option Run → Answer → Type 0
+AnswersAs telling (Unlinked fault) ran a = (ran ≡ None) × (a ≡ says Refused (link_line fault))
+AnswersAs telling (NoTask number) ran a = (ran ≡ None) × (a ≡ says Refused (task_line number))
+AnswersAs telling (Ran run) ran a = (ran ≡ Some run) × TellsOf telling run a

@@ -7,7 +7,7 @@ use Rattle.ms_outside.specs.Faults.{Rose}
 use Rattle.ms_outside.specs.Shelf.{SameCounts}
 use Rattle.ms_outside.specs.Sink.{IsFront, Puts}
 use Rattle.ms_outside.specs.declared.sink.Put.TheVariants as putting
-use Rattle.ms_run.specs.Answers.{File}
+use Rattle.ms_run.specs.Answers.{Answer, says}
 use Rattle.ms_run.specs.Executions.{AnswersAs, Execution, Ran, TellsOf}
 use Rattle.ms_run.specs.Lines.{input_fault_line}
 use Rattle.ms_run.specs.Observed.{Flow, Report, Shelved}
@@ -81,9 +81,9 @@ pub data Cuts (r : Report) (f : Flow) : Status → Type 0 where
 
 -- What a command did that runs a program: it delivered one of these answers; or the run was cut short; or memory ran out before
 -- there was an answer.
-pub data DidRun (Gives : Option Run → Status → List ℕ → Option File → Type 0) (given : Input) (s : Shelved) (r : Report) (f : Flow) : Status → Type 0 where
-  delivered : {result : Status} (ran : Option Run) (status : Status) (report : List ℕ) (file : Option File)
-      → Gives ran status report file → CountsReads s status → FlowsAs given f ran → Delivers status report file s r result
+pub data DidRun (Gives : Option Run → Answer → Type 0) (given : Input) (s : Shelved) (r : Report) (f : Flow) : Status → Type 0 where
+  delivered : {result : Status} (ran : Option Run) (a : Answer)
+      → Gives ran a → CountsReads s a.status → FlowsAs given f ran → Delivers a s r result
       → DidRun Gives given s r f result
   cut : {result : Status} → SameCounts s.reads_old s.reads_new → KeepsFiles s → Cuts r f result → DidRun Gives given s r f result
   starved_run : SameCounts s.reads_old s.reads_new → KeepsFiles s → IsKept r → DidRun Gives given s r f OutOfMemory
@@ -92,12 +92,12 @@ pub data DidRun (Gives : Option Run → Status → List ℕ → Option File → 
 
 -- What was told of a run over what the input gave, which may be cut short.
 pub data TellsEnd (telling : Telling) (run_over : Input → Run) (s : Shelved) (r : Report) (f : Flow) : Status → Type 0 where
-  end_printed : {result : Status} (given : Input) (status : Status) (report : List ℕ) (file : Option File) → TellsOf telling (run_over given) status report file → RunsWhole given f (run_over given) → Delivers status report file s r result → TellsEnd telling run_over s r f result
+  end_printed : {result : Status} (given : Input) (a : Answer) → TellsOf telling (run_over given) a → RunsWhole given f (run_over given) → Delivers a s r result → TellsEnd telling run_over s r f result
   end_cut : {result : Status} (given : Input) → RunsPart given f (run_over given) → Flowed given f (run_over given) result → KeepsFiles s → Cuts r f result → TellsEnd telling run_over s r f result
   end_unprinted : (given : Input) → RunsPart given f (run_over given) → KeepsFiles s → IsKept r → TellsEnd telling run_over s r f OutOfMemory
 
 -- What was told of an execution: that nothing was run, whatever the input gives; or of its run.
 pub data TellsExecution (telling : Telling) (executed : Input → Execution) (s : Shelved) (r : Report) (f : Flow) : Status → Type 0 where
-  refused : {result : Status} (e : Execution) (line : List ℕ) → ((given : Input) → executed given ≡ e) → AnswersAs telling e None Refused line None → IsQuiet f → KeepsFiles s → Reports Refused line r result → TellsExecution telling executed s r f result
+  refused : {result : Status} (e : Execution) (line : List ℕ) → ((given : Input) → executed given ≡ e) → AnswersAs telling e None (says Refused line) → IsQuiet f → KeepsFiles s → Reports Refused line r result → TellsExecution telling executed s r f result
   run_printed : {result : Status} (run_over : Input → Run) → ((given : Input) → executed given ≡ Ran (run_over given)) → TellsEnd telling run_over s r f result → TellsExecution telling executed s r f result
   nothing_printed : IsQuiet f → KeepsFiles s → IsKept r → TellsExecution telling executed s r f OutOfMemory

@@ -7,13 +7,12 @@ use Rattle.ms_job.specs.declared.fault.SchedFault.TheVariants.{At}
 use Rattle.ms_job.specs.declared.job.Job.{Job}
 use Rattle.ms_module.specs.declared.module.Module.{Module}
 use Rattle.ms_machine.specs.Crews.{Input, Run, turns_from}
-use Rattle.ms_run.specs.Answers.{File, Found, HasBytes, HasModule, Unfound, Unloaded}
+use Rattle.ms_run.specs.Answers.{Answer, Found, HasBytes, HasModule, Unfound, Unloaded, says}
 use Rattle.ms_run.specs.Executions.{AnswersAs, Ran, execution}
 use Rattle.ms_run.specs.Lines.{job_line, module_word, schedule_line}
 use Rattle.ms_run.specs.Telling.{telling_of}
 use Rattle.ms_run.specs.declared.gathering.Naming.{Naming}
 use Rattle.ms_run.specs.declared.gathering.Naming.TheVariants.{Numbered, Only}
-use Rattle.ms_run.specs.declared.status.Status.{Status}
 use Rattle.ms_run.specs.declared.status.Status.TheVariants.{Refused}
 
 -- ---- modules
@@ -29,9 +28,11 @@ what_of Only number = []
 what_of Numbered number = module_word number
 
 -- the first file without a module; they are numbered from this one on
-pub data FirstUnloaded (Has : List ℕ → Found → Type 0) (naming : Naming) : (number : ℕ) → (files : List (List ℕ × List ℕ)) → Status → List ℕ → Type 0 where
-  here : (number : ℕ) (name file : List ℕ) (files : List (List ℕ × List ℕ)) {status : Status} {line : List ℕ} → Unloaded Has (what_of naming number) file status line → FirstUnloaded Has naming number ((name, file) ∷ files) status line
-  later : (number : ℕ) (name file : List ℕ) (m : Module) (files : List (List ℕ × List ℕ)) {status : Status} {line : List ℕ} → HasModule Has file m → FirstUnloaded Has naming (suc number) files status line → FirstUnloaded Has naming number ((name, file) ∷ files) status line
+pub data FirstUnloaded (Has : List ℕ → Found → Type 0) (naming : Naming) : (number : ℕ) → (files : List (List ℕ × List ℕ)) → Answer → Type 0 where
+  here : (number : ℕ) (name file : List ℕ) (files : List (List ℕ × List ℕ)) {a : Answer} → Unloaded Has (what_of naming number) file a
+      → FirstUnloaded Has naming number ((name, file) ∷ files) a
+  later : (number : ℕ) (name file : List ℕ) (m : Module) (files : List (List ℕ × List ℕ)) {a : Answer} → HasModule Has file m
+      → FirstUnloaded Has naming (suc number) files a → FirstUnloaded Has naming number ((name, file) ∷ files) a
 
 -- ---- schedules
 
@@ -42,9 +43,9 @@ pub record HasNumbers (Has : List ℕ → Found → Type 0) (name : List ℕ) (n
   pub read : schedule_in bytes ≡ Ok numbers
 
 -- it has none
-pub data Unnumbered (Has : List ℕ → Found → Type 0) (name : List ℕ) : Status → List ℕ → Type 0 where
-  no_file : {status : Status} {line : List ℕ} → Unfound Has name status line → Unnumbered Has name status line
-  no_number : (bytes : List ℕ) (at : ℕ) → HasBytes Has name bytes → schedule_in bytes ≡ Err (At at) → Unnumbered Has name Refused (schedule_line at)
+pub data Unnumbered (Has : List ℕ → Found → Type 0) (name : List ℕ) : Answer → Type 0 where
+  no_file : {a : Answer} → Unfound Has name a → Unnumbered Has name a
+  no_number : (bytes : List ℕ) (at : ℕ) → HasBytes Has name bytes → schedule_in bytes ≡ Err (At at) → Unnumbered Has name (says Refused (schedule_line at))
 
 -- the entries: turns of the tasks, or the first numbers of a file, as many as the budget has
 pub data HasEntries (Has : List ℕ → Found → Type 0) (job : Job) : List ℕ → Type 0 where
@@ -52,22 +53,23 @@ pub data HasEntries (Has : List ℕ → Found → Type 0) (job : Job) : List ℕ
   listed : (name numbers : List ℕ) → job.schedule ≡ Some name → HasNumbers Has name numbers → HasEntries Has job (take job.budget numbers)
 
 -- there is a file, and it has none
-pub data Unscheduled (Has : List ℕ → Found → Type 0) (job : Job) : Status → List ℕ → Type 0 where
-  unlisted : (name : List ℕ) {status : Status} {line : List ℕ} → job.schedule ≡ Some name → Unnumbered Has name status line → Unscheduled Has job status line
+pub data Unscheduled (Has : List ℕ → Found → Type 0) (job : Job) : Answer → Type 0 where
+  unlisted : (name : List ℕ) {a : Answer} → job.schedule ≡ Some name → Unnumbered Has name a → Unscheduled Has job a
 
--- ---- the answers: the run of which they tell, if there was one, the status, the report, and the file that is written, if one is
+-- ---- the answers, and the run of which each tells, if there was one
 
-pub data RunsJob (Has : List ℕ → Found → Type 0) (naming : Naming) (given : Input) (job : Job) : Option Run → Status → List ℕ → Option File → Type 0 where
-  unloaded : {status : Status} {line : List ℕ} → FirstUnloaded Has naming 0 job.modules status line → RunsJob Has naming given job None status line None
-  unscheduled : (modules : List (List ℕ × Module)) {status : Status} {line : List ℕ} → AllLoaded Has job.modules modules → Unscheduled Has job status line → RunsJob Has naming given job None status line None
-  executed : (modules : List (List ℕ × Module)) (entries : List ℕ) {ran : Option Run} {status : Status} {report : List ℕ} {file : Option File} → AllLoaded Has job.modules modules → HasEntries Has job entries
-      → AnswersAs (telling_of job) (execution modules job.tasks entries job.memory given) ran status report file → RunsJob Has naming given job ran status report file
+pub data RunsJob (Has : List ℕ → Found → Type 0) (naming : Naming) (given : Input) (job : Job) : Option Run → Answer → Type 0 where
+  unloaded : {a : Answer} → FirstUnloaded Has naming 0 job.modules a → RunsJob Has naming given job None a
+  unscheduled : (modules : List (List ℕ × Module)) {a : Answer} → AllLoaded Has job.modules modules → Unscheduled Has job a → RunsJob Has naming given job None a
+  executed : (modules : List (List ℕ × Module)) (entries : List ℕ) {ran : Option Run} {a : Answer} → AllLoaded Has job.modules modules → HasEntries Has job entries
+      → AnswersAs (telling_of job) (execution modules job.tasks entries job.memory given) ran a → RunsJob Has naming given job ran a
 
 -- `run`: of the file of a job
-pub data RunsFile (Has : List ℕ → Found → Type 0) (given : Input) (name : List ℕ) : Option Run → Status → List ℕ → Option File → Type 0 where
-  no_job_file : {status : Status} {line : List ℕ} → Unfound Has name status line → RunsFile Has given name None status line None
-  no_job : (bytes : List ℕ) (fault : JobFault) → HasBytes Has name bytes → job_in bytes ≡ Err fault → RunsFile Has given name None Refused (job_line fault) None
-  job : (bytes : List ℕ) (job : Job) {ran : Option Run} {status : Status} {report : List ℕ} {file : Option File} → HasBytes Has name bytes → job_in bytes ≡ Ok job → RunsJob Has Numbered given job ran status report file → RunsFile Has given name ran status report file
+pub data RunsFile (Has : List ℕ → Found → Type 0) (given : Input) (name : List ℕ) : Option Run → Answer → Type 0 where
+  no_job_file : {a : Answer} → Unfound Has name a → RunsFile Has given name None a
+  no_job : (bytes : List ℕ) (fault : JobFault) → HasBytes Has name bytes → job_in bytes ≡ Err fault → RunsFile Has given name None (says Refused (job_line fault))
+  job : (bytes : List ℕ) (job : Job) {ran : Option Run} {a : Answer} → HasBytes Has name bytes → job_in bytes ≡ Ok job → RunsJob Has Numbered given job ran a
+      → RunsFile Has given name ran a
 
 -- `exec`: the job of one module, whose task is its export `main`, within so many steps, with a segment memory of so many bytes;
 -- a task that is alone has all entries, however long its turns are

@@ -5,7 +5,7 @@ use Rattle.ms_outside.specs.Files.{Files}
 use Rattle.ms_outside.specs.Shelf.{SameCounts, IfKnown, Writes}
 use Rattle.ms_outside.specs.Sink.{IsFront}
 use Rattle.ms_outside.specs.declared.sink.Put.TheVariants as puts
-use Rattle.ms_run.specs.Answers.{Command, Contents, Fault, File, Found, Verdict}
+use Rattle.ms_run.specs.Answers.{Answer, Command, Contents, Fault, File, Found, Verdict, says}
 use Rattle.ms_job.specs.declared.fault.JobFault.{JobFault}
 use Rattle.ms_job.specs.declared.fault.JobFault.TheVariants as job_faults
 use Rattle.ms_run.specs.Lines.{job_line, refused_line}
@@ -70,25 +70,25 @@ HasFailed s (Some file) = Writes file.name file.bytes puts.Failed s.old s.new ×
 -- ---- an answer, and what became of it
 
 -- It was written and put whole; or put in part, or not written; or memory ran out before the line was put.
-pub data Delivers (status : Status) (line : List ℕ) (file : Option File) (s : Shelved) (r : Report) : Status → Type 0 where
-  put : {result : Status} → HasWritten s file → Reports status line r result → Delivers status line file s r result
-  failed : HasFailed s file → IsKept r → Delivers status line file s r WriteFault
-  starved : KeepsFiles s → IsKept r → Delivers status line file s r OutOfMemory
+pub data Delivers (a : Answer) (s : Shelved) (r : Report) : Status → Type 0 where
+  put : {result : Status} → HasWritten s a.file → Reports a.status a.report r result → Delivers a s r result
+  failed : HasFailed s a.file → IsKept r → Delivers a s r WriteFault
+  starved : KeepsFiles s → IsKept r → Delivers a s r OutOfMemory
 
 -- no read has failed, or the answer is that one did
 abbrev pub CountsReads : Shelved → Status → Type 0
 CountsReads s status = (status ≡ ReadFault) ⊎ SameCounts s.reads_old s.reads_new
 
 -- What a command did that may write a file: it delivered one of these answers, or memory ran out before there was one.
-pub data Did (Gives : Status → List ℕ → Option File → Type 0) (s : Shelved) (r : Report) : Status → Type 0 where
-  answered : {result : Status} (status : Status) (line : List ℕ) (file : Option File)
-      → Gives status line file → CountsReads s status → Delivers status line file s r result
-      → Did Gives s r result
+pub data Did (Gives : Answer → Type 0) (s : Shelved) (r : Report) : Status → Type 0 where
+  answered : {result : Status} (a : Answer) → Gives a → CountsReads s a.status → Delivers a s r result → Did Gives s r result
   ran_out : SameCounts s.reads_old s.reads_new → KeepsFiles s → IsKept r → Did Gives s r OutOfMemory
 
 -- What a command did that writes none.
-pub data Tells (Gives : Status → List ℕ → Type 0) (s : Shelved) (r : Report) : Status → Type 0 where
-  printed : {result : Status} (status : Status) (line : List ℕ) → Gives status line → CountsReads s status → KeepsFiles s → Reports status line r result → Tells Gives s r result
+pub data Tells (Gives : Answer → Type 0) (s : Shelved) (r : Report) : Status → Type 0 where
+  printed : {result : Status} (status : Status) (line : List ℕ)
+      → Gives (says status line) → CountsReads s status → KeepsFiles s → Reports status line r result
+      → Tells Gives s r result
   unprinted : SameCounts s.reads_old s.reads_new → KeepsFiles s → IsKept r → Tells Gives s r OutOfMemory
 
 -- ---- the same in parts
@@ -101,7 +101,7 @@ pub record IsUntouched (s : Shelved) (r : Report) : Type 0 where
 
 -- what a command made of bytes was delivered, or memory ran out
 pub data Makes (Does : Command) (bytes : List ℕ) (s : Shelved) (r : Report) : Status → Type 0 where
-  made : {result : Status} (status : Status) (line : List ℕ) (file : Option File) → Does bytes status line file → Delivers status line file s r result → Makes Does bytes s r result
+  made : {result : Status} (a : Answer) → Does bytes a → Delivers a s r result → Makes Does bytes s r result
   made_none : KeepsFiles s → IsKept r → Makes Does bytes s r OutOfMemory
 
 -- why there is no module was put, `what` being refused; where memory ran out, nothing
@@ -116,5 +116,5 @@ ReportsJobFault fault r result = Reports Refused (job_line fault) r result
 
 -- the verdict on a trace was put; where memory ran out, nothing
 pub data ReportsVerdict (capacity : ℕ) (text : List ℕ) (r : Report) : Status → Type 0 where
-  verdict_put : {result : Status} (status : Status) (line : List ℕ) → Verdict capacity text status line → Reports status line r result → ReportsVerdict capacity text r result
+  verdict_put : {result : Status} (status : Status) (line : List ℕ) → Verdict capacity text (says status line) → Reports status line r result → ReportsVerdict capacity text r result
   no_verdict : IsKept r → ReportsVerdict capacity text r OutOfMemory

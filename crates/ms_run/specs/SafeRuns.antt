@@ -1,10 +1,10 @@
 -- The run of which an answer tells that came to an end: what was run, what was told of it, and that it was safe.
-use Rattle.std.specs.Prelude.{ℕ, List, Option}
+use Rattle.std.specs.Prelude.{◌≡◌}
 use Rattle.ms_event.specs.Monitor.{Accepts}
 use Rattle.ms_job.specs.declared.job.Job.{Job}
 use Rattle.ms_machine.specs.Crews.{Input, Run, events_of}
 use Rattle.ms_machine.specs.Running.{MayGive}
-use Rattle.ms_run.specs.Answers.{File}
+use Rattle.ms_run.specs.Answers.{Answer}
 use Rattle.ms_run.specs.Executions.{TellsOf}
 use Rattle.ms_run.specs.Flows.{RunsWhole}
 use Rattle.ms_run.specs.Jobs.{RunOfJob}
@@ -28,11 +28,11 @@ pub record RanSafely (s : Shelved) (r : Report) (f : Flow) (job : Job) (status :
   pub may : MayGive f.left_old given
   pub of_job : RunOfJob (Holds s.old) given job run
   -- the status, the report and the file of the trace are those of its end, its last store and its events
-  pub lines : List ℕ
-  pub file : Option File
-  pub tells : TellsOf (telling_of job) run status lines file
-  pub grown : Grows r lines
-  pub written : HasWritten s file
+  pub answer : Answer
+  pub tells : TellsOf (telling_of job) run answer
+  pub status_is : status ≡ answer.status
+  pub grown : Grows r answer.report
+  pub written : HasWritten s answer.file
   -- the input has lost exactly what it takes, and the output has got exactly what it puts
   pub flowed : RunsWhole given f run
   -- its allocations, slices, reads, writes and frees are a trace that the colour monitor accepts

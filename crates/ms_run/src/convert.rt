@@ -2,7 +2,7 @@
 
 ghost use Rattle.std.specs.Prelude.{◌≡◌, IfErr, Some, length};
 ghost use Rattle.ms_outside.specs.Shelf.{SameCounts};
-ghost use Rattle.ms_run.specs.Answers.{Assembles, Disassembles, OnFile};
+ghost use Rattle.ms_run.specs.Answers.{Assembles, Disassembles, OnFile, writes};
 ghost use Rattle.ms_run.specs.Lines.{written_line};
 ghost use Rattle.ms_run.specs.Loading.{Binary, IsOfReading, Reads};
 ghost use Rattle.ms_run.specs.Reporting.{Delivers, Did, IsFound, Makes};
@@ -27,8 +27,7 @@ fn deliver<F: Shelf, R: Sink>(
     shelf: &mut F,
     report: &mut R,
 ) -> Status
-    ensures delivered { Delivers Status.Done (written_line (length bytes.now))
-        (Some (record { name = name.now; bytes = bytes.now }))
+    ensures delivered { Delivers (writes name.now bytes.now)
         (shelved F.files F.read_faults F.write_faults shelf.old shelf.new)
         (reported R.held R.faults report.old report.new)
         result }

@@ -81,8 +81,8 @@ fn tell_run<G: Gaps, T: Tagged, F: Shelf, R: Sink>(
     shelf: &mut F,
     report: &mut R,
 ) -> Status
-    ensures printed { (text : List ℕ) → IfOk lines (λ t. string_bytes t ≡ text) → Delivers status (text ++ dumped telling.now store.now.segments)
-        (traced telling.now events.now)
+    ensures printed { (text : List ℕ) → IfOk lines (λ t. string_bytes t ≡ text) → Delivers
+        (record { status = status; report = text ++ dumped telling.now store.now.segments; file = traced telling.now events.now })
         (shelved F.files F.read_faults F.write_faults shelf.old shelf.new)
         (reported R.held R.faults report.old report.new)
         result }

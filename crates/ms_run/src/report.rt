@@ -51,8 +51,8 @@ pub fn write_and_answer<F: Shelf, R: Sink>(
     shelf: &mut F,
     report: &mut R,
 ) -> Status
-    ensures delivered { Delivers status text.now
-        (Some (record { name = name.now; bytes = bytes.now }))
+    ensures delivered { Delivers
+        (record { status = status; report = text.now; file = Some (record { name = name.now; bytes = bytes.now }) })
         (shelved F.files F.read_faults F.write_faults shelf.old shelf.new)
         (reported R.held R.faults report.old report.new)
         result }

@@ -14,87 +14,77 @@ use Rattle.ms_job.specs.declared.job.Job.{Job}
 use Rattle.ms_words.specs.Asked.{Asked, Asm, Check, Dis, Exec, Judge, Run, asked_of, is_taken}
 use Rattle.ms_words.specs.Commands as options
 use Rattle.ms_words.specs.Commands.{usage_lines}
-use Rattle.ms_machine.specs.Crews.{Input, Run as MachineRun, events_of}
+use Rattle.ms_machine.specs.Crews.{Input, Run as MachineRun}
 use Rattle.ms_machine.specs.Running.{MayGive}
-use Rattle.ms_run.specs.Answers.{Assembles, Checks, Disassembles, File, Found, Judges, OnFile}
+use Rattle.ms_run.specs.Answers.{Answer, Assembles, Checks, Disassembles, File, Found, Judges, OnFile, Unfound, Unloaded, Verdict, says}
 use Rattle.ms_run.specs.Answers as table
-use Rattle.ms_run.specs.Executions.{AnswersAs, Execution, NoTask, Ran, Unlinked, execution}
 use Rattle.ms_run.specs.Flows.{DidRun, Flowed, Flows, FlowsAs, IsQuiet, cut, delivered, input_failed, out_failed, quiet, ran, starved_run}
-use Rattle.ms_run.specs.Jobs.{RunOfFile, RunOfJob, RunsFile, RunsJob, exec_job}
+use Rattle.ms_run.specs.Jobs.{FirstUnloaded, RunOfFile, RunOfJob, RunsFile, RunsJob, Unnumbered, Unscheduled, exec_job}
 use Rattle.ms_run.specs.Jobs as jobs
 use Rattle.ms_run.specs.Lines.{input_fault_line}
 use Rattle.ms_run.specs.Observed.{Flow, Report, Shelved}
 use Rattle.ms_run.specs.Reporting.{CountsReads, Delivers, Did, Grows, HasFailed, HasWritten, Holds, IsFound, IsKept, KeepsFiles, Reports, Tells, answered, failed, put, ran_out, starved, printed, unprinted}
 use Rattle.ms_run.specs.SafeRuns.{IsEnd, RanSafely}
-use Rattle.ms_run.specs.Telling.{telling_of}
-use Rattle.ms_run.specs.declared.gathering.Naming.{Naming}
 use Rattle.ms_run.specs.declared.gathering.Naming.TheVariants.{Numbered, Only}
 use Rattle.ms_run.specs.declared.status.Status.{Status}
 use Rattle.ms_run.specs.declared.status.Status.TheVariants as statuses
-use Rattle.ms_run.specs.declared.telling.Telling.{Telling}
-use Rattle.ms_run.proofs.Ending.{traced_name, same_file}
 use Rattle.ms_run.proofs.Jobs.{flows_more}
 use Rattle.ms_run.proofs.Safe.{file_safely, job_safely, run_is_accepted}
-use Rattle.ms_run.proofs.Once.{IsOrdinary, RunsOne, Same, SameRun, assembles_once, assembles_ordinary, checks_known, checks_once, checks_ordinary, disassembles_once, disassembles_ordinary, file_known, file_once, file_ordinary, found_held, holds_one, judges_known, judges_once, judges_ordinary, runs_file_known, runs_file_once, runs_file_ordinary, runs_job_known, runs_job_once, runs_job_ordinary}
+use Rattle.ms_run.proofs.Once.{IsOrdinary, RunsOne, assembles_once, assembles_ordinary, checks_known, checks_once, checks_ordinary, disassembles_once, disassembles_ordinary, file_known, file_once, file_ordinary, found_held, holds_one, judges_known, judges_once, judges_ordinary, runs_file_known, runs_file_once, runs_file_ordinary, runs_job_known, runs_job_once, runs_job_ordinary}
+use Rattle.ms_run.proofs.Targets.{assembled_target, checks_target, disassembled_target, file_target, job_target, judges_target, unfound_target, wrote_none}
 use Rattle.ms_tool.specs.Responding.{Responds, gave, nothing, stopped}
 use Rattle.ms_tool.specs.Top.{AsksJob, AsksRun, FlowsFor, Gives, GivesFor, IsAnswer, IsCutOff, IsFaulty, IsOutFault, IsPutFault, IsStarved, IsTarget, IsUnwritten, Stays}
 
 -- ---- the table, by what the words ask for
 
 module _ (Has : List ℕ → Found → Type 0) (given : Input) where
-  abbrev GivesTo : Option Asked → Option MachineRun → Status → List ℕ → Option File → Type 0
-  GivesTo o which status line file = MatchOption o ((status ≡ statuses.Usage) × (line ≡ usage_lines) × (which ≡ None) × (file ≡ None)) (λ a. GivesFor Has given a which status line file)
+  abbrev GivesTo : Option Asked → Option MachineRun → Answer → Type 0
+  GivesTo o which a = MatchOption o ((which ≡ None) × (a ≡ says statuses.Usage usage_lines)) (λ asked. GivesFor Has given asked which a)
 
   module _ (one_found : (name : List ℕ) (a b : Found) → Has name a → Has name b → a ≡ b) where
-    without_file : (p : Option MachineRun) (s : Status) (t : List ℕ) (f : Option File) (p' : Option MachineRun) (s' : Status) (t' : List ℕ) (f' : Option File) → (s ≡ s') × (t ≡ t') → p ≡ None → p' ≡ None → f ≡ None → f' ≡ None → SameRun p s t f p' s' t' f'
-    without_file p s t f p' s' t' f' same unrun unrun' none none' = record { ran = unrun ∙ sym unrun'; status = same.0; line = same.1; file = none ∙ sym none' }
-
-    without_run : (p : Option MachineRun) (s : Status) (t : List ℕ) (f : Option File) (p' : Option MachineRun) (s' : Status) (t' : List ℕ) (f' : Option File) → Same s t f s' t' f' → p ≡ None → p' ≡ None → SameRun p s t f p' s' t' f'
-    without_run p s t f p' s' t' f' same unrun unrun' = record { ran = unrun ∙ sym unrun'; status = same.status; line = same.line; file = same.file }
-
     -- it gives one answer at most
     once : (o : Option Asked) → RunsOne (GivesTo o)
-    once None p s t f p' s' t' f' h k = record { ran = h.2 ∙ sym k.2; status = h.0 ∙ sym k.0; line = h.1 ∙ sym k.1; file = h.3 ∙ sym k.3 }
-    once (Some (Exec name budget memory)) p s t f p' s' t' f' h k = runs_job_once Has one_found Only given (exec_job name budget memory) p s t f p' s' t' f' h k
-    once (Some (Run name)) p s t f p' s' t' f' h k = runs_file_once Has one_found given name p s t f p' s' t' f' h k
-    once (Some (Check name)) p s t f p' s' t' f' h k = without_file p s t f p' s' t' f' (checks_once Has one_found name s t s' t' h.0 k.0) h.1 k.1 h.2 k.2
-    once (Some (Asm name out)) p s t f p' s' t' f' h k = without_run p s t f p' s' t' f' (file_once Has one_found name (Assembles out) (assembles_once out) s t f s' t' f' h.0 k.0) h.1 k.1
-    once (Some (Dis name out)) p s t f p' s' t' f' h k = without_run p s t f p' s' t' f' (file_once Has one_found name (Disassembles out) (disassembles_once out) s t f s' t' f' h.0 k.0) h.1 k.1
-    once (Some (Judge name memory)) p s t f p' s' t' f' h k = without_file p s t f p' s' t' f' (judges_once Has one_found name memory s t s' t' h.0 k.0) h.1 k.1 h.2 k.2
+    once None p a p' a' h k = (h.0 ∙ sym k.0, h.1 ∙ sym k.1)
+    once (Some (Exec name budget memory)) p a p' a' h k = runs_job_once Has one_found Only given (exec_job name budget memory) p a p' a' h k
+    once (Some (Run name)) p a p' a' h k = runs_file_once Has one_found given name p a p' a' h k
+    once (Some (Check name)) p a p' a' h k = (h.0 ∙ sym k.0, checks_once Has one_found name a a' h.1 k.1)
+    once (Some (Asm name out)) p a p' a' h k = (h.0 ∙ sym k.0, file_once Has one_found name (Assembles out) (assembles_once out) a a' h.1 k.1)
+    once (Some (Dis name out)) p a p' a' h k = (h.0 ∙ sym k.0, file_once Has one_found name (Disassembles out) (disassembles_once out) a a' h.1 k.1)
+    once (Some (Judge name memory)) p a p' a' h k = (h.0 ∙ sym k.0, judges_once Has one_found name memory a a' h.1 k.1)
 
-  ordinary : (a : Asked) (which : Option MachineRun) (status : Status) (line : List ℕ) (file : Option File) → GivesFor Has given a which status line file → IsOrdinary status
-  ordinary (Exec name budget memory) which status line file h = runs_job_ordinary Has Only given (exec_job name budget memory) which status line file h
-  ordinary (Run name) which status line file h = runs_file_ordinary Has given name which status line file h
-  ordinary (Check name) which status line file h = checks_ordinary Has name status line h.0
-  ordinary (Asm name out) which status line file h = file_ordinary Has name (Assembles out) (assembles_ordinary out) status line file h.0
-  ordinary (Dis name out) which status line file h = file_ordinary Has name (Disassembles out) (disassembles_ordinary out) status line file h.0
-  ordinary (Judge name memory) which status line file h = judges_ordinary Has name memory status line h.0
+  ordinary : (asked : Asked) (which : Option MachineRun) (a : Answer) → GivesFor Has given asked which a → IsOrdinary a.status
+  ordinary (Exec name budget memory) which a h = runs_job_ordinary Has Only given (exec_job name budget memory) which a h
+  ordinary (Run name) which a h = runs_file_ordinary Has given name which a h
+  ordinary (Check name) which a h = checks_ordinary Has name a h.1
+  ordinary (Asm name out) which a h = file_ordinary Has name (Assembles out) (assembles_ordinary out) a h.1
+  ordinary (Dis name out) which a h = file_ordinary Has name (Disassembles out) (disassembles_ordinary out) a h.1
+  ordinary (Judge name memory) which a h = judges_ordinary Has name memory a h.1
 
 -- what it gives for what was found it gives for known files, or a read fault
 given_known : (Has Has' : List ℕ → Found → Type 0) (given : Input) → ((name bytes : List ℕ) → Has name (table.Contents bytes) → Has' name (table.Contents bytes))
-    → (o : Option Asked) (which : Option MachineRun) (status : Status) (line : List ℕ) (file : Option File) → GivesTo Has given o which status line file → (status ≡ statuses.ReadFault) ⊎ GivesTo Has' given o which status line file
-given_known Has Has' given known None which status line file h = inr h
-given_known Has Has' given known (Some (Exec name budget memory)) which status line file h = runs_job_known Has Has' known Only given (exec_job name budget memory) which status line file h
-given_known Has Has' given known (Some (Run name)) which status line file h = runs_file_known Has Has' known given name which status line file h
-given_known Has Has' given known (Some (Check name)) which status line file h =
-    elim (checks_known Has Has' known name status line h.0) [
+    → (o : Option Asked) (which : Option MachineRun) (a : Answer) → GivesTo Has given o which a → (a.status ≡ statuses.ReadFault) ⊎ GivesTo Has' given o which a
+given_known Has Has' given known None which a h = inr h
+given_known Has Has' given known (Some (Exec name budget memory)) which a h = runs_job_known Has Has' known Only given (exec_job name budget memory) which a h
+given_known Has Has' given known (Some (Run name)) which a h = runs_file_known Has Has' known given name which a h
+given_known Has Has' given known (Some (Check name)) which a h =
+    elim (checks_known Has Has' known name a h.1) [
       | inl e ↦ inl e
-      | inr k ↦ inr (k, h.1, h.2)
+      | inr k ↦ inr (h.0, k)
     ]
-given_known Has Has' given known (Some (Asm name out)) which status line file h =
-    elim (file_known Has Has' known name (Assembles out) status line file h.0) [
+given_known Has Has' given known (Some (Asm name out)) which a h =
+    elim (file_known Has Has' known name (Assembles out) a h.1) [
       | inl e ↦ inl e
-      | inr k ↦ inr (k, h.1)
+      | inr k ↦ inr (h.0, k)
     ]
-given_known Has Has' given known (Some (Dis name out)) which status line file h =
-    elim (file_known Has Has' known name (Disassembles out) status line file h.0) [
+given_known Has Has' given known (Some (Dis name out)) which a h =
+    elim (file_known Has Has' known name (Disassembles out) a h.1) [
       | inl e ↦ inl e
-      | inr k ↦ inr (k, h.1)
+      | inr k ↦ inr (h.0, k)
     ]
-given_known Has Has' given known (Some (Judge name memory)) which status line file h =
-    elim (judges_known Has Has' known name memory status line h.0) [
+given_known Has Has' given known (Some (Judge name memory)) which a h =
+    elim (judges_known Has Has' known name memory a h.1) [
       | inl e ↦ inl e
-      | inr k ↦ inr (k, h.1, h.2)
+      | inr k ↦ inr (h.0, k)
     ]
 
 -- ---- the words
@@ -105,28 +95,26 @@ asked_none words h = rw h refl
 module _ (words : List (List ℕ)) (given : Input) (s : Shelved) (r : Report) (f : Flow) where
   usage_gave : (result : Status) → is_taken words ≡ false → SameCounts s.reads_old s.reads_new → KeepsFiles s → Reports statuses.Usage usage_lines r result → IsQuiet f → Responds words given s r f result
   usage_gave result h same kept reports still =
-      gave None statuses.Usage usage_lines None (rw (asked_none words h) (refl, refl, refl, refl)) (inr same) still (put kept reports) (λ _. h) (λ _. refl)
+      gave None (says statuses.Usage usage_lines) (rw (asked_none words h) (refl, refl)) (inr same) still (put kept reports) (λ _. h) (λ _. refl)
 
-  module _ (a : Asked) (e : asked_of words ≡ Some a) where
-    one_gave : (result : Status) (which : Option MachineRun) (status : Status) (line : List ℕ) (file : Option File) → GivesFor (IsFound s) given a which status line file → CountsReads s status → FlowsAs given f which → Delivers status line file s r result → Responds words given s r f result
-    one_gave result which status line file gives counts flows delivers =
-        gave which status line file (rw e gives) counts flows delivers
-        (λ u. absurd (subst IsOrdinary u (ordinary (IsFound s) given a which status line file gives))) (λ h. absurd (let both = sym (asked_none words h) ∙ e in cc))
+  module _ (asked : Asked) (e : asked_of words ≡ Some asked) where
+    one_gave : (result : Status) (which : Option MachineRun) (a : Answer) → GivesFor (IsFound s) given asked which a → CountsReads s a.status → FlowsAs given f which → Delivers a s r result → Responds words given s r f result
+    one_gave result which a gives counts flows delivers =
+        gave which a (rw e gives) counts flows delivers
+        (λ u. absurd (subst IsOrdinary u (ordinary (IsFound s) given asked which a gives))) (λ h. absurd (let both = sym (asked_none words h) ∙ e in cc))
 
-    did_gave : (Does : Status → List ℕ → Option File → Type 0) → ((status : Status) (line : List ℕ) (file : Option File) → Does status line file → GivesFor (IsFound s) given a None status line file)
-        → IsQuiet f → (result : Status) → Did Does s r result → Responds words given s r f result
-    did_gave Does gives still result (answered status line file does counts delivers) = one_gave result None status line file (gives status line file does) counts still delivers
+    did_gave : (Does : Answer → Type 0) → ((a : Answer) → Does a → GivesFor (IsFound s) given asked None a) → IsQuiet f → (result : Status) → Did Does s r result → Responds words given s r f result
+    did_gave Does gives still result (answered a does counts delivers) = one_gave result None a (gives a does) counts still delivers
     did_gave Does gives still result (ran_out same files kept) = nothing same files kept
 
-    tells_gave : (Does : Status → List ℕ → Type 0) → ((status : Status) (line : List ℕ) → Does status line → GivesFor (IsFound s) given a None status line None)
-        → IsQuiet f → (result : Status) → Tells Does s r result → Responds words given s r f result
-    tells_gave Does gives still result (printed status line does counts files reports) = one_gave result None status line None (gives status line does) counts still (put files reports)
+    tells_gave : (Does : Answer → Type 0) → ((a : Answer) → Does a → GivesFor (IsFound s) given asked None a) → IsQuiet f → (result : Status) → Tells Does s r result → Responds words given s r f result
+    tells_gave Does gives still result (printed status line does counts files reports) = one_gave result None (says status line) (gives (says status line) does) counts still (put files reports)
     tells_gave Does gives still result (unprinted same files kept) = nothing same files kept
 
     -- a run, which may be cut short
-    run_gave : (Does : Option MachineRun → Status → List ℕ → Option File → Type 0) → ((which : Option MachineRun) (status : Status) (line : List ℕ) (file : Option File) → Does which status line file → GivesFor (IsFound s) given a which status line file)
-        → AsksRun (Some a) → (result : Status) → DidRun Does given s r f result → Responds words given s r f result
-    run_gave Does gives asks result (delivered which status line file does counts flows delivers) = one_gave result which status line file (gives which status line file does) counts flows delivers
+    run_gave : (Does : Option MachineRun → Answer → Type 0) → ((which : Option MachineRun) (a : Answer) → Does which a → GivesFor (IsFound s) given asked which a)
+        → AsksRun (Some asked) → (result : Status) → DidRun Does given s r f result → Responds words given s r f result
+    run_gave Does gives asks result (delivered which a does counts flows delivers) = one_gave result which a (gives which a does) counts flows delivers
     run_gave Does gives asks result (cut same files c) = stopped (rw e asks) same files c
     run_gave Does gives asks result (starved_run same files kept) = nothing same files kept
 
@@ -148,52 +136,24 @@ of_ordinary statuses.WriteFault h = absurd h
 of_ordinary statuses.OutOfMemory h = absurd h
 of_ordinary statuses.TooLong h = tt
 
-unfaulty : (Has : List ℕ → Found → Type 0) (given : Input) (o : Option Asked) (which : Option MachineRun) (status : Status) (line : List ℕ) (file : Option File) → GivesTo Has given o which status line file → IsUnfaulty status
-unfaulty Has given None which status line file h = subst IsUnfaulty (sym h.0) tt
-unfaulty Has given (Some a) which status line file h = of_ordinary status (ordinary Has given a which status line file h)
+unfaulty : (Has : List ℕ → Found → Type 0) (given : Input) (o : Option Asked) (which : Option MachineRun) (a : Answer) → GivesTo Has given o which a → IsUnfaulty a.status
+unfaulty Has given None which a h = subst (λ (x : Answer). IsUnfaulty x.status) (sym h.1) tt
+unfaulty Has given (Some asked) which a h = of_ordinary a.status (ordinary Has given asked which a h)
 
-never_none : {A : Type 0} (o : Option A) (x : A) → o ≡ None → o ≡ Some x → ⊥
-never_none o x none some = let both = sym none ∙ some in cc
+module _ (Has Holds_it : List ℕ → Found → Type 0) (known : (name bytes : List ℕ) → Has name (table.Contents bytes) → Holds_it name (table.Contents bytes)) where
+  run_target : (given : Input) (name : List ℕ) (which : Option MachineRun) (file : File) (a : Answer) → RunsFile Has given name which a → a.file ≡ Some file → IsTarget Holds_it (Some (Run name)) file.name
+  run_target given name which file a (jobs.no_job_file h) e = absurd (unfound_target Has name file a h e)
+  run_target given name which file a (jobs.no_job bytes fault h not) e = absurd cc
+  run_target given name which file a (jobs.job bytes job h is runs) e = (job, (bytes, (known name bytes h.0, h.1), is), job_target Has Numbered given job which file a runs e)
 
-assembled_target : (name out bytes : List ℕ) (status : Status) (line : List ℕ) (file : File) (f : Option File) → f ≡ Some file → Assembles out bytes status line f → file.name ≡ out
-assembled_target name out bytes status line file f e (table.unread_text h) = absurd cc
-assembled_target name out bytes status line file f e (table.large m h is) = absurd cc
-assembled_target name out bytes status line file f e (table.assembled m h not) = ap (λ (x : File). x.name) (sym (same_file _ file e))
-
-disassembled_target : (name out bytes : List ℕ) (status : Status) (line : List ℕ) (file : File) (f : Option File) → f ≡ Some file → Disassembles out bytes status line f → file.name ≡ out
-disassembled_target name out bytes status line file f e (table.unread_binary h) = absurd cc
-disassembled_target name out bytes status line file f e (table.disassembled m h) = ap (λ (x : File). x.name) (sym (same_file _ file e))
-
-module _ (Has : List ℕ → Found → Type 0) where
-  file_target : (name out : List ℕ) (Does : table.Command) (status : Status) (line : List ℕ) (file : File) (f : Option File)
-      → ((bytes : List ℕ) (status : Status) (line : List ℕ) (f : Option File) → f ≡ Some file → Does bytes status line f → file.name ≡ out) → f ≡ Some file → OnFile Has name Does status line f → file.name ≡ out
-  file_target name out Does status line file f targets e (table.no_file h) = absurd cc
-  file_target name out Does status line file f targets e (table.on_file bytes h does) = targets bytes status line f e does
-
-  execution_target : (telling : Telling) (x : Execution) (which : Option MachineRun) (status : Status) (line : List ℕ) (file : File) (f : Option File) → f ≡ Some file → AnswersAs telling x which status line f → telling.trace ≡ Some file.name
-  execution_target telling (Unlinked fault) which status line file f e h = absurd (never_none f file h.3 e)
-  execution_target telling (NoTask number) which status line file f e h = absurd (never_none f file h.3 e)
-  execution_target telling (Ran run) which status line file f e h = traced_name telling (events_of run.deeds) file (sym h.1.3 ∙ e)
-
-  job_target : (naming : Naming) (given : Input) (job : Job) (which : Option MachineRun) (status : Status) (line : List ℕ) (file : File) (f : Option File) → f ≡ Some file → RunsJob Has naming given job which status line f → job.trace ≡ Some file.name
-  job_target naming given job which status line file f e (jobs.unloaded h) = absurd cc
-  job_target naming given job which status line file f e (jobs.unscheduled ms all h) = absurd cc
-  job_target naming given job which status line file f e (jobs.executed ms entries all h answers) = execution_target (telling_of job) (execution ms job.tasks entries job.memory given) which status line file f e answers
-
-  module _ (Holds_it : List ℕ → Found → Type 0) (known : (name bytes : List ℕ) → Has name (table.Contents bytes) → Holds_it name (table.Contents bytes)) where
-    run_target : (given : Input) (name : List ℕ) (which : Option MachineRun) (status : Status) (line : List ℕ) (file : File) (f : Option File) → f ≡ Some file → RunsFile Has given name which status line f → IsTarget Holds_it (Some (Run name)) file.name
-    run_target given name which status line file f e (jobs.no_job_file h) = absurd cc
-    run_target given name which status line file f e (jobs.no_job bytes fault h not) = absurd cc
-    run_target given name which status line file f e (jobs.job bytes job h is runs) = (job, (bytes, (known name bytes h.0, h.1), is), job_target Numbered given job which status line file f e runs)
-
-    target_given : (given : Input) (o : Option Asked) (which : Option MachineRun) (status : Status) (line : List ℕ) (file : File) (f : Option File) → f ≡ Some file → GivesTo Has given o which status line f → IsTarget Holds_it o file.name
-    target_given given None which status line file f e h = absurd (never_none f file h.3 e)
-    target_given given (Some (Exec name budget memory)) which status line file f e h = absurd (let trace = job_target Only given (exec_job name budget memory) which status line file f e h in cc)
-    target_given given (Some (Run name)) which status line file f e h = run_target given name which status line file f e h
-    target_given given (Some (Check name)) which status line file f e h = absurd (never_none f file h.2 e)
-    target_given given (Some (Asm name out)) which status line file f e h = file_target name out (Assembles out) status line file f (λ b s t g. assembled_target name out b s t file g) e h.0
-    target_given given (Some (Dis name out)) which status line file f e h = file_target name out (Disassembles out) status line file f (λ b s t g. disassembled_target name out b s t file g) e h.0
-    target_given given (Some (Judge name memory)) which status line file f e h = absurd (never_none f file h.2 e)
+  target_given : (given : Input) (o : Option Asked) (which : Option MachineRun) (file : File) (a : Answer) → GivesTo Has given o which a → a.file ≡ Some file → IsTarget Holds_it o file.name
+  target_given given None which file a h e = absurd (wrote_none a _ _ file h.1 e)
+  target_given given (Some (Exec name budget memory)) which file a h e = absurd (let trace = job_target Has Only given (exec_job name budget memory) which file a h e in cc)
+  target_given given (Some (Run name)) which file a h e = run_target given name which file a h e
+  target_given given (Some (Check name)) which file a h e = absurd (checks_target Has name file a h.1 e)
+  target_given given (Some (Asm name out)) which file a h e = file_target Has name out (Assembles out) file a (λ b x. assembled_target out b file x) h.1 e
+  target_given given (Some (Dis name out)) which file a h e = file_target Has name out (Disassembles out) file a (λ b x. disassembled_target out b file x) h.1 e
+  target_given given (Some (Judge name memory)) which file a h e = absurd (judges_target Has name memory file a h.1 e)
 
 -- ---- names of files
 
@@ -216,24 +176,25 @@ less_than_itself a b e h = omega arith
 
 module _ (words : List (List ℕ)) (given : Input) (s : Shelved) (r : Report) (f : Flow) where
   pub answer_clause : (result : Status) → MayGive f.left_old given → Responds words given s r f result → FlowsFor s (asked_of words) given f result → IsPutFault result ⊎ IsAnswer s words r f result
-  answer_clause result may (gave which status line file gives counts flow (put written (inl h)) u v) flows =
-      inr (subst (λ (x : Status). IsAnswer s words r f x) (sym h.0) (given, line, file, may, inl (which, gives, flow), h.1, written, subst (FlowsFor s (asked_of words) given f) h.0 flows))
-  answer_clause result may (gave which status line file gives counts flow (put written (inr (inl h))) u v) flows = inl (inl h.0)
-  answer_clause result may (gave which status line file gives counts flow (put written (inr (inr h))) u v) flows = inl (inr h.0)
-  answer_clause result may (gave which status line file gives counts flow (failed part kept) u v) flows = inl (inl refl)
-  answer_clause result may (gave which status line file gives counts flow (starved files kept) u v) flows = inl (inr refl)
-  answer_clause result may (stopped asks same files (input_failed rose (inl h))) flows = inr (given, input_fault_line, None, may, inr (asks, h.0, refl, refl, rose), h.1, files, flows)
+  answer_clause result may (gave which a gives counts flow (put written (inl h)) u v) flows =
+      inr (given, a, may, inl (which, gives, flow), h.0, h.1, written, flows)
+  answer_clause result may (gave which a gives counts flow (put written (inr (inl h))) u v) flows = inl (inl h.0)
+  answer_clause result may (gave which a gives counts flow (put written (inr (inr h))) u v) flows = inl (inr h.0)
+  answer_clause result may (gave which a gives counts flow (failed part kept) u v) flows = inl (inl refl)
+  answer_clause result may (gave which a gives counts flow (starved files kept) u v) flows = inl (inr refl)
+  answer_clause result may (stopped asks same files (input_failed rose (inl h))) flows =
+      inr (given, says statuses.ReadFault input_fault_line, may, inr (asks, refl, rose), h.0, h.1, files, flows)
   answer_clause result may (stopped asks same files (input_failed rose (inr (inl h)))) flows = inl (inl h.0)
   answer_clause result may (stopped asks same files (input_failed rose (inr (inr h)))) flows = inl (inr h.0)
   answer_clause result may (stopped asks same files (out_failed rose kept)) flows = inl (inl refl)
   answer_clause result may (nothing same files kept) flows = inl (inr refl)
 
   pub usage_clause : (result : Status) → Responds words given s r f result → result ≡ statuses.Usage → is_taken words ≡ false
-  usage_clause result (gave which status line file gives counts flow (put written (inl h)) u v) e = u (sym h.0 ∙ e)
-  usage_clause result (gave which status line file gives counts flow (put written (inr (inl h))) u v) e = absurd (let both = sym h.0 ∙ e in cc)
-  usage_clause result (gave which status line file gives counts flow (put written (inr (inr h))) u v) e = absurd (let both = sym h.0 ∙ e in cc)
-  usage_clause result (gave which status line file gives counts flow (failed part kept) u v) e = absurd cc
-  usage_clause result (gave which status line file gives counts flow (starved files kept) u v) e = absurd cc
+  usage_clause result (gave which a gives counts flow (put written (inl h)) u v) e = u (sym h.0 ∙ e)
+  usage_clause result (gave which a gives counts flow (put written (inr (inl h))) u v) e = absurd (let both = sym h.0 ∙ e in cc)
+  usage_clause result (gave which a gives counts flow (put written (inr (inr h))) u v) e = absurd (let both = sym h.0 ∙ e in cc)
+  usage_clause result (gave which a gives counts flow (failed part kept) u v) e = absurd cc
+  usage_clause result (gave which a gives counts flow (starved files kept) u v) e = absurd cc
   usage_clause result (stopped asks same files (input_failed rose (inl h))) e = absurd (let both = sym h.0 ∙ e in cc)
   usage_clause result (stopped asks same files (input_failed rose (inr (inl h)))) e = absurd (let both = sym h.0 ∙ e in cc)
   usage_clause result (stopped asks same files (input_failed rose (inr (inr h)))) e = absurd (let both = sym h.0 ∙ e in cc)
@@ -241,36 +202,36 @@ module _ (words : List (List ℕ)) (given : Input) (s : Shelved) (r : Report) (f
   usage_clause result (nothing same files kept) e = absurd cc
 
   pub refused_clause : (result : Status) → Responds words given s r f result → is_taken words ≡ false → (result ≡ statuses.Usage) ⊎ IsPutFault result
-  refused_clause result (gave which status line file gives counts flow (put written (inl h)) u v) e = inl (h.0 ∙ v e)
-  refused_clause result (gave which status line file gives counts flow (put written (inr (inl h))) u v) e = inr (inl h.0)
-  refused_clause result (gave which status line file gives counts flow (put written (inr (inr h))) u v) e = inr (inr h.0)
-  refused_clause result (gave which status line file gives counts flow (failed part kept) u v) e = inr (inl refl)
-  refused_clause result (gave which status line file gives counts flow (starved files kept) u v) e = inr (inr refl)
+  refused_clause result (gave which a gives counts flow (put written (inl h)) u v) e = inl (h.0 ∙ v e)
+  refused_clause result (gave which a gives counts flow (put written (inr (inl h))) u v) e = inr (inl h.0)
+  refused_clause result (gave which a gives counts flow (put written (inr (inr h))) u v) e = inr (inr h.0)
+  refused_clause result (gave which a gives counts flow (failed part kept) u v) e = inr (inl refl)
+  refused_clause result (gave which a gives counts flow (starved files kept) u v) e = inr (inr refl)
   refused_clause result (stopped asks same files c) e = absurd (subst AsksRun (asked_none words e) asks)
   refused_clause result (nothing same files kept) e = inr (inr refl)
 
   pub write_fault_clause : (result : Status) → MayGive f.left_old given → Responds words given s r f result → result ≡ statuses.WriteFault → IsCutOff s words r f ⊎ (IsUnwritten s words r f ⊎ IsOutFault s words r f)
-  write_fault_clause result may (gave which status line file gives counts flow (put written (inl h)) u v) e =
-      absurd (subst IsUnfaulty (sym h.0 ∙ e) (unfaulty (IsFound s) given (asked_of words) which status line file gives))
-  write_fault_clause result may (gave which status line file gives counts flow (put written (inr (inl h))) u v) e =
-      inl (given, status, line, file, h.1, may, inl (which, gives, flow), h.2, h.3, written, h.4.rose)
-  write_fault_clause result may (gave which status line file gives counts flow (put written (inr (inr h))) u v) e = absurd (let both = sym h.0 ∙ e in cc)
-  write_fault_clause result may (gave which status line file gives counts flow (failed part kept) u v) e = inr (inl (given, status, line, file, may, inl (which, gives, flow), part, kept.0))
-  write_fault_clause result may (gave which status line file gives counts flow (starved files kept) u v) e = absurd cc
+  write_fault_clause result may (gave which a gives counts flow (put written (inl h)) u v) e =
+      absurd (subst IsUnfaulty (sym h.0 ∙ e) (unfaulty (IsFound s) given (asked_of words) which a gives))
+  write_fault_clause result may (gave which a gives counts flow (put written (inr (inl h))) u v) e =
+      inl (given, a, h.1, may, inl (which, gives, flow), h.2, h.3, written, h.4.rose)
+  write_fault_clause result may (gave which a gives counts flow (put written (inr (inr h))) u v) e = absurd (let both = sym h.0 ∙ e in cc)
+  write_fault_clause result may (gave which a gives counts flow (failed part kept) u v) e = inr (inl (given, a, may, inl (which, gives, flow), part, kept.0))
+  write_fault_clause result may (gave which a gives counts flow (starved files kept) u v) e = absurd cc
   write_fault_clause result may (stopped asks same files (input_failed rose (inl h))) e = absurd (let both = sym h.0 ∙ e in cc)
   write_fault_clause result may (stopped asks same files (input_failed rose (inr (inl h)))) e =
-      inl (given, statuses.ReadFault, input_fault_line, None, h.1, may, inr (asks, refl, refl, refl, rose), h.2, h.3, files, h.4.rose)
+      inl (given, says statuses.ReadFault input_fault_line, h.1, may, inr (asks, refl, rose), h.2, h.3, files, h.4.rose)
   write_fault_clause result may (stopped asks same files (input_failed rose (inr (inr h)))) e = absurd (let both = sym h.0 ∙ e in cc)
   write_fault_clause result may (stopped asks same files (out_failed rose kept)) e = inr (inr (asks, rose, kept.0, files))
   write_fault_clause result may (nothing same files kept) e = absurd cc
 
   pub memory_clause : (result : Status) → MayGive f.left_old given → Responds words given s r f result → result ≡ statuses.OutOfMemory → IsStarved s words r f
-  memory_clause result may (gave which status line file gives counts flow (put written (inl h)) u v) e =
-      absurd (subst IsUnfaulty (sym h.0 ∙ e) (unfaulty (IsFound s) given (asked_of words) which status line file gives))
-  memory_clause result may (gave which status line file gives counts flow (put written (inr (inl h))) u v) e = absurd (let both = sym h.0 ∙ e in cc)
-  memory_clause result may (gave which status line file gives counts flow (put written (inr (inr h))) u v) e = (h.1.0, inr (given, status, line, file, may, inl (which, gives, flow), written))
-  memory_clause result may (gave which status line file gives counts flow (failed part kept) u v) e = absurd cc
-  memory_clause result may (gave which status line file gives counts flow (starved files kept) u v) e = (kept.0, inl files)
+  memory_clause result may (gave which a gives counts flow (put written (inl h)) u v) e =
+      absurd (subst IsUnfaulty (sym h.0 ∙ e) (unfaulty (IsFound s) given (asked_of words) which a gives))
+  memory_clause result may (gave which a gives counts flow (put written (inr (inl h))) u v) e = absurd (let both = sym h.0 ∙ e in cc)
+  memory_clause result may (gave which a gives counts flow (put written (inr (inr h))) u v) e = (h.1.0, inr (given, a, may, inl (which, gives, flow), written))
+  memory_clause result may (gave which a gives counts flow (failed part kept) u v) e = absurd cc
+  memory_clause result may (gave which a gives counts flow (starved files kept) u v) e = (kept.0, inl files)
   memory_clause result may (stopped asks same files (input_failed rose (inl h))) e = absurd (let both = sym h.0 ∙ e in cc)
   memory_clause result may (stopped asks same files (input_failed rose (inr (inl h)))) e = absurd (let both = sym h.0 ∙ e in cc)
   memory_clause result may (stopped asks same files (input_failed rose (inr (inr h)))) e = (h.1.0, inl files)
@@ -279,35 +240,36 @@ module _ (words : List (List ℕ)) (given : Input) (s : Shelved) (r : Report) (f
 
   -- ---- an answer that is a read fault
 
-  as_fault : (result status : Status) (line : List ℕ) (file : Option File) → status ≡ statuses.ReadFault → Delivers status line file s r result → IsFaulty result
-  as_fault result status line file e (put written (inl h)) = inl (h.0 ∙ e)
-  as_fault result status line file e (put written (inr (inl h))) = inr (inl h.0)
-  as_fault result status line file e (put written (inr (inr h))) = inr (inr h.0)
-  as_fault result status line file e (failed part kept) = inr (inl refl)
-  as_fault result status line file e (starved files kept) = inr (inr refl)
+  as_fault : (result : Status) (a : Answer) → a.status ≡ statuses.ReadFault → Delivers a s r result → IsFaulty result
+  as_fault result a e (put written (inl h)) = inl (h.0 ∙ e)
+  as_fault result a e (put written (inr (inl h))) = inr (inl h.0)
+  as_fault result a e (put written (inr (inr h))) = inr (inr h.0)
+  as_fault result a e (failed part kept) = inr (inl refl)
+  as_fault result a e (starved files kept) = inr (inr refl)
 
   -- ---- what the table gives for known files
 
-  module _ (known : Files) (ran' : Option MachineRun) (status' : Status) (line' : List ℕ) (file' : Option File) where
+  module _ (known : Files) (ran' : Option MachineRun) (a' : Answer) where
     abbrev Completes : Status → Type 0
-    Completes result = ((result ≡ status') × Grows r line' × HasWritten s file') ⊎ IsFaulty result
+    Completes result = ((result ≡ a'.status) × Grows r a'.report × HasWritten s a'.file) ⊎ IsFaulty result
 
-    as_given : (result : Status) (which : Option MachineRun) (status : Status) (line : List ℕ) (file : Option File) → SameRun which status line file ran' status' line' file' → Delivers status line file s r result → Completes result
-    as_given result which status line file same (put written (inl h)) = inl (h.0 ∙ same.status, subst (Grows r) same.line h.1, subst (HasWritten s) same.file written)
-    as_given result which status line file same (put written (inr (inl h))) = inr (inr (inl h.0))
-    as_given result which status line file same (put written (inr (inr h))) = inr (inr (inr h.0))
-    as_given result which status line file same (failed part kept) = inr (inr (inl refl))
-    as_given result which status line file same (starved files kept) = inr (inr (inr refl))
+    as_given : (result : Status) → Delivers a' s r result → Completes result
+    as_given result (put written (inl h)) = inl (h.0, h.1, written)
+    as_given result (put written (inr (inl h))) = inr (inr (inl h.0))
+    as_given result (put written (inr (inr h))) = inr (inr (inr h.0))
+    as_given result (failed part kept) = inr (inr (inl refl))
+    as_given result (starved files kept) = inr (inr (inr refl))
 
-    of_known : (result : Status) (which : Option MachineRun) (status : Status) (line : List ℕ) (file : Option File) → Delivers status line file s r result → Gives words (Holds (Some known)) given ran' status' line' file'
-        → (status ≡ statuses.ReadFault) ⊎ GivesTo (Holds (Some known)) given (asked_of words) which status line file → Completes result
-    of_known result which status line file delivers gives' (inl e) = inr (as_fault result status line file e delivers)
-    of_known result which status line file delivers gives' (inr gives) =
-        as_given result which status line file (once (Holds (Some known)) given (holds_one known) (asked_of words) which status line file ran' status' line' file' gives gives') delivers
+    of_known : (result : Status) (which : Option MachineRun) (a : Answer) → Delivers a s r result → Gives words (Holds (Some known)) given ran' a'
+        → (a.status ≡ statuses.ReadFault) ⊎ GivesTo (Holds (Some known)) given (asked_of words) which a → Completes result
+    of_known result which a delivers gives' (inl e) = inr (as_fault result a e delivers)
+    of_known result which a delivers gives' (inr gives) =
+        let same = once (Holds (Some known)) given (holds_one known) (asked_of words) which a ran' a' gives gives' in
+        as_given result (subst (λ (x : Answer). Delivers x s r result) same.1 delivers)
 
-    pub complete_clause : (result : Status) → Responds words given s r f result → s.old ≡ Some known → Gives words (Holds (Some known)) given ran' status' line' file' → Completes result
-    complete_clause result (gave which status line file gives counts flow delivers u v) e gives' =
-        of_known result which status line file delivers gives' (given_known (IsFound s) (Holds (Some known)) given (found_held s known e) (asked_of words) which status line file gives)
+    pub complete_clause : (result : Status) → Responds words given s r f result → s.old ≡ Some known → Gives words (Holds (Some known)) given ran' a' → Completes result
+    complete_clause result (gave which a gives counts flow delivers u v) e gives' =
+        of_known result which a delivers gives' (given_known (IsFound s) (Holds (Some known)) given (found_held s known e) (asked_of words) which a gives)
     complete_clause result (stopped asks same files (input_failed rose (inl h))) e gives' = inr (inl h.0)
     complete_clause result (stopped asks same files (input_failed rose (inr (inl h)))) e gives' = inr (inr (inl h.0))
     complete_clause result (stopped asks same files (input_failed rose (inr (inr h)))) e gives' = inr (inr (inr h.0))
@@ -317,8 +279,8 @@ module _ (words : List (List ℕ)) (given : Input) (s : Shelved) (r : Report) (f
   -- ---- counted faults
 
   pub reads_clause : (result : Status) → Responds words given s r f result → (name : List ℕ) → s.reads_old name < s.reads_new name → IsFaulty result
-  reads_clause result (gave which status line file gives (inl e) flow delivers u v) name lt = as_fault result status line file e delivers
-  reads_clause result (gave which status line file gives (inr same) flow delivers u v) name lt = absurd (less_than_itself (s.reads_old name) (s.reads_new name) (same name) lt)
+  reads_clause result (gave which a gives (inl e) flow delivers u v) name lt = as_fault result a e delivers
+  reads_clause result (gave which a gives (inr same) flow delivers u v) name lt = absurd (less_than_itself (s.reads_old name) (s.reads_new name) (same name) lt)
   reads_clause result (stopped asks same files c) name lt = absurd (less_than_itself (s.reads_old name) (s.reads_new name) (same name) lt)
   reads_clause result (nothing same files kept) name lt = inr (inr refl)
 
@@ -326,25 +288,25 @@ module _ (words : List (List ℕ)) (given : Input) (s : Shelved) (r : Report) (f
   same_writes None h = h.1
   same_writes (Some file) h = h.1
 
-  writes_of : (result status : Status) (line : List ℕ) (file : Option File) → Delivers status line file s r result → s.writes_old < s.writes_new → IsPutFault result
-  writes_of result status line file (put written h) lt = absurd (less_than_itself s.writes_old s.writes_new (same_writes file written) lt)
-  writes_of result status line file (failed part kept) lt = inl refl
-  writes_of result status line file (starved files kept) lt = inr refl
+  writes_of : (result : Status) (a : Answer) → Delivers a s r result → s.writes_old < s.writes_new → IsPutFault result
+  writes_of result a (put written h) lt = absurd (less_than_itself s.writes_old s.writes_new (same_writes a.file written) lt)
+  writes_of result a (failed part kept) lt = inl refl
+  writes_of result a (starved files kept) lt = inr refl
 
   pub writes_clause : (result : Status) → Responds words given s r f result → s.writes_old < s.writes_new → IsPutFault result
-  writes_clause result (gave which status line file gives counts flow delivers u v) lt = writes_of result status line file delivers lt
+  writes_clause result (gave which a gives counts flow delivers u v) lt = writes_of result a delivers lt
   writes_clause result (stopped asks same files c) lt = absurd (less_than_itself s.writes_old s.writes_new files.1 lt)
   writes_clause result (nothing same files kept) lt = inr refl
 
-  puts_of : (result status : Status) (line : List ℕ) (file : Option File) → Delivers status line file s r result → r.puts_old < r.puts_new → IsPutFault result
-  puts_of result status line file (put written (inl h)) lt = absurd (less_than_itself r.puts_old r.puts_new h.2 lt)
-  puts_of result status line file (put written (inr (inl h))) lt = inl h.0
-  puts_of result status line file (put written (inr (inr h))) lt = inr h.0
-  puts_of result status line file (failed part kept) lt = inl refl
-  puts_of result status line file (starved files kept) lt = inr refl
+  puts_of : (result : Status) (a : Answer) → Delivers a s r result → r.puts_old < r.puts_new → IsPutFault result
+  puts_of result a (put written (inl h)) lt = absurd (less_than_itself r.puts_old r.puts_new h.2 lt)
+  puts_of result a (put written (inr (inl h))) lt = inl h.0
+  puts_of result a (put written (inr (inr h))) lt = inr h.0
+  puts_of result a (failed part kept) lt = inl refl
+  puts_of result a (starved files kept) lt = inr refl
 
   pub puts_clause : (result : Status) → Responds words given s r f result → r.puts_old < r.puts_new → IsPutFault result
-  puts_clause result (gave which status line file gives counts flow delivers u v) lt = puts_of result status line file delivers lt
+  puts_clause result (gave which a gives counts flow delivers u v) lt = puts_of result a delivers lt
   puts_clause result (stopped asks same files (input_failed rose (inl h))) lt = absurd (less_than_itself r.puts_old r.puts_new h.2 lt)
   puts_clause result (stopped asks same files (input_failed rose (inr (inl h)))) lt = inl h.0
   puts_clause result (stopped asks same files (input_failed rose (inr (inr h)))) lt = inr h.0
@@ -382,14 +344,14 @@ module _ (words : List (List ℕ)) (given : Input) (s : Shelved) (r : Report) (f
   not_target : (o : Option Asked) (name : List ℕ) (f : File) → ¬ IsTarget (Holds s.old) o name → IsTarget (Holds s.old) o f.name → ¬ (name ≡ f.name)
   not_target o name f not is e = not (subst (IsTarget (Holds s.old) o) (sym e) is)
 
-  delivered_stays : (name : List ℕ) (status result : Status) (line : List ℕ) (file : Option File) → ((f : File) → file ≡ Some f → ¬ (name ≡ f.name)) → Delivers status line file s r result → Stays s name
-  delivered_stays name status result line file not (put written h) = has_written_stays name file not written
-  delivered_stays name status result line file not (failed f kept) = has_failed_stays name file not f
-  delivered_stays name status result line file not (starved files kept) = kept_stays name s.old s.new files.0
+  delivered_stays : (name : List ℕ) (result : Status) (a : Answer) → ((f : File) → a.file ≡ Some f → ¬ (name ≡ f.name)) → Delivers a s r result → Stays s name
+  delivered_stays name result a not (put written h) = has_written_stays name a.file not written
+  delivered_stays name result a not (failed f kept) = has_failed_stays name a.file not f
+  delivered_stays name result a not (starved files kept) = kept_stays name s.old s.new files.0
 
   pub files_clause : (result : Status) → Responds words given s r f result → (name : List ℕ) → ¬ IsTarget (Holds s.old) (asked_of words) name → Stays s name
-  files_clause result (gave which status line file gives counts flow delivers u v) name not =
-      delivered_stays name status result line file (λ f e. not_target (asked_of words) name f not (target_given (IsFound s) (Holds s.old) (λ n b x. x) given (asked_of words) which status line f file e gives)) delivers
+  files_clause result (gave which a gives counts flow delivers u v) name not =
+      delivered_stays name result a (λ f e. not_target (asked_of words) name f not (target_given (IsFound s) (Holds s.old) (λ n b x. x) given (asked_of words) which f a gives e)) delivers
   files_clause result (stopped asks same files c) name not = kept_stays name s.old s.new files.0
   files_clause result (nothing same files kept) name not = kept_stays name s.old s.new files.0
 
@@ -479,45 +441,45 @@ module _ (words : List (List ℕ)) (s : Shelved) (r : Report) (f : Flow) where
   Responded result = (given : Input) × MayGive f.left_old given × Responds words given s r f result × FlowsFor s (asked_of words) given f result × Safely (asked_of words) result
 
   module _ (given : Input) (may : MayGive f.left_old given) where
-    responded_as : (a : Asked) (result : Status) → asked_of words ≡ Some a → Responds words given s r f result → FlowsFor s (Some a) given f result → Safely (Some a) result → Responded result
-    responded_as a result e responds flows safely =
-        (given, may, responds, flows_as s given f words (Some a) result e flows, subst (λ (o : Option Asked). Safely o result) (sym e) safely)
+    responded_as : (asked : Asked) (result : Status) → asked_of words ≡ Some asked → Responds words given s r f result → FlowsFor s (Some asked) given f result → Safely (Some asked) result → Responded result
+    responded_as asked result e responds flows safely =
+        (given, may, responds, flows_as s given f words (Some asked) result e flows, subst (λ (o : Option Asked). Safely o result) (sym e) safely)
 
     pub exec_responded : (file : List ℕ) (budget memory : ℕ) (result : Status) → memory ≤ options.memory.most → asked_of words ≡ Some (Exec file budget memory) → DidRun (RunsJob (IsFound s) Only given (exec_job file budget memory)) given s r f result
         → Flows given (RunOfJob (Holds s.old) given (exec_job file budget memory)) f result → Responded result
     exec_responded file budget memory result small e done flows =
-        let a = Exec file budget memory in
+        let asked = Exec file budget memory in
         let job = exec_job file budget memory in
-        responded_as a result e (run_gave words given s r f a e (RunsJob (IsFound s) Only given job) (λ which status line target gives. gives) tt result done)
+        responded_as asked result e (run_gave words given s r f asked e (RunsJob (IsFound s) Only given job) (λ which a gives. gives) tt result done)
         (flows_more given (RunOfJob (Holds s.old) given job) _ (λ run h. (h, run_is_accepted (Holds s.old) given job run small h)) f result flows)
         (λ asks end. (job, refl, job_safely s r f given may Only job small result end done))
 
     pub run_responded : (name : List ℕ) (result : Status) → asked_of words ≡ Some (Run name) → DidRun (RunsFile (IsFound s) given name) given s r f result → Flows given (RunOfFile (Holds s.old) given name) f result → Responded result
     run_responded name result e done flows =
-        let a = Run name in
-        responded_as a result e (run_gave words given s r f a e (RunsFile (IsFound s) given name) (λ which status line target gives. gives) tt result done)
+        let asked = Run name in
+        responded_as asked result e (run_gave words given s r f asked e (RunsFile (IsFound s) given name) (λ which a gives. gives) tt result done)
         (flows_more given (RunOfFile (Holds s.old) given name) _ (λ run h. (h, run_is_accepted (Holds s.old) given h.job run (job_is_bounded h.bytes h.job h.is_job).memory h.runs)) f result flows)
         (λ asks end. file_safely s r f given may name result end done)
 
     pub check_responded : (file : List ℕ) (result : Status) → asked_of words ≡ Some (Check file) → Tells (Checks (IsFound s) file) s r result → IsQuiet f → Responded result
     check_responded file result e done still =
-        let a = Check file in
-        responded_as a result e (tells_gave words given s r f a e (Checks (IsFound s) file) (λ status line gives. (gives, refl, refl)) still result done) still (λ asks end. absurd asks)
+        let asked = Check file in
+        responded_as asked result e (tells_gave words given s r f asked e (Checks (IsFound s) file) (λ a gives. (refl, gives)) still result done) still (λ asks end. absurd asks)
 
     pub asm_responded : (file out : List ℕ) (result : Status) → asked_of words ≡ Some (Asm file out) → Did (OnFile (IsFound s) file (Assembles out)) s r result → IsQuiet f → Responded result
     asm_responded file out result e did still =
-        let a = Asm file out in
-        responded_as a result e (did_gave words given s r f a e (OnFile (IsFound s) file (Assembles out)) (λ status line target gives. (gives, refl)) still result did) still (λ asks end. absurd asks)
+        let asked = Asm file out in
+        responded_as asked result e (did_gave words given s r f asked e (OnFile (IsFound s) file (Assembles out)) (λ a gives. (refl, gives)) still result did) still (λ asks end. absurd asks)
 
     pub dis_responded : (file out : List ℕ) (result : Status) → asked_of words ≡ Some (Dis file out) → Did (OnFile (IsFound s) file (Disassembles out)) s r result → IsQuiet f → Responded result
     dis_responded file out result e did still =
-        let a = Dis file out in
-        responded_as a result e (did_gave words given s r f a e (OnFile (IsFound s) file (Disassembles out)) (λ status line target gives. (gives, refl)) still result did) still (λ asks end. absurd asks)
+        let asked = Dis file out in
+        responded_as asked result e (did_gave words given s r f asked e (OnFile (IsFound s) file (Disassembles out)) (λ a gives. (refl, gives)) still result did) still (λ asks end. absurd asks)
 
     pub judge_responded : (file : List ℕ) (memory : ℕ) (result : Status) → asked_of words ≡ Some (Judge file memory) → Tells (Judges (IsFound s) file memory) s r result → IsQuiet f → Responded result
     judge_responded file memory result e done still =
-        let a = Judge file memory in
-        responded_as a result e (tells_gave words given s r f a e (Judges (IsFound s) file memory) (λ status line gives. (gives, refl, refl)) still result done) still (λ asks end. absurd asks)
+        let asked = Judge file memory in
+        responded_as asked result e (tells_gave words given s r f asked e (Judges (IsFound s) file memory) (λ a gives. (refl, gives)) still result done) still (λ asks end. absurd asks)
 
     pub usage_responded : (result : Status) → is_taken words ≡ false → SameCounts s.reads_old s.reads_new → KeepsFiles s → Reports statuses.Usage usage_lines r result → IsQuiet f → Responded result
     usage_responded result refused same kept reports still =

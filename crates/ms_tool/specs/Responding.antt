@@ -3,7 +3,7 @@ use Rattle.std.specs.Prelude.{◌≡◌, ℕ, List, Option, false}
 use Rattle.ms_outside.specs.Shelf.{SameCounts}
 use Rattle.ms_words.specs.Asked.{asked_of, is_taken}
 use Rattle.ms_machine.specs.Crews.{Input, Run}
-use Rattle.ms_run.specs.Answers.{File}
+use Rattle.ms_run.specs.Answers.{Answer}
 use Rattle.ms_run.specs.Flows.{Cuts, FlowsAs}
 use Rattle.ms_run.specs.Observed.{Flow, Report, Shelved}
 use Rattle.ms_run.specs.Reporting.{CountsReads, Delivers, IsFound, IsKept, KeepsFiles}
@@ -11,12 +11,14 @@ use Rattle.ms_run.specs.declared.status.Status.{Status}
 use Rattle.ms_run.specs.declared.status.Status.TheVariants.{OutOfMemory, Usage}
 use Rattle.ms_tool.specs.Top.{AsksRun, Gives}
 
--- An answer of the table was delivered, that of usage exactly for words that are refused; or a run was cut short by a fault of
--- its input or output; or memory ran out before there was an answer.
+-- An answer of the table was delivered, that of usage exactly for words that are refused; or a run was cut short by a
+-- fault of its input or output; or memory ran out before there was an answer.
 pub data Responds (words : List (List ℕ)) (given : Input) (s : Shelved) (r : Report) (f : Flow) : Status → Type 0 where
-  gave : {result : Status} (ran : Option Run) (status : Status) (line : List ℕ) (file : Option File)
-      → Gives words (IsFound s) given ran status line file → CountsReads s status → FlowsAs given f ran → Delivers status line file s r result
-      → (status ≡ Usage → is_taken words ≡ false) → (is_taken words ≡ false → status ≡ Usage)
+  gave : {result : Status} (ran : Option Run) (a : Answer)
+      → Gives words (IsFound s) given ran a → CountsReads s a.status → FlowsAs given f ran → Delivers a s r result
+      → (a.status ≡ Usage → is_taken words ≡ false) → (is_taken words ≡ false → a.status ≡ Usage)
       → Responds words given s r f result
-  stopped : {result : Status} → AsksRun (asked_of words) → SameCounts s.reads_old s.reads_new → KeepsFiles s → Cuts r f result → Responds words given s r f result
+  stopped : {result : Status}
+      → AsksRun (asked_of words) → SameCounts s.reads_old s.reads_new → KeepsFiles s → Cuts r f result
+      → Responds words given s r f result
   nothing : SameCounts s.reads_old s.reads_new → KeepsFiles s → IsKept r → Responds words given s r f OutOfMemory

@@ -5,7 +5,7 @@ ghost use Rattle.ms_job.specs.declared.job.Job.{Job};
 ghost use Rattle.ms_machine.specs.Crews.{Input, Run};
 ghost use Rattle.ms_machine.specs.Running.{MayGive};
 ghost use Rattle.ms_outside.specs.Files.{Files};
-ghost use Rattle.ms_run.specs.Answers.{File};
+ghost use Rattle.ms_run.specs.Answers.{Answer};
 ghost use Rattle.ms_run.specs.SafeRuns.{IsEnd, RanSafely};
 ghost use Rattle.ms_run.specs.Reporting.{Grows, HasWritten, Holds};
 ghost use Rattle.ms_run.specs.declared.status.Status.{Status};
@@ -75,12 +75,12 @@ pub fn tool<F: Shelf, I: Source, O: Sink, R: Sink>(
 
     // What the table gives for known files, whatever the input may give, is the answer, unless a fault is met or memory
     // runs out. An input that tells its bytes gives these.
-    ensures complete { (known : Files) (ran : Input → Option Run) (status : Status) (line : List ℕ) (file : Option File)
+    ensures complete { (known : Files) (ran : Input → Option Run) (answer : Answer)
         → F.files shelf.old ≡ Some known
         → ((given : Input) → MayGive (I.left input.old) given
-        → Gives (map (λ w. w.now) words.now) (Holds (Some known)) given (ran given) status line file)
-        → ((result ≡ status) × Grows (reported R.held R.faults report.old report.new) line
-        × HasWritten (shelved F.files F.read_faults F.write_faults shelf.old shelf.new) file) ⊎ IsFaulty result }
+        → Gives (map (λ w. w.now) words.now) (Holds (Some known)) given (ran given) answer)
+        → ((result ≡ answer.status) × Grows (reported R.held R.faults report.old report.new) answer.report
+        × HasWritten (shelved F.files F.read_faults F.write_faults shelf.old shelf.new) answer.file) ⊎ IsFaulty result }
 
     // Where the words ask for a run and it has come to an end, this is a run of all modules that link, by the job's
     // tasks, schedule and budget: the status, the report, the file of the trace, the input and the output are its own;

@@ -18,4 +18,4 @@ returns-in-Ok-clause-printed g c =
 pub returns-in-Err-clause-printed : goal.returns-in-Err-clause-printed
 returns-in-Err-clause-printed g c =
     let s = shelved g.F.Shelf.files g.F.Shelf.read_faults g.F.Shelf.write_faults c.args.shelf.now c.load_file.new.shelf in
-    tells_more (Unloaded (IsFound s) [] c.args.file.now) (Checks (IsFound s) c.args.file.now) (λ status line h. unchecked h) s _ c.in-Err.status c.in-Err.ensures.printed
+    tells_more (Unloaded (IsFound s) [] c.args.file.now) (Checks (IsFound s) c.args.file.now) (λ a h. unchecked h) s _ c.in-Err.status c.in-Err.ensures.printed

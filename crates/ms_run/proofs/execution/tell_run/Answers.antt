@@ -17,7 +17,7 @@ returns-in_default-trace-clause-printed g c = λ text is.
     let r = reported g.R.Sink.held g.R.Sink.faults c.args.report.now c.answer.new.report in
     let all = text ++ dumped telling c.args.store.now.segments in
     let whole : c.as_slice.result.now ≡ all = c.as_slice.ensures.value ∙ (c.in-Ok.ensures text is ∙ ap (λ (m : Memory). text ++ dumped telling m) c.segments.ensures) in
-    subst (λ (file : Option File). Delivers c.args.status all file s r c.answer.result) (sym (untraced telling c.args.events.now c.in_default-trace.is))
+    subst (λ (file : Option File). Delivers (record { status = c.args.status; report = all; file = file }) s r c.answer.result) (sym (untraced telling c.args.events.now c.in_default-trace.is))
     (put (refl, refl) (subst (λ (t : List ℕ). Reports c.args.status t r c.answer.result) whole c.answer.ensures))
 
 pub returns-in_default-print_trace-clause-printed : goal.returns-in_default-print_trace-clause-printed

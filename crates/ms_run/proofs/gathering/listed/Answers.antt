@@ -16,7 +16,7 @@ pub returns-in-Err-clause-printed : goal.returns-in-Err-clause-printed
 returns-in-Err-clause-printed g c =
     let s = shelved g.F.Shelf.files g.F.Shelf.read_faults g.F.Shelf.write_faults c.args.shelf.now c.fetch.new.shelf in
     let name = c.args.file.now in
-    tells_more (Unfound (IsFound s) name) (Unnumbered (IsFound s) name) (λ status line h. no_file h) s _ c.in-Err.status c.in-Err.ensures.printed
+    tells_more (Unfound (IsFound s) name) (Unnumbered (IsFound s) name) (λ a h. no_file h) s _ c.in-Err.status c.in-Err.ensures.printed
 
 pub returns-in-Err-At-clause-printed : goal.returns-in-Err-At-clause-printed
 returns-in-Err-At-clause-printed g c =

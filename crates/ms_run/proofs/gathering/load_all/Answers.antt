@@ -3,11 +3,10 @@ use Rattle.std.specs.Prelude.{Option}
 use Rattle.std.proofs.lemmas.Option.{slice_get-get_or}
 use Rattle.ms_module.specs.declared.module.Module.{Module}
 use Rattle.ms_outside.specs.Files.{Files}
-use Rattle.ms_run.specs.Answers.{HasModule, Unloaded}
+use Rattle.ms_run.specs.Answers.{Answer, HasModule, Unloaded}
 use Rattle.ms_run.specs.Jobs.{FirstUnloaded, what_of}
 use Rattle.ms_run.specs.Observed.{shelved}
 use Rattle.ms_run.specs.Reporting.{Holds, IsFound}
-use Rattle.ms_run.specs.declared.status.Status.{Status}
 use Rattle.ms_run.proofs.Finding.{unloaded_more}
 use Rattle.ms_run.proofs.Gathered.{IsLoading, first_printed, none_loaded, one_loaded, starved_printed}
 use Rattle.ms_run.proofs.Later.{found_later, tells_later, untouched_later}
@@ -32,8 +31,8 @@ returns-in-Err-clause-printed g c =
     let found = slice_get-get_or whole l.named-index item c.loop-named-test.true ∙ ap Some (sym c.named-item.is) in
     let more = found_later _ _ (g.F.Shelf.files now.shelf) _ _ _ _ _ (g.F.Shelf.write_faults now.shelf) _ _ (g.R.Sink.held now.report) _ _ (g.R.Sink.faults now.report) l.invariant.2 in
     tells_later _ _ _ _ _ _ _ _ _ _ _ _ _ _ _ (Unloaded (IsFound here) (what_of c.args.naming l.number) item.1) (FirstUnloaded (IsFound s) c.args.naming 0 whole)
-    (λ (status : Status) (line : List ℕ) (h : Unloaded (IsFound here) (what_of c.args.naming l.number) item.1 status line).
-    first_printed s c.args.naming whole l.modules.items l.number l.named-index item found l.invariant.0 status line (unloaded_more (IsFound here) (IsFound s) more (what_of c.args.naming l.number) item.1 status line h))
+    (λ (a : Answer) (h : Unloaded (IsFound here) (what_of c.args.naming l.number) item.1 a).
+    first_printed s c.args.naming whole l.modules.items l.number l.named-index item found l.invariant.0 a (unloaded_more (IsFound here) (IsFound s) more (what_of c.args.naming l.number) item.1 a h))
     l.invariant.2 c.in-Err.status c.in-Err.ensures.printed
 
 pub returns-in_default-clause-printed : goal.returns-in_default-clause-printed

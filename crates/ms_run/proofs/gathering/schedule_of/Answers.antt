@@ -1,8 +1,8 @@
 use Rattle.std.proofs.Common.{List, ℕ, subst}
+use Rattle.ms_run.specs.Answers.{Answer}
 use Rattle.ms_run.specs.Jobs.{HasNumbers, Unnumbered, Unscheduled, in_turns, listed, unlisted}
 use Rattle.ms_run.specs.Observed.{shelved}
 use Rattle.ms_run.specs.Reporting.{Holds, IsFound}
-use Rattle.ms_run.specs.declared.status.Status.{Status}
 use Rattle.ms_run.proofs.Later.{tells_more}
 use Rattle.ms_run.proofs.gathering.schedule_of.Goals as goal
 
@@ -19,4 +19,4 @@ returns-in-Err-clause-printed g c =
     let s = shelved g.F.Shelf.files g.F.Shelf.read_faults g.F.Shelf.write_faults c.args.shelf.now c.listed.new.shelf in
     let name = c.as_str.result.now in
     tells_more (Unnumbered (IsFound s) name) (Unscheduled (IsFound s) c.args.job.now)
-    (λ (status : Status) (line : List ℕ) (h : Unnumbered (IsFound s) name status line). unlisted c.in-Some.file c.in-Some.is (subst (λ (n : List ℕ). Unnumbered (IsFound s) n status line) c.as_str.ensures h)) s _ c.in-Err.status c.in-Err.ensures.printed
+    (λ (a : Answer) (h : Unnumbered (IsFound s) name a). unlisted c.in-Some.file c.in-Some.is (subst (λ (n : List ℕ). Unnumbered (IsFound s) n a) c.as_str.ensures h)) s _ c.in-Err.status c.in-Err.ensures.printed

@@ -20,4 +20,4 @@ pub returns-in-Err-clause-printed : goal.returns-in-Err-clause-printed
 returns-in-Err-clause-printed g c =
     let name = c.args.file.now in
     let s = shelved g.F.Shelf.files g.F.Shelf.read_faults g.F.Shelf.write_faults c.args.shelf.now c.fetch.new.shelf in
-    tells_more (Unfound (IsFound s) name) (Judges (IsFound s) name c.args.memory) (λ status line h. unjudged h) s _ c.in-Err.status c.in-Err.ensures.printed
+    tells_more (Unfound (IsFound s) name) (Judges (IsFound s) name c.args.memory) (λ a h. unjudged h) s _ c.in-Err.status c.in-Err.ensures.printed

@@ -15,7 +15,7 @@ returns-in-Ok-load_module-clause-module g c =
 pub returns-in-Err-clause-printed : goal.returns-in-Err-clause-printed
 returns-in-Err-clause-printed g c =
     let s = shelved g.F.Shelf.files g.F.Shelf.read_faults g.F.Shelf.write_faults c.args.shelf.now c.fetch.new.shelf in
-    tells_more (Unfound (IsFound s) c.args.file.now) (Unloaded (IsFound s) c.args.what.now c.args.file.now) (λ status line h. unfound h) s _ c.in-Err.status c.in-Err.ensures.printed
+    tells_more (Unfound (IsFound s) c.args.file.now) (Unloaded (IsFound s) c.args.what.now c.args.file.now) (λ a h. unfound h) s _ c.in-Err.status c.in-Err.ensures.printed
 
 pub returns-clause-printed : goal.returns-clause-printed
 returns-clause-printed g c =

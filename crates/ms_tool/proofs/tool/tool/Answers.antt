@@ -17,7 +17,7 @@ pub returns-clause-memory : goal.returns-clause-memory
 returns-clause-memory g c = let e = c.respond.ensures in memory_clause _ e.0 _ _ _ c.respond.result e.1 e.2
 
 pub returns-clause-complete : goal.returns-clause-complete
-returns-clause-complete g c = λ known ran status line file is gives. let e = c.respond.ensures in complete_clause _ e.0 _ _ _ known (ran e.0) status line file c.respond.result e.2 is (gives e.0 e.1)
+returns-clause-complete g c = λ known ran answer is gives. let e = c.respond.ensures in complete_clause _ e.0 _ _ _ known (ran e.0) answer c.respond.result e.2 is (gives e.0 e.1)
 
 pub returns-clause-safe : goal.returns-clause-safe
 returns-clause-safe g c = c.respond.ensures.4
