@@ -167,12 +167,12 @@ defines_function-does n ps r us is s g h e at same params type =
     onto Steps steps-any t (enters_parameters-does ps t good (params-kept s.structs t.structs p.structs ps params)) (λ b u fine q slots.
     let kept = type-kept t.structs u.structs q.structs r (type-kept s.structs t.structs p.structs r type) in
     onto Steps steps-any u (items-does is r false nothing_done u fine kept (nothing-declared (context u) r false)) (λ d v fair z j.
-    onto Quiet quietly-any v (closed-does v fair) (λ c w sound y k.
+    onto Quiet quietly-any v (closed-does v fair) (λ c w well y k.
     let all = steps-onward s t w (quiet-steps s t p) (steps-onward t u w q (steps-onward u v w z (quiet-steps v w y))) in
     let there = (steps-grows s w all).functions n (function r us) at in
     let listed : u.slots ≡ list_of us = slots ∙ ap (λ xs. xs ++ types-in ps) (p.slots ∙ e) ∙ sym (types-listed ps) ∙ ap (λ ts. list_of ts) (sym same) in
     let behind : w.slots ≡ list_of us ++ z.slots.0 = y.slots ∙ z.slots.1 ∙ ap (λ xs. xs ++ z.slots.0) listed in
-    with_body-does n (scope_of d) r us z.slots.0 w sound (held-widened s w sound (steps-widens s w all) h) there behind
+    with_body-does n (scope_of d) r us z.slots.0 w well (held-widened s w well (steps-widens s w all) h) there behind
     (scope-is (context w) r false d (declaring-grown (context v) (context w) (quiet-grows v w y) r false d j))))))
 
 definition-does : (b : Ty) (d : Declarator) (is : Items) (s : State) → Good s → Held s → s.slots ≡ [] → IsBase s.structs b → Does Any (definition b d is) s Whole

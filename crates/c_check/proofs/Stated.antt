@@ -218,8 +218,8 @@ mutual
       calmly u (test_of-does c u fine) (λ test v fair z k.
       calmly v (step_of-does b v fair) (λ step w kind y m.
       let type = type-kept t.structs w.structs (steps-behind t u v w q z y).structs r (type-kept s.structs t.structs p.structs r h) in
-      stepping w (statement-does body r true w kind type) (λ x e sound f n.
-      calmly e (closed-does e sound) (λ x2 o whole o' n'.
+      stepping w (statement-does body r true w kind type) (λ x e well f n.
+      calmly e (closed-does e well) (λ x2 o whole o' n'.
       let last = steps-grows w o (steps-onward w e o f (quiet-steps e o o')) in
       let dg = steps-grows u o (steps-onward u w o (quiet-steps u w (quiet-onward u v w z y)) (steps-onward w e o f (quiet-steps e o o'))) in
       let tg = steps-grows v o (steps-onward v w o (quiet-steps v w y) (steps-onward w e o f (quiet-steps e o o'))) in

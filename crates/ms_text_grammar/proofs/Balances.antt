@@ -177,13 +177,13 @@ module _ (source : List ℕ) (most : ℕ) where
   unfolding body
   body_balanced s b t h =
       let last = h.0 in
-      let sound = turns_keep (body_goes source most) h.2 (λ os k. k) in
-      subst (λ (x : Body). Balanced [] x.ops) (sym h.3.0) (complete last sound (no_frames last.frames (closes h.1) (run_last {F = TextFault} (body_goes source most) (turn source most) h.2)))
+      let in_step = turns_keep (body_goes source most) h.2 (λ os k. k) in
+      subst (λ (x : Body). Balanced [] x.ops) (sym h.3.0) (complete last in_step (no_frames last.frames (closes h.1) (run_last {F = TextFault} (body_goes source most) (turn source most) h.2)))
 
   pub folded_balanced : (s : List Token) (b : Body) (t : List Token) → (folded_body source most).spelled s b t → Balanced [] b.ops
   unfolding folded_body
   folded_balanced s b t h =
       let first = h.0 in
       let last = h.3.0 in
-      let sound = turns_keep (inside_goes source most) h.3.2 (folded_keeps first_state (λ os k. k) s first h.1 h.2) in
-      subst (λ (x : Body). Balanced [] x.ops) (sym h.3.3.0) (complete last sound (none_open last.frames (run_last {F = TextFault} (inside_goes source most) (turn source most) h.3.2)))
+      let in_step = turns_keep (inside_goes source most) h.3.2 (folded_keeps first_state (λ os k. k) s first h.1 h.2) in
+      subst (λ (x : Body). Balanced [] x.ops) (sym h.3.3.0) (complete last in_step (none_open last.frames (run_last {F = TextFault} (inside_goes source most) (turn source most) h.3.2)))
