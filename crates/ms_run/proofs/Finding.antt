@@ -4,7 +4,7 @@ use Rattle.std.specs.Prelude.{Option, length}
 use Rattle.ms_module.specs.declared.module.Module.{Module}
 use Rattle.ms_machine.specs.Crews.{Input, Run}
 use Rattle.ms_job.specs.declared.job.Job.{Job}
-use Rattle.ms_run.specs.Answers.{Answer, Command, Contents, Fault, Found, HasBytes, HasModule, OnFile, Unfound, Unloaded, Checks, checked, unchecked, invalid, no_file, on_file, overlong, unfound, unread, unreadable}
+use Rattle.ms_run.specs.Answers.{Answer, Contents, Fault, Found, HasBytes, HasModule, Unfound, Unloaded, invalid, no_file, overlong, unfound, unread, unreadable}
 use Rattle.ms_run.specs.Jobs.{AllLoaded, FirstUnloaded, HasEntries, HasNumbers, RunOfJob, RunsJob, Unnumbered, Unscheduled, executed, here, in_turns, later, listed, no_more, no_number, one_more, unlisted, unloaded, unscheduled}
 use Rattle.ms_run.specs.Jobs as jobs
 use Rattle.ms_run.specs.Observed.{Shelved}
@@ -28,14 +28,6 @@ module _ (Has Has' : List ℕ → Found → Type 0) (more : (name : List ℕ) (f
   unloaded_more what name a (unfound h) = unfound (unfound_more name a h)
   unloaded_more what name a (unread bytes h not) = unread bytes (bytes_more name bytes h) not
   unloaded_more what name a (invalid bytes m part h spelled wrong) = invalid bytes m part (bytes_more name bytes h) spelled wrong
-
-  pub checks_more : (name : List ℕ) (a : Answer) → Checks Has name a → Checks Has' name a
-  checks_more name a (unchecked h) = unchecked (unloaded_more [] name a h)
-  checks_more name a (checked m h) = checked m (module_more name m h)
-
-  pub file_more : (name : List ℕ) (Does : Command) (a : Answer) → OnFile Has name Does a → OnFile Has' name Does a
-  file_more name Does a (no_file h) = no_file (unfound_more name a h)
-  file_more name Does a (on_file bytes h does) = on_file bytes (bytes_more name bytes h) does
 
   pub all_more : (files : List (List ℕ × List ℕ)) (modules : List (List ℕ × Module)) → AllLoaded Has files modules → AllLoaded Has' files modules
   all_more files modules no_more = no_more

@@ -1,5 +1,5 @@
 -- What `exec` and `run` did, put together from its parts: reading the files of a job, and running it.
-use Rattle.std.proofs.Common.{◌≡◌, ◌∙◌, ◌≤◌, ◌≢◌, ℕ, suc, inr, List, ◌∷◌, length, map, refl, sym, ap, subst, arith}
+use Rattle.std.proofs.Common.{◌≡◌, ◌∙◌, ◌≤◌, ◌≢◌, ℕ, inr, List, ◌∷◌, length, map, refl, sym, ap, subst, arith}
 use Rattle.std.specs.Prelude.{Option, Some, None, Result, Ok, Err}
 use Rattle.ms_words.specs.Commands as options
 use Rattle.ms_job.specs.Bounds.{IsBounded}
@@ -23,11 +23,10 @@ use Rattle.ms_tasks.specs.Schedules.{entries_of}
 use Rattle.ms_tasks.specs.Tasks.{crew_of, threads_from}
 use Rattle.ms_tasks.specs.declared.schedule.Schedule.{Schedule}
 use Rattle.ms_tasks.proofs.Leaving.{run_leaves}
-use Rattle.ms_run.specs.Answers.{Answer, Found, Unfound, Unloaded, HasBytes, invalid, overlong, says, unfound, unread, unreadable}
+use Rattle.ms_run.specs.Answers.{Answer, Found, Unfound, HasBytes, says}
 use Rattle.ms_run.specs.Executions.{AnswersAs, EndsAs, Execution, Ran, execution, if_linked, with_threads}
 use Rattle.ms_run.specs.Flows.{DidRun, Flowed, Flows, IsQuiet, IsUnrun, RunsWhole, TellsExecution, cut, delivered, end_cut, end_printed, end_unprinted, nothing_printed, quiet, ran, refused, run_printed, starved_run}
-use Rattle.ms_run.specs.Jobs.{AllLoaded, FirstUnloaded, HasEntries, RunOfFile, RunOfJob, RunsFile, RunsJob, Unnumbered, Unscheduled, exec_job, executed, here, job as of_job, later, no_job, no_job_file, no_more, no_number, one_more, unlisted, unloaded, unscheduled}
-use Rattle.ms_run.specs.Jobs as jobs
+use Rattle.ms_run.specs.Jobs.{AllLoaded, FirstUnloaded, HasEntries, RunOfFile, RunOfJob, RunsFile, RunsJob, Unscheduled, exec_job, executed, here, job as of_job, no_job, no_job_file, no_more, one_more, unloaded, unscheduled}
 use Rattle.ms_run.specs.Lines.{job_line}
 use Rattle.ms_run.specs.Observed.{Flow, Report, Shelved}
 use Rattle.ms_run.specs.Reporting.{Holds, IsFound, IsKept, IsUntouched, KeepsFiles, Reports, ReportsJobFault, Tells, put, printed, unprinted}
@@ -38,6 +37,7 @@ use Rattle.ms_run.specs.declared.status.Status.{Status}
 use Rattle.ms_run.specs.declared.status.Status.TheVariants.{OutOfMemory, Refused}
 use Rattle.ms_run.proofs.Ending.{of_delivers, of_reports, whole_part}
 use Rattle.ms_run.proofs.Finding.{all_more, entries_more, held_found, runs_job_more, unscheduled_more}
+use Rattle.ms_run.proofs.Refusals.{OfRefusals, of_first, of_unfound, of_unscheduled}
 use Rattle.ms_run.proofs.Later.{execution_later, first, first_report, found_later, report_of, run_later, second, second_report, tells_later, untouched_later, whole, whole_report}
 
 -- ---- a run takes from the front of what the input gives
@@ -59,25 +59,8 @@ execution_leaves modules tasks entries capacity given run e = linked_leave tasks
 
 -- ---- answers of no run
 
-pub unfound_unrun : (Has : List ℕ → Found → Type 0) (name : List ℕ) (a : Answer) → Unfound Has name a → IsUnrun a.status
-unfound_unrun Has name a (unreadable h) = tt
-unfound_unrun Has name a (overlong bytes h long) = tt
-
-unloaded_unrun : (Has : List ℕ → Found → Type 0) (what name : List ℕ) (a : Answer) → Unloaded Has what name a → IsUnrun a.status
-unloaded_unrun Has what name a (unfound h) = unfound_unrun Has name a h
-unloaded_unrun Has what name a (unread bytes h not) = tt
-unloaded_unrun Has what name a (invalid bytes m part h spelled wrong) = tt
-
-pub first_unrun : (Has : List ℕ → Found → Type 0) (naming : Naming) (number : ℕ) (files : List (List ℕ × List ℕ)) (a : Answer) → FirstUnloaded Has naming number files a → IsUnrun a.status
-first_unrun Has naming number files a (here n name file fs h) = unloaded_unrun Has _ file a h
-first_unrun Has naming number files a (later n name file m fs h rest) = first_unrun Has naming (suc n) fs a rest
-
-unnumbered_unrun : (Has : List ℕ → Found → Type 0) (name : List ℕ) (a : Answer) → Unnumbered Has name a → IsUnrun a.status
-unnumbered_unrun Has name a (jobs.no_file h) = unfound_unrun Has name a h
-unnumbered_unrun Has name a (no_number bytes at h not) = tt
-
-pub unscheduled_unrun : (Has : List ℕ → Found → Type 0) (job : Job) (a : Answer) → Unscheduled Has job a → IsUnrun a.status
-unscheduled_unrun Has job a (unlisted name e h) = unnumbered_unrun Has name a h
+pub refusals_unrun : OfRefusals (λ (a : Answer). IsUnrun a.status)
+refusals_unrun = record { read_fault = λ line. tt; too_long = λ line. tt; refused = λ line. tt }
 
 -- ---- what was done
 
@@ -125,12 +108,12 @@ module _ (naming : Naming) (job : Job) (s : Shelved) (r : Report) (f : Flow) whe
   pub unloaded_answered : (files : List (List ℕ × List ℕ)) → files ≡ job.modules → IsQuiet f → (result : Status) → Tells (FirstUnloaded (IsFound s) naming 0 files) s r result → Answered Gives IsRun s r f result
   unloaded_answered files same still result h =
       unrun_answered Gives IsRun s r f (FirstUnloaded (IsFound s) naming 0 files)
-      (λ given a u. unloaded (subst (λ (fs : List (List ℕ × List ℕ)). FirstUnloaded (IsFound s) naming 0 fs a) same u)) (first_unrun (IsFound s) naming 0 files) still result h
+      (λ given a u. unloaded (subst (λ (fs : List (List ℕ × List ℕ)). FirstUnloaded (IsFound s) naming 0 fs a) same u)) (of_first refusals_unrun (IsFound s) naming 0 files) still result h
 
   module _ (modules : List (List ℕ × Module)) (all : AllLoaded (Holds s.old) job.modules modules) where
     unscheduled_answered : IsQuiet f → (result : Status) → Tells (Unscheduled (IsFound s) job) s r result → Answered Gives IsRun s r f result
     unscheduled_answered still result h =
-        unrun_answered Gives IsRun s r f (Unscheduled (IsFound s) job) (λ given a u. unscheduled modules (all_more (Holds s.old) (IsFound s) (held_found s) job.modules modules all) u) (unscheduled_unrun (IsFound s) job) still result h
+        unrun_answered Gives IsRun s r f (Unscheduled (IsFound s) job) (λ given a u. unscheduled modules (all_more (Holds s.old) (IsFound s) (held_found s) job.modules modules all) u) (of_unscheduled refusals_unrun (IsFound s) job) still result h
 
     module _ (entries : List ℕ) (scheduled : HasEntries (Holds s.old) job entries) (counts : SameCounts s.reads_old s.reads_new) where
       abbrev run_over : Input → Execution
@@ -238,7 +221,7 @@ module _ (name : List ℕ) (s : Shelved) (r : Report) (f : Flow) where
   IsFileRun given = RunOfFile (Holds s.old) given name
 
   pub unfound_answered : IsQuiet f → (result : Status) → Tells (Unfound (IsFound s) name) s r result → Answered GivesFile IsFileRun s r f result
-  unfound_answered still result h = unrun_answered GivesFile IsFileRun s r f (Unfound (IsFound s) name) (λ given a u. no_job_file u) (unfound_unrun (IsFound s) name) still result h
+  unfound_answered still result h = unrun_answered GivesFile IsFileRun s r f (Unfound (IsFound s) name) (λ given a u. no_job_file u) (of_unfound refusals_unrun (IsFound s) name) still result h
 
   no_job_answered : (bytes : List ℕ) (fault : JobFault) → HasBytes (Holds s.old) name bytes → job_in bytes ≡ Err fault → SameCounts s.reads_old s.reads_new → KeepsFiles s → IsQuiet f → (result : Status) → Reports Refused (job_line fault) r result
       → Answered GivesFile IsFileRun s r f result

@@ -1,3 +1,4 @@
+pub mod Refusals
 pub mod Once
 pub mod Finding
 pub mod Later

@@ -45,6 +45,7 @@ use Rattle.ms_run.specs.declared.status.Status.{Status}
 use Rattle.ms_run.specs.declared.status.Status.TheVariants as statuses
 use Rattle.ms_run.specs.declared.telling.Telling.{Telling}
 use Rattle.ms_text_grammar.proofs.Files.{one_module as one_text}
+use Rattle.ms_run.proofs.Refusals.{OfRefusals, of_first, of_unfound, of_unloaded, of_unscheduled}
 
 -- ---- bytes that spell no module
 
@@ -507,46 +508,29 @@ pub disassembles_ordinary : (out bytes : List ℕ) (a : Answer) → Disassembles
 disassembles_ordinary out bytes a (unread_binary h) = tt
 disassembles_ordinary out bytes a (disassembled m h) = tt
 
+refusals_ordinary : OfRefusals (λ (a : Answer). IsOrdinary a.status)
+refusals_ordinary = record { read_fault = λ line. tt; too_long = λ line. tt; refused = λ line. tt }
+
 module _ (Has : List ℕ → Found → Type 0) where
-  unfound_ordinary : (name : List ℕ) (a : Answer) → Unfound Has name a → IsOrdinary a.status
-  unfound_ordinary name a (unreadable h) = tt
-  unfound_ordinary name a (overlong bytes h long) = tt
-
-  unloaded_ordinary : (what name : List ℕ) (a : Answer) → Unloaded Has what name a → IsOrdinary a.status
-  unloaded_ordinary what name a (unfound h) = unfound_ordinary name a h
-  unloaded_ordinary what name a (unread bytes h not) = tt
-  unloaded_ordinary what name a (invalid bytes m part h spelled wrong) = tt
-
   pub checks_ordinary : (name : List ℕ) (a : Answer) → Checks Has name a → IsOrdinary a.status
-  checks_ordinary name a (unchecked h) = unloaded_ordinary [] name a h
+  checks_ordinary name a (unchecked h) = of_unloaded refusals_ordinary Has [] name a h
   checks_ordinary name a (checked m h) = tt
 
   pub file_ordinary : (name : List ℕ) (Does : Command) → ((bytes : List ℕ) (a : Answer) → Does bytes a → IsOrdinary a.status)
       → (a : Answer) → OnFile Has name Does a → IsOrdinary a.status
-  file_ordinary name Does all a (no_file h) = unfound_ordinary name a h
+  file_ordinary name Does all a (no_file h) = of_unfound refusals_ordinary Has name a h
   file_ordinary name Does all a (on_file bytes h does) = all bytes a does
 
-  first_ordinary : (naming : Naming) (number : ℕ) (files : List (List ℕ × List ℕ)) (a : Answer) → FirstUnloaded Has naming number files a → IsOrdinary a.status
-  first_ordinary naming number files a (here n name file fs h) = unloaded_ordinary (what_of naming n) file a h
-  first_ordinary naming number files a (later n name file m fs h first) = first_ordinary naming (suc n) fs a first
-
-  unnumbered_ordinary : (name : List ℕ) (a : Answer) → Unnumbered Has name a → IsOrdinary a.status
-  unnumbered_ordinary name a (jobs.no_file h) = unfound_ordinary name a h
-  unnumbered_ordinary name a (no_number bytes at h not) = tt
-
-  unscheduled_ordinary : (job : Job) (a : Answer) → Unscheduled Has job a → IsOrdinary a.status
-  unscheduled_ordinary job a (unlisted name e h) = unnumbered_ordinary name a h
-
   pub judges_ordinary : (name : List ℕ) (capacity : ℕ) (a : Answer) → Judges Has name capacity a → IsOrdinary a.status
-  judges_ordinary name capacity a (unjudged h) = unfound_ordinary name a h
+  judges_ordinary name capacity a (unjudged h) = of_unfound refusals_ordinary Has name a h
   judges_ordinary name capacity a (judged bytes h verdict) = verdict_ordinary capacity bytes a verdict
 
   pub runs_job_ordinary : (naming : Naming) (given : Input) (job : Job) (p : Option Run) (a : Answer) → RunsJob Has naming given job p a → IsOrdinary a.status
-  runs_job_ordinary naming given job p a (unloaded h) = first_ordinary naming 0 job.modules a h
-  runs_job_ordinary naming given job p a (unscheduled ms all h) = unscheduled_ordinary job a h
+  runs_job_ordinary naming given job p a (unloaded h) = of_first refusals_ordinary Has naming 0 job.modules a h
+  runs_job_ordinary naming given job p a (unscheduled ms all h) = of_unscheduled refusals_ordinary Has job a h
   runs_job_ordinary naming given job p a (executed ms entries all h answers) = execution_ordinary (telling_of job) (execution ms job.tasks entries job.memory given) p a answers
 
   pub runs_file_ordinary : (given : Input) (name : List ℕ) (p : Option Run) (a : Answer) → RunsFile Has given name p a → IsOrdinary a.status
-  runs_file_ordinary given name p a (no_job_file h) = unfound_ordinary name a h
+  runs_file_ordinary given name p a (no_job_file h) = of_unfound refusals_ordinary Has name a h
   runs_file_ordinary given name p a (no_job bytes fault h not) = tt
   runs_file_ordinary given name p a (jobs.job bytes j h is runs) = runs_job_ordinary Numbered given j p a runs

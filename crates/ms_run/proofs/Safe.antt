@@ -36,8 +36,9 @@ use Rattle.ms_run.specs.declared.gathering.Naming.{Naming}
 use Rattle.ms_run.specs.declared.gathering.Naming.TheVariants.{Numbered}
 use Rattle.ms_run.specs.declared.status.Status.{Status}
 use Rattle.ms_run.specs.declared.status.Status.TheVariants as statuses
-use Rattle.ms_run.proofs.Jobs.{first_unrun, unfound_unrun, unscheduled_unrun}
+use Rattle.ms_run.proofs.Jobs.{refusals_unrun}
 use Rattle.ms_run.proofs.Once.{all_known, entries_known}
+use Rattle.ms_run.proofs.Refusals.{of_first, of_unfound, of_unscheduled}
 
 module _ (modules : List (List ℕ × Module)) (tasks : List (ℕ × List ℕ)) (entries : List ℕ) (capacity : ℕ) (given : Input) where
   -- the modules are linked to a store, in which all tasks have functions
@@ -133,8 +134,8 @@ module _ (s : Shelved) (r : Report) (f : Flow) (naming : Naming) (given : Input)
         }
 
   answer_safely : (ran : Option Run) (a : Answer) → FlowsAs given f ran → Grows r a.report → HasWritten s a.file → (result : Status) → result ≡ a.status → IsEnd a.status → RunsJob (IsFound s) naming given job ran a → RanSafely s r f job result
-  answer_safely ran a flows grown written result is end (unloaded h) = absurd (never_end a.status (first_unrun (IsFound s) naming 0 job.modules a h) end)
-  answer_safely ran a flows grown written result is end (unscheduled modules all h) = absurd (never_end a.status (unscheduled_unrun (IsFound s) job a h) end)
+  answer_safely ran a flows grown written result is end (unloaded h) = absurd (never_end a.status (of_first refusals_unrun (IsFound s) naming 0 job.modules a h) end)
+  answer_safely ran a flows grown written result is end (unscheduled modules all h) = absurd (never_end a.status (of_unscheduled refusals_unrun (IsFound s) job a h) end)
   answer_safely ran a flows grown written result is end (executed modules entries all scheduled h) =
       executed_safely ran a flows grown written result is end modules entries all scheduled (execution modules job.tasks entries job.memory given) refl h
 
@@ -165,7 +166,7 @@ module _ (s : Shelved) (r : Report) (f : Flow) (given : Input) (may : MayGive f.
   FileSafely name result = (job : Job) × ((bytes : List ℕ) × HasBytes (Holds s.old) name bytes × (job_in bytes ≡ Ok job)) × RanSafely s r f job result
 
   file_by : (name : List ℕ) (ran : Option Run) (a : Answer) → FlowsAs given f ran → Grows r a.report → HasWritten s a.file → (result : Status) → result ≡ a.status → IsEnd a.status → RunsFile (IsFound s) given name ran a → FileSafely name result
-  file_by name ran a flows grown written result same end (no_job_file h) = absurd (never_end a.status (unfound_unrun (IsFound s) name a h) end)
+  file_by name ran a flows grown written result same end (no_job_file h) = absurd (never_end a.status (of_unfound refusals_unrun (IsFound s) name a h) end)
   file_by name ran a flows grown written result same end (no_job bytes fault h is) = absurd end
   file_by name ran a flows grown written result same end (of_file bytes job h is runs) =
       let bounds = job_is_bounded bytes job is in

@@ -1,31 +1,32 @@
 -- Which file an answer of the tables writes: none, or the one that was asked for.
-use Rattle.std.proofs.Common.{◌≡◌, ◌∙◌, ℕ, suc, List, [], sym, ap}
-use Rattle.std.specs.Prelude.{Option, Some}
+use Rattle.std.proofs.Common.{◌≡◌, ◌∙◌, ℕ, List, [], refl, sym, ap}
+use Rattle.std.specs.Prelude.{Option, Some, None}
 use Rattle.ms_job.specs.declared.job.Job.{Job}
 use Rattle.ms_machine.specs.Crews.{Input, Run, events_of}
-use Rattle.ms_run.specs.Answers.{Answer, Assembles, Checks, Command, Disassembles, File, Found, Judges, OnFile, Unfound, Unloaded, Verdict, says}
+use Rattle.ms_run.specs.Answers.{Answer, Assembles, Checks, Command, Disassembles, File, Found, Judges, OnFile, Unfound, Verdict, says}
 use Rattle.ms_run.specs.Answers as table
 use Rattle.ms_run.specs.Executions.{AnswersAs, Execution, NoTask, Ran, Unlinked, execution}
-use Rattle.ms_run.specs.Jobs.{FirstUnloaded, RunsJob, Unnumbered, Unscheduled}
+use Rattle.ms_run.specs.Jobs.{RunsJob}
 use Rattle.ms_run.specs.Jobs as jobs
 use Rattle.ms_run.specs.Telling.{telling_of}
 use Rattle.ms_run.specs.declared.gathering.Naming.{Naming}
 use Rattle.ms_run.specs.declared.status.Status.{Status}
 use Rattle.ms_run.specs.declared.telling.Telling.{Telling}
 use Rattle.ms_run.proofs.Ending.{same_file, traced_name}
+use Rattle.ms_run.proofs.Refusals.{OfRefusals, of_first, of_unfound, of_unloaded, of_unscheduled}
 
--- this answer writes no file
+refusals_write_none : OfRefusals (λ (a : Answer). a.file ≡ None)
+refusals_write_none = record { read_fault = λ line. refl; too_long = λ line. refl; refused = λ line. refl }
+
+-- an answer that writes no file doesn't write this one
+not_both : (a : Answer) (file : File) → a.file ≡ None → a.file ≡ Some file → ⊥
+not_both a file none some = let both = sym none ∙ some in cc
+
 pub wrote_none : (a : Answer) (status : Status) (line : List ℕ) (file : File) → a ≡ says status line → a.file ≡ Some file → ⊥
-wrote_none a status line file is e = let both = sym (ap (λ (x : Answer). x.file) is) ∙ e in cc
+wrote_none a status line file is e = not_both a file (ap (λ (x : Answer). x.file) is) e
 
 pub unfound_target : (Has : List ℕ → Found → Type 0) (name : List ℕ) (file : File) (a : Answer) → Unfound Has name a → a.file ≡ Some file → ⊥
-unfound_target Has name file a (table.unreadable h) e = cc
-unfound_target Has name file a (table.overlong bytes h long) e = cc
-
-unloaded_target : (Has : List ℕ → Found → Type 0) (what name : List ℕ) (file : File) (a : Answer) → Unloaded Has what name a → a.file ≡ Some file → ⊥
-unloaded_target Has what name file a (table.unfound h) e = unfound_target Has name file a h e
-unloaded_target Has what name file a (table.unread bytes h not) e = cc
-unloaded_target Has what name file a (table.invalid bytes m part h spelled wrong) e = cc
+unfound_target Has name file a h e = not_both a file (of_unfound refusals_write_none Has name a h) e
 
 verdict_target : (capacity : ℕ) (bytes : List ℕ) (file : File) (a : Answer) → Verdict capacity bytes a → a.file ≡ Some file → ⊥
 verdict_target capacity bytes file a (table.no_event n h) e = cc
@@ -47,23 +48,12 @@ module _ (Has : List ℕ → Found → Type 0) where
   file_target name out Does file a targets (table.on_file bytes h does) e = targets bytes a does e
 
   pub checks_target : (name : List ℕ) (file : File) (a : Answer) → Checks Has name a → a.file ≡ Some file → ⊥
-  checks_target name file a (table.unchecked h) e = unloaded_target Has [] name file a h e
+  checks_target name file a (table.unchecked h) e = not_both a file (of_unloaded refusals_write_none Has [] name a h) e
   checks_target name file a (table.checked m h) e = cc
 
   pub judges_target : (name : List ℕ) (capacity : ℕ) (file : File) (a : Answer) → Judges Has name capacity a → a.file ≡ Some file → ⊥
   judges_target name capacity file a (table.unjudged h) e = unfound_target Has name file a h e
   judges_target name capacity file a (table.judged bytes h verdict) e = verdict_target capacity bytes file a verdict e
-
-  first_target : (naming : Naming) (number : ℕ) (files : List (List ℕ × List ℕ)) (file : File) (a : Answer) → FirstUnloaded Has naming number files a → a.file ≡ Some file → ⊥
-  first_target naming number files file a (jobs.here n name from fs h) e = unloaded_target Has _ from file a h e
-  first_target naming number files file a (jobs.later n name from m fs h first) e = first_target naming (suc n) fs file a first e
-
-  unnumbered_target : (name : List ℕ) (file : File) (a : Answer) → Unnumbered Has name a → a.file ≡ Some file → ⊥
-  unnumbered_target name file a (jobs.no_file h) e = unfound_target Has name file a h e
-  unnumbered_target name file a (jobs.no_number bytes at h not) e = cc
-
-  unscheduled_target : (job : Job) (file : File) (a : Answer) → Unscheduled Has job a → a.file ≡ Some file → ⊥
-  unscheduled_target job file a (jobs.unlisted name is h) e = unnumbered_target name file a h e
 
   execution_target : (telling : Telling) (x : Execution) (which : Option Run) (file : File) (a : Answer) → AnswersAs telling x which a → a.file ≡ Some file → telling.trace ≡ Some file.name
   execution_target telling (Unlinked fault) which file a h e = absurd (wrote_none a _ _ file h.1 e)
@@ -71,6 +61,6 @@ module _ (Has : List ℕ → Found → Type 0) where
   execution_target telling (Ran run) which file a h e = traced_name telling (events_of run.deeds) file (sym h.1.3 ∙ e)
 
   pub job_target : (naming : Naming) (given : Input) (job : Job) (which : Option Run) (file : File) (a : Answer) → RunsJob Has naming given job which a → a.file ≡ Some file → job.trace ≡ Some file.name
-  job_target naming given job which file a (jobs.unloaded h) e = absurd (first_target naming 0 job.modules file a h e)
-  job_target naming given job which file a (jobs.unscheduled ms all h) e = absurd (unscheduled_target job file a h e)
+  job_target naming given job which file a (jobs.unloaded h) e = absurd (not_both a file (of_first refusals_write_none Has naming 0 job.modules a h) e)
+  job_target naming given job which file a (jobs.unscheduled ms all h) e = absurd (not_both a file (of_unscheduled refusals_write_none Has job a h) e)
   job_target naming given job which file a (jobs.executed ms entries all h answers) e = execution_target (telling_of job) (execution ms job.tasks entries job.memory given) which file a answers e
