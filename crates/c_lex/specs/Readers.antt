@@ -38,9 +38,9 @@ ReadsPart old new (Ok x) read = (read ≡ Ok (x.now, new.left)) × (new.end ≡ 
 ReadsPart old new (Err e) read = FailsBy (fault_of e) read
 
 -- the same where the answer is what a state has become
-abbrev pub Turns : {S : Type 0} → S → Spot → Spot → Result (Unit {0}) CLex → Result (S × List ℕ) Fault → Type 0
-Turns after old new (Ok x) read = (read ≡ Ok (after, new.left)) × (new.end ≡ old.end)
-Turns after old new (Err e) read = FailsBy (fault_of e) read
+abbrev pub StepsTo : {S : Type 0} → S → Spot → Spot → Result (Unit {0}) CLex → Result (S × List ℕ) Fault → Type 0
+StepsTo after old new (Ok x) read = (read ≡ Ok (after, new.left)) × (new.end ≡ old.end)
+StepsTo after old new (Err e) read = FailsBy (fault_of e) read
 
 -- this is the first fault of the bytes, unless memory ran out
 abbrev pub FirstFault : List ℕ → Option Fault → Type 0

@@ -5,7 +5,7 @@ ghost use Rattle.ms_bytes.specs.Format.{Format};
 ghost use Rattle.ms_bytes.specs.Items.{item_at};
 ghost use Rattle.ms_bytes.specs.Runs.{run_at};
 ghost use Rattle.c_lex.specs.Fault.{Fault, any, char_here};
-ghost use Rattle.c_lex.specs.Readers.{Reads, Turns};
+ghost use Rattle.c_lex.specs.Readers.{Reads, StepsTo};
 
 use crate::fault::CLex;
 use ms_bytes::Cursor;
@@ -22,7 +22,7 @@ pub trait Steps: Sized + Drop {
 
     /// Takes a step.
     fn step(&mut self, c: &mut Cursor) -> Result<(), CLex>
-        ensures { Turns self.new c.old c.new result ((step c.old.end self.old).read c.old.end c.old.left) };
+        ensures { StepsTo self.new c.old c.new result ((step c.old.end self.old).read c.old.end c.old.left) };
 }
 
 /// Takes all steps from a state on.

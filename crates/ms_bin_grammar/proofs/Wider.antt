@@ -15,7 +15,7 @@ use Rattle.ms_bin_grammar.specs.Bounds.{Bounds}
 use Rattle.ms_bin_grammar.specs.Faults.{Binary}
 use Rattle.ms_bin_grammar.specs.Numbers.{vec}
 use Rattle.ms_bin_grammar.specs.Sizes.{sized}
-use Rattle.ms_bin_grammar.specs.Body.{block_rows, body, goes_on, turn, turns}
+use Rattle.ms_bin_grammar.specs.Body.{block_rows, body, goes_on, advance, advance_codes}
 use Rattle.ms_bin_grammar.specs.Module.{SpellsWithin, element, fill, func, funcs, global, has_more, locals, module_format, more_locals, section, section_rows}
 use Rattle.ms_bin_grammar.proofs.Spelling.{one_module}
 
@@ -87,13 +87,13 @@ module _ (a b : ℕ) (le : a ≤ b) where
       let more = ltb_more (length st.blocks) a b le in
       (refl, λ s x t h. (more h.0, h.1)) & (refl, λ s x t h. (more h.0, h.1)) & (refl, λ s x t h. (more h.0, h.1)) & (refl, λ s x t h. h) & (refl, λ s x t h. h) & tt
 
-  turn_wide : (st : State) → Wide (turn a st) (turn b st)
-  unfolding turn turns
-  turn_wide st s x t h = (h.0, h.1, h.2, among_wide (block_rows a st) (block_rows b st) _ (block_rows_wide st) h.0 h.1 x t h.3)
+  advance_wide : (st : State) → Wide (advance a st) (advance b st)
+  unfolding advance advance_codes
+  advance_wide st s x t h = (h.0, h.1, h.2, among_wide (block_rows a st) (block_rows b st) _ (block_rows_wide st) h.0 h.1 x t h.3)
 
   body_wide : Wide (body a) (body b)
   unfolding body
-  body_wide s x t h = (h.0, h.1, runs_wide goes_on (turn a) (turn b) turn_wide h.2, h.3)
+  body_wide s x t h = (h.0, h.1, runs_wide goes_on (advance a) (advance b) advance_wide h.2, h.3)
 
 -- ---- modules
 

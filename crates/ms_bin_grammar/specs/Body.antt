@@ -15,7 +15,7 @@ use Rattle.ms_bytes.specs.Choice.{among, coded, followed}
 use Rattle.ms_module.specs.declared.instr.Instr.{Instr}
 use Rattle.ms_module.specs.declared.builder.Opening.{Opening}
 use Rattle.ms_module.specs.Instructions.{Row, else_code, end_code, opening_rows}
-use Rattle.ms_module.specs.Building.{State, begun, closed, first_state, may_turn, placed, turned}
+use Rattle.ms_module.specs.Building.{State, begun, closed, first_state, may_else, placed, after_else}
 use Rattle.ms_bin_grammar.specs.declared.fault.Counted.TheVariants.{Blocks}
 use Rattle.ms_bin_grammar.specs.declared.fault.ReadFault.{ReadFault}
 use Rattle.ms_bin_grammar.specs.declared.fault.ReadFault.TheVariants.{Limit, Malformed}
@@ -34,27 +34,27 @@ openings most st (r ∷ rs) = (r.code, opens most st r.item) ∷ openings most s
 unfoldable pub block_rows : ℕ → State → List (ℕ × Case ReadFault State)
 block_rows most st =
     openings most st opening_rows
-    ++ (else_code, IsIf (may_turn st.blocks) Malformed (pure (turned st)))
+    ++ (else_code, IsIf (may_else st.blocks) Malformed (pure (after_else st)))
     ∷ (end_code, IsIf (nat_lt 0 (length st.blocks)) Malformed (pure (closed st))) ∷ []
 
 -- what an opcode, with what stands behind it, makes of the body
-unfoldable pub turns : ℕ → State → Coded ReadFault State
-turns most st = among (block_rows most st) (followed plain (λ i. pure (placed st i)))
+unfoldable pub advance_codes : ℕ → State → Coded ReadFault State
+advance_codes most st = among (block_rows most st) (followed plain (λ i. pure (placed st i)))
 
-unfoldable pub turn : ℕ → State → Binary State
-turn most st = coded malformed (turns most st)
+unfoldable pub advance : ℕ → State → Binary State
+advance most st = coded malformed (advance_codes most st)
 
 -- whether there is another turn: up to the `end` behind which no block is open
 abbrev pub goes_on : State → List ℕ → Bool
 goes_on st s = nat_lt 0 (length st.blocks) || not (first_is end_code s)
 
-pub turn_takes_byte : (most : ℕ) → TakesItem goes_on (turn most)
-unfolding turn
-turn_takes_byte most = takes_least goes_on (turn most) (λ st. omega arith)
+pub advance_takes_byte : (most : ℕ) → TakesItem goes_on (advance most)
+unfolding advance
+advance_takes_byte most = takes_least goes_on (advance most) (λ st. omega arith)
 
 -- the sequences of a body, with at most so many blocks in one another
 unfoldable pub body : ℕ → Binary (List (List Instr))
 body most = do
-  built ← run malformed goes_on (turn most) (turn_takes_byte most) first_state
+  built ← run malformed goes_on (advance most) (advance_takes_byte most) first_state
   last ← marks malformed (end_code ∷ [])
   pure built.seqs

@@ -6,7 +6,7 @@ use Rattle.ms_bytes.specs.Repetition.{each, repeat, times}
 use Rattle.ms_bin_grammar.specs.declared.fault.ReadFault.{ReadFault}
 use Rattle.ms_bin_grammar.specs.declared.fault.ReadFault.TheVariants.{Float, Limit, Malformed, Memory}
 use Rattle.ms_bin_grammar.specs.Faults.{Binary}
-use Rattle.ms_bin_read.specs.Readers.{Fails}
+use Rattle.ms_bin_read.specs.refinement.Readers.{Fails}
 
 -- what was read before, and what is still read
 abbrev pub with_front : {A : Type 0} → List A → Result (List A × List ℕ) ReadFault → Result (List A × List ℕ) ReadFault

@@ -10,7 +10,7 @@ use Rattle.ms_bin_grammar.specs.Module.{SpellsWithin, Stops, has_more, module_fo
 use Rattle.ms_module.specs.declared.module.Module.{Module}
 use Rattle.ms_bin_grammar.specs.declared.fault.ReadFault.{ReadFault}
 use Rattle.ms_bin_grammar.specs.declared.fault.ReadFault.TheVariants.{Float, Limit, Malformed, Memory}
-use Rattle.ms_bin_read.specs.Readers.{Fails, IsFirstFault}
+use Rattle.ms_bin_read.specs.refinement.Readers.{Fails, IsFirstFault}
 
 -- nothing follows a module
 is_true : (b : Bool) → not b ≡ false → b ≡ true

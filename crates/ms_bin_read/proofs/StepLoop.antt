@@ -5,7 +5,7 @@ use Rattle.ms_bytes.specs.RunLaws.{run_fails}
 use Rattle.ms_bin_grammar.specs.declared.fault.ReadFault.{ReadFault}
 use Rattle.ms_bin_grammar.specs.declared.fault.ReadFault.TheVariants.{Float, Limit, Malformed, Memory}
 use Rattle.ms_bin_grammar.specs.Faults.{Binary, malformed}
-use Rattle.ms_bin_read.specs.Readers.{Fails}
+use Rattle.ms_bin_read.specs.refinement.Readers.{Fails}
 
 module _ {S : Type 0} (going : S → List ℕ → Bool) (step : S → Binary S) (n i : ℕ) (st : S) (end : ℕ) (s : List ℕ) (total : Result (S × List ℕ) ReadFault) (so_far : run_at malformed going step (n - i) st end s ≡ total) where
   pub steps_fail : (e : ReadFault) → i < n → going st s ≡ true → Fails e ((step st).read end s) → Fails e total

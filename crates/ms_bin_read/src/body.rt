@@ -3,9 +3,9 @@
 ghost use Rattle.std.specs.Prelude.{◌≡◌, length};
 ghost use Rattle.ms_bytes.specs.Codes.{case_at};
 ghost use Rattle.ms_module.specs.Numbered.{IsPlain};
-ghost use Rattle.ms_bin_grammar.specs.Body.{body, goes_on, opens, turn, turns};
+ghost use Rattle.ms_bin_grammar.specs.Body.{body, goes_on, opens, advance, advance_codes};
 ghost use Rattle.ms_bin_grammar.specs.Bounds.{usual};
-ghost use Rattle.ms_bin_read.specs.Readers.{Reads, Turns};
+ghost use Rattle.ms_bin_read.specs.refinement.Readers.{Reads, StepsTo};
 
 use crate::instrs::plain_of;
 use crate::items::{byte_of, marks_of};
@@ -18,7 +18,7 @@ use std::alloc::Global;
 
 /// Opens a block, behind its opcode at `at`.
 fn open(b: &mut Builder, at: usize, opening: Opening, c: &mut Cursor) -> Result<(), ReadFault>
-    ensures { Turns b.new c.old c.new result (case_at at (opens usual.blocks b.old opening) c.old.end c.old.left) }
+    ensures { StepsTo b.new c.old c.new result (case_at at (opens usual.blocks b.old opening) c.old.end c.old.left) }
 {
     if b.depth() >= MOST_BLOCKS {
         return Err(ReadFault::Limit {
@@ -32,25 +32,25 @@ fn open(b: &mut Builder, at: usize, opening: Opening, c: &mut Cursor) -> Result<
 }
 
 /// Reads what is behind an opcode at `at`.
-#[tactic(auto, unfolding(ms_bin_grammar::specs::Body::turns, ms_bin_grammar::specs::Body::block_rows, ms_module::specs::Instructions::opening_rows))]
-fn turn_on(
+#[tactic(auto, unfolding(ms_bin_grammar::specs::Body::advance_codes, ms_bin_grammar::specs::Body::block_rows, ms_module::specs::Instructions::opening_rows))]
+fn advance_on(
     alloc: Global,
     b: &mut Builder,
     at: usize,
     code: u8,
     c: &mut Cursor,
 ) -> Result<(), ReadFault>
-    ensures { Turns b.new c.old c.new result ((turns usual.blocks b.old).read at code c.old.end c.old.left) }
+    ensures { StepsTo b.new c.old c.new result ((advance_codes usual.blocks b.old).read at code c.old.end c.old.left) }
 {
     match code {
         0x02 => open(b, at, Opening::Block, c),
         0x03 => open(b, at, Opening::Loop, c),
         0x04 => open(b, at, Opening::If, c),
         ELSE_CODE => {
-            if !b.may_turn() {
+            if !b.may_else() {
                 return Err(ReadFault::Malformed { at });
             }
-            b.turn();
+            b.begin_else();
             Ok(())
         }
         END_CODE => {
@@ -71,17 +71,17 @@ fn turn_on(
 impl Steps for Builder {
     ghost going = { goes_on };
 
-    ghost step = { turn usual.blocks };
+    ghost step = { advance usual.blocks };
 
     fn goes(&self, c: &Cursor) -> bool {
         self.depth() > 0 || !c.next_is(END_CODE)
     }
 
-    #[tactic(auto, unfolding(ms_bin_grammar::specs::Body::turn))]
+    #[tactic(auto, unfolding(ms_bin_grammar::specs::Body::advance))]
     fn step(&mut self, alloc: Global, c: &mut Cursor) -> Result<(), ReadFault> {
         let at = c.at();
         let code = byte_of(c)?;
-        turn_on(alloc, self, at, code, c)
+        advance_on(alloc, self, at, code, c)
     }
 }
 

@@ -5,7 +5,7 @@ ghost use Rattle.ms_bin_grammar.specs.Sizes.{sized};
 ghost use Rattle.ms_bytes.specs.Repetition.{each, repeat};
 ghost use Rattle.ms_bin_grammar.specs.Module.{func, funcs, locals, more_locals};
 ghost use Rattle.ms_bin_grammar.specs.Bounds.{usual};
-ghost use Rattle.ms_bin_read.specs.Readers.{Reads, Turns};
+ghost use Rattle.ms_bin_read.specs.refinement.Readers.{Reads, StepsTo};
 
 use crate::body::body_of;
 use crate::items::{Item, bounded, ended};
@@ -20,7 +20,7 @@ use std::alloc::Global;
 #[tactic(auto, unfolding(ms_bin_grammar::specs::Module::more_locals))]
 fn more_locals_of(alloc: Global, locals: &mut Locals, c: &mut Cursor) -> Result<(), ReadFault>
     requires { length locals.old ≤ usual.locals }
-    ensures read { Turns locals.new c.old c.new result ((more_locals usual locals.old).read c.old.end c.old.left) }
+    ensures read { StepsTo locals.new c.old c.new result ((more_locals usual locals.old).read c.old.end c.old.left) }
     ensures few { IfOk result (λ _. length locals.new ≤ usual.locals) }
 {
     let at = c.at();

@@ -5,7 +5,7 @@ ghost use Rattle.ms_bytes.specs.Codes.{second_at};
 ghost use Rattle.ms_module.specs.Numbered.{IsPlain};
 ghost use Rattle.ms_bin_grammar.specs.Code.{br_table, kind, mem_arg, operations, plain, segment_accesses, segments};
 ghost use Rattle.ms_bin_grammar.specs.declared.fault.ReadFault.TheVariants.{Malformed};
-ghost use Rattle.ms_bin_read.specs.Readers.{Reads};
+ghost use Rattle.ms_bin_read.specs.refinement.Readers.{Reads};
 
 use crate::items::{Item, byte_of, marks_of};
 use crate::numbers::{i32_of, i64_of, u32_of};

@@ -9,7 +9,7 @@ ghost use Rattle.ms_bin_grammar.specs.Faults.{Binary, malformed};
 ghost use Rattle.ms_bytes.specs.Repetition.{times};
 ghost use Rattle.ms_bin_grammar.specs.Numbers.{number, vec};
 ghost use Rattle.ms_bytes.specs.Spot.{Spot};
-ghost use Rattle.ms_bin_read.specs.Readers.{Finds, Reads};
+ghost use Rattle.ms_bin_read.specs.refinement.Readers.{Finds, Reads};
 
 use crate::numbers::u32_of;
 use ms_bin_grammar::ReadFault;

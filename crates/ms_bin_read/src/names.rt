@@ -1,7 +1,7 @@
 //! Reading names (WebAssembly 1.0, 5.2.4).
 
 ghost use Rattle.ms_bin_grammar.specs.Sizes.{name};
-ghost use Rattle.ms_bin_read.specs.Readers.{ReadsPart};
+ghost use Rattle.ms_bin_read.specs.refinement.Readers.{ReadsPart};
 
 use crate::items::Item;
 use ms_bin_grammar::ReadFault;

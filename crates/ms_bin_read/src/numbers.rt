@@ -1,7 +1,7 @@
 //! Reading numbers (WebAssembly 1.0, 5.2.2).
 
 ghost use Rattle.ms_bin_grammar.specs.Numbers.{integer_at, number_at};
-ghost use Rattle.ms_bin_read.specs.Readers.{Reads};
+ghost use Rattle.ms_bin_read.specs.refinement.Readers.{Reads};
 
 use ms_bin_grammar::ReadFault;
 use ms_bytes::Cursor;

@@ -4,7 +4,7 @@ ghost use Rattle.std.specs.Prelude.{◌≡◌};
 ghost use Rattle.ms_bin_grammar.specs.Sizes.{bytes};
 ghost use Rattle.ms_bin_grammar.specs.Module.{element, export, export_desc, fill, global, import, import_desc};
 ghost use Rattle.ms_bin_grammar.specs.Bounds.{usual};
-ghost use Rattle.ms_bin_read.specs.Readers.{Reads};
+ghost use Rattle.ms_bin_read.specs.refinement.Readers.{Reads};
 
 use crate::body::body_of;
 use crate::items::{Item, byte_of};

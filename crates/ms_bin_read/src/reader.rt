@@ -6,7 +6,7 @@ ghost use Rattle.ms_bin_grammar.specs.declared.fault.ReadFault.TheVariants.{Memo
 ghost use Rattle.ms_bin_grammar.specs.Module.{SpellsWithin, Stops, module_format};
 ghost use Rattle.ms_bin_grammar.specs.Bounds.{usual};
 ghost use Rattle.ms_module.specs.declared.module.Module.{Module};
-ghost use Rattle.ms_bin_read.specs.Readers.{IsFirstFault, Reads};
+ghost use Rattle.ms_bin_read.specs.refinement.Readers.{IsFirstFault, Reads};
 
 use crate::items::marks_of;
 use crate::sections::{module_of, no_sections};

@@ -6,7 +6,7 @@ ghost use Rattle.ms_bin_grammar.specs.Numbers.{vec};
 ghost use Rattle.ms_bin_grammar.specs.Types.{table_type};
 ghost use Rattle.ms_bin_grammar.specs.Module.{custom, funcs, has_more, module_of, nothing_yet, section};
 ghost use Rattle.ms_bin_grammar.specs.Bounds.{usual};
-ghost use Rattle.ms_bin_read.specs.Readers.{Reads, Turns};
+ghost use Rattle.ms_bin_read.specs.refinement.Readers.{Reads, StepsTo};
 
 use crate::funcs::funcs_of;
 use crate::items::{Item, bounded, byte_of, ended, sized_of};
@@ -64,7 +64,7 @@ fn sized_tables_of(alloc: Global, c: &mut Cursor) -> Result<Vector<Limits>, Read
 
 /// Reads an item, whose size stands before it, into this place.
 fn read_into<T: Item>(place: &mut T, alloc: Global, c: &mut Cursor) -> Result<(), ReadFault>
-    ensures { Turns place.new c.old c.new result ((sized T.format).read c.old.end c.old.left) }
+    ensures { StepsTo place.new c.old c.new result ((sized T.format).read c.old.end c.old.left) }
 {
     *place = sized_of(alloc, c)?;
     Ok(())
@@ -72,7 +72,7 @@ fn read_into<T: Item>(place: &mut T, alloc: Global, c: &mut Cursor) -> Result<()
 
 /// Reads the table section into this place.
 fn tables_into(place: &mut Vector<Limits>, alloc: Global, c: &mut Cursor) -> Result<(), ReadFault>
-    ensures { Turns place.new c.old c.new result ((sized (vec table_type)).read c.old.end c.old.left) }
+    ensures { StepsTo place.new c.old c.new result ((sized (vec table_type)).read c.old.end c.old.left) }
 {
     *place = sized_tables_of(alloc, c)?;
     Ok(())
@@ -85,7 +85,7 @@ fn funcs_into(
     alloc: Global,
     c: &mut Cursor,
 ) -> Result<(), ReadFault>
-    ensures { Turns place.new c.old c.new result ((sized (funcs usual sigs.now)).read c.old.end c.old.left) }
+    ensures { StepsTo place.new c.old c.new result ((sized (funcs usual sigs.now)).read c.old.end c.old.left) }
 {
     *place = sized_funcs_of(alloc, sigs, c)?;
     Ok(())

@@ -3,7 +3,7 @@
 ghost use Rattle.std.specs.Prelude.{◌≡◌, ℕ, Bool, List, length};
 ghost use Rattle.ms_bytes.specs.Runs.{run_at};
 ghost use Rattle.ms_bin_grammar.specs.Faults.{Binary, malformed};
-ghost use Rattle.ms_bin_read.specs.Readers.{Reads, Turns};
+ghost use Rattle.ms_bin_read.specs.refinement.Readers.{Reads, StepsTo};
 
 use ms_bin_grammar::ReadFault;
 use ms_bytes::Cursor;
@@ -21,7 +21,7 @@ pub trait Steps: Sized + Drop {
 
     /// Takes a step.
     fn step(&mut self, alloc: Global, c: &mut Cursor) -> Result<(), ReadFault>
-        ensures { Turns self.new c.old c.new result ((step self.old).read c.old.end c.old.left) };
+        ensures { StepsTo self.new c.old c.new result ((step self.old).read c.old.end c.old.left) };
 }
 
 /// Takes all steps from a state on. Each takes a byte.

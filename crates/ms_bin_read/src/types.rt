@@ -4,7 +4,7 @@ ghost use Rattle.std.specs.Prelude.{◌≡◌};
 ghost use Rattle.ms_bytes.specs.Repetition.{times};
 ghost use Rattle.ms_bin_grammar.specs.Numbers.{vec};
 ghost use Rattle.ms_bin_grammar.specs.Types.{block_type, func_type, global_type, limits, mutability, table_type, val_type};
-ghost use Rattle.ms_bin_read.specs.Readers.{Reads};
+ghost use Rattle.ms_bin_read.specs.refinement.Readers.{Reads};
 
 use crate::items::{Item, byte_of, marks_of};
 use crate::numbers::u32_of;

@@ -7,7 +7,7 @@ use Rattle.std.proofs.lemmas.List.{length-append, nil_from_length}
 use Rattle.ms_leb.specs.Leb128.{IsUnsigned}
 use Rattle.ms_leb.specs.Shortest.{shortest_unsigned}
 use Rattle.ms_leb.proofs.Spelling.{unsigned_last, unsigned_more, unsigned_spelled}
-use Rattle.ms_bin_write.specs.Ranges.{AllFit}
+use Rattle.ms_flat.specs.refinement.Ranges.{AllFit}
 use Rattle.ms_bin_write.specs.Parts.{number_bytes, sized_bytes, vec_bytes}
 
 -- a fact whatever the answer

@@ -4,7 +4,7 @@ use Rattle.std.specs.Prelude.{◌≢◌}
 use Rattle.ms_types.specs.declared.types.ValType.{ValType}
 use Rattle.ms_types.specs.declared.types.ValType.TheVariants.{I32, I64, Handle}
 use Rattle.ms_module.specs.declared.locals.Run.{Run}
-use Rattle.ms_module.specs.Locals.{BeginsOther, Differ, Rise, types_of}
+use Rattle.ms_module.specs.refinement.Locals.{BeginsOther, Differ, Rise, types_of}
 use Rattle.std.specs.List.{flat_map}
 use Rattle.ms_bin_write.specs.Parts.{number_bytes, vec_bytes}
 use Rattle.ms_bin_write.specs.Written.{Group, group_bytes, groups, joined, locals_bytes, same_type}

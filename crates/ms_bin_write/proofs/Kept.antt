@@ -5,13 +5,14 @@ use Rattle.std.proofs.lemmas.Bool.{cases_lt}
 use Rattle.std.proofs.lemmas.List.Elements.{All-cons, All-head, All-nil, All-tail}
 use Rattle.ms_module.specs.declared.instr.Instr.{Instr}
 use Rattle.ms_module.specs.declared.module.Module.{Module}
-use Rattle.ms_module.specs.Nesting.{NestsWithin}
+use Rattle.ms_module.specs.refinement.Nesting.{NestsWithin}
 use Rattle.ms_module.proofs.Nesting.{nests}
 use Rattle.ms_bin_grammar.specs.Bounds.{Bounds}
 use Rattle.ms_bin_grammar.specs.Module.{Spells, SpellsWithin}
 use Rattle.ms_bin_write.specs.Parts.{number_bytes, vec_bytes}
 use Rattle.ms_bin_write.specs.Types.{func_type_bytes, limits_bytes, table_bytes}
-use Rattle.ms_bin_write.specs.Ranges.{AllFit, CodeFits, ElementFits, FillFits, FuncFits, GlobalFits, ModuleFits}
+use Rattle.ms_flat.specs.refinement.Ranges.{AllFit, CodeFits, ElementFits, GlobalFits}
+use Rattle.ms_bin_write.specs.refinement.Ranges.{FillFits, FuncFits, ModuleFits}
 use Rattle.ms_bin_write.specs.Written.{IsLarge, IsTooMany, KeepsBounds, codes, element_bytes, elements, export_bytes, fill_bytes, func_bytes, global_bytes, import_bytes, sigs_of, exports, fills, globals, imports, indices, memories, tables, types, written}
 use Rattle.ms_bin_write.proofs.SpelledParts.{ElementKeeps, FillKeeps, FuncKeeps, GlobalKeeps}
 use Rattle.ms_bin_grammar.proofs.Wider.{one_spelled}

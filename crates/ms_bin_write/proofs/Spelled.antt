@@ -16,7 +16,8 @@ use Rattle.ms_bin_grammar.specs.Sizes.{name, sized}
 use Rattle.ms_bin_grammar.specs.Types.{block_type, block_types, func_type, global_type, limits, mutability, table_type, val_type, val_types}
 use Rattle.ms_bin_write.specs.Parts.{number_bytes, sized_bytes, vec_bytes}
 use Rattle.ms_bin_write.specs.Types.{block_type_code, func_type_bytes, global_type_bytes, limits_by, limits_bytes, mutability_code, table_bytes, value_bytes, value_code}
-use Rattle.ms_bin_write.specs.Ranges.{AllFit, LimitsFit, NameFits, NumberFitsIf}
+use Rattle.ms_flat.specs.refinement.Ranges.{AllFit, LimitsFit, NumberFitsIf}
+use Rattle.ms_bin_write.specs.refinement.Ranges.{NameFits}
 use Rattle.ms_bin_write.proofs.Counts.{count_few}
 
 -- what is written is spelled so, unless it has too many bytes

@@ -26,7 +26,7 @@ use Rattle.ms_bin_grammar.specs.Numbers.{number, signed, vec}
 use Rattle.ms_bin_grammar.specs.Code.{br_table, cases, form, kind, load, mem_arg, operations, plain, segment_accesses, segments, store}
 use Rattle.ms_bin_write.specs.Parts.{number_bytes, vec_bytes}
 use Rattle.ms_bin_write.specs.Instrs.{kind_code, linear_code, mem_arg_bytes, numeric_code, opcode, operands, segment_code, segment_operands}
-use Rattle.ms_bin_write.specs.Ranges.{AllFit, InstrFits, NumberFits}
+use Rattle.ms_flat.specs.refinement.Ranges.{AllFit, InstrFits, NumberFits}
 use Rattle.ms_bin_write.proofs.Counts.{number_some}
 use Rattle.ms_bin_write.proofs.Found.{is_block_code, load_found, numeric_found, segment_load_found, segment_store_found, store_found}
 use Rattle.ms_bin_write.proofs.Spelled.{Law, before, front_few, number_before, number_law, vec_law}

@@ -23,7 +23,8 @@ use Rattle.ms_bin_grammar.specs.Types.{func_type, limits, table_type}
 use Rattle.ms_bin_grammar.specs.Module.{SpellsWithin, element, export, fill, funcs, global, has_more, import, module_format, section, section_rows}
 use Rattle.ms_bin_write.specs.Parts.{number_bytes, sized_bytes, vec_bytes}
 use Rattle.ms_bin_write.specs.Types.{func_type_bytes, limits_by, limits_bytes, table_bytes}
-use Rattle.ms_bin_write.specs.Ranges.{AllFit, ExportFits, ImportFits, LimitsFit, NumberFits, NumberFitsIf}
+use Rattle.ms_flat.specs.refinement.Ranges.{AllFit, LimitsFit, NumberFits, NumberFitsIf}
+use Rattle.ms_bin_write.specs.refinement.Ranges.{ExportFits, ImportFits}
 use Rattle.ms_bin_write.specs.Written.{element_bytes, export_bytes, export_desc_bytes, fill_bytes, func_bytes, global_bytes, import_bytes, import_desc_bytes, part_bytes, sections_bytes, sigs_of, start_bytes, written}
 use Rattle.ms_bin_write.specs.Instrs.{body_bytes}
 use Rattle.ms_bin_write.proofs.Counts.{number_any, number_len, sized_some}

@@ -14,7 +14,7 @@ use Rattle.ms_module.specs.declared.module.Global.{Global}
 use Rattle.ms_module.specs.declared.module.ExportDesc.TheVariants as exported
 use Rattle.ms_module.specs.declared.module.Element.{Element}
 use Rattle.ms_module.specs.declared.module.Fill.{Fill}
-use Rattle.ms_module.specs.Nesting.{NestsWithin}
+use Rattle.ms_module.specs.refinement.Nesting.{NestsWithin}
 use Rattle.ms_bin_grammar.specs.Bounds.{Bounds}
 use Rattle.ms_bin_grammar.specs.Numbers.{number, vec}
 use Rattle.ms_bin_grammar.specs.Sizes.{name, sized}
@@ -23,7 +23,8 @@ use Rattle.ms_bin_grammar.specs.Module.{element, export, export_desc, fill, func
 use Rattle.ms_bin_write.specs.Parts.{number_bytes, sized_bytes, vec_bytes}
 use Rattle.ms_bin_write.specs.Types.{global_type_bytes, limits_bytes, table_bytes, value_code}
 use Rattle.ms_bin_write.specs.Instrs.{body_bytes}
-use Rattle.ms_bin_write.specs.Ranges.{AllFit, CodeFits, ExportDescFits, ExportFits, FuncFits, ImportDescFits, ImportFits, NameFits, NumberFits}
+use Rattle.ms_flat.specs.refinement.Ranges.{AllFit, CodeFits, ExportDescFits, ImportDescFits, NumberFits}
+use Rattle.ms_bin_write.specs.refinement.Ranges.{ExportFits, FuncFits, ImportFits, NameFits}
 use Rattle.ms_bin_write.specs.Written.{Group, element_bytes, export_bytes, export_desc_bytes, fill_bytes, func_bytes, global_bytes, group_bytes, groups, import_bytes, import_desc_bytes, joined, locals_bytes, same_type}
 use Rattle.ms_bin_write.proofs.Counts.{count_few, number_some, sized_len}
 use Rattle.ms_bin_write.proofs.Spelled.{Anything, Law, all_anything, back_few, before, front_few, global_type_law, limits_law, name_law, number_before, number_law, sized_law, table_law, value_law, vec_law}

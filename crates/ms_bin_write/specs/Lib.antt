@@ -1,5 +1,5 @@
 pub mod Parts
 pub mod Types
 pub mod Instrs
-pub mod Ranges
 pub mod Written
+pub mod refinement

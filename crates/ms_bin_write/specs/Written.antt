@@ -14,7 +14,7 @@ use Rattle.ms_module.specs.declared.module.Export.{Export}
 use Rattle.ms_module.specs.declared.module.Element.{Element}
 use Rattle.ms_module.specs.declared.module.Fill.{Fill}
 use Rattle.ms_module.specs.declared.module.Module.{Module}
-use Rattle.ms_module.specs.Nesting.{ModuleNestsWithin}
+use Rattle.ms_module.specs.refinement.Nesting.{ModuleNestsWithin}
 use Rattle.ms_bin_grammar.specs.Bounds.{Bounds}
 use Rattle.ms_bin_write.specs.Parts.{number_bytes, sized_bytes, vec_bytes}
 use Rattle.ms_bin_write.specs.Types.{func_type_bytes, global_type_bytes, limits_bytes, table_bytes, value_code}

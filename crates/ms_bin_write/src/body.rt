@@ -1,10 +1,10 @@
 //! Writing bodies (WebAssembly 1.0, 5.4).
 
 ghost use Rattle.std.specs.Prelude.{◌≡◌, ◌++◌, ◌<◌, ◌^◌, OnOk};
-ghost use Rattle.ms_flat.specs.Places.{IsStep, block_of, item_of};
+ghost use Rattle.ms_flat.specs.refinement.Places.{IsStep, block_of, item_of};
 ghost use Rattle.ms_bin_write.specs.Instrs.{body_bytes, item_bytes, linear_operands, mem_arg_bytes, operands, segment_operands};
 ghost use Rattle.ms_bin_write.specs.Parts.{number_bytes, vec_bytes};
-ghost use Rattle.ms_bin_write.specs.Ranges.{AllFit, CodeFits, InstrFits, ItemFits, LinearFits, NumberFits, SegmentFits};
+ghost use Rattle.ms_flat.specs.refinement.Ranges.{AllFit, CodeFits, InstrFits, ItemFits, LinearFits, NumberFits, SegmentFits};
 
 use crate::items::{Item, write_vec};
 use crate::opcodes::{block_type_code, kind_code, opcode, opening_code, segment_code};

@@ -4,7 +4,8 @@ ghost use Rattle.std.specs.Prelude.{◌≡◌, ◌≤◌, ◌<◌, ◌^◌, ◌+
 ghost use Rattle.ms_bin_write.specs.declared.fault.BinFault.TheVariants.{Large};
 ghost use Rattle.ms_bin_write.specs.Parts.{vec_bytes};
 ghost use Rattle.ms_bin_write.specs.Types.{table_bytes};
-ghost use Rattle.ms_bin_write.specs.Ranges.{AllFit, FuncFits, LimitsFit};
+ghost use Rattle.ms_flat.specs.refinement.Ranges.{AllFit, LimitsFit};
+ghost use Rattle.ms_bin_write.specs.refinement.Ranges.{FuncFits};
 ghost use Rattle.ms_bin_write.specs.Written.{IsTooMany, func_bytes, locals_bytes, part_bytes};
 
 use crate::fault::BinFault;

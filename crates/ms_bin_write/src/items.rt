@@ -3,7 +3,7 @@
 ghost use Rattle.std.specs.Prelude.{◌≡◌, ◌≤◌, ◌<◌, ◌^◌, ◌++◌, ℕ, List, length, OnOk, Err, nat_lt};
 ghost use Rattle.ms_bin_write.specs.declared.fault.BinFault.TheVariants.{Large};
 ghost use Rattle.ms_bin_write.specs.Parts.{number_bytes, sized_bytes, vec_bytes};
-ghost use Rattle.ms_bin_write.specs.Ranges.{AllFit, NumberFits};
+ghost use Rattle.ms_flat.specs.refinement.Ranges.{AllFit, NumberFits};
 ghost use Rattle.ms_bin_write.specs.Written.{IsTooMany, part_bytes, section_bytes};
 
 use crate::fault::BinFault;

@@ -3,7 +3,7 @@
 ghost use Rattle.std.specs.Prelude.{◌≡◌, None, codes};
 ghost use Rattle.ms_module.specs.Instructions.{load_rows, opening_rows, segment_load_rows, segment_store_rows, store_rows};
 ghost use Rattle.ms_flat.specs.Keywords.{code_of, load_word, opening_word, store_word};
-ghost use Rattle.ms_flat.specs.Places.{block_of};
+ghost use Rattle.ms_flat.specs.refinement.Places.{block_of};
 ghost use Rattle.ms_bin_write.specs.Types.{block_type_code, value_code};
 ghost use Rattle.ms_bin_write.specs.Instrs.{kind_code, linear_code, numeric_code, opcode, segment_code};
 

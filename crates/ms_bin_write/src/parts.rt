@@ -3,7 +3,8 @@
 ghost use Rattle.std.specs.Prelude.{◌≡◌};
 ghost use Rattle.ms_bin_write.specs.Parts.{sized_bytes};
 ghost use Rattle.ms_bin_write.specs.Written.{element_bytes, export_bytes, export_desc_bytes, fill_bytes, global_bytes, import_bytes, import_desc_bytes};
-ghost use Rattle.ms_bin_write.specs.Ranges.{ElementFits, ExportDescFits, ExportFits, FillFits, GlobalFits, ImportDescFits, ImportFits, NameFits};
+ghost use Rattle.ms_flat.specs.refinement.Ranges.{ElementFits, ExportDescFits, GlobalFits, ImportDescFits};
+ghost use Rattle.ms_bin_write.specs.refinement.Ranges.{ExportFits, FillFits, ImportFits, NameFits};
 
 use crate::items::{Item, write_sized, write_vec};
 use ms_module::{Element, Export, ExportDesc, Fill, Import, ImportDesc, Name};

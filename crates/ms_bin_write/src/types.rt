@@ -2,7 +2,7 @@
 
 ghost use Rattle.std.specs.Prelude.{◌≡◌};
 ghost use Rattle.ms_bin_write.specs.Types.{func_type_bytes, global_type_bytes, limits_bytes, mutability_code, value_bytes};
-ghost use Rattle.ms_bin_write.specs.Ranges.{LimitsFit};
+ghost use Rattle.ms_flat.specs.refinement.Ranges.{LimitsFit};
 
 use crate::items::{Item, write_vec};
 use crate::opcodes::value_code;

@@ -6,7 +6,8 @@ ghost use Rattle.ms_bin_grammar.specs.Bounds.{Bounds};
 ghost use Rattle.ms_bin_grammar.specs.Module.{Spells, SpellsWithin};
 ghost use Rattle.ms_bin_write.specs.declared.fault.BinFault.TheVariants.{Large};
 ghost use Rattle.ms_bin_write.specs.Parts.{number_bytes, vec_bytes};
-ghost use Rattle.ms_bin_write.specs.Ranges.{AllFit, ModuleFits, NumberFits, NumberFitsIf};
+ghost use Rattle.ms_flat.specs.refinement.Ranges.{AllFit, NumberFits, NumberFitsIf};
+ghost use Rattle.ms_bin_write.specs.refinement.Ranges.{ModuleFits};
 ghost use Rattle.ms_bin_write.specs.Written.{IsLarge, IsTooMany, KeepsBounds, part_bytes, sections_bytes, sigs_of, start_bytes, written};
 
 use crate::fault::BinFault;

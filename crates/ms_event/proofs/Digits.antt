@@ -7,7 +7,7 @@ use Rattle.std.proofs.lemmas.Fmt.{decimal_digit, decimal_injective, decimal_is_I
 use Rattle.std.proofs.lemmas.Str.Parse.{digit_from_value, digits_value-take-le}
 use Rattle.std.proofs.lemmas.List.{append-nil, take_at}
 use Rattle.ms_event.specs.Text.{IsId}
-use Rattle.ms_event.specs.Reading.{IsStop, ReadsDigits}
+use Rattle.ms_event.specs.refinement.Reading.{IsStop, ReadsDigits}
 
 -- one more digit at the end of a number
 pub decimal_push : (v d : ℕ) → 0 < v → d < 10 → v < 2 ^ 64 → decimal (v * 10 + d) ≡ decimal v ++ ((48 + d) ∷ [])

@@ -5,7 +5,7 @@ use Rattle.std.specs.Fmt.{decimal}
 use Rattle.std.proofs.lemmas.Bool.{eqb-true}
 use Rattle.std.proofs.lemmas.List.{nil_from_length}
 use Rattle.ms_event.specs.Text.{IsId, IsWord}
-use Rattle.ms_event.specs.Reading.{ReadsFive, ReadsNumber, ReadsOne, ReadsPair, ReadsThree}
+use Rattle.ms_event.specs.refinement.Reading.{ReadsFive, ReadsNumber, ReadsOne, ReadsPair, ReadsThree}
 
 no_more : (left : List ℕ) → true ≡ eqb (length left) 0 → left ≡ []
 no_more left e = nil_from_length left (eqb-true _ _ (sym e))

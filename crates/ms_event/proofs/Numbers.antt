@@ -2,7 +2,7 @@
 use Rattle.std.proofs.Common.{◌≡◌, ℕ, List, [], ◌∷◌, ◌++◌, Option, Some, None, ap, ◌∙◌, arith}
 use Rattle.std.specs.Fmt.{decimal}
 use Rattle.ms_event.specs.Text.{IsId, numbers}
-use Rattle.ms_event.specs.Reading.{IsStop, ReadsDigits, ReadsNumber, ReadsPair}
+use Rattle.ms_event.specs.refinement.Reading.{IsStop, ReadsDigits, ReadsNumber, ReadsPair}
 
 pub numbers_stop : (ns : List ℕ) → IsStop (numbers ns)
 numbers_stop [] = tt

@@ -1,3 +1,3 @@
 pub mod Text
 pub mod Monitor
-pub mod Reading
+pub mod refinement

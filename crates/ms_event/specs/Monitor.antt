@@ -1,4 +1,6 @@
--- The colour monitor: which traces are safe. Each allocation has a colour of its own. Its addresses are painted with the
+-- The colour monitor: which traces are safe, after the memory safety of MSWasm (POPL 2023), which gives each allocation a colour and
+-- each part of it that may be reached alone a shade, and lets an access pass where its pointer's colour and shade are those of the
+-- memory. Each allocation has a colour of its own. Its addresses are painted with the
 -- colour, each with its place in the allocation. A shade is a part of an allocation that some handle may reach.
 use Rattle.std.specs.Prelude.{◌≡◌, ◌==◌, ℕ, zero, suc, ◌+◌, ◌%◌, ◌<◌, ◌≤◌, ◌⊎◌, Bool, true, false, not, List, [], ◌∷◌, ◌++◌, length, filter, Contains}
 use Rattle.ms_event.specs.declared.event.Event.{Event}

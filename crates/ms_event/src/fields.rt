@@ -1,7 +1,7 @@
 //! The numbers of an event, which are all that stands behind its word.
 
 ghost use Rattle.ms_event.specs.Text.{IsId, IsWord};
-ghost use Rattle.ms_event.specs.Reading.{ReadsFive, ReadsOne, ReadsThree};
+ghost use Rattle.ms_event.specs.refinement.Reading.{ReadsFive, ReadsOne, ReadsThree};
 
 use crate::number::{id, pair, word};
 use ms_bytes::Cursor;

@@ -2,7 +2,7 @@
 
 ghost use Rattle.std.specs.Prelude.{◌≡◌, ◌∷◌, ◌+◌, ◌*◌, ◌^◌, ◌<◌, ◌≤◌, MatchOption};
 ghost use Rattle.ms_event.specs.Text.{IsId, IsWord};
-ghost use Rattle.ms_event.specs.Reading.{IsStop, ReadsDigits, ReadsNumber, ReadsPair};
+ghost use Rattle.ms_event.specs.refinement.Reading.{IsStop, ReadsDigits, ReadsNumber, ReadsPair};
 
 use ms_bytes::Cursor;
 

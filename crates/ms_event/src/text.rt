@@ -3,7 +3,7 @@
 ghost use Rattle.std.specs.Prelude.{◌≡◌, ◌++◌, IfOk, IfSome, Some};
 ghost use Rattle.ms_event.specs.declared.event.Event.{Event};
 ghost use Rattle.ms_event.specs.Text.{IsInRange, text};
-ghost use Rattle.ms_event.specs.Reading.{Reads};
+ghost use Rattle.ms_event.specs.refinement.Reading.{Reads};
 
 use crate::event::Event;
 use crate::fields::{id_and_pair, id_and_pairs, one_id, one_word};

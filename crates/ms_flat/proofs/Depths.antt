@@ -6,11 +6,11 @@ use Rattle.std.proofs.lemmas.List.{append-nil}
 use Rattle.ms_module.specs.declared.instr.Instr.{Instr}
 use Rattle.ms_module.specs.declared.instr.Instr.TheVariants as instr
 use Rattle.ms_module.specs.declared.builder.Open.{Open}
-use Rattle.ms_module.specs.Building.{IsNumbered, State, closed_in, first_state, in_second, is_turned, started, turned_blocks}
-use Rattle.ms_module.specs.Nesting.{NestsWithin, OfAllNamed, OfNamed}
+use Rattle.ms_module.specs.Building.{IsNumbered, State, closed_in, first_state, in_second, is_after_else, started, after_else_blocks}
+use Rattle.ms_module.specs.refinement.Nesting.{NestsWithin, OfAllNamed, OfNamed}
 use Rattle.ms_module.specs.Numbered.{sequence_at}
 use Rattle.ms_flat.specs.Flat.{Item, Plain, Begin, Else, End, flat, items_of, items_within, sequence_items}
-use Rattle.ms_flat.specs.Rebuilt.{AllMayCome, after_item}
+use Rattle.ms_flat.specs.refinement.Rebuilt.{AllMayCome, after_item}
 use Rattle.ms_flat.proofs.Arriving.{AllCome, flat_leads}
 
 -- where n blocks are open before these items, fewer than `most` are open before each that begins
@@ -59,13 +59,13 @@ pub second_len : (n : ℕ) (os : List Open) → length (in_second n os) ≡ leng
 second_len n [] = refl
 second_len n (o ∷ os) = refl
 
-pub turned_len : (os : List Open) → length (turned_blocks os) ≡ length os
-turned_len [] = refl
-turned_len (o ∷ os) = refl
+pub after_else_len : (os : List Open) → length (after_else_blocks os) ≡ length os
+after_else_len [] = refl
+after_else_len (o ∷ os) = refl
 
 pub started_blocks : (st : State) → length (started st).blocks ≡ length st.blocks
-started_blocks st = go (is_turned st.blocks) refl where
-  go : (b : Bool) → is_turned st.blocks ≡ b → length (started st).blocks ≡ length st.blocks
+started_blocks st = go (is_after_else st.blocks) refl where
+  go : (b : Bool) → is_after_else st.blocks ≡ b → length (started st).blocks ≡ length st.blocks
   go false e = rw e refl
   go true e = rw e (second_len (length st.seqs) st.blocks)
 
@@ -79,7 +79,7 @@ both : (most : ℕ) (st : State) (xs : List Item) → AllCome st xs → Shallow 
 both most st [] h g = tt
 both most st (Plain i ∷ xs) h g = (h.0, both most (after_item st (Plain i)) xs h.1 (subst (λ (n : ℕ). Shallow most n xs) (sym (started_blocks st)) g))
 both most st (Begin opening ty ∷ xs) h g = (g.0, both most (after_item st (Begin opening ty)) xs h.1 (subst (λ (n : ℕ). Shallow most n xs) (ap suc (sym (started_blocks st))) g.1))
-both most st (Else ∷ xs) h g = (h.0, both most (after_item st Else) xs h.1 (subst (λ (n : ℕ). Shallow most n xs) (sym (turned_len st.blocks)) g))
+both most st (Else ∷ xs) h g = (h.0, both most (after_item st Else) xs h.1 (subst (λ (n : ℕ). Shallow most n xs) (sym (after_else_len st.blocks)) g))
 both most st (End ∷ xs) h g = (h.0, both most (after_item st End) xs h.1 (subst (λ (n : ℕ). Shallow most n xs) (sym (closed_blocks st.blocks st.seqs)) g))
 
 pub flat_may_come : (most : ℕ) (ss : List (List Instr)) → IsNumbered ss → NestsWithin most ss 0 → AllMayCome most first_state (flat ss)

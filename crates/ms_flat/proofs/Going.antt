@@ -10,7 +10,7 @@ use Rattle.ms_module.specs.Numbered.{AllNameWithin, NamesWithin, sequence_at}
 use Rattle.ms_flat.specs.declared.walk.Block.{Block}
 use Rattle.ms_flat.specs.declared.walk.Place.{Place}
 use Rattle.ms_flat.specs.Flat.{Item, Begin, Else, End, flat, items_of, sequence_items}
-use Rattle.ms_flat.specs.Places.{Within, block_of, else_then, left, rest_of}
+use Rattle.ms_flat.specs.refinement.Places.{Within, block_of, else_then, left, rest_of}
 use Rattle.ms_flat.proofs.Sequences.{sequence_items-is}
 
 abbrev arm_then : (ℕ → List Item) → Option ℕ → List Item → List Item

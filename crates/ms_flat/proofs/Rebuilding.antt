@@ -9,10 +9,10 @@ use Rattle.ms_module.specs.declared.instr.Instr.{Instr}
 use Rattle.ms_module.specs.declared.builder.Opening.{Opening}
 use Rattle.ms_module.specs.declared.builder.Opening.TheVariants.{Block, If, Loop}
 use Rattle.ms_module.specs.declared.builder.Arm.{Arm}
-use Rattle.ms_module.specs.declared.builder.Arm.TheVariants.{First, Second, Turned}
+use Rattle.ms_module.specs.declared.builder.Arm.TheVariants.{First, Second, AfterElse}
 use Rattle.ms_module.specs.declared.builder.Open.{Open}
 use Rattle.ms_module.specs.Building.{current, put, whole}
-use Rattle.ms_module.specs.Nesting.{OfAllNamed, OfNamed}
+use Rattle.ms_module.specs.refinement.Nesting.{OfAllNamed, OfNamed}
 use Rattle.ms_module.specs.Numbered.{sequence_at}
 use Rattle.ms_module.proofs.Order.{Fall, at_more}
 use Rattle.ms_flat.specs.Flat.{Item, Begin, Else, End, items_of, items_within}
@@ -27,7 +27,7 @@ items_at F ss k = flat_map (items_of F) (sequence_at ss k)
 -- the items up to the place at which a body is built
 abbrev pub begun_items : (ℕ → List Item) → List (List Instr) → Arm → Option ValType → List Item
 begun_items F ss (First opening) ty = Begin opening ty ∷ []
-begun_items F ss Turned ty = Begin If ty ∷ []
+begun_items F ss AfterElse ty = Begin If ty ∷ []
 begun_items F ss (Second before) ty = Begin If ty ∷ (items_at F ss before ++ Else ∷ [])
 
 abbrev pub so_far : (ℕ → List Item) → List (List Instr) → List Open → List Item
@@ -44,7 +44,7 @@ module _ (F G : ℕ → List Item) (ss ts : List (List Instr)) (P : ℕ → Type
 
   same_arm : (arm : Arm) (ty : Option ValType) (c : ℕ) → ((k : ℕ) → k < c → sequence_at ts k ≡ sequence_at ss k) → ArmBelow c arm → begun_items G ts arm ty ≡ begun_items F ss arm ty
   same_arm (First opening) ty c e h = refl
-  same_arm Turned ty c e h = refl
+  same_arm AfterElse ty c e h = refl
   same_arm (Second before) ty c e h = rw (same_at before (e before h)) refl
 
   same_so_far : (os : List Open) (c : ℕ) → ((k : ℕ) → k < c → sequence_at ts k ≡ sequence_at ss k) → Below c os → so_far G ts os ≡ so_far F ss os
@@ -125,5 +125,5 @@ pub close_items : (d : ℕ) (ss : List (List Instr)) → Later ss → length ss 
 close_items d ss later le (First Block) ty seq = rw (within_is ss later d seq le) refl
 close_items d ss later le (First Loop) ty seq = rw (within_is ss later d seq le) refl
 close_items d ss later le (First If) ty seq = rw (within_is ss later d seq le) refl
-close_items d ss later le Turned ty seq = rw (within_is ss later d seq le) refl
+close_items d ss later le AfterElse ty seq = rw (within_is ss later d seq le) refl
 close_items d ss later le (Second before) ty seq = rw (within_is ss later d seq le, within_is ss later d before le) (simp append_assoc)

@@ -5,7 +5,7 @@ use Rattle.std.specs.List.{flat_map}
 use Rattle.ms_module.specs.declared.instr.Instr.{Instr}
 use Rattle.ms_module.specs.declared.instr.Instr.TheVariants.{Block, Loop, If}
 use Rattle.ms_module.specs.Building.{IsNumbered, put}
-use Rattle.ms_module.specs.Nesting.{OfAllNamed, OfNamed}
+use Rattle.ms_module.specs.refinement.Nesting.{OfAllNamed, OfNamed}
 use Rattle.ms_module.specs.Numbered.{AllNameWithin, IsPlain, NamesWithin, sequence_at}
 use Rattle.ms_module.proofs.Order.{names_later, at_more}
 use Rattle.ms_flat.specs.Flat.{Item, items_of, items_within, sequence_items}

@@ -1,4 +1,3 @@
 pub mod Keywords
 pub mod Flat
-pub mod Rebuilt
-pub mod Places
+pub mod refinement

@@ -2,10 +2,10 @@
 
 ghost use Rattle.std.specs.Prelude.{◌≡◌, ℕ, List, [], length};
 ghost use Rattle.ms_module.specs.Building.{IsNumbered, first_state};
-ghost use Rattle.ms_module.specs.Nesting.{NestsWithin};
+ghost use Rattle.ms_module.specs.refinement.Nesting.{NestsWithin};
 ghost use Rattle.ms_module.specs.declared.instr.Instr.{Instr};
 ghost use Rattle.ms_flat.specs.Flat.{flat};
-ghost use Rattle.ms_flat.specs.Rebuilt.{AllMayCome, after};
+ghost use Rattle.ms_flat.specs.refinement.Rebuilt.{AllMayCome, after};
 
 /// The items of a body build its sequences again, and each of them may come where it stands, with no more blocks in one
 /// another than the body has.

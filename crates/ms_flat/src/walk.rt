@@ -3,7 +3,7 @@
 ghost use Rattle.std.specs.Prelude.{◌≡◌, IfOk, OnErr};
 ghost use Rattle.ms_module.specs.Building.{IsNumbered};
 ghost use Rattle.ms_flat.specs.Flat.{flat};
-ghost use Rattle.ms_flat.specs.Places.{Goes, block_of};
+ghost use Rattle.ms_flat.specs.refinement.Places.{Goes, block_of};
 
 use ms_module::{Code, Instr, Opening};
 use ms_types::{Stack, ValType};
@@ -11,7 +11,7 @@ use std::alloc::{AllocError, Global};
 use std::marker::Model;
 
 /// An item of a body, in the order in which it is written.
-#[derive(Clone, Copy, Debug)]
+#[derive(Clone, Copy)]
 pub enum Step<'a> {
     /// An instruction that is no block.
     Plain(&'a Instr),
@@ -27,7 +27,7 @@ pub enum Step<'a> {
 }
 
 /// A place in a body, behind the first `next` instructions of a sequence.
-#[derive(Clone, Copy, Debug)]
+#[derive(Clone, Copy)]
 pub struct Place {
     /// The number of the sequence.
     pub sequence: u32,
@@ -38,7 +38,7 @@ pub struct Place {
 }
 
 /// A block, by the numbers of its sequences.
-#[derive(Clone, Copy, Debug)]
+#[derive(Clone, Copy)]
 pub struct Block {
     /// What opens it.
     pub opening: Opening,
@@ -100,7 +100,7 @@ impl<'a> Model for Walk<'a> {
     ghost use Rattle.std.specs.Prelude.{List, ◌<◌, length};
     ghost use Rattle.ms_module.specs.Building.{IsNumbered};
     ghost use Rattle.ms_flat.specs.Flat.{Item};
-    ghost use Rattle.ms_flat.specs.Places.{AllWithin, Within, left};
+    ghost use Rattle.ms_flat.specs.refinement.Places.{AllWithin, Within, left};
 
     ghost Value = { List Item };
 

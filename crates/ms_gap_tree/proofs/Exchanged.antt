@@ -1,8 +1,8 @@
 -- A tree with another item at its root.
 use Rattle.std.proofs.Common.{◌≡◌, ℕ, zero, suc, ◌+◌, ◌<◌, ◌≤◌, Bool, true, false, cond, ◌&&◌, List, length, Option, Some, None, IsSome, nat_eq, refl, arith, ap, sym, ◌∙◌, subst}
-use Rattle.ms_gap_tree.specs.Arena.{at, tree_of}
-use Rattle.ms_gap_tree.specs.Rooms.{Arena, IsHeld, IsPool, room_at, size_of, tree}
-use Rattle.ms_gap_tree.specs.Tree.{Tree, Empty, Fork, exchange, half, has, is_below, link_below, look, size, yields, IsApart, IsBelow, IsInOrder, IsWithin}
+use Rattle.ms_gap_tree.specs.refinement.Arena.{at, tree_of}
+use Rattle.ms_gap_tree.specs.refinement.Rooms.{Arena, IsHeld, IsPool, room_at, size_of, tree}
+use Rattle.ms_gap_tree.specs.refinement.Tree.{Tree, Empty, Fork, exchange, half, has, is_below, link_below, look, size, yields, IsApart, IsBelow, IsInOrder, IsWithinArena}
 use Rattle.ms_gap_tree.specs.declared.node.Item.{Item}
 use Rattle.ms_gap_tree.specs.declared.node.Link.{Link}
 use Rattle.ms_gap_tree.specs.declared.node.Node.{Node}
@@ -81,7 +81,7 @@ look_exchange (suc d) low key new (Fork i item left right) k s y =
     exchanged_look (nat_eq k new.key) (nat_eq k item.key) item.room new.room _ (gone_at d low item.key k left right s.2)
     ∙ ap (λ (m : ℕ). cond (nat_eq k new.key) (Some new.room) (cond (nat_eq k m) None (look (suc d) low k (Fork i item left right)))) e
 
-within_exchange : (n : ℕ) (new : Item) (tree : Tree) → IsWithin n tree → IsWithin n (exchange new tree)
+within_exchange : (n : ℕ) (new : Item) (tree : Tree) → IsWithinArena n tree → IsWithinArena n (exchange new tree)
 within_exchange n new Empty w = w
 within_exchange n new (Fork i item left right) w = w
 
@@ -104,7 +104,7 @@ pub held_exchanged : (a : Arena) (free : List ℕ) (key : ℕ) (item : Item) (ro
 held_exchanged a free key item root held y below absent e =
     let t = tree a in
     record {
-      within = subst (IsWithin (length a.nodes)) (sym e) (within_exchange (length a.nodes) item t held.within);
+      within = subst (IsWithinArena (length a.nodes)) (sym e) (within_exchange (length a.nodes) item t held.within);
       apart = subst IsApart (sym e) (apart_exchange item t held.apart);
       in_order = subst (IsInOrder a.levels 0) (sym e) (in_order_exchange a.levels 0 key item t held.in_order y (omega arith) (omega arith) absent);
       pool = subst (λ (x : Tree). IsPool (length a.nodes) (λ j. has j x) (size x) free) (sym e) (pool_exchange (length a.nodes) item t free held.pool);

@@ -1,7 +1,7 @@
 -- What a write to the arena leaves of the trees in it.
 use Rattle.std.proofs.Common.{◌≡◌, ◌≢◌, ℕ, zero, suc, ◌+◌, ◌<◌, true, false, cond, List, Option, Some, None, set, nat_eq, nat_lt, refl, length, ap, sym, ◌∙◌, ◌||◌, get_or-set_same, get_or-set_other}
-use Rattle.ms_gap_tree.specs.Arena.{at, tree_of, blank}
-use Rattle.ms_gap_tree.specs.Tree.{Tree, Empty, Fork, half, insert, upper, lower, has}
+use Rattle.ms_gap_tree.specs.refinement.Arena.{at, tree_of, blank}
+use Rattle.ms_gap_tree.specs.refinement.Tree.{Tree, Empty, Fork, half, insert, upper, lower, has}
 use Rattle.ms_gap_tree.specs.declared.node.Item.{Item}
 use Rattle.ms_gap_tree.specs.declared.node.Link.{Link}
 use Rattle.ms_gap_tree.specs.declared.node.Node.{Node}

@@ -1,8 +1,8 @@
 -- What the code of `insert` leaves is the insertion on the tree.
 use Rattle.std.proofs.Common.{◌≡◌, ◌≢◌, ℕ, suc, ◌+◌, ◌<◌, ◌≤◌, Bool, true, false, cond, List, Option, Some, None, set, nat_lt, refl, arith, length, ap, sym, ◌∙◌, subst, get_or-set_same, get_or-set_other}
 use Rattle.std.proofs.lemmas.Bool.Decides.{nat_tests}
-use Rattle.ms_gap_tree.specs.Arena.{at, tree_of, blank}
-use Rattle.ms_gap_tree.specs.Tree.{Tree, Empty, Fork, half, insert, upper, lower, has, IsWithin, IsApart}
+use Rattle.ms_gap_tree.specs.refinement.Arena.{at, tree_of, blank}
+use Rattle.ms_gap_tree.specs.refinement.Tree.{Tree, Empty, Fork, half, insert, upper, lower, has, IsWithinArena, IsApart}
 use Rattle.ms_gap_tree.specs.declared.node.Item.{Item}
 use Rattle.ms_gap_tree.specs.declared.node.Link.{Link}
 use Rattle.ms_gap_tree.specs.declared.node.Node.{Node}
@@ -34,8 +34,8 @@ linked nodes level d root link e h = rw (e, h) refl
 -- what is known of the parts of a tree that has no such slot
 pub record Parts (nodes : List Node) (d i slot : ℕ) : Type 0 where
   pub here : i < length nodes
-  pub within_left : IsWithin (length nodes) (tree_of nodes d (at nodes i).left)
-  pub within_right : IsWithin (length nodes) (tree_of nodes d (at nodes i).right)
+  pub within_left : IsWithinArena (length nodes) (tree_of nodes d (at nodes i).left)
+  pub within_right : IsWithinArena (length nodes) (tree_of nodes d (at nodes i).right)
   pub apart_left : IsApart (tree_of nodes d (at nodes i).left)
   pub apart_right : IsApart (tree_of nodes d (at nodes i).right)
   pub root_left : has i (tree_of nodes d (at nodes i).left) ≡ false
@@ -45,11 +45,11 @@ pub record Parts (nodes : List Node) (d i slot : ℕ) : Type 0 where
   pub slot_left : has slot (tree_of nodes d (at nodes i).left) ≡ false
   pub slot_right : has slot (tree_of nodes d (at nodes i).right) ≡ false
 
-pub parts : (nodes : List Node) (level d slot : ℕ) (root : Link) (link : Option Link) → level ≡ suc d → link ≡ Some root → IsWithin (length nodes) (tree_of nodes level link) → IsApart (tree_of nodes level link) → has slot (tree_of nodes level link) ≡ false → Parts nodes d root.at slot
+pub parts : (nodes : List Node) (level d slot : ℕ) (root : Link) (link : Option Link) → level ≡ suc d → link ≡ Some root → IsWithinArena (length nodes) (tree_of nodes level link) → IsApart (tree_of nodes level link) → has slot (tree_of nodes level link) ≡ false → Parts nodes d root.at slot
 parts nodes level d slot root link e h within apart fresh =
     let i = root.at in
     let t = linked nodes level d root link e h in
-    let w = subst (IsWithin (length nodes)) t within in
+    let w = subst (IsWithinArena (length nodes)) t within in
     let a = subst IsApart t apart in
     let o = other_slot slot i root.item (tree_of nodes d (at nodes i).left) (tree_of nodes d (at nodes i).right) (sym (ap (has slot) t) ∙ fresh) in
     record {

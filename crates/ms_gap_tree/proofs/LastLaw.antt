@@ -1,8 +1,8 @@
 -- The search for the item of the greatest key up to another finds it.
 use Rattle.std.proofs.Common.{◌≡◌, ◌≢◌, ℕ, zero, suc, ◌+◌, ◌<◌, ◌≤◌, cond, Option, Some, None, nat_eq, nat_lt, nat_le, refl, arith, ap, sym, ◌∙◌, subst, inl, inr}
 use Rattle.std.proofs.lemmas.Bool.{cases_lt}
-use Rattle.ms_gap_tree.specs.Rooms.{IsLast}
-use Rattle.ms_gap_tree.specs.Tree.{Tree, Empty, Fork, either, half, last, look, nearer, IsInOrder}
+use Rattle.ms_gap_tree.specs.refinement.Rooms.{IsLast}
+use Rattle.ms_gap_tree.specs.refinement.Tree.{Tree, Empty, Fork, either, half, last, look, nearer, IsInOrder}
 use Rattle.ms_gap_tree.specs.declared.node.Item.{Item}
 use Rattle.ms_gap_tree.proofs.Inserted.{cond_true, cond_false, lt_true, lt_false}
 use Rattle.ms_gap_tree.proofs.Levels.{differ_test, same_test}

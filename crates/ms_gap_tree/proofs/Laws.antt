@@ -3,7 +3,7 @@ use Rattle.std.proofs.Common.{◌≡◌, ◌≢◌, ℕ, zero, suc, ◌+◌, ◌
 use Rattle.std.proofs.Math.Nat.{two-pow-succ}
 use Rattle.std.proofs.lemmas.Bool.{cases_lt}
 use Rattle.std.proofs.lemmas.Bool.Decides.{nat_tests}
-use Rattle.ms_gap_tree.specs.Tree.{Tree, Empty, Fork, half, insert, look, lower, IsInOrder}
+use Rattle.ms_gap_tree.specs.refinement.Tree.{Tree, Empty, Fork, half, insert, look, lower, IsInOrder}
 use Rattle.ms_gap_tree.specs.declared.node.Item.{Item}
 use Rattle.ms_gap_tree.proofs.Inserted.{cond_true, cond_false, lt_true, lt_false}
 use Rattle.ms_gap_tree.proofs.Levels.{test_differ, look_empty}

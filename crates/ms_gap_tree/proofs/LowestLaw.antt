@@ -2,7 +2,7 @@
 use Rattle.std.proofs.Common.{◌≡◌, ℕ, zero, suc, ◌+◌, ◌<◌, ◌≤◌, min, Bool, true, false, cond, Option, Some, None, nat_eq, nat_lt, nat_le, refl, arith, sym, ◌∙◌, subst, ◌⊎◌, inl, inr}
 use Rattle.std.proofs.lemmas.Bool.{cases_lt}
 use Rattle.std.proofs.lemmas.Bool.Decides.{nat_tests}
-use Rattle.ms_gap_tree.specs.Tree.{Tree, Empty, Fork, fits, half, least, look, lowest, HasRoom, IsBelow, IsLowest, IsInOrder}
+use Rattle.ms_gap_tree.specs.refinement.Tree.{Tree, Empty, Fork, fits, half, least, look, lowest, HasRoom, IsBelow, IsLowest, IsInOrder}
 use Rattle.ms_gap_tree.specs.declared.node.Item.{Item}
 use Rattle.ms_gap_tree.proofs.Inserted.{cond_true, cond_false, lt_true, lt_false}
 use Rattle.ms_gap_tree.proofs.Laws.{half_more, half_none, half_one}

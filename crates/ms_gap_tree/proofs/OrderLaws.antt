@@ -1,7 +1,7 @@
 -- What keeps a tree in order.
 use Rattle.std.proofs.Common.{◌≡◌, ◌≢◌, ℕ, zero, suc, ◌+◌, ◌<◌, ◌≤◌, true, false, cond, None, nat_eq, nat_lt, arith, sym, ◌∙◌, subst, inl, inr}
 use Rattle.std.proofs.lemmas.Bool.{cases_lt}
-use Rattle.ms_gap_tree.specs.Tree.{Tree, Empty, Fork, half, insert, look, upper, lower, IsBelow, IsInOrder}
+use Rattle.ms_gap_tree.specs.refinement.Tree.{Tree, Empty, Fork, half, insert, look, upper, lower, IsBelow, IsInOrder}
 use Rattle.ms_gap_tree.specs.declared.node.Item.{Item}
 use Rattle.ms_gap_tree.proofs.Inserted.{cond_true, cond_false, lt_true, lt_false}
 use Rattle.ms_gap_tree.proofs.Laws.{absent, look_insert, place, upper_range}

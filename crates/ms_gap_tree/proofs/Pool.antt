@@ -5,9 +5,9 @@ use Rattle.std.proofs.lemmas.Bool.{cases_lt}
 use Rattle.std.proofs.lemmas.List.{get_or_append_left, length-append}
 use Rattle.std.proofs.lemmas.List.Elements.{All-nil, All-push}
 use Rattle.std.proofs.lemmas.List.Quantifiers.{all_pairs_push}
-use Rattle.ms_gap_tree.specs.Arena.{blank, tree_of}
-use Rattle.ms_gap_tree.specs.Rooms.{Arena, IsHeld, IsPool, room_at, size_of, tree}
-use Rattle.ms_gap_tree.specs.Tree.{Tree, Empty, Fork, half, has, insert, look, remove, size, IsApart, IsInOrder, IsWithin}
+use Rattle.ms_gap_tree.specs.refinement.Arena.{blank, tree_of}
+use Rattle.ms_gap_tree.specs.refinement.Rooms.{Arena, IsHeld, IsPool, room_at, size_of, tree}
+use Rattle.ms_gap_tree.specs.refinement.Tree.{Tree, Empty, Fork, half, has, insert, look, remove, size, IsApart, IsInOrder, IsWithinArena}
 use Rattle.ms_gap_tree.specs.declared.node.Item.{Item}
 use Rattle.ms_gap_tree.specs.declared.node.Link.{Link}
 use Rattle.ms_gap_tree.specs.declared.node.Node.{Node}
@@ -24,15 +24,15 @@ use Rattle.ms_gap_tree.proofs.OrderLaws.{in_order_insert}
 -- ---- slots
 
 -- a slot from the bound on is none
-pub beyond : (n j : ℕ) (t : Tree) → IsWithin n t → n ≤ j → has j t ≡ false
+pub beyond : (n j : ℕ) (t : Tree) → IsWithinArena n t → n ≤ j → has j t ≡ false
 beyond n j Empty w h = refl
 beyond n j (Fork i item left right) w h =
     let b = w.0 in or_joined _ _ (differ_test j i (omega arith)) (or_joined _ _ (beyond n j left w.1 h) (beyond n j right w.2 h))
 
-pub has_within : (n j : ℕ) (t : Tree) → IsWithin n t → has j t ≡ true → j < n
+pub has_within : (n j : ℕ) (t : Tree) → IsWithinArena n t → has j t ≡ true → j < n
 has_within n j t w h = elim (cases_lt j n) [ inl l ↦ l | inr b ↦ let q = sym h ∙ beyond n j t w b in absurd (cc) ]
 
-pub within_more : (n m : ℕ) (t : Tree) → n ≤ m → IsWithin n t → IsWithin m t
+pub within_more : (n m : ℕ) (t : Tree) → n ≤ m → IsWithinArena n t → IsWithinArena m t
 within_more n m Empty h w = tt
 within_more n m (Fork i item left right) h w = let b = w.0 in (omega arith, within_more n m left h w.1, within_more n m right h w.2)
 
@@ -93,7 +93,7 @@ given_back n is_had now items less free slot pool there had gone others s =
 -- what holds of a slot that no item has, and of the arena without it
 pub record IsSpare (a : Arena) (nodes : List Node) (free : List ℕ) (slot : ℕ) : Type 0 where
   pub same : tree_of nodes a.levels a.root ≡ tree a
-  pub within : IsWithin (length nodes) (tree a)
+  pub within : IsWithinArena (length nodes) (tree a)
   pub few : length nodes ≤ a.most
   pub next : IsNext (length nodes) (λ j. has j (tree a)) (size (tree a)) free slot
 
@@ -127,13 +127,13 @@ held_put a old free nodes new result slot item held spare key absent e l =
     let t = tree a in
     let i = insert a.levels 0 slot item t in
     let q = put_is a nodes new result slot item free spare e in
-    let within : IsWithin (length nodes) i = within_insert a.levels 0 slot item t (length nodes) spare.next.there spare.within in
+    let within : IsWithinArena (length nodes) i = within_insert a.levels 0 slot item t (length nodes) spare.next.there spare.within in
     let apart = apart_insert a.levels 0 slot item t spare.next.fresh held.apart in
     let in_order = in_order_insert a.levels 0 slot t held.in_order item (omega arith) (omega arith) absent in
     let pool = spare.next.pool (λ j. has j i) (size i) (size_insert a.levels 0 slot t held.in_order item (omega arith) (omega arith) absent) (λ j n h. has_insert a.levels 0 slot item t j h n) in
     let few = spare.few in
     record {
-      within = subst (λ (n : ℕ). IsWithin n (tree_of new a.levels result)) (sym l) (subst (IsWithin (length nodes)) (sym q) within);
+      within = subst (λ (n : ℕ). IsWithinArena n (tree_of new a.levels result)) (sym l) (subst (IsWithinArena (length nodes)) (sym q) within);
       apart = subst IsApart (sym q) apart;
       in_order = subst (IsInOrder a.levels 0) (sym q) in_order;
       pool = subst (λ (n : ℕ). IsPool n (λ j. has j (tree_of new a.levels result)) (size (tree_of new a.levels result)) free) (sym l) (subst (λ (x : Tree). IsPool (length nodes) (λ j. has j x) (size x) free) (sym q) pool);
@@ -159,11 +159,11 @@ pub held_taken : (a : Arena) (free : List ℕ) (new : List Node) (rest : Option 
 held_taken a free new rest key room slot held there freed e l =
     let t = tree a in
     let n = length a.nodes in
-    let within : IsWithin n (remove a.levels 0 key t) = within_remove a.levels 0 key t n held.within in
+    let within : IsWithinArena n (remove a.levels 0 key t) = within_remove a.levels 0 key t n held.within in
     let pool = given_back n (λ j. has j t) (λ j. has j (remove a.levels 0 key t)) (size t) (size (remove a.levels 0 key t)) free slot held.pool (has_within n slot t held.within freed.had) freed.had freed.gone (λ j h. has_remove a.levels 0 key t j h) (size_remove a.levels 0 key t room there) in
     let few = held.few in
     record {
-      within = subst (λ (m : ℕ). IsWithin m (tree_of new a.levels rest)) (sym l) (subst (IsWithin n) (sym e) within);
+      within = subst (λ (m : ℕ). IsWithinArena m (tree_of new a.levels rest)) (sym l) (subst (IsWithinArena n) (sym e) within);
       apart = subst IsApart (sym e) (apart_remove a.levels 0 key t held.apart);
       in_order = subst (IsInOrder a.levels 0) (sym e) (in_order_remove a.levels 0 key t held.in_order);
       pool = subst (λ (m : ℕ). IsPool m (λ j. has j (tree_of new a.levels rest)) (size (tree_of new a.levels rest)) (free ++ slot ∷ [])) (sym l) (subst (λ (x : Tree). IsPool n (λ j. has j x) (size x) (free ++ slot ∷ [])) (sym e) pool);

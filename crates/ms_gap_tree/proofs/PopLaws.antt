@@ -1,6 +1,6 @@
 -- What `pop` and `remove` do to the rooms that are kept, and that they keep a tree in order.
 use Rattle.std.proofs.Common.{◌≡◌, ◌≢◌, ℕ, zero, suc, ◌+◌, ◌≤◌, Bool, true, false, cond, Option, Some, None, nat_eq, nat_lt, refl, arith, ap, sym, ◌∙◌, subst, inl, inr}
-use Rattle.ms_gap_tree.specs.Tree.{Tree, Empty, Fork, first, half, is_empty, look, pop, root, IsBelow, IsInOrder}
+use Rattle.ms_gap_tree.specs.refinement.Tree.{Tree, Empty, Fork, first, half, is_empty, look, pop, root, IsBelow, IsInOrder}
 use Rattle.ms_gap_tree.specs.declared.node.Item.{Item}
 use Rattle.ms_gap_tree.proofs.Inserted.{cond_true, cond_false, lt_true, lt_false}
 use Rattle.ms_gap_tree.proofs.Laws.{eq_lt, eq_ge}

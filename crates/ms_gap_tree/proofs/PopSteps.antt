@@ -1,7 +1,7 @@
 -- What the code of `pop` leaves is `pop` of the tree.
 use Rattle.std.proofs.Common.{◌≡◌, ℕ, zero, suc, ◌<◌, true, false, cond, List, Option, Some, None, set, refl, length, ap, sym, ◌∙◌, subst, get_or-set_other}
-use Rattle.ms_gap_tree.specs.Arena.{at, tree_of, blank}
-use Rattle.ms_gap_tree.specs.Tree.{Tree, Empty, Fork, first, freed, has, is_empty, link_first, pop, root, IsApart}
+use Rattle.ms_gap_tree.specs.refinement.Arena.{at, tree_of, blank}
+use Rattle.ms_gap_tree.specs.refinement.Tree.{Tree, Empty, Fork, first, freed, has, is_empty, link_first, pop, root, IsApart}
 use Rattle.ms_gap_tree.specs.declared.node.Item.{Item}
 use Rattle.ms_gap_tree.specs.declared.node.Link.{Link}
 use Rattle.ms_gap_tree.specs.declared.node.Node.{Node}

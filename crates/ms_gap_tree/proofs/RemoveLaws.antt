@@ -1,7 +1,7 @@
 -- What `remove` does to the rooms that are kept, and that it keeps a tree in order.
 use Rattle.std.proofs.Common.{◌≡◌, ℕ, zero, suc, ◌+◌, Bool, true, false, cond, Option, Some, None, nat_eq, nat_lt, refl, ap, sym, ◌∙◌, subst, inl, inr}
 use Rattle.std.proofs.lemmas.Bool.{cases_lt}
-use Rattle.ms_gap_tree.specs.Tree.{Tree, Empty, Fork, half, look, pop, remove, IsBelow, IsInOrder}
+use Rattle.ms_gap_tree.specs.refinement.Tree.{Tree, Empty, Fork, half, look, pop, remove, IsBelow, IsInOrder}
 use Rattle.ms_gap_tree.proofs.Inserted.{cond_true, cond_false, lt_true, lt_false}
 use Rattle.ms_gap_tree.proofs.Laws.{eq_lt, eq_ge}
 use Rattle.ms_gap_tree.proofs.Levels.{differ_test, test_differ}

@@ -1,21 +1,21 @@
 -- The slots of a tree without the item of a key.
 use Rattle.std.proofs.Common.{◌≡◌, ℕ, zero, suc, ◌+◌, true, false, cond, Some, None, nat_eq, nat_lt, refl, ap, sym, ◌∙◌, ◌||◌, inl, inr}
 use Rattle.std.proofs.lemmas.Bool.{cases_lt}
-use Rattle.ms_gap_tree.specs.Tree.{Tree, Empty, Fork, freed, half, has, look, pop, remove, removed, IsApart, IsWithin}
+use Rattle.ms_gap_tree.specs.refinement.Tree.{Tree, Empty, Fork, freed, half, has, look, pop, remove, removed, IsApart, IsWithinArena}
 use Rattle.ms_gap_tree.proofs.Inserted.{cond_true, cond_false, lt_true, lt_false}
 use Rattle.ms_gap_tree.proofs.Levels.{or_joined, or_left, or_right}
 use Rattle.ms_gap_tree.proofs.LowestLaw.{bool_cases}
 use Rattle.ms_gap_tree.proofs.RemoveSteps.{has_remove}
 use Rattle.ms_gap_tree.proofs.SlotLaws.{apart_from, apart_pop, freed_gone, freed_had, left_lacks, within_pop}
 
-pub within_remove : (d low key : ℕ) (tree : Tree) (n : ℕ) → IsWithin n tree → IsWithin n (remove d low key tree)
+pub within_remove : (d low key : ℕ) (tree : Tree) (n : ℕ) → IsWithinArena n tree → IsWithinArena n (remove d low key tree)
 within_remove zero low key tree n w = w
 within_remove (suc d) low key Empty n w = w
 within_remove (suc d) low key (Fork i item left right) n w =
     let sides = cond (nat_lt key (low + half d)) (Fork i item (remove d low key left) right) (Fork i item left (remove d (low + half d) key right)) in
-    elim (nat_eq key item.key) as (λ b. IsWithin n (cond b (pop (Fork i item left right)) sides)) [
+    elim (nat_eq key item.key) as (λ b. IsWithinArena n (cond b (pop (Fork i item left right)) sides)) [
       | true ↦ within_pop (Fork i item left right) n w
-      | false ↦ elim (nat_lt key (low + half d)) as (λ b. IsWithin n (cond b (Fork i item (remove d low key left) right) (Fork i item left (remove d (low + half d) key right)))) [
+      | false ↦ elim (nat_lt key (low + half d)) as (λ b. IsWithinArena n (cond b (Fork i item (remove d low key left) right) (Fork i item left (remove d (low + half d) key right)))) [
         | true ↦ (w.0, within_remove d low key left n w.1, w.2)
         | false ↦ (w.0, w.1, within_remove d (low + half d) key right n w.2)
       ]

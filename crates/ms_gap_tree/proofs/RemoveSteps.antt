@@ -1,7 +1,7 @@
 -- What the code of `remove` leaves is `remove` of the tree.
 use Rattle.std.proofs.Common.{◌≡◌, ◌≢◌, ℕ, zero, suc, ◌+◌, ◌<◌, ◌≤◌, true, false, cond, List, Option, Some, set, nat_eq, nat_lt, length, ap, sym, ◌∙◌, subst}
-use Rattle.ms_gap_tree.specs.Arena.{at, tree_of}
-use Rattle.ms_gap_tree.specs.Tree.{Tree, Empty, Fork, half, has, pop, remove, IsApart, IsWithin}
+use Rattle.ms_gap_tree.specs.refinement.Arena.{at, tree_of}
+use Rattle.ms_gap_tree.specs.refinement.Tree.{Tree, Empty, Fork, half, has, pop, remove, IsApart, IsWithinArena}
 use Rattle.ms_gap_tree.specs.declared.node.Link.{Link}
 use Rattle.ms_gap_tree.specs.declared.node.Node.{Node}
 use Rattle.ms_gap_tree.proofs.Levels.{differ_test, or_joined, other_slot}
@@ -26,15 +26,15 @@ has_remove (suc d) low key (Fork i item left right) j h =
 -- what is known of the parts of a tree
 pub record Halves (nodes : List Node) (d i : ℕ) : Type 0 where
   pub here : i < length nodes
-  pub within_left : IsWithin (length nodes) (tree_of nodes d (at nodes i).left)
-  pub within_right : IsWithin (length nodes) (tree_of nodes d (at nodes i).right)
+  pub within_left : IsWithinArena (length nodes) (tree_of nodes d (at nodes i).left)
+  pub within_right : IsWithinArena (length nodes) (tree_of nodes d (at nodes i).right)
   pub apart_left : IsApart (tree_of nodes d (at nodes i).left)
   pub apart_right : IsApart (tree_of nodes d (at nodes i).right)
 
-pub halves_of : (nodes : List Node) (level d : ℕ) (root : Link) (link : Option Link) → level ≡ suc d → link ≡ Some root → IsWithin (length nodes) (tree_of nodes level link) → IsApart (tree_of nodes level link) → Halves nodes d root.at
+pub halves_of : (nodes : List Node) (level d : ℕ) (root : Link) (link : Option Link) → level ≡ suc d → link ≡ Some root → IsWithinArena (length nodes) (tree_of nodes level link) → IsApart (tree_of nodes level link) → Halves nodes d root.at
 halves_of nodes level d root link e h within apart =
     let t = linked nodes level d root link e h in
-    let w = subst (IsWithin (length nodes)) t within in
+    let w = subst (IsWithinArena (length nodes)) t within in
     let a = subst IsApart t apart in
     record { here = w.0; within_left = w.1; within_right = w.2; apart_left = a.3; apart_right = a.4 }
 

@@ -1,6 +1,6 @@
 -- The slots of a tree after each operation.
 use Rattle.std.proofs.Common.{◌≡◌, ℕ, zero, suc, ◌+◌, ◌<◌, true, false, cond, nat_eq, nat_lt, nat_le, refl, ap, sym, ◌∙◌, ◌||◌, ◌⊎◌, inl, inr}
-use Rattle.ms_gap_tree.specs.Tree.{Tree, Empty, Fork, first, freed, half, has, insert, is_empty, lower, pop, root, upper, IsApart, IsWithin}
+use Rattle.ms_gap_tree.specs.refinement.Tree.{Tree, Empty, Fork, first, freed, half, has, insert, is_empty, lower, pop, root, upper, IsApart, IsWithinArena}
 use Rattle.ms_gap_tree.specs.declared.node.Item.{Item}
 use Rattle.ms_gap_tree.proofs.Frame.{has_insert}
 use Rattle.ms_gap_tree.proofs.Inserted.{cond_true, cond_false}
@@ -19,11 +19,11 @@ had d low slot new tree j h =
       ]
     ]
 
-pub within_insert : (d low slot : ℕ) (new : Item) (tree : Tree) (n : ℕ) → slot < n → IsWithin n tree → IsWithin n (insert d low slot new tree)
+pub within_insert : (d low slot : ℕ) (new : Item) (tree : Tree) (n : ℕ) → slot < n → IsWithinArena n tree → IsWithinArena n (insert d low slot new tree)
 within_insert zero low slot new tree n h w = w
 within_insert (suc d) low slot new Empty n h w = (h, tt, tt)
 within_insert (suc d) low slot new (Fork i item left right) n h w =
-    elim (nat_lt (lower item new).key (low + half d)) as (λ t. IsWithin n (cond t (Fork i (upper item new) (insert d low slot (lower item new) left) right) (Fork i (upper item new) left (insert d (low + half d) slot (lower item new) right)))) [
+    elim (nat_lt (lower item new).key (low + half d)) as (λ t. IsWithinArena n (cond t (Fork i (upper item new) (insert d low slot (lower item new) left) right) (Fork i (upper item new) left (insert d (low + half d) slot (lower item new) right)))) [
       | true ↦ (w.0, within_insert d low slot (lower item new) left n h w.1, w.2)
       | false ↦ (w.0, w.1, within_insert d (low + half d) slot (lower item new) right n h w.2)
     ]
@@ -51,12 +51,12 @@ apart_insert (suc d) low slot new (Fork i item left right) h a =
       )
     ]
 
-pub within_pop : (tree : Tree) (n : ℕ) → IsWithin n tree → IsWithin n (pop tree)
+pub within_pop : (tree : Tree) (n : ℕ) → IsWithinArena n tree → IsWithinArena n (pop tree)
 within_pop Empty n w = w
 within_pop (Fork i item left right) n w =
-    elim (first left right) as (λ b. IsWithin n (cond b (Fork i (root left) (pop left) right) (cond (is_empty right) Empty (Fork i (root right) left (pop right))))) [
+    elim (first left right) as (λ b. IsWithinArena n (cond b (Fork i (root left) (pop left) right) (cond (is_empty right) Empty (Fork i (root right) left (pop right))))) [
       | true ↦ (w.0, within_pop left n w.1, w.2)
-      | false ↦ elim (is_empty right) as (λ b. IsWithin n (cond b Empty (Fork i (root right) left (pop right)))) [ true ↦ tt | false ↦ (w.0, w.1, within_pop right n w.2) ]
+      | false ↦ elim (is_empty right) as (λ b. IsWithinArena n (cond b Empty (Fork i (root right) left (pop right)))) [ true ↦ tt | false ↦ (w.0, w.1, within_pop right n w.2) ]
     ]
 
 -- a slot of the tree without its root was one before

@@ -1,7 +1,7 @@
 -- The way down to the least key with room is the one on the tree.
 use Rattle.std.proofs.Common.{◌≡◌, ℕ, zero, suc, ◌+◌, ◌<◌, ◌≤◌, Bool, true, false, cond, List, Option, Some, None, nat_lt, nat_le, refl, ap, sym, ◌∙◌}
-use Rattle.ms_gap_tree.specs.Arena.{at, tree_of}
-use Rattle.ms_gap_tree.specs.Tree.{Fork, least, lowest, fits, link_fits, looked}
+use Rattle.ms_gap_tree.specs.refinement.Arena.{at, tree_of}
+use Rattle.ms_gap_tree.specs.refinement.Tree.{Fork, least, lowest, fits, link_fits, looked}
 use Rattle.ms_gap_tree.specs.declared.node.Link.{Link}
 use Rattle.ms_gap_tree.specs.declared.node.Node.{Node}
 use Rattle.ms_gap_tree.proofs.Inserted.{linked, cond_false, cond_true, lt_false, lt_true}

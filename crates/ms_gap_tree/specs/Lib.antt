@@ -1,3 +1,1 @@
-pub mod Arena
-pub mod Rooms
-pub mod Tree
+pub mod refinement

@@ -1,8 +1,8 @@
 //! The least key with room enough.
 
 ghost use Rattle.std.specs.Prelude.{◌≡◌, ◌+◌, ◌≤◌, cond, length};
-ghost use Rattle.ms_gap_tree.specs.Arena.{tree_of};
-ghost use Rattle.ms_gap_tree.specs.Tree.{least, link_fits, looked, lowest, IsWithin};
+ghost use Rattle.ms_gap_tree.specs.refinement.Arena.{tree_of};
+ghost use Rattle.ms_gap_tree.specs.refinement.Tree.{least, link_fits, looked, lowest, IsWithinArena};
 
 use crate::node::{Link, Node};
 use crate::steps::Steps;
@@ -47,7 +47,7 @@ pub fn lowest<L: Ledger>(
     n: u64,
     steps: &mut Steps<L>,
 ) -> Option<u64>
-    requires within { IsWithin (length nodes.now) (tree_of nodes.now level link) }
+    requires within { IsWithinArena (length nodes.now) (tree_of nodes.now level link) }
     ensures found { result ≡ lowest n (tree_of nodes.now level link) }
     ensures looked { steps.new ≡ steps.old + looked level n (tree_of nodes.now level link) }
     ensures cost { steps.new ≤ steps.old + level }

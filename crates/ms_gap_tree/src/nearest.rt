@@ -1,8 +1,8 @@
 //! The greatest key up to one.
 
 ghost use Rattle.std.specs.Prelude.{◌≡◌, ◌+◌, ◌≤◌, ◌^◌, length};
-ghost use Rattle.ms_gap_tree.specs.Arena.{tree_of};
-ghost use Rattle.ms_gap_tree.specs.Tree.{last, nearer, IsWithin};
+ghost use Rattle.ms_gap_tree.specs.refinement.Arena.{tree_of};
+ghost use Rattle.ms_gap_tree.specs.refinement.Tree.{last, nearer, IsWithinArena};
 
 use crate::node::{Item, Link, Node};
 use crate::tree::half;
@@ -34,7 +34,7 @@ fn nearer(key: u64, item: Item, other: Option<Item>) -> Option<Item>
 pub fn last(nodes: &[Node], level: u32, low: u64, link: Option<Link>, key: u64) -> Option<Item>
     requires levels { level ≤ 64 }
     requires range { low + 2 ^ level ≤ 2 ^ 64 }
-    requires within { IsWithin (length nodes.now) (tree_of nodes.now level link) }
+    requires within { IsWithinArena (length nodes.now) (tree_of nodes.now level link) }
     ensures { result ≡ last level low key (tree_of nodes.now level link) }
 {
     if level == 0 {

@@ -1,7 +1,7 @@
 //! The nodes of a tree of rooms.
 
 /// What a tree keeps.
-#[derive(Clone, Copy, Debug, PartialEq, Eq)]
+#[derive(Clone, Copy, PartialEq, Eq)]
 pub struct Item {
     /// What the item is found by.
     pub key: u64,
@@ -10,7 +10,7 @@ pub struct Item {
 }
 
 /// The way to a tree that has an item at least. It carries the item at the root, so that a search passes by a tree without a look at it.
-#[derive(Clone, Copy, Debug, PartialEq, Eq)]
+#[derive(Clone, Copy, PartialEq, Eq)]
 pub struct Link {
     /// Where the root lies in the arena.
     pub at: u32,
@@ -18,7 +18,7 @@ pub struct Link {
 }
 
 /// The two halves of a tree.
-#[derive(Clone, Copy, Debug, PartialEq, Eq)]
+#[derive(Clone, Copy, PartialEq, Eq)]
 pub struct Node {
     pub left: Option<Link>,
     pub right: Option<Link>,

@@ -1,14 +1,14 @@
 //! Taking items out of a tree.
 
 ghost use Rattle.std.specs.Prelude.{◌≡◌, ◌+◌, ◌≤◌, ◌^◌, ℕ, length, Some, true, false};
-ghost use Rattle.ms_gap_tree.specs.Arena.{at, tree_of};
-ghost use Rattle.ms_gap_tree.specs.Tree.{freed, has, link_first, pop, remove, removed, IsApart, IsWithin};
+ghost use Rattle.ms_gap_tree.specs.refinement.Arena.{at, tree_of};
+ghost use Rattle.ms_gap_tree.specs.refinement.Tree.{freed, has, link_first, pop, remove, removed, IsApart, IsWithinArena};
 
 use crate::node::{Link, Node};
 use crate::tree::half;
 
 /// What is left of a tree, and the slot that it no longer has.
-#[derive(Clone, Copy, Debug, PartialEq, Eq)]
+#[derive(Clone, Copy, PartialEq, Eq)]
 pub struct Popped {
     pub rest: Option<Link>,
     pub slot: u32,
@@ -29,7 +29,7 @@ fn is_first(left: Option<Link>, right: Option<Link>) -> bool
 
 /// Takes the item at the root out. The items below go up, and the slot of the lowest one is free then.
 pub fn pop(nodes: &mut [Node], level: u32, root: Link) -> Popped
-    requires within { IsWithin (length nodes.old) (tree_of nodes.old level (Some root)) }
+    requires within { IsWithinArena (length nodes.old) (tree_of nodes.old level (Some root)) }
     requires apart { IsApart (tree_of nodes.old level (Some root)) }
     ensures rest { tree_of nodes.new level result.rest ≡ pop (tree_of nodes.old level (Some root)) }
     ensures slot { result.slot ≡ freed (tree_of nodes.old level (Some root)) }
@@ -83,7 +83,7 @@ pub fn pop(nodes: &mut [Node], level: u32, root: Link) -> Popped
 }
 
 /// What is left of a tree, and the slot that it no longer has, where it had the key.
-#[derive(Clone, Copy, Debug, PartialEq, Eq)]
+#[derive(Clone, Copy, PartialEq, Eq)]
 pub struct Removed {
     pub rest: Option<Link>,
     pub slot: Option<u32>,
@@ -93,7 +93,7 @@ pub struct Removed {
 pub fn remove(nodes: &mut [Node], level: u32, low: u64, link: Option<Link>, key: u64) -> Removed
     requires levels { level ≤ 64 }
     requires range { low + 2 ^ level ≤ 2 ^ 64 }
-    requires within { IsWithin (length nodes.old) (tree_of nodes.old level link) }
+    requires within { IsWithinArena (length nodes.old) (tree_of nodes.old level link) }
     requires apart { IsApart (tree_of nodes.old level link) }
     ensures rest { tree_of nodes.new level result.rest ≡ remove level low key (tree_of nodes.old level link) }
     ensures slot { result.slot ≡ removed level low key (tree_of nodes.old level link) }

@@ -1,9 +1,9 @@
 //! A tree of rooms in an arena that is reserved as a whole.
 
 ghost use Rattle.std.specs.Prelude.{◌≡◌, ◌<◌, ◌≤◌, ◌+◌, ◌^◌, ◌++◌, ◌∷◌, ◌⊎◌, ℕ, List, [], cond, false, true, length, nat_eq, None, Some, IfOk, MatchOption, IsSome, vec_len, vec_capacity};
-ghost use Rattle.ms_gap_tree.specs.Arena.{blank, tree_of};
-ghost use Rattle.ms_gap_tree.specs.Tree.{half, has, insert, remove, removed, yields, IsApart, IsWithin};
-ghost use Rattle.ms_gap_tree.specs.Rooms.{IsLast, IsLowest, nodes_looked_at, room_at, size_of};
+ghost use Rattle.ms_gap_tree.specs.refinement.Arena.{blank, tree_of};
+ghost use Rattle.ms_gap_tree.specs.refinement.Tree.{half, has, insert, remove, removed, yields, IsApart, IsWithinArena};
+ghost use Rattle.ms_gap_tree.specs.refinement.Rooms.{IsLast, IsLowest, nodes_looked_at, room_at, size_of};
 
 use crate::leftmost::lowest;
 use crate::nearest::last;
@@ -29,7 +29,7 @@ pub struct Rooms {
 
 impl Model for Rooms {
     ghost use Rattle.std.specs.Prelude.{◌≤◌, vec_capacity};
-    ghost use Rattle.ms_gap_tree.specs.Rooms.{Arena, IsHeld};
+    ghost use Rattle.ms_gap_tree.specs.refinement.Rooms.{Arena, IsHeld};
 
     ghost Value = { Arena };
 
@@ -47,7 +47,7 @@ fn put(
     item: Item,
 ) -> Option<Link>
     requires levels { levels ≤ 48 }
-    requires within { IsWithin (length nodes.old.items) (tree_of nodes.old.items levels root) }
+    requires within { IsWithinArena (length nodes.old.items) (tree_of nodes.old.items levels root) }
     requires apart { IsApart (tree_of nodes.old.items levels root) }
     requires fresh { has slot (tree_of nodes.old.items levels root) ≡ false }
     requires there { slot < length nodes.old.items }
@@ -62,7 +62,7 @@ fn put(
 fn take(nodes: &mut Vec<Node>, levels: u32, root: Option<Link>, key: u64) -> (Option<Link>, u32)
     requires levels { levels ≤ 48 }
     requires found { IsSome (removed levels 0 key (tree_of nodes.old.items levels root)) }
-    requires within { IsWithin (length nodes.old.items) (tree_of nodes.old.items levels root) }
+    requires within { IsWithinArena (length nodes.old.items) (tree_of nodes.old.items levels root) }
     requires apart { IsApart (tree_of nodes.old.items levels root) }
     ensures tree { tree_of nodes.new.items levels result.0 ≡ remove levels 0 key (tree_of nodes.old.items levels root) }
     ensures slot { Some result.1 ≡ removed levels 0 key (tree_of nodes.old.items levels root) }

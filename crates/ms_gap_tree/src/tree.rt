@@ -1,8 +1,8 @@
 //! The halves of a range, finding a key, and adding one.
 
 ghost use Rattle.std.specs.Prelude.{◌≡◌, ◌+◌, ◌<◌, ◌≤◌, ◌^◌, ◌≢◌, ℕ, length, true, false, MatchOption};
-ghost use Rattle.ms_gap_tree.specs.Arena.{at, tree_of};
-ghost use Rattle.ms_gap_tree.specs.Tree.{exchange, half, has, insert, link_below, look, lower, upper, yields, IsApart, IsWithin};
+ghost use Rattle.ms_gap_tree.specs.refinement.Arena.{at, tree_of};
+ghost use Rattle.ms_gap_tree.specs.refinement.Tree.{exchange, half, has, insert, link_below, look, lower, upper, yields, IsApart, IsWithinArena};
 
 use crate::node::{Item, Link, Node};
 
@@ -35,7 +35,7 @@ fn lower(x: Item, y: Item) -> Item
 pub fn find(nodes: &[Node], level: u32, low: u64, link: Option<Link>, key: u64) -> Option<u64>
     requires levels { level ≤ 64 }
     requires range { low + 2 ^ level ≤ 2 ^ 64 }
-    requires within { IsWithin (length nodes.now) (tree_of nodes.now level link) }
+    requires within { IsWithinArena (length nodes.now) (tree_of nodes.now level link) }
     ensures { result ≡ look level low key (tree_of nodes.now level link) }
 {
     if level == 0 {
@@ -65,7 +65,7 @@ pub fn insert(
 ) -> Option<Link>
     requires levels { level ≤ 64 }
     requires range { low + 2 ^ level ≤ 2 ^ 64 }
-    requires within { IsWithin (length nodes.old) (tree_of nodes.old level link) }
+    requires within { IsWithinArena (length nodes.old) (tree_of nodes.old level link) }
     requires apart { IsApart (tree_of nodes.old level link) }
     requires fresh { has slot (tree_of nodes.old level link) ≡ false }
     requires there { slot < length nodes.old }
@@ -129,7 +129,7 @@ fn is_below(link: Option<Link>, room: u64) -> bool
 /// The link to the tree with another item at its root, where the one that is there has this key, and neither half has
 /// more room than the other item.
 pub fn exchange(nodes: &[Node], level: u32, link: Option<Link>, key: u64, new: Item) -> Option<Link>
-    requires within { IsWithin (length nodes.now) (tree_of nodes.now level link) }
+    requires within { IsWithinArena (length nodes.now) (tree_of nodes.now level link) }
     ensures { MatchOption result (yields level key new.room (tree_of nodes.now level link) ≡ false) (λ root. (yields level key new.room (tree_of nodes.now level link) ≡ true) × (tree_of nodes.now level (Some root) ≡ exchange new (tree_of nodes.now level link))) }
 {
     if level == 0 {

@@ -1,4 +1,6 @@
--- Handles on integers without bounds.
+-- Handles, on integers without bounds: base, offset, bound, validity and the identity of an allocation, after 'Progressive Memory
+-- Safety for WebAssembly' (HASP 2019), where a handle is such a value that no integer becomes, and 'MSWasm: Soundly Enforcing
+-- Memory-Safe Execution of Unsafe Code' (POPL 2023), its syntax of handles and its rules for adding to and slicing them.
 use Rattle.std.specs.Prelude.{◌==◌, ℕ, ◌+◌, ◌<◌, Bool, true, false, ◌&&◌, if◌then◌else◌, ℤ, pos, negsuc, ◌+ℤ◌, ◌-ℤ◌, ◌*ℤ◌, ◌≤ℤ◌, Result, Ok, Err, nat_le, int_le}
 use Rattle.std.specs.Ordering.{int_eq}
 use Rattle.ms_handle.specs.declared.handle.Handle.{Handle}

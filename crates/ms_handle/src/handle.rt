@@ -1,7 +1,7 @@
 //! Handles as data.
 
 /// What a segment was made as; it is freed as the same.
-#[derive(Clone, Copy, Debug, PartialEq, Eq)]
+#[derive(Clone, Copy, PartialEq, Eq)]
 pub enum Kind {
     /// Allocated on the heap.
     Heap,
@@ -10,7 +10,7 @@ pub enum Kind {
 }
 
 /// A handle.
-#[derive(Clone, Copy, Debug, PartialEq, Eq)]
+#[derive(Clone, Copy, PartialEq, Eq)]
 pub enum Handle {
     /// The null handle.
     Null,
@@ -30,5 +30,5 @@ pub enum Handle {
 }
 
 /// Two handles that aren't into one segment, so that they have no difference.
-#[derive(Clone, Copy, Debug, PartialEq, Eq)]
+#[derive(Clone, Copy, PartialEq, Eq)]
 pub struct Apart;

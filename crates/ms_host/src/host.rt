@@ -3,14 +3,14 @@
 ghost use Rattle.std.specs.Prelude.{◌≡◌, [], ◌∷◌, IfOk};
 ghost use Rattle.ms_host.specs.Host.{given_by, lowest_byte, put_of};
 ghost use Rattle.ms_outside.specs.Sink.{CountsPut, Puts};
-ghost use Rattle.ms_outside.specs.Source.{CountsTake, Takes};
+ghost use Rattle.ms_outside.specs.refinement.Source.{CountsTake, Takes};
 ghost use Rattle.ms_outside.specs.declared.source.Got.{Got};
 
 use crate::trap::TrapKind;
 use ms_outside::{Got as Answer, Put, Sink, Source};
 
 /// A function of the host. A program imports it from `env`.
-#[derive(Clone, Copy, Debug, PartialEq, Eq)]
+#[derive(Clone, Copy, PartialEq, Eq)]
 pub enum Host {
     /// `[i32] -> [i32]`: puts the lowest byte of a value, and gives that byte.
     Putchar,
@@ -21,7 +21,7 @@ pub enum Host {
 }
 
 /// Why a byte was not put.
-#[derive(Clone, Copy, Debug, PartialEq, Eq)]
+#[derive(Clone, Copy, PartialEq, Eq)]
 pub enum PutFault {
     /// The sink failed, which it has counted.
     Failed,
@@ -30,7 +30,7 @@ pub enum PutFault {
 }
 
 /// Why no byte was taken.
-#[derive(Clone, Copy, Debug, PartialEq, Eq)]
+#[derive(Clone, Copy, PartialEq, Eq)]
 pub enum TakeFault {
     /// The source failed, which it has counted.
     Failed,

@@ -1,7 +1,7 @@
 //! What the modules that were linked so far have made.
 
 ghost use Rattle.std.specs.Prelude.{◌≡◌, ◌++◌, ◌∷◌, [], None, IfOk, OnOk, map};
-ghost use Rattle.ms_import.specs.Adding.{Adds};
+ghost use Rattle.ms_import.specs.refinement.Adding.{Adds};
 ghost use Rattle.ms_machine.specs.Linked.{nothing_made};
 ghost use Rattle.ms_module.specs.declared.module.Export.{Export as Exported};
 ghost use Rattle.ms_names.specs.Numbered.{number_of};
@@ -77,30 +77,28 @@ impl Made {
         requires distinct { AreDistinct (map (λ (e : Exported). e.name) instance.exports) }
         ensures { IfOk result (Adds self instance own_elements own_fills name.now) }
     {
-        let Made {
-            mut names,
-            funcs,
-            mut instances,
-            tables,
-            memories,
-            globals,
-            mut elements,
-            mut fills,
-        } = self;
-        put_new(&mut names, name)?;
-        push(&mut instances, Known::new(alloc, instance)?)?;
-        push(&mut elements, own_elements)?;
-        push(&mut fills, own_fills)?;
-        Ok(Made {
-            names,
-            funcs,
-            instances,
-            tables,
-            memories,
-            globals,
-            elements,
-            fills,
-        })
+        let mut made = self;
+        made.add_instance(alloc, name, instance, own_elements, own_fills)?;
+        Ok(made)
+    }
+
+    /// Adds the same.
+    fn add_instance(
+        &mut self,
+        alloc: Global,
+        name: &str,
+        instance: Instance,
+        own_elements: Vector<Element>,
+        own_fills: Vector<Fill>,
+    ) -> Result<(), AllocError>
+        requires new { number_of self.old.names name.now ≡ None }
+        requires distinct { AreDistinct (map (λ (e : Exported). e.name) instance.exports) }
+        ensures { OnOk result (Adds self.old instance own_elements own_fills name.now self.new) }
+    {
+        put_new(&mut self.names, name)?;
+        push(&mut self.instances, Known::new(alloc, instance)?)?;
+        push(&mut self.elements, own_elements)?;
+        push(&mut self.fills, own_fills)
     }
 }
 

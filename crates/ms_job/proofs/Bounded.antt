@@ -8,9 +8,9 @@ use Rattle.std.proofs.lemmas.Iterator.Adapters.{position_from-zero}
 use Rattle.std.proofs.lemmas.Option.{none-some}
 use Rattle.std.proofs.lemmas.Slice.Eq.{bytes_eq-Decides}
 use Rattle.ms_rules.specs.Modules.{AreDistinct, IsNotAmong}
-use Rattle.ms_words.specs.Commands as options
-use Rattle.ms_words.specs.Commands.{default_budget, default_memory}
-use Rattle.ms_job.specs.Bounds.{IsBounded}
+use Rattle.ms_command_line.specs.Commands as options
+use Rattle.ms_command_line.specs.Commands.{default_budget, default_memory}
+use Rattle.ms_job.specs.refinement.Bounds.{IsBounded}
 use Rattle.ms_job.specs.Jobs.{checked, has_outer_space, is_name, is_passed_over, job_in, job_of, no_lines, number_of, with_budget, with_dump, with_line, with_lines, with_memory, with_module, with_schedule, with_task, with_trace, with_turns, with_words, most_lines, most_turns}
 use Rattle.ms_job.specs.Words.{number_behind, number_within, within, words}
 use Rattle.ms_job.specs.declared.draft.Draft.{Draft}

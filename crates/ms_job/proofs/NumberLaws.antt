@@ -2,7 +2,7 @@
 use Rattle.std.proofs.Common.{◌≡◌, ◌∙◌, ℕ, suc, ◌+◌, ◌-◌, ◌*◌, ◌<◌, ◌^◌, inl, inr, Bool, true, false, List, [], ◌∷◌, Option, None, length, get_or, drop, refl, ap, sym, drop-cons, arith, tests, rules}
 use Rattle.std.specs.Char.{is_ascii_digit}
 use Rattle.std.specs.Option.{option_and_then}
-use Rattle.ms_job.specs.Reading.{AddsDigit}
+use Rattle.ms_job.specs.refinement.Reading.{AddsDigit}
 use Rattle.ms_job.specs.Words.{number_behind, number_within, within}
 
 abbrev kept : ℕ → ℕ → ℕ → List ℕ → Option ℕ

@@ -5,8 +5,8 @@ use Rattle.std.specs.List.{list_all}
 use Rattle.std.specs.Option.{option_map_or}
 use Rattle.std.specs.Str.{bytes_eq, is_utf8}
 use Rattle.std.specs.Str.Lines.{lines}
-use Rattle.ms_words.specs.Commands as options
-use Rattle.ms_words.specs.Commands.{default_budget, default_memory}
+use Rattle.ms_command_line.specs.Commands as options
+use Rattle.ms_command_line.specs.Commands.{default_budget, default_memory}
 use Rattle.ms_job.specs.Words.{number_within, words}
 use Rattle.ms_job.specs.declared.draft.Draft.{Draft}
 use Rattle.ms_job.specs.declared.job.Job.{Job}

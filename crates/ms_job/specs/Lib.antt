@@ -1,5 +1,4 @@
 pub mod Words
 pub mod Jobs
 pub mod Schedules
-pub mod Reading
-pub mod Bounds
+pub mod refinement

@@ -3,14 +3,14 @@
 ghost use Rattle.std.specs.Prelude.{◌≡◌, ◌∷◌, [], map, position};
 ghost use Rattle.std.specs.Str.{bytes_eq};
 ghost use Rattle.ms_job.specs.Jobs.{no_lines, with_budget, with_dump, with_line, with_memory, with_module, with_schedule, with_task, with_trace, with_turns, with_words};
-ghost use Rattle.ms_job.specs.Reading.{Follows};
+ghost use Rattle.ms_job.specs.refinement.Reading.{Follows};
 ghost use Rattle.ms_job.specs.Words.{words};
 
 use crate::words::{is_name, number, words_of};
+use ms_command_line::{BUDGET, MEMORY};
 use ms_module::Name;
 use ms_names::utf8;
 use ms_types::Vector;
-use ms_words::{BUDGET, MEMORY};
 use std::alloc::{AllocError, AllocFailed, Global};
 
 /// How many lines may name a module, and how many a task.
@@ -33,7 +33,7 @@ pub(crate) struct Draft {
 }
 
 /// Why a line isn't taken.
-#[derive(Clone, Copy, Debug)]
+#[derive(Clone, Copy)]
 pub(crate) enum Stop {
     /// It isn't UTF-8 or breaks a rule.
     Broken,

@@ -2,7 +2,7 @@
 
 ghost use Rattle.std.specs.Prelude.{◌≡◌};
 ghost use Rattle.ms_job.specs.Schedules.{first_word, is_apart, schedule_in};
-ghost use Rattle.ms_job.specs.Reading.{ReadsSchedule};
+ghost use Rattle.ms_job.specs.refinement.Reading.{ReadsSchedule};
 
 use crate::fault::SchedFault;
 use crate::words::number;

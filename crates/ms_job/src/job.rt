@@ -4,7 +4,7 @@ use ms_module::Name;
 use ms_types::Vector;
 
 /// A job: the modules of a run, its tasks, and how they are run.
-#[derive(Debug, Drop)]
+#[derive(Drop)]
 pub struct Job {
     /// The modules in the order in which they are linked, at most 64: the name of each, and its file.
     pub modules: Vector<(Name, Name)>,

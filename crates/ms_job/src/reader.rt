@@ -2,15 +2,15 @@
 
 ghost use Rattle.std.specs.Prelude.{◌≡◌, IfOk, MatchResult, Ok, Err};
 ghost use Rattle.std.specs.Str.Lines.{lines};
-ghost use Rattle.ms_job.specs.Bounds.{IsBounded};
+ghost use Rattle.ms_job.specs.refinement.Bounds.{IsBounded};
 ghost use Rattle.ms_job.specs.Jobs.{checked, job_in, no_lines, with_lines};
-ghost use Rattle.ms_job.specs.Reading.{ReadsJob, ReadsLines};
+ghost use Rattle.ms_job.specs.refinement.Reading.{ReadsJob, ReadsLines};
 
 use crate::draft::{Draft, Stop};
 use crate::fault::JobFault;
 use crate::job::Job;
 use crate::lines::split_line;
-use ms_words::{DEFAULT_BUDGET, DEFAULT_MEMORY};
+use ms_command_line::{DEFAULT_BUDGET, DEFAULT_MEMORY};
 use std::alloc::Global;
 
 /// The greatest budget of a run with a trace.

@@ -3,7 +3,7 @@
 ghost use Rattle.std.specs.Prelude.{◌≡◌, ◌≤◌, map, take, IfOk, IfSome};
 ghost use Rattle.std.specs.List.{list_all};
 ghost use Rattle.ms_job.specs.Jobs.{is_name, is_name_byte};
-ghost use Rattle.ms_job.specs.Reading.{AddsDigit};
+ghost use Rattle.ms_job.specs.refinement.Reading.{AddsDigit};
 ghost use Rattle.ms_job.specs.Words.{number_within, words};
 
 use std::alloc::{AllocError, Global};

@@ -8,15 +8,15 @@ use Rattle.ms_bytes.specs.ResultLaws.{chosen}
 use Rattle.ms_leb.proofs.Leb128Laws.{same_pair, signed_again, signed_takes, unsigned_again, unsigned_takes}
 use Rattle.ms_leb.specs.declared.leb.Leb.{Leb}
 use Rattle.ms_leb.specs.declared.leb.Leb.TheVariants.{Short}
-use Rattle.ms_leb.specs.Numbers.{IsShort, Reads}
+use Rattle.ms_leb.specs.refinement.Numbers.{IsShort, ReadsNumber}
 
 -- ---- unsigned
 
-pub unsigned_found : (bits : ℕ) (old new : Spot) (r : Result ℕ Leb) → Reads old new r (unsigned_at bits old.left) → IfOk r (λ n. UnsignedAt bits old.left n new.left)
+pub unsigned_found : (bits : ℕ) (old new : Spot) (r : Result ℕ Leb) → ReadsNumber old new r (unsigned_at bits old.left) → IfOk r (λ n. UnsignedAt bits old.left n new.left)
 unsigned_found bits old new (Ok n) h = unsigned_takes bits old.left n new.left h.0
 unsigned_found bits old new (Err e) h = tt
 
-pub unsigned_only : (bits : ℕ) (old new : Spot) (r : Result ℕ Leb) → Reads old new r (unsigned_at bits old.left) → (n : ℕ) (rest : List ℕ) → UnsignedAt bits old.left n rest → (r ≡ Ok n) × (new.left ≡ rest)
+pub unsigned_only : (bits : ℕ) (old new : Spot) (r : Result ℕ Leb) → ReadsNumber old new r (unsigned_at bits old.left) → (n : ℕ) (rest : List ℕ) → UnsignedAt bits old.left n rest → (r ≡ Ok n) × (new.left ≡ rest)
 unsigned_only bits old new (Ok x) h n rest spelled =
     let e : unsigned_at bits old.left ≡ Ok (n, rest) = ap (unsigned_at bits) spelled.2 ∙ unsigned_again bits spelled.0 n rest spelled.1 in
     let p = same_pair (x, new.left) (n, rest) (sym h.0 ∙ e) in
@@ -63,11 +63,11 @@ short_unsigned bits (b ∷ bs) h =
 
 -- ---- signed
 
-pub signed_found : (bits : ℕ) (old new : Spot) (r : Result ℤ Leb) → Reads old new r (signed_at bits old.left) → IfOk r (λ n. SignedAt bits old.left n new.left)
+pub signed_found : (bits : ℕ) (old new : Spot) (r : Result ℤ Leb) → ReadsNumber old new r (signed_at bits old.left) → IfOk r (λ n. SignedAt bits old.left n new.left)
 signed_found bits old new (Ok n) h = signed_takes bits old.left n new.left h.0
 signed_found bits old new (Err e) h = tt
 
-pub signed_only : (bits : ℕ) (old new : Spot) (r : Result ℤ Leb) → Reads old new r (signed_at bits old.left) → (n : ℤ) (rest : List ℕ) → SignedAt bits old.left n rest → (r ≡ Ok n) × (new.left ≡ rest)
+pub signed_only : (bits : ℕ) (old new : Spot) (r : Result ℤ Leb) → ReadsNumber old new r (signed_at bits old.left) → (n : ℤ) (rest : List ℕ) → SignedAt bits old.left n rest → (r ≡ Ok n) × (new.left ≡ rest)
 signed_only bits old new (Ok x) h n rest spelled =
     let e : signed_at bits old.left ≡ Ok (n, rest) = ap (signed_at bits) spelled.2 ∙ signed_again bits spelled.0 n rest spelled.1 in
     let p = same_pair (x, new.left) (n, rest) (sym h.0 ∙ e) in
@@ -114,10 +114,10 @@ short_signed bits (b ∷ bs) h =
 
 -- ---- the answer Short
 
-pub is_short : {A : Type 0} (old new : Spot) (r : Result A Leb) (read : Result (A × List ℕ) Leb) → Reads old new r read → r ≡ Err Short → read ≡ Err Short
+pub is_short : {A : Type 0} (old new : Spot) (r : Result A Leb) (read : Result (A × List ℕ) Leb) → ReadsNumber old new r read → r ≡ Err Short → read ≡ Err Short
 is_short old new (Ok x) read h e = absurd cc
 is_short old new (Err d) read h e = let f = h.0 in cc
 
-pub was_short : {A : Type 0} (old new : Spot) (r : Result A Leb) (read : Result (A × List ℕ) Leb) → Reads old new r read → read ≡ Err Short → r ≡ Err Short
+pub was_short : {A : Type 0} (old new : Spot) (r : Result A Leb) (read : Result (A × List ℕ) Leb) → ReadsNumber old new r read → read ≡ Err Short → r ≡ Err Short
 was_short old new (Ok x) read h e = absurd (let f = h.0 in cc)
 was_short old new (Err d) read h e = let f = h.0 in cc

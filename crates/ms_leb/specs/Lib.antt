@@ -1,3 +1,3 @@
 pub mod Leb128
-pub mod Numbers
 pub mod Shortest
+pub mod refinement

@@ -1,7 +1,7 @@
 //! Why bytes begin with no LEB128 number.
 
 /// Why there is no LEB128 number at the front of bytes (WebAssembly 1.0, 5.2.2).
-#[derive(Clone, Copy, Debug, PartialEq, Eq)]
+#[derive(Clone, Copy, PartialEq, Eq)]
 pub enum Leb {
     /// The bytes end inside the number.
     Short,

@@ -2,7 +2,7 @@
 
 ghost use Rattle.std.specs.Prelude.{◌≡◌, ◌≤◌, ◌<◌, ◌^◌, ◌-◌, length, IfOk, pos, ◌+ℤ◌, ◌*ℤ◌, nat_lt, nat_le, ◌+◌};
 ghost use Rattle.ms_leb.specs.Leb128.{IsWithin, signed_at, unsigned_at};
-ghost use Rattle.ms_leb.specs.Numbers.{Counts};
+ghost use Rattle.ms_leb.specs.refinement.Numbers.{Counts};
 
 use crate::leb::Leb;
 

@@ -2,7 +2,7 @@
 
 ghost use Rattle.std.specs.Prelude.{◌≡◌, ◌≤◌, ◌<◌, ◌^◌, ◌-◌, ◌↔◌, ℕ, ℤ, List, Ok, Err, IfOk, OnErr};
 ghost use Rattle.ms_leb.specs.Leb128.{IsWithin, SignedAt, UnsignedAt, signed_at, unsigned_at};
-ghost use Rattle.ms_leb.specs.Numbers.{IsShort, Reads};
+ghost use Rattle.ms_leb.specs.refinement.Numbers.{IsShort, ReadsNumber};
 
 use crate::leb::Leb;
 use crate::numbers::{signed, unsigned};
@@ -10,7 +10,7 @@ use ms_bytes::Cursor;
 
 fn unsigned_of(c: &mut Cursor, bits: u32) -> Result<u64, Leb>
     requires { bits ≤ 64 }
-    ensures value { Reads c.old c.new result (unsigned_at bits c.old.left) }
+    ensures value { ReadsNumber c.old c.new result (unsigned_at bits c.old.left) }
     ensures small { IfOk result (λ x. x < 2 ^ bits) }
 {
     let (value, count) = unsigned(c.rest(), bits)?;
@@ -21,7 +21,7 @@ fn unsigned_of(c: &mut Cursor, bits: u32) -> Result<u64, Leb>
 fn signed_of(c: &mut Cursor, bits: u32) -> Result<i64, Leb>
     requires some { 0 < bits }
     requires most { bits ≤ 64 }
-    ensures value { Reads c.old c.new result (signed_at bits c.old.left) }
+    ensures value { ReadsNumber c.old c.new result (signed_at bits c.old.left) }
     ensures small { IfOk result (IsWithin (bits - 1)) }
 {
     let (value, count) = signed(c.rest(), bits)?;
@@ -42,7 +42,7 @@ pub fn read_u(c: &mut Cursor, bits: u32) -> Result<u64, Leb>
     ensures short { (result ≡ Err Leb.Short) ↔ IsShort bits c.old.left }
     ensures err { OnErr result (c.new ≡ c.old) }
     ensures small { IfOk result (λ x. x < 2 ^ bits) }
-    ensures value { Reads c.old c.new result (unsigned_at bits c.old.left) }
+    ensures value { ReadsNumber c.old c.new result (unsigned_at bits c.old.left) }
 {
     unsigned_of(c, bits)
 }
@@ -60,7 +60,7 @@ pub fn read_s(c: &mut Cursor, bits: u32) -> Result<i64, Leb>
     ensures short { (result ≡ Err Leb.Short) ↔ IsShort bits c.old.left }
     ensures err { OnErr result (c.new ≡ c.old) }
     ensures small { IfOk result (IsWithin (bits - 1)) }
-    ensures value { Reads c.old c.new result (signed_at bits c.old.left) }
+    ensures value { ReadsNumber c.old c.new result (signed_at bits c.old.left) }
 {
     signed_of(c, bits)
 }

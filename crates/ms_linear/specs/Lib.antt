@@ -1,5 +1,4 @@
-pub mod CellLaws
-pub mod Cells
 pub mod Memory
 pub mod Table
 pub mod Values
+pub mod refinement

@@ -34,13 +34,13 @@ stored m address width value = record { bytes = take address m.bytes ++ bytes_of
 abbrev pub pages : Memory → ℕ
 pages m = length m.bytes / page
 
-abbrev pub IsWithin : ℕ → Option ℕ → Type 0
-IsWithin n None = Unit {0}
-IsWithin n (Some max) = n ≤ max
+abbrev pub IsUpTo : ℕ → Option ℕ → Type 0
+IsUpTo n None = Unit {0}
+IsUpTo n (Some max) = n ≤ max
 
 -- so many more pages may be had
 abbrev pub MayGrow : Memory → ℕ → Type 0
-MayGrow m n = (pages m + n ≤ most_pages) × IsWithin (pages m + n) m.max
+MayGrow m n = (pages m + n ≤ most_pages) × IsUpTo (pages m + n) m.max
 
 -- with so many more pages of zeros
 abbrev pub grown : Memory → ℕ → Memory

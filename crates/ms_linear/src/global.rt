@@ -7,7 +7,7 @@ use crate::value::Value;
 use ms_types::GlobalType;
 
 /// A global of the store (WebAssembly 1.0, 4.2.9).
-#[derive(Clone, Copy, Debug, PartialEq, Eq)]
+#[derive(Clone, Copy, PartialEq, Eq)]
 pub struct GlobalInst {
     /// Its value.
     pub value: Value,

@@ -13,7 +13,7 @@ use std::marker::Model;
 pub const MOST_PAGES: u32 = 1_024;
 
 /// An access that lies outside the memory.
-#[derive(Clone, Copy, Debug, PartialEq, Eq)]
+#[derive(Clone, Copy, PartialEq, Eq)]
 pub struct Outside;
 
 /// A linear memory (WebAssembly 1.0, 4.2.8). Contracts see its bytes and the greatest number of pages that it may have.

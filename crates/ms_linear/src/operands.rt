@@ -12,7 +12,7 @@ use std::alloc::{AllocError, Global};
 use std::marker::Model;
 
 /// A value, or the parts of its handle, side by side.
-#[derive(Clone, Copy, Debug, PartialEq, Eq)]
+#[derive(Clone, Copy, PartialEq, Eq)]
 enum Kept {
     I32(u32),
     I64(u64),
@@ -27,7 +27,7 @@ enum Kept {
 }
 
 /// A value as operands and locals keep it, in 32 bytes. Contracts see the value.
-#[derive(Clone, Copy, Debug, PartialEq, Eq)]
+#[derive(Clone, Copy, PartialEq, Eq)]
 pub struct Cell {
     kept: Kept,
 }
@@ -37,8 +37,8 @@ const _: () = prove!(size_of::<Cell>() == 32);
 
 impl Model for Cell {
     ghost use Rattle.ms_linear.specs.declared.value.Value.{Value as V};
-    ghost use Rattle.ms_linear.specs.Cells.{kept_of, value_of};
-    ghost use Rattle.ms_linear.specs.CellLaws.{kept_again};
+    ghost use Rattle.ms_linear.specs.refinement.Cells.{kept_of, value_of};
+    ghost use Rattle.ms_linear.specs.refinement.CellLaws.{kept_again};
 
     ghost Value = { V };
 
@@ -143,7 +143,7 @@ impl Cell {
 }
 
 /// Operands (WebAssembly 1.0, 4.2.12). Contracts see them as a list of values with the topmost one first.
-#[derive(Debug, Drop)]
+#[derive(Drop)]
 pub struct Operands {
     cells: Stack<Cell>,
 }

@@ -11,14 +11,14 @@ use std::marker::Model;
 pub const MOST_ENTRIES: u32 = 65_536;
 
 /// A function of the store, by its address: its place in the store's functions (WebAssembly 1.0, 4.2.4).
-#[derive(Clone, Copy, Debug, PartialEq, Eq)]
+#[derive(Clone, Copy, PartialEq, Eq)]
 pub struct FuncRef {
     /// The address.
     pub address: u32,
 }
 
 /// An entry of a table: a function and its type.
-#[derive(Debug, Drop)]
+#[derive(Drop)]
 pub struct Entry {
     /// The function.
     pub func: FuncRef,
@@ -27,7 +27,7 @@ pub struct Entry {
 }
 
 /// Why a call goes nowhere.
-#[derive(Clone, Copy, Debug, PartialEq, Eq)]
+#[derive(Clone, Copy, PartialEq, Eq)]
 pub enum CallTrap {
     /// The index is outside the table.
     Outside,

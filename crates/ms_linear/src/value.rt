@@ -7,7 +7,7 @@ use ms_handle::Handle;
 use ms_types::ValType;
 
 /// A value (WebAssembly 1.0, 4.2.1). Integers have no sign.
-#[derive(Clone, Copy, Debug, PartialEq, Eq)]
+#[derive(Clone, Copy, PartialEq, Eq)]
 pub enum Value {
     /// An integer of 32 bits.
     I32(u32),

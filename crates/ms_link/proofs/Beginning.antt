@@ -13,9 +13,9 @@ use Rattle.ms_machine.specs.declared.externs.Why.TheVariants.{TooLarge}
 use Rattle.ms_machine.specs.declared.store.Instance.{Instance}
 use Rattle.ms_machine.specs.Externs.{Fault, Made, fault_at}
 use Rattle.ms_machine.specs.Linked.{if_inside, instance_in, or_next, outside, sizes_fit, too_large, unless, with_module}
-use Rattle.ms_import.specs.Adding.{Adds}
-use Rattle.ms_link.specs.Adding.{Begins}
-use Rattle.ms_link.specs.Answers.{Answers, Tests}
+use Rattle.ms_import.specs.refinement.Adding.{Adds}
+use Rattle.ms_link.specs.refinement.Adding.{Begins}
+use Rattle.ms_link.specs.refinement.Answers.{LinkAnswers, Tests}
 use Rattle.ms_link.specs.declared.fault.LinkFault.{LinkFault}
 use Rattle.ms_link.specs.declared.adding.Begun.{Begun}
 use Rattle.ms_link.proofs.Refusing.{fit_refuses}
@@ -37,8 +37,8 @@ small_parts number tables memories e = by (sizes_fit number 0 most_entries table
 
 -- ---- what it adds
 
-pub begins_along : (was made : Made) (m : Module) (es : List Extern) (b : Begun) → was ≡ made → Begins was m es b → Begins made m es b
-begins_along was made m es b same h = subst (λ (x : Made). Begins x m es b) same h
+pub begins_along : (was made new : Made) (m : Module) (es : List Extern) (b : Begun) → was ≡ made → Begins was new m es b → Begins made new m es b
+begins_along was made new m es b same h = subst (λ (x : Made). Begins x new m es b) same h
 
 pub same_instance : (exports : List Export) (start : Option ℕ) (types types' : List FuncType) (funcs funcs' : List ℕ) (table table' memory memory' : Option ℕ) (globals globals' : List ℕ)
     → types ≡ types' → funcs ≡ funcs' → table ≡ table' → memory ≡ memory' → globals ≡ globals'
@@ -61,30 +61,30 @@ same_made a b n f i t m g e d =
     ∙ ap (λ x. record { names = b.names; funcs = b.funcs; instances = b.instances; tables = b.tables; memories = b.memories; globals = b.globals; elements = x; fills = a.fills }) e
     ∙ ap (λ x. record { names = b.names; funcs = b.funcs; instances = b.instances; tables = b.tables; memories = b.memories; globals = b.globals; elements = b.elements; fills = x }) d
 
-module _ (made : Made) (name : List ℕ) (m : Module) (es : List Extern) (b : Begun) (begins : Begins made m es b) where
+module _ (made new : Made) (name : List ℕ) (m : Module) (es : List Extern) (b : Begun) (begins : Begins made new m es b) where
   abbrev next : Made
   next = with_module made name m es
 
   abbrev tested : Option Fault
-  tested = outside (length b.made.instances) b.made.globals b.made.tables b.made.memories b.instance b.own_elements b.own_fills
+  tested = outside (length new.instances) new.globals new.tables new.memories b.instance b.own_elements b.own_fills
 
   abbrev wanted : Option Fault
   wanted = outside (length made.instances) next.globals next.tables next.memories (instance_in made m es) m.elements m.fills
 
   same_fault : tested ≡ wanted
   same_fault =
-      ap (λ x. outside (length x) b.made.globals b.made.tables b.made.memories b.instance b.own_elements b.own_fills) begins.instances
-      ∙ ap (λ x. outside (length made.instances) x b.made.tables b.made.memories b.instance b.own_elements b.own_fills) begins.globals
-      ∙ ap (λ x. outside (length made.instances) next.globals x b.made.memories b.instance b.own_elements b.own_fills) begins.tables
+      ap (λ x. outside (length x) new.globals new.tables new.memories b.instance b.own_elements b.own_fills) begins.instances
+      ∙ ap (λ x. outside (length made.instances) x new.tables new.memories b.instance b.own_elements b.own_fills) begins.globals
+      ∙ ap (λ x. outside (length made.instances) next.globals x new.memories b.instance b.own_elements b.own_fills) begins.tables
       ∙ ap (λ x. outside (length made.instances) next.globals next.tables x b.instance b.own_elements b.own_fills) begins.memories
       ∙ ap (λ x. outside (length made.instances) next.globals next.tables next.memories x b.own_elements b.own_fills) begins.instance
       ∙ ap (λ x. outside (length made.instances) next.globals next.tables next.memories (instance_in made m es) x b.own_fills) begins.own_elements
       ∙ ap (λ x. outside (length made.instances) next.globals next.tables next.memories (instance_in made m es) m.elements x) begins.own_fills
 
-  pub fit_is_refused : (e : LinkFault) → Tests {A = Unit {0}} tested (Err e) → Answers (if_inside made name m es) (Err e)
+  pub fit_is_refused : (e : LinkFault) → Tests {A = Unit {0}} tested (Err e) → LinkAnswers (if_inside made name m es) (Err e)
   fit_is_refused e tests = fit_refuses (Unit {0}) wanted next e (subst (λ o. Tests {A = Unit {0}} o (Err e)) same_fault tests)
 
-  pub ended_is : (last : Made) → tested ≡ None → Adds b.made b.instance b.own_elements b.own_fills name last → if_inside made name m es ≡ Ok last
+  pub ended_is : (last : Made) → tested ≡ None → Adds new b.instance b.own_elements b.own_fills name last → if_inside made name m es ≡ Ok last
   ended_is last fits ends =
       ap (λ o. unless o next) (sym same_fault ∙ fits)
       ∙ ap Ok (sym (same_made last next

@@ -25,7 +25,7 @@ use Rattle.ms_link.proofs.Given.{AreGiven, externs_given}
 use Rattle.ms_link.proofs.Imported.{memories_count, tables_count}
 use Rattle.ms_link.proofs.More.{funcs_are, named, next, next_funcs, next_instances, on, own_there, start_typed}
 use Rattle.ms_link.proofs.Standing.{GoesOn, appended_map, get_on, get_only, get_parts, mapped_at, zip_push, zip_weaker}
-use Rattle.ms_link.specs.Fitting.{ElementFits, ElementsFit, FillFits, FillsFit, IsEmpty, IsNoEntry, MadeTyped, byte_count, entry_count, outline}
+use Rattle.ms_link.specs.refinement.Fitting.{ElementFits, ElementsFit, FillFits, FillsFit, IsEmpty, IsNoEntry, MadeTyped, byte_count, entry_count, outline}
 
 -- ---- where no fault is found
 

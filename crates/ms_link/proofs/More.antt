@@ -40,7 +40,7 @@ use Rattle.ms_link.proofs.Imported.{Counts, funcs_below, funcs_named, globals_be
 use Rattle.ms_link.proofs.Kept.{Extends, context_is, func_kept, instance_kept}
 use Rattle.ms_link.proofs.Signatures.{sigs_are}
 use Rattle.ms_link.proofs.Standing.{GoesOn, StandsFrom, appended, appended_map, appended_twice, get_on, get_only, get_parts, get_standing, map_numbers, mapped_at, numbers_standing, stands_last, stands_map, stands_middle}
-use Rattle.ms_link.specs.Fitting.{MadeTyped, outline}
+use Rattle.ms_link.specs.refinement.Fitting.{MadeTyped, outline}
 
 -- ---- of a table or a memory there is one at the most: the imported one or the module's own
 

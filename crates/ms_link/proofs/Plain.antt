@@ -19,14 +19,14 @@ use Rattle.ms_segment.specs.Memory.{Memory}
 use Rattle.ms_segment.proofs.Sound.{IsData, IsSound-new}
 use Rattle.ms_tagged.specs.Bytes.{Data, Piece}
 use Rattle.ms_machine.specs.Externs.{Fault, Made}
-use Rattle.ms_machine.specs.Holding.{Each, EachGlobal, Fits, StoreFits, ThreadHolds}
+use Rattle.ms_machine.specs.refinement.Holding.{Each, EachGlobal, Fits, StoreFits, ThreadHolds}
 use Rattle.ms_machine.specs.Linked.{all_more, and_then, globals_in, linked, nothing_made, one_more, own_global, store_of, value_at, values_at}
 use Rattle.ms_machine.specs.Constants.{constant, constant_in, value_or_zero}
-use Rattle.ms_machine.specs.Safety.{IsMonitored, IsWithin, Knows, Sound}
+use Rattle.ms_machine.specs.refinement.Safety.{IsMonitored, IsWithinSegment, Knows, Sound}
 use Rattle.ms_machine.specs.Store.{Store}
 use Rattle.ms_machine.proofs.SafePaints.{Contains-none}
 use Rattle.std.specs.Prelude.{IfOk}
-use Rattle.ms_link.specs.Answers.{DoesLink}
+use Rattle.ms_link.specs.refinement.Answers.{DoesLink}
 use Rattle.ms_link.specs.declared.fault.LinkFault.{LinkFault}
 use Rattle.ms_link.proofs.Fits.{one_more_adds}
 use Rattle.ms_link.proofs.Stores.{linked_made}
@@ -132,7 +132,7 @@ made_fits capacity made below plain = record {
 made_sound : (capacity : ℕ) (made : Made) → EachGlobal IsPlain made.globals → Sound [] (store_of capacity made) []
 made_sound capacity made plain = record {
   accepted = tt;
-  sizes = All-nil (IsWithin []);
+  sizes = All-nil (IsWithinSegment []);
   monitored = new_monitored capacity;
   globals = plain_known made.globals plain;
   threads = All-nil (ThreadHolds (Knows nothing_yet));

@@ -21,7 +21,7 @@ use Rattle.ms_machine.specs.Store.{at}
 use Rattle.ms_machine.proofs.TypedValues.{get_mapped}
 use Rattle.ms_import.proofs.Exports.{next_is}
 use Rattle.ms_link.proofs.Written.{length-written, map-same, written-more}
-use Rattle.ms_link.specs.Fitting.{ElementFits, ElementsThere, FillFits, FillsThere, byte_count, entry_count}
+use Rattle.ms_link.specs.refinement.Fitting.{ElementFits, ElementsThere, FillFits, FillsThere, byte_count, entry_count}
 
 -- ---- one entry more
 

@@ -13,8 +13,8 @@ use Rattle.ms_task.specs.declared.func.FuncInst.{FuncInst}
 use Rattle.ms_machine.specs.declared.store.Instance.{Instance}
 use Rattle.ms_machine.specs.Externs.{Fault, Made, externs}
 use Rattle.ms_machine.specs.Linked.{all_more, and_then, if_inside, if_small, one_more, too_large, unless, with_externs}
-use Rattle.ms_link.specs.Answers.{Answers, Tests}
-use Rattle.ms_link.specs.Fitting.{ElementsFit, ElementsThere, FillsThere, MadeTyped, byte_count, entry_count}
+use Rattle.ms_link.specs.refinement.Answers.{LinkAnswers, Tests}
+use Rattle.ms_link.specs.refinement.Fitting.{ElementsFit, ElementsThere, FillsThere, MadeTyped, byte_count, entry_count}
 use Rattle.ms_link.specs.declared.fault.LinkFault.{LinkFault}
 use Rattle.ms_link.specs.declared.fault.LinkFault.TheVariants.{Refused, Memory}
 use Rattle.ms_link.proofs.Fits.{one_more_adds}
@@ -23,11 +23,11 @@ use Rattle.ms_link.proofs.Standing.{zip_weaker}
 -- ---- a fault of a part is the fault of the whole
 
 pub inside_answers : (made : Made) (name : List ℕ) (m : Module) (es : List Extern) (r : Result Made LinkFault) → externs made m.sigs 0 m.imports ≡ Ok es → too_large (length made.instances) m.tables m.memories ≡ None
-    → Answers (if_inside made name m es) r → Answers (one_more made name m) r
+    → LinkAnswers (if_inside made name m es) r → LinkAnswers (one_more made name m) r
 inside_answers made name m es r given small answers =
-    subst (λ w. Answers w r) (sym (ap (with_externs made name m) given ∙ ap (λ o. if_small o (if_inside made name m es)) small)) answers
+    subst (λ w. LinkAnswers w r) (sym (ap (with_externs made name m) given ∙ ap (λ o. if_small o (if_inside made name m es)) small)) answers
 
-pub fit_refuses : (A : Type 0) (o : Option Fault) (next : Made) (e : LinkFault) → Tests {A = A} o (Err e) → Answers (unless o next) (Err e)
+pub fit_refuses : (A : Type 0) (o : Option Fault) (next : Made) (e : LinkFault) → Tests {A = A} o (Err e) → LinkAnswers (unless o next) (Err e)
 fit_refuses A o next (Refused n item why) is = ap (λ o. unless o next) is
 fit_refuses A o next Memory is = tt
 

@@ -20,7 +20,7 @@ use Rattle.ms_machine.proofs.TypedValues.{all_at}
 use Rattle.ms_link.proofs.Fits.{all_more_typed, nothing_typed}
 use Rattle.ms_link.proofs.Kept.{Extends, func_kept, instance_kept}
 use Rattle.ms_link.proofs.Written.{TableTyped, element_typed, entry_typed, length-element, length-fill}
-use Rattle.ms_link.specs.Fitting.{IsEmpty, IsNoEntry, MadeTyped, outline}
+use Rattle.ms_link.specs.refinement.Fitting.{IsEmpty, IsNoEntry, MadeTyped, outline}
 
 -- ---- how many tables and memories there are
 

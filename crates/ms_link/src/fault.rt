@@ -1,13 +1,13 @@
 //! Why modules are not linked.
 
 ghost use Rattle.ms_machine.specs.Externs.{fault_at};
-ghost use Rattle.ms_link.specs.Answers.{IsFault};
+ghost use Rattle.ms_link.specs.refinement.Answers.{IsFault};
 
 use ms_machine::Why;
 use std::alloc::AllocError;
 
 /// Why there is no store.
-#[derive(Clone, Copy, Debug, PartialEq, Eq)]
+#[derive(Clone, Copy, PartialEq, Eq)]
 pub enum LinkFault {
     /// An item of a module, both by their numbers from 0, is the first that isn't linked.
     Refused {

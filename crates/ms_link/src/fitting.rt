@@ -1,7 +1,7 @@
 //! Whether a module fits the limits of a store, and its elements and data the tables and memories that they go to.
 
 ghost use Rattle.std.specs.Prelude.{◌≡◌, ◌≤◌, ◌+◌, ◌*◌, ◌↔◌, IsTrue, length};
-ghost use Rattle.ms_link.specs.Answers.{Tests};
+ghost use Rattle.ms_link.specs.refinement.Answers.{Tests};
 ghost use Rattle.ms_types.specs.Page.{page};
 ghost use Rattle.ms_machine.specs.Linked as linked;
 ghost use Rattle.ms_machine.specs.Store.{at};

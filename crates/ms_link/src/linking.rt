@@ -1,12 +1,12 @@
 //! Linking.
 
 ghost use Rattle.std.specs.Prelude.{◌≡◌, IfOk, [], map};
-ghost use Rattle.ms_link.specs.Answers.{Answers, DoesLink};
-ghost use Rattle.ms_link.specs.Fitting.{MadeTyped};
-ghost use Rattle.ms_machine.specs.Holding.{StoreFits};
+ghost use Rattle.ms_link.specs.refinement.Answers.{LinkAnswers, DoesLink};
+ghost use Rattle.ms_link.specs.refinement.Fitting.{MadeTyped};
+ghost use Rattle.ms_machine.specs.refinement.Holding.{StoreFits};
 ghost use Rattle.ms_machine.specs.Linked as linked;
 ghost use Rattle.ms_machine.specs.Linked.{StartsTyped};
-ghost use Rattle.ms_machine.specs.Safety.{Sound};
+ghost use Rattle.ms_machine.specs.refinement.Safety.{Sound};
 ghost use Rattle.ms_machine.specs.Typing.{StoreTyped, outline_of};
 ghost use Rattle.ms_rules.specs.Modules.{AreDistinct};
 
@@ -24,7 +24,7 @@ use std::alloc::Global;
 /// What the modules make, in their order, or the first thing that refuses all.
 fn made_of(alloc: Global, modules: Vec<(Name, Valid)>) -> Result<Made, LinkFault>
     requires { AreDistinct (map (λ m. m.0) modules.items) }
-    ensures made { Answers (linked.all_more modules.items linked.nothing_made) result }
+    ensures made { LinkAnswers (linked.all_more modules.items linked.nothing_made) result }
     ensures typed { IfOk result MadeTyped }
 {
     let mut made = Made::new(alloc)?;

@@ -89,23 +89,23 @@ fn push_funcs(
     Ok(())
 }
 
-/// The functions with those of an instance, and the addresses of the instance's.
-pub(crate) fn with_funcs(
+/// Adds the functions of an instance, and gives the addresses of all that it has.
+pub(crate) fn add_funcs(
     alloc: Global,
-    mut all: Vec<FuncInst>,
+    all: &mut Vec<FuncInst>,
     types: &[SharedType],
     instance: u32,
     externs: &[Extern],
     funcs: Vec<Func>,
-) -> Result<(Vec<FuncInst>, Vec<u32>), AllocError>
+) -> Result<Vec<u32>, AllocError>
     requires { All (λ f. f.sig < length types.now) funcs.items }
-    ensures { («module» : Module) → types.now ≡ «module».sigs → IfOk result (λ r. (r.0.items ≡ all.items ++ linked.host_funcs instance 0 externs.now ++ map (linked.own_func «module» instance) funcs.items) × (r.1.items ≡ linked.funcs_in (length all.items) externs.now ++ linked.numbers (length (all.items ++ linked.host_funcs instance 0 externs.now)) (length funcs.items))) }
+    ensures { («module» : Module) → types.now ≡ «module».sigs → IfOk result (λ r. (all.new.items ≡ all.old.items ++ linked.host_funcs instance 0 externs.now ++ map (linked.own_func «module» instance) funcs.items) × (r.items ≡ linked.funcs_in (length all.old.items) externs.now ++ linked.numbers (length (all.old.items ++ linked.host_funcs instance 0 externs.now)) (length funcs.items))) }
 {
     let mut addresses = funcs_in(alloc, all.len(), externs)?;
-    push_hosts(alloc, &mut all, instance, externs)?;
+    push_hosts(alloc, all, instance, externs)?;
     push_numbers(&mut addresses, all.len(), funcs.len())?;
-    push_funcs(&mut all, types, instance, funcs)?;
-    Ok((all, addresses))
+    push_funcs(all, types, instance, funcs)?;
+    Ok(addresses)
 }
 
 /// Adds the address of what is imported, if it is a global.
@@ -158,20 +158,20 @@ fn own_globals(
     Ok(made)
 }
 
-/// The globals with those of an instance, and the addresses of the instance's.
-pub(crate) fn with_globals(
+/// Adds the globals of an instance, and gives the addresses of all that it has.
+pub(crate) fn add_globals(
     alloc: Global,
-    mut all: Vec<GlobalInst>,
+    all: &mut Vec<GlobalInst>,
     externs: &[Extern],
     globals: &[ModuleGlobal],
-) -> Result<(Vec<GlobalInst>, Vec<u32>), AllocError>
-    ensures { IfOk result (λ r. (r.0.items ≡ all.items ++ map (linked.own_global (linked.values_at all.items (linked.globals_in externs.now))) globals.now) × (r.1.items ≡ linked.globals_in externs.now ++ linked.numbers (length all.items) (length globals.now))) }
+) -> Result<Vec<u32>, AllocError>
+    ensures { IfOk result (λ r. (all.new.items ≡ all.old.items ++ map (linked.own_global (linked.values_at all.old.items (linked.globals_in externs.now))) globals.now) × (r.items ≡ linked.globals_in externs.now ++ linked.numbers (length all.old.items) (length globals.now))) }
 {
     let mut addresses = globals_in(alloc, externs)?;
     let own = own_globals(alloc, all.as_slice(), addresses.as_slice(), globals)?;
     push_numbers(&mut addresses, all.len(), globals.len())?;
-    append(&mut all, own)?;
-    Ok((all, addresses))
+    append(all, own)?;
+    Ok(addresses)
 }
 
 /// The address of the table that is imported, if there is one.
@@ -214,36 +214,36 @@ fn or_own(imported: Option<u32>, address: usize, own: &[Limits]) -> Result<Optio
     }
 }
 
-/// The tables with those of an instance, which have no entries, and the address of the instance's.
-pub(crate) fn with_tables(
+/// Adds the table of an instance, if it has its own, with no entries, and gives the address of the one that it has.
+pub(crate) fn add_tables(
     alloc: Global,
-    mut all: Vec<Table>,
+    all: &mut Vec<Table>,
     externs: &[Extern],
     limits: &[Limits],
-) -> Result<(Vec<Table>, Option<u32>), AllocError>
+) -> Result<Option<u32>, AllocError>
     requires { All (λ l. l.min ≤ most_entries) limits.now }
-    ensures { IfOk result (λ r. (r.0.items ≡ all.items ++ map writing.empty_table limits.now) × (r.1 ≡ linked.or_own (linked.table_in externs.now) (length all.items) limits.now)) }
+    ensures { IfOk result (λ r. (all.new.items ≡ all.old.items ++ map writing.empty_table limits.now) × (r ≡ linked.or_own (linked.table_in externs.now) (length all.old.items) limits.now)) }
 {
     let address = or_own(table_in(externs), all.len(), limits)?;
     for l in limits {
         all.push(Table::new(alloc, *l)?)?;
     }
-    Ok((all, address))
+    Ok(address)
 }
 
-/// The linear memories with those of an instance, which are zeros, and the address of the instance's.
-pub(crate) fn with_memories(
+/// Adds the linear memory of an instance, if it has its own, of zeros, and gives the address of the one that it has.
+pub(crate) fn add_memories(
     alloc: Global,
-    mut all: Vec<Linear>,
+    all: &mut Vec<Linear>,
     externs: &[Extern],
     limits: &[Limits],
-) -> Result<(Vec<Linear>, Option<u32>), AllocError>
+) -> Result<Option<u32>, AllocError>
     requires { All (λ l. l.min ≤ most_pages) limits.now }
-    ensures { IfOk result (λ r. (r.0.items ≡ all.items ++ map writing.zeroed limits.now) × (r.1 ≡ linked.or_own (linked.memory_in externs.now) (length all.items) limits.now)) }
+    ensures { IfOk result (λ r. (all.new.items ≡ all.old.items ++ map writing.zeroed limits.now) × (r ≡ linked.or_own (linked.memory_in externs.now) (length all.old.items) limits.now)) }
 {
     let address = or_own(memory_in(externs), all.len(), limits)?;
     for l in limits {
         all.push(Linear::new(alloc, *l)?)?;
     }
-    Ok((all, address))
+    Ok(address)
 }

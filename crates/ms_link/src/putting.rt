@@ -2,7 +2,7 @@
 
 ghost use Rattle.std.specs.Prelude.{◌≡◌, ◌<◌, ◌≤◌, ◌+◌, All, OnOk, length, map, slice_get};
 ghost use Rattle.std.specs.List.{AllZip};
-ghost use Rattle.ms_link.specs.Fitting.{ElementFits, ElementsThere, FillFits, FillsThere, byte_count, entry_count};
+ghost use Rattle.ms_link.specs.refinement.Fitting.{ElementFits, ElementsThere, FillFits, FillsThere, byte_count, entry_count};
 ghost use Rattle.ms_machine.specs.Linked as linked;
 ghost use Rattle.ms_machine.specs.Writing as writing;
 

@@ -1,7 +1,7 @@
 //! The store of what the modules have made.
 
 ghost use Rattle.std.specs.Prelude.{◌≡◌, IfOk};
-ghost use Rattle.ms_link.specs.Fitting.{MadeTyped};
+ghost use Rattle.ms_link.specs.refinement.Fitting.{MadeTyped};
 ghost use Rattle.ms_machine.specs.Linked as linked;
 
 use crate::putting::{put_all_elements, put_all_fills};
@@ -11,6 +11,7 @@ use ms_machine::{Instance, Store};
 use ms_segment::Segments;
 use ms_tagged::Tagged;
 use std::alloc::{AllocError, Global};
+use std::mem;
 
 /// The store, with an empty segment memory of so many bytes.
 pub(crate) fn store_of<G: Gaps, T: Tagged>(
@@ -21,31 +22,33 @@ pub(crate) fn store_of<G: Gaps, T: Tagged>(
     requires { MadeTyped made }
     ensures { IfOk result (λ s. s ≡ linked.store_of capacity made) }
 {
+    let mut made = made;
+    put_all_elements(
+        made.tables.as_mut_slice(),
+        made.funcs.as_slice(),
+        made.globals.as_slice(),
+        made.instances.as_slice(),
+        made.elements.as_slice(),
+    )?;
+    put_all_fills(
+        made.memories.as_mut_slice(),
+        made.globals.as_slice(),
+        made.instances.as_slice(),
+        made.fills.as_slice(),
+    );
+    let known = mem::replace(&mut made.instances, Vec::new(alloc));
+    let instances = instances_of(alloc, known)?;
+    let segments = Segments::new(alloc, capacity)?;
     let Made {
         names: _,
         funcs,
-        instances,
-        mut tables,
-        mut memories,
+        instances: _,
+        tables,
+        memories,
         globals,
-        elements,
-        fills,
+        elements: _,
+        fills: _,
     } = made;
-    put_all_elements(
-        tables.as_mut_slice(),
-        funcs.as_slice(),
-        globals.as_slice(),
-        instances.as_slice(),
-        elements.as_slice(),
-    )?;
-    put_all_fills(
-        memories.as_mut_slice(),
-        globals.as_slice(),
-        instances.as_slice(),
-        fills.as_slice(),
-    );
-    let instances = instances_of(alloc, instances)?;
-    let segments = Segments::new(alloc, capacity)?;
     Ok(Store::of(funcs, instances, tables, memories, globals, segments))
 }
 

@@ -7,12 +7,12 @@ use Rattle.std.proofs.lemmas.List.{get_or_default, length-append}
 use Rattle.std.proofs.lemmas.List.Elements.{All-contains, All-contains_itself, All-filter, All-head, All-tail, Contains-append_left, Contains-append_right, Contains-get_or, Contains-push, Contains-push_cases, filter_passes}
 use Rattle.std.proofs.lemmas.List.Kept.{AllPairs-filter}
 use Rattle.std.proofs.lemmas.List.Quantifiers.{all_pairs_push}
-use Rattle.ms_gap_tree.specs.Rooms.{Arena, IsLowest, room_at, size_of}
-use Rattle.ms_gap_tree.specs.Tree.{half}
+use Rattle.ms_gap_tree.specs.refinement.Rooms.{Arena, IsLowest, room_at, size_of}
+use Rattle.ms_gap_tree.specs.refinement.Tree.{half}
 use Rattle.ms_gap_tree.proofs.Inserted.{cond_false}
 use Rattle.ms_gap_tree.proofs.Levels.{differ_test}
-use Rattle.ms_live.specs.Kept.{filled, IsKept, Kept}
-use Rattle.ms_live.specs.Layout.{behind, Begins, Ends, IsBegun, IsLayout, IsRun}
+use Rattle.ms_live.specs.refinement.Kept.{filled, IsKept, Kept}
+use Rattle.ms_live.specs.refinement.Layout.{behind, Begins, Ends, IsBegun, IsLayout, IsRun}
 use Rattle.ms_live.specs.Place.{contains_id, without, IsAligned, IsFree, IsOutside, IsPlace}
 use Rattle.ms_live.specs.declared.gaps.Live.{Live}
 use Rattle.ms_live.specs.declared.gaps.TheConstants.{MOST_LIVE, GAP_LEVELS}

@@ -1,7 +1,7 @@
 -- What holds of a layout, and that it is kept when a segment begins or ends.
 use Rattle.std.proofs.Common.{◌≡◌, ◌≢◌, ℕ, ◌+◌, ◌-◌, ◌*◌, ◌%◌, ◌<◌, ◌≤◌, Option, Some, None, min, refl, arith, ap, sym, ◌∙◌, subst, ◌⊎◌, inl, inr}
 use Rattle.std.proofs.lemmas.Bool.{cases_lt}
-use Rattle.ms_live.specs.Layout.{behind, Begins, Ends, IsBegun, IsIn, IsLayout, IsOpen, IsRun}
+use Rattle.ms_live.specs.refinement.Layout.{behind, Begins, Ends, IsBegun, IsIn, IsLayout, IsOpen, IsRun}
 use Rattle.ms_live.specs.Place.{IsOutside}
 use Rattle.ms_live.specs.declared.gaps.Live.{Live}
 

@@ -9,8 +9,8 @@ use Rattle.std.proofs.lemmas.List.Elements.{All-append, All-cons, All-filter, Al
 use Rattle.ms_gap_tree.proofs.Inserted.{cond_false, cond_true, lt_false, lt_true}
 use Rattle.ms_gap_tree.proofs.Laws.{half_none, upper_range}
 use Rattle.ms_gap_tree.proofs.LowestLaw.{bool_cases, two_halves}
-use Rattle.ms_gap_tree.specs.Tree.{half}
-use Rattle.ms_live.specs.Ordered.{Ordered, Empty, Fork, count, pick, pop, push, remove, root, seek, segments, IsInOrder}
+use Rattle.ms_gap_tree.specs.refinement.Tree.{half}
+use Rattle.ms_live.specs.refinement.Ordered.{Ordered, Empty, Fork, count, pick, pop, push, remove, root, seek, segments, IsInOrder}
 use Rattle.ms_live.specs.Place.{without}
 use Rattle.ms_live.specs.declared.branch.Branch.{Branch}
 use Rattle.ms_live.specs.declared.gaps.Live.{Live}

@@ -4,22 +4,22 @@ use Rattle.std.proofs.lemmas.Bool.{cases_lt}
 use Rattle.ms_gap_tree.proofs.Inserted.{cond_false, cond_true, lt_false, lt_true}
 use Rattle.ms_gap_tree.proofs.Levels.{differ_test, or_joined, or_left, or_right, same_test, test_differ}
 use Rattle.ms_gap_tree.proofs.LowestLaw.{bool_cases, test_eq}
-use Rattle.ms_gap_tree.specs.Tree.{half}
-use Rattle.ms_live.specs.Ordered.{Ordered, Empty, Fork, at, freed, has, lifted, pop, push, remove, removed, seek, tree_of, IsApart, IsWithin}
+use Rattle.ms_gap_tree.specs.refinement.Tree.{half}
+use Rattle.ms_live.specs.refinement.Ordered.{Ordered, Empty, Fork, at, freed, has, lifted, pop, push, remove, removed, seek, tree_of, IsApart, IsWithinArena}
 use Rattle.ms_live.specs.declared.branch.Branch.{Branch}
 use Rattle.ms_live.specs.declared.branch.Halves.{Halves}
 use Rattle.ms_live.specs.declared.gaps.Live.{Live}
 use Rattle.ms_live.proofs.OrderedSteps.{has_pop, has_push, has_remove, other_slot}
 
 -- a slot from the bound on is none
-pub beyond : (m j : ℕ) (t : Ordered) → IsWithin m t → m ≤ j → has j t ≡ false
+pub beyond : (m j : ℕ) (t : Ordered) → IsWithinArena m t → m ≤ j → has j t ≡ false
 beyond m j Empty w h = refl
 beyond m j (Fork i n s l u) w h = let b = w.0 in or_joined _ _ (differ_test j i (omega arith)) (or_joined _ _ (beyond m j l w.1 h) (beyond m j u w.2 h))
 
-pub has_within : (m j : ℕ) (t : Ordered) → IsWithin m t → has j t ≡ true → j < m
+pub has_within : (m j : ℕ) (t : Ordered) → IsWithinArena m t → has j t ≡ true → j < m
 has_within m j t w h = elim (cases_lt j m) [ inl l ↦ l | inr b ↦ let q = sym h ∙ beyond m j t w b in absurd (cc) ]
 
-pub within_more : (m k : ℕ) (t : Ordered) → m ≤ k → IsWithin m t → IsWithin k t
+pub within_more : (m k : ℕ) (t : Ordered) → m ≤ k → IsWithinArena m t → IsWithinArena k t
 within_more m k Empty h w = tt
 within_more m k (Fork i n s l u) h w = let b = w.0 in (omega arith, within_more m k l h w.1, within_more m k u h w.2)
 
@@ -41,11 +41,11 @@ had d low slot new tree j h =
       ]
     ]
 
-pub within_push : (d low slot : ℕ) (new : Live) (tree : Ordered) (m : ℕ) → slot < m → IsWithin m tree → IsWithin m (push d low slot new tree)
+pub within_push : (d low slot : ℕ) (new : Live) (tree : Ordered) (m : ℕ) → slot < m → IsWithinArena m tree → IsWithinArena m (push d low slot new tree)
 within_push zero low slot new tree m h w = w
 within_push (suc d) low slot new Empty m h w = (h, tt, tt)
 within_push (suc d) low slot new (Fork i n s l u) m h w =
-    elim (nat_lt new.id (low + half d)) as (λ t. IsWithin m (cond t (Fork i (n + 1) s (push d low slot new l) u) (Fork i (n + 1) s l (push d (low + half d) slot new u)))) [
+    elim (nat_lt new.id (low + half d)) as (λ t. IsWithinArena m (cond t (Fork i (n + 1) s (push d low slot new l) u) (Fork i (n + 1) s l (push d (low + half d) slot new u)))) [
       | true ↦ (w.0, within_push d low slot new l m h w.1, w.2)
       | false ↦ (w.0, w.1, within_push d (low + half d) slot new u m h w.2)
     ]
@@ -75,7 +75,7 @@ apart_push (suc d) low slot new (Fork i n s l u) h a =
 
 -- ---- the oldest goes
 
-pub within_pop : (tree : Ordered) (m : ℕ) → IsWithin m tree → IsWithin m (pop tree)
+pub within_pop : (tree : Ordered) (m : ℕ) → IsWithinArena m tree → IsWithinArena m (pop tree)
 within_pop Empty m w = w
 within_pop (Fork i n s Empty Empty) m w = tt
 within_pop (Fork i n s Empty (Fork j k t l u)) m w = (w.0, tt, within_pop (Fork j k t l u) m w.2)
@@ -131,7 +131,7 @@ has_lifted (Fork i n s l u) j h =
     let t = Fork i n s l u in
     or_joined _ _ (differ_test j (freed t) (λ e. let q = sym (freed_had i n s l u) ∙ (sym (ap (λ (m : ℕ). has m t) e) ∙ h) in absurd (cc))) (or_joined _ _ (has_pop t j h) refl)
 
-pub within_lifted : (tree : Ordered) (m : ℕ) → IsWithin m tree → IsWithin m (lifted tree)
+pub within_lifted : (tree : Ordered) (m : ℕ) → IsWithinArena m tree → IsWithinArena m (lifted tree)
 within_lifted Empty m w = w
 within_lifted (Fork i n s l u) m w = (has_within m (freed (Fork i n s l u)) (Fork i n s l u) w (freed_had i n s l u), within_pop (Fork i n s l u) m w, tt)
 
@@ -141,14 +141,14 @@ apart_lifted (Fork i n s l u) a = (freed_gone (Fork i n s l u) a, refl, λ j x. 
 
 -- ---- a segment goes
 
-pub within_remove : (d low id : ℕ) (tree : Ordered) (m : ℕ) → IsWithin m tree → IsWithin m (remove d low id tree)
+pub within_remove : (d low id : ℕ) (tree : Ordered) (m : ℕ) → IsWithinArena m tree → IsWithinArena m (remove d low id tree)
 within_remove zero low id tree m w = w
 within_remove (suc d) low id Empty m w = w
 within_remove (suc d) low id (Fork i n s l u) m w =
     let sides = cond (nat_lt id (low + half d)) (Fork i (n - 1) s (remove d low id l) u) (Fork i (n - 1) s l (remove d (low + half d) id u)) in
-    elim (s.id == id) as (λ b. IsWithin m (cond b (pop (Fork i n s l u)) sides)) [
+    elim (s.id == id) as (λ b. IsWithinArena m (cond b (pop (Fork i n s l u)) sides)) [
       | true ↦ within_pop (Fork i n s l u) m w
-      | false ↦ elim (nat_lt id (low + half d)) as (λ b. IsWithin m (cond b (Fork i (n - 1) s (remove d low id l) u) (Fork i (n - 1) s l (remove d (low + half d) id u)))) [
+      | false ↦ elim (nat_lt id (low + half d)) as (λ b. IsWithinArena m (cond b (Fork i (n - 1) s (remove d low id l) u) (Fork i (n - 1) s l (remove d (low + half d) id u)))) [
         | true ↦ (w.0, within_remove d low id l m w.1, w.2)
         | false ↦ (w.0, w.1, within_remove d (low + half d) id u m w.2)
       ]

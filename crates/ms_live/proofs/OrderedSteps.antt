@@ -4,8 +4,8 @@ use Rattle.ms_gap_tree.proofs.Inserted.{cond_false, cond_true, contrary, lt_fals
 use Rattle.ms_gap_tree.proofs.Laws.{half_more, half_none, half_one}
 use Rattle.ms_gap_tree.proofs.Levels.{differ_test, or_false, or_joined, or_left, or_right, same_test, test_differ}
 use Rattle.ms_gap_tree.proofs.LowestLaw.{two_halves}
-use Rattle.ms_gap_tree.specs.Tree.{half}
-use Rattle.ms_live.specs.Ordered.{Ordered, Empty, Fork, at, blank, freed, has, lifted, pop, push, remove, tree_of, IsApart, IsWithin}
+use Rattle.ms_gap_tree.specs.refinement.Tree.{half}
+use Rattle.ms_live.specs.refinement.Ordered.{Ordered, Empty, Fork, at, blank, freed, has, lifted, pop, push, remove, tree_of, IsApart, IsWithinArena}
 use Rattle.ms_live.specs.declared.branch.Branch.{Branch}
 use Rattle.ms_live.specs.declared.branch.Halves.{Halves}
 use Rattle.ms_live.specs.declared.gaps.Live.{Live}
@@ -80,18 +80,18 @@ rebuilt new d i n s lower upper l u here e f h k =
 -- what is known of the parts of a tree
 pub record Parts (nodes : List Halves) (d i : ℕ) : Type 0 where
   pub here : i < length nodes
-  pub within_lower : IsWithin (length nodes) (tree_of nodes d (at nodes i).lower)
-  pub within_upper : IsWithin (length nodes) (tree_of nodes d (at nodes i).upper)
+  pub within_lower : IsWithinArena (length nodes) (tree_of nodes d (at nodes i).lower)
+  pub within_upper : IsWithinArena (length nodes) (tree_of nodes d (at nodes i).upper)
   pub apart_lower : IsApart (tree_of nodes d (at nodes i).lower)
   pub apart_upper : IsApart (tree_of nodes d (at nodes i).upper)
   pub root_lower : has i (tree_of nodes d (at nodes i).lower) ≡ false
   pub root_upper : has i (tree_of nodes d (at nodes i).upper) ≡ false
   pub sides : (j : ℕ) → has j (tree_of nodes d (at nodes i).lower) ≡ true → has j (tree_of nodes d (at nodes i).upper) ≡ false
 
-pub parts : (nodes : List Halves) (level d : ℕ) (root : Branch) (branch : Option Branch) → level ≡ suc d → branch ≡ Some root → IsWithin (length nodes) (tree_of nodes level branch) → IsApart (tree_of nodes level branch) → Parts nodes d root.at
+pub parts : (nodes : List Halves) (level d : ℕ) (root : Branch) (branch : Option Branch) → level ≡ suc d → branch ≡ Some root → IsWithinArena (length nodes) (tree_of nodes level branch) → IsApart (tree_of nodes level branch) → Parts nodes d root.at
 parts nodes level d root branch e h within apart =
     let t = linked nodes level d root branch e h in
-    let w = subst (IsWithin (length nodes)) t within in
+    let w = subst (IsWithinArena (length nodes)) t within in
     let a = subst IsApart t apart in
     record { here = w.0; within_lower = w.1; within_upper = w.2; apart_lower = a.3; apart_upper = a.4; root_lower = a.0; root_upper = a.1; sides = a.2 }
 

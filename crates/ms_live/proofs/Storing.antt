@@ -7,9 +7,9 @@ use Rattle.std.proofs.lemmas.List.{append-nil, get_or_append_left, length-append
 use Rattle.std.proofs.lemmas.List.Elements.{All-nil}
 use Rattle.ms_gap_tree.proofs.LowestLaw.{two_halves}
 use Rattle.ms_gap_tree.proofs.Pool.{given_back, next_new, next_old, IsNext}
-use Rattle.ms_gap_tree.specs.Rooms.{IsPool}
-use Rattle.ms_gap_tree.specs.Tree.{half}
-use Rattle.ms_live.specs.Ordered.{Ordered, Empty, Fork, blank, has, lifted, pop, push, remove, seek, segments, tree_of, IsApart, IsInOrder, IsStored, IsWithin}
+use Rattle.ms_gap_tree.specs.refinement.Rooms.{IsPool}
+use Rattle.ms_gap_tree.specs.refinement.Tree.{half}
+use Rattle.ms_live.specs.refinement.Ordered.{Ordered, Empty, Fork, blank, has, lifted, pop, push, remove, seek, segments, tree_of, IsApart, IsInOrder, IsStored, IsWithinArena}
 use Rattle.ms_live.specs.Place.{contains_id, without}
 use Rattle.ms_live.specs.declared.branch.Branch.{Branch}
 use Rattle.ms_live.specs.declared.branch.Halves.{Halves}
@@ -50,7 +50,7 @@ in_order_lifted (suc d) up (Fork i n s l u) e h =
 -- ---- a segment more
 
 -- what holds after the tree has grown
-pub stored_grown : (old new : List Halves) (levels up : ℕ) (root top : Option Branch) (free : List ℕ) → IsStored old levels root free → segments (tree_of new up top) ≡ segments (tree_of old levels root) → IsWithin (length old) (tree_of new up top) → IsApart (tree_of new up top) → IsInOrder up 0 (tree_of new up top)
+pub stored_grown : (old new : List Halves) (levels up : ℕ) (root top : Option Branch) (free : List ℕ) → IsStored old levels root free → segments (tree_of new up top) ≡ segments (tree_of old levels root) → IsWithinArena (length old) (tree_of new up top) → IsApart (tree_of new up top) → IsInOrder up 0 (tree_of new up top)
     → ((j : ℕ) → has j (tree_of old levels root) ≡ false → has j (tree_of new up top) ≡ false) → up ≤ 65 → length new ≡ length old → IsStored new up top free
 stored_grown old new levels up root top free s same within apart in_order slots few len =
     let p = s.pool in
@@ -58,7 +58,7 @@ stored_grown old new levels up root top free s same within apart in_order slots 
     let n = ap length same in
     let f = s.few in
     record {
-      within = subst (λ (m : ℕ). IsWithin m (tree_of new up top)) (sym len) within;
+      within = subst (λ (m : ℕ). IsWithinArena m (tree_of new up top)) (sym len) within;
       apart = apart;
       in_order = in_order;
       pool = record {
@@ -73,7 +73,7 @@ stored_grown old new levels up root top free s same within apart in_order slots 
 -- what holds of a slot that no segment has, and of the arena without it
 pub record IsSpare (nodes new : List Halves) (levels : ℕ) (root : Option Branch) (free : List ℕ) (slot : ℕ) : Type 0 where
   pub same : tree_of new levels root ≡ tree_of nodes levels root
-  pub within : IsWithin (length new) (tree_of nodes levels root)
+  pub within : IsWithinArena (length new) (tree_of nodes levels root)
   pub few : length new ≤ MOST_LIVE
   pub next : IsNext (length new) (λ j. has j (tree_of nodes levels root)) (length (segments (tree_of nodes levels root))) free slot
 
@@ -115,7 +115,7 @@ stored_put nodes mid new levels root result free rest slot x s spare newest room
     let few = spare.few in
     let pool = spare.next.pool (λ j. has j p) (length (segments p)) count (λ j n h. has_push levels 0 slot x t j h n) in
     record {
-      within = subst (λ (n : ℕ). IsWithin n (tree_of new levels result)) (sym l) (subst (IsWithin (length mid)) (sym q) (within_push levels 0 slot x t (length mid) spare.next.there spare.within));
+      within = subst (λ (n : ℕ). IsWithinArena n (tree_of new levels result)) (sym l) (subst (IsWithinArena (length mid)) (sym q) (within_push levels 0 slot x t (length mid) spare.next.there spare.within));
       apart = subst IsApart (sym q) (apart_push levels 0 slot x t spare.next.fresh s.apart);
       in_order = subst (IsInOrder levels 0) (sym q) (in_order_push levels 0 slot x t s.in_order newest (omega arith) (omega arith));
       pool = subst (λ (n : ℕ). IsPool n (λ j. has j (tree_of new levels result)) (length (segments (tree_of new levels result))) rest) (sym l) (subst (λ (y : Ordered). IsPool (length mid) (λ j. has j y) (length (segments y)) rest) (sym q) pool);
@@ -147,7 +147,7 @@ stored_taken nodes new levels id slot root rest free x s there freed e l =
     let pool = given_back n (λ j. has j t) (λ j. has j r) (length (segments t)) (length (segments r)) free slot s.pool (has_within n slot t s.within freed.had) freed.had freed.gone (λ j h. has_remove levels 0 id t j h) (length_remove levels 0 id t x there) in
     let few = s.few in
     record {
-      within = subst (λ (m : ℕ). IsWithin m (tree_of new levels rest)) (sym l) (subst (IsWithin n) (sym e) (within_remove levels 0 id t n s.within));
+      within = subst (λ (m : ℕ). IsWithinArena m (tree_of new levels rest)) (sym l) (subst (IsWithinArena n) (sym e) (within_remove levels 0 id t n s.within));
       apart = subst IsApart (sym e) (apart_remove levels 0 id t s.apart);
       in_order = subst (IsInOrder levels 0) (sym e) (in_order_remove levels 0 id t x s.in_order there);
       pool = subst (λ (m : ℕ). IsPool m (λ j. has j (tree_of new levels rest)) (length (segments (tree_of new levels rest))) (free ++ slot ∷ [])) (sym l) (subst (λ (y : Ordered). IsPool n (λ j. has j y) (length (segments y)) (free ++ slot ∷ [])) (sym e) pool);

@@ -1,5 +1,3 @@
-pub mod Kept
-pub mod Layout
-pub mod Ordered
 pub mod Overlap
 pub mod Place
+pub mod refinement

@@ -3,7 +3,7 @@
 use crate::gaps::Live;
 
 /// The way to a tree of segments: its oldest one, and how many it has.
-#[derive(Clone, Copy, Debug, PartialEq, Eq)]
+#[derive(Clone, Copy, PartialEq, Eq)]
 pub struct Branch {
     /// Where the root lies in the arena.
     pub at: u32,
@@ -12,7 +12,7 @@ pub struct Branch {
 }
 
 /// The two halves of a tree: the other segments, by the half of its range that their identities lie in.
-#[derive(Clone, Copy, Debug, PartialEq, Eq)]
+#[derive(Clone, Copy, PartialEq, Eq)]
 pub struct Halves {
     pub lower: Option<Branch>,
     pub upper: Option<Branch>,

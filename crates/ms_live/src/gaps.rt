@@ -15,7 +15,7 @@ pub const ALIGNMENT: u64 = 16;
 pub const GAP_LEVELS: u32 = 30;
 
 /// A live segment.
-#[derive(Clone, Copy, Debug, PartialEq, Eq)]
+#[derive(Clone, Copy, PartialEq, Eq)]
 pub struct Live {
     /// Its identity, counted from 1.
     pub id: u64,

@@ -1,8 +1,8 @@
 //! The live segments by their identities, in an arena.
 
 ghost use Rattle.std.specs.Prelude.{◌≡◌, ◌==◌, ◌+◌, ◌<◌, ◌≤◌, ◌^◌, ◌++◌, ◌∷◌, ℕ, [], Some, All, IfOk, IsSome, length, find, slice_get, true, false, vec_capacity};
-ghost use Rattle.ms_gap_tree.specs.Tree.{half};
-ghost use Rattle.ms_live.specs.Ordered.{has, push, remove, removed, segments, tree_of, IsApart, IsInOrder, IsWithin};
+ghost use Rattle.ms_gap_tree.specs.refinement.Tree.{half};
+ghost use Rattle.ms_live.specs.refinement.Ordered.{has, push, remove, removed, segments, tree_of, IsApart, IsInOrder, IsWithinArena};
 ghost use Rattle.ms_live.specs.Place.{contains_id, without};
 
 use crate::branch::{BLANK, Branch, Halves};
@@ -29,7 +29,7 @@ impl Model for Ids {
     ghost use Rattle.std.specs.Prelude.{◌≤◌, List, vec_capacity};
     ghost use Rattle.ms_live.specs.declared.gaps.Live.{Live};
     ghost use Rattle.ms_live.specs.declared.gaps.TheConstants.{MOST_LIVE};
-    ghost use Rattle.ms_live.specs.Ordered.{segments, tree_of, IsStored};
+    ghost use Rattle.ms_live.specs.refinement.Ordered.{segments, tree_of, IsStored};
 
     ghost Value = { List Live };
 
@@ -39,7 +39,7 @@ impl Model for Ids {
 }
 
 /// A tree, and how many levels it has.
-#[derive(Clone, Copy, Debug, PartialEq, Eq)]
+#[derive(Clone, Copy, PartialEq, Eq)]
 struct Grown {
     root: Option<Branch>,
     levels: u32,
@@ -48,11 +48,11 @@ struct Grown {
 /// The same segments as a tree with this identity in its range.
 fn grow(nodes: &mut [Halves], levels: u32, root: Option<Branch>, id: u64) -> Grown
     requires levels { levels ≤ 65 }
-    requires within { IsWithin (length nodes.old) (tree_of nodes.old levels root) }
+    requires within { IsWithinArena (length nodes.old) (tree_of nodes.old levels root) }
     requires apart { IsApart (tree_of nodes.old levels root) }
     requires in_order { IsInOrder levels 0 (tree_of nodes.old levels root) }
     ensures same { segments (tree_of nodes.new result.levels result.root) ≡ segments (tree_of nodes.old levels root) }
-    ensures within { IsWithin (length nodes.old) (tree_of nodes.new result.levels result.root) }
+    ensures within { IsWithinArena (length nodes.old) (tree_of nodes.new result.levels result.root) }
     ensures apart { IsApart (tree_of nodes.new result.levels result.root) }
     ensures in_order { IsInOrder result.levels 0 (tree_of nodes.new result.levels result.root) }
     ensures slots { (j : ℕ) → has j (tree_of nodes.old levels root) ≡ false → has j (tree_of nodes.new result.levels result.root) ≡ false }
@@ -77,11 +77,11 @@ fn grow(nodes: &mut [Halves], levels: u32, root: Option<Branch>, id: u64) -> Gro
 /// The same in the arena.
 fn widen(nodes: &mut Vec<Halves>, levels: u32, root: Option<Branch>, id: u64) -> Grown
     requires levels { levels ≤ 65 }
-    requires within { IsWithin (length nodes.old.items) (tree_of nodes.old.items levels root) }
+    requires within { IsWithinArena (length nodes.old.items) (tree_of nodes.old.items levels root) }
     requires apart { IsApart (tree_of nodes.old.items levels root) }
     requires in_order { IsInOrder levels 0 (tree_of nodes.old.items levels root) }
     ensures same { segments (tree_of nodes.new.items result.levels result.root) ≡ segments (tree_of nodes.old.items levels root) }
-    ensures within { IsWithin (length nodes.old.items) (tree_of nodes.new.items result.levels result.root) }
+    ensures within { IsWithinArena (length nodes.old.items) (tree_of nodes.new.items result.levels result.root) }
     ensures apart { IsApart (tree_of nodes.new.items result.levels result.root) }
     ensures in_order { IsInOrder result.levels 0 (tree_of nodes.new.items result.levels result.root) }
     ensures slots { (j : ℕ) → has j (tree_of nodes.old.items levels root) ≡ false → has j (tree_of nodes.new.items result.levels result.root) ≡ false }
@@ -103,7 +103,7 @@ fn put(
 ) -> Option<Branch>
     requires levels { levels ≤ 65 }
     requires range { half levels ≤ 2 ^ 64 }
-    requires within { IsWithin (length nodes.old.items) (tree_of nodes.old.items levels root) }
+    requires within { IsWithinArena (length nodes.old.items) (tree_of nodes.old.items levels root) }
     requires apart { IsApart (tree_of nodes.old.items levels root) }
     requires fresh { has slot (tree_of nodes.old.items levels root) ≡ false }
     requires there { slot < length nodes.old.items }
@@ -126,7 +126,7 @@ fn take(
     requires levels { levels ≤ 65 }
     requires range { half levels ≤ 2 ^ 64 }
     requires found { IsSome (removed levels 0 id (tree_of nodes.old.items levels root)) }
-    requires within { IsWithin (length nodes.old.items) (tree_of nodes.old.items levels root) }
+    requires within { IsWithinArena (length nodes.old.items) (tree_of nodes.old.items levels root) }
     requires apart { IsApart (tree_of nodes.old.items levels root) }
     ensures tree { tree_of nodes.new.items levels result.0 ≡ remove levels 0 id (tree_of nodes.old.items levels root) }
     ensures slot { Some result.1 ≡ removed levels 0 id (tree_of nodes.old.items levels root) }

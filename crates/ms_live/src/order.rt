@@ -1,9 +1,9 @@
 //! A tree by identities: counting, searching, adding and taking out.
 
 ghost use Rattle.std.specs.Prelude.{◌≡◌, ◌≢◌, ◌+◌, ◌-◌, ◌<◌, ◌≤◌, ◌^◌, ℕ, List, length, true, false, Some};
-ghost use Rattle.ms_gap_tree.specs.Tree.{half};
+ghost use Rattle.ms_gap_tree.specs.refinement.Tree.{half};
 ghost use Rattle.ms_live.specs.declared.gaps.TheConstants.{MOST_LIVE};
-ghost use Rattle.ms_live.specs.Ordered.{at, count, freed, has, lifted, pick, pop, push, remove, removed, seek, segments, tree_of, IsApart, IsInOrder, IsWithin};
+ghost use Rattle.ms_live.specs.refinement.Ordered.{at, count, freed, has, lifted, pick, pop, push, remove, removed, seek, segments, tree_of, IsApart, IsInOrder, IsWithinArena};
 
 use crate::branch::{BLANK, Branch, Halves};
 use crate::gaps::Live;
@@ -29,7 +29,7 @@ pub(crate) fn seek(
 ) -> Option<Live>
     requires levels { level ≤ 65 }
     requires range { low + half level ≤ 2 ^ 64 }
-    requires within { IsWithin (length nodes.now) (tree_of nodes.now level branch) }
+    requires within { IsWithinArena (length nodes.now) (tree_of nodes.now level branch) }
     ensures { result ≡ seek level low id (tree_of nodes.now level branch) }
 {
     if level == 0 {
@@ -50,7 +50,7 @@ pub(crate) fn seek(
 
 /// The segment with `k` older ones.
 pub(crate) fn pick(nodes: &[Halves], level: u32, branch: Option<Branch>, k: u32) -> Option<Live>
-    requires within { IsWithin (length nodes.now) (tree_of nodes.now level branch) }
+    requires within { IsWithinArena (length nodes.now) (tree_of nodes.now level branch) }
     ensures { result ≡ pick level k (tree_of nodes.now level branch) }
 {
     if level == 0 {
@@ -80,7 +80,7 @@ pub(crate) fn push(
 ) -> Option<Branch>
     requires levels { level ≤ 65 }
     requires range { low + half level ≤ 2 ^ 64 }
-    requires within { IsWithin (length nodes.old) (tree_of nodes.old level branch) }
+    requires within { IsWithinArena (length nodes.old) (tree_of nodes.old level branch) }
     requires apart { IsApart (tree_of nodes.old level branch) }
     requires fresh { has slot (tree_of nodes.old level branch) ≡ false }
     requires there { slot < length nodes.old }
@@ -129,7 +129,7 @@ pub(crate) fn push(
 }
 
 /// What is left of a tree, and the slot that it no longer has.
-#[derive(Clone, Copy, Debug, PartialEq, Eq)]
+#[derive(Clone, Copy, PartialEq, Eq)]
 pub(crate) struct Popped {
     pub(crate) rest: Option<Branch>,
     pub(crate) slot: u32,
@@ -137,7 +137,7 @@ pub(crate) struct Popped {
 
 /// Takes the oldest segment out. The oldest of a half goes up, and the slot of the lowest one that did is free then.
 pub(crate) fn pop(nodes: &mut [Halves], level: u32, root: Branch) -> Popped
-    requires within { IsWithin (length nodes.old) (tree_of nodes.old level (Some root)) }
+    requires within { IsWithinArena (length nodes.old) (tree_of nodes.old level (Some root)) }
     requires apart { IsApart (tree_of nodes.old level (Some root)) }
     ensures rest { tree_of nodes.new level result.rest ≡ pop (tree_of nodes.old level (Some root)) }
     ensures slot { result.slot ≡ freed (tree_of nodes.old level (Some root)) }
@@ -192,7 +192,7 @@ fn fewer(root: Branch, segment: Live) -> Branch
 }
 
 /// What is left of a tree, and the slot that it no longer has, where it had the identity.
-#[derive(Clone, Copy, Debug, PartialEq, Eq)]
+#[derive(Clone, Copy, PartialEq, Eq)]
 pub(crate) struct Removed {
     pub(crate) rest: Option<Branch>,
     pub(crate) slot: Option<u32>,
@@ -208,7 +208,7 @@ pub(crate) fn remove(
 ) -> Removed
     requires levels { level ≤ 65 }
     requires range { low + half level ≤ 2 ^ 64 }
-    requires within { IsWithin (length nodes.old) (tree_of nodes.old level branch) }
+    requires within { IsWithinArena (length nodes.old) (tree_of nodes.old level branch) }
     requires apart { IsApart (tree_of nodes.old level branch) }
     ensures rest { tree_of nodes.new level result.rest ≡ remove level low id (tree_of nodes.old level branch) }
     ensures slot { result.slot ≡ removed level low id (tree_of nodes.old level branch) }
@@ -263,7 +263,7 @@ pub(crate) fn remove(
 /// The same segments as a tree of one level more.
 pub(crate) fn lift(nodes: &mut [Halves], level: u32, root: Branch) -> Branch
     requires level { level < 65 }
-    requires within { IsWithin (length nodes.old) (tree_of nodes.old level (Some root)) }
+    requires within { IsWithinArena (length nodes.old) (tree_of nodes.old level (Some root)) }
     requires apart { IsApart (tree_of nodes.old level (Some root)) }
     ensures tree { tree_of nodes.new (level + 1) (Some result) ≡ lifted (tree_of nodes.old level (Some root)) }
 {

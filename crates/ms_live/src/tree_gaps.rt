@@ -1,9 +1,9 @@
 //! Live segments and gaps as trees.
 
 ghost use Rattle.std.specs.Prelude.{◌≡◌, ◌+◌, ◌*◌, ◌<◌, ◌≤◌, ◌^◌, ℕ, cond, nat_lt, length, IsSome, Some};
-ghost use Rattle.ms_gap_tree.specs.Rooms.{room_at, size_of};
-ghost use Rattle.ms_live.specs.Kept.{looked_at};
-ghost use Rattle.ms_live.specs.Layout.{Begins, Ends, IsBegun, behind};
+ghost use Rattle.ms_gap_tree.specs.refinement.Rooms.{room_at, size_of};
+ghost use Rattle.ms_live.specs.refinement.Kept.{looked_at};
+ghost use Rattle.ms_live.specs.refinement.Layout.{Begins, Ends, IsBegun, behind};
 ghost use Rattle.ms_live.specs.Place.{IsPlace};
 ghost use Rattle.ms_live.specs.declared.gaps.TheConstants.{GAP_LEVELS};
 
@@ -24,7 +24,7 @@ pub struct TreeGaps {
 }
 
 impl Model for TreeGaps {
-    ghost use Rattle.ms_live.specs.Kept.{IsKept, Kept};
+    ghost use Rattle.ms_live.specs.refinement.Kept.{IsKept, Kept};
 
     ghost Value = { Kept };
 

@@ -5,7 +5,7 @@ use Rattle.ms_task.proofs.Items.{branch_past, return_past}
 use Rattle.ms_task.specs.Control as control
 use Rattle.ms_task.specs.Control.{To, branch, return_on}
 use Rattle.ms_task.specs.Thread.{sequence}
-use Rattle.ms_task.specs.View.{at_next, frame_of, outer_of, thread_of}
+use Rattle.ms_task.specs.refinement.View.{at_next, frame_of, outer_of, thread_of}
 use Rattle.ms_task.specs.declared.func.FuncInst.{FuncInst}
 use Rattle.ms_task.specs.declared.task.Task.{Task}
 use Rattle.ms_machine.specs.Step.{Next, Stuck, act, moved}

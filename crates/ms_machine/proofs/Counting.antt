@@ -18,14 +18,14 @@ use Rattle.ms_segment.specs.Memory.{Access, Memory, access, as_number, freed, ha
 use Rattle.ms_segment.specs.declared.trap.SegTrap.{SegTrap}
 use Rattle.ms_tagged.specs.Bytes.{Byte, data_of, number_at, pieces, range}
 use Rattle.ms_task.specs.Thread.{Thread}
-use Rattle.ms_machine.specs.Accesses.{counted_all}
+use Rattle.ms_machine.specs.refinement.Accesses.{counted_all}
 use Rattle.ms_machine.specs.Hosting as hosting
 use Rattle.ms_machine.specs.Hosting.{host_on, takes}
 use Rattle.ms_machine.specs.Moves.{Goes, hosted, move_for, move_on}
 use Rattle.ms_machine.specs.Running.{with_event}
 use Rattle.ms_machine.specs.Segments.{changed, handle_read, made, measured, number_read, number_stored, segment_on, sliced}
 use Rattle.ms_machine.specs.Step.{Calls, Next, Outcome, Stuck, Trap, step_of}
-use Rattle.ms_machine.specs.Stepped.{DoesStep, IsWell, event_of}
+use Rattle.ms_machine.specs.refinement.Stepped.{DoesStep, IsWell, event_of}
 use Rattle.ms_machine.specs.Store as stores
 use Rattle.ms_machine.specs.declared.stepped.Stepped.{Stepped}
 use Rattle.ms_machine.specs.declared.stepped.Stepped.TheVariants as answers

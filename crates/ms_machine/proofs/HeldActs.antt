@@ -17,7 +17,7 @@ use Rattle.ms_task.specs.Thread.{Activation, Do, Frame, Item, Label, Thread, thr
 use Rattle.ms_types.specs.declared.types.FuncType.{FuncType}
 use Rattle.ms_types.specs.declared.types.ValType.{ValType}
 use Rattle.ms_types.specs.declared.types.ValType.TheVariants as types
-use Rattle.ms_machine.specs.Holding.{Each, EachGlobal, EachKept, ThreadHolds}
+use Rattle.ms_machine.specs.refinement.Holding.{Each, EachGlobal, EachKept, ThreadHolds}
 use Rattle.ms_machine.specs.Segments as segments
 use Rattle.ms_machine.specs.Segments.{Effect, segment_on}
 use Rattle.ms_host.specs.declared.host.Host.{Host}

@@ -8,7 +8,7 @@ use Rattle.ms_task.specs.Control.{Moved, To, TooDeep, Stuck, again, block_on, br
 use Rattle.ms_task.specs.declared.func.FuncInst.{FuncInst}
 use Rattle.ms_task.specs.Thread.{Activation, Do, Frame, Item, Label, depth_of, result_of, sequence, thread}
 use Rattle.ms_types.specs.declared.types.ValType.{ValType}
-use Rattle.ms_machine.specs.Holding.{Each, EachKept, ThreadHolds}
+use Rattle.ms_machine.specs.refinement.Holding.{Each, EachKept, ThreadHolds}
 use Rattle.ms_machine.proofs.HeldValues.{each_append, each_default, each_drop, each_reverse, each_take, holds, kept_dos}
 
 module _ (P : Value → Type 0) where

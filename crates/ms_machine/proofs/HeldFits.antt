@@ -13,7 +13,7 @@ use Rattle.ms_task.specs.declared.func.FuncInst.{FuncInst}
 use Rattle.ms_task.specs.Thread.{Activation, Do, Frame, Item, Label, Thread, result_of, sequence, thread}
 use Rattle.ms_types.specs.declared.types.ValType.{ValType}
 use Rattle.ms_types.specs.declared.types.ValType.TheVariants as types
-use Rattle.ms_machine.specs.Holding.{Each, Fits, StoreFits, ThreadFits}
+use Rattle.ms_machine.specs.refinement.Holding.{Each, Fits, StoreFits, ThreadFits}
 use Rattle.ms_machine.specs.Segments as segments
 use Rattle.ms_machine.specs.Segments.{Effect, segment_on}
 use Rattle.ms_machine.specs.Step.{Next, first, in_segments, exited, step_of}

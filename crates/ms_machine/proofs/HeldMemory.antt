@@ -21,7 +21,7 @@ use Rattle.ms_segment.specs.Calls as call
 use Rattle.ms_segment.specs.Calls.{Change}
 use Rattle.ms_segment.specs.Memory.{IsFit, IsSound, Memory, loaded, once_more}
 use Rattle.ms_segment.specs.declared.trap.SegTrap.{SegTrap}
-use Rattle.ms_machine.specs.Holding.{Each, Fits}
+use Rattle.ms_machine.specs.refinement.Holding.{Each, Fits}
 use Rattle.ms_machine.specs.Segments as segments
 use Rattle.ms_machine.specs.Segments.{changed, handle_read, measured, number_read, number_stored, segment_on}
 use Rattle.ms_machine.proofs.HeldSegments.{FreshIn, FreshRead}

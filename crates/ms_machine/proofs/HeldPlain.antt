@@ -24,7 +24,7 @@ use Rattle.ms_operate.specs.Effects as effects
 use Rattle.ms_operate.specs.Outcomes as operate
 use Rattle.ms_operate.specs.declared.trap.Trap.TheVariants as operate-traps
 use Rattle.ms_task.specs.Thread.{Frame, Item, thread}
-use Rattle.ms_machine.specs.Holding.{Each, EachGlobal, EachKept, ThreadHolds}
+use Rattle.ms_machine.specs.refinement.Holding.{Each, EachGlobal, EachKept, ThreadHolds}
 use Rattle.ms_machine.specs.Step.{Calls, Next, Outcome, Stuck, Trap, choose, goes, in_memory, linear, on_memory, on_top, pushed, select, set_global, set_global_at, set_local, value_in, worked}
 use Rattle.ms_machine.specs.Store as stores
 use Rattle.ms_machine.specs.Store.{at}

@@ -20,7 +20,7 @@ use Rattle.ms_segment.specs.Calls.{Change}
 use Rattle.ms_segment.specs.Memory.{Memory, loaded}
 use Rattle.ms_segment.specs.declared.trap.SegTrap.{SegTrap}
 use Rattle.ms_task.specs.Thread.{Do, Frame, Item, thread}
-use Rattle.ms_machine.specs.Holding.{Each, EachGlobal, EachKept}
+use Rattle.ms_machine.specs.refinement.Holding.{Each, EachGlobal, EachKept}
 use Rattle.ms_machine.specs.Segments as segments
 use Rattle.ms_machine.specs.Segments.{Effect, changed, handle_read, measured, number_read, number_stored, segment_on}
 use Rattle.ms_machine.specs.Step.{in_segments}

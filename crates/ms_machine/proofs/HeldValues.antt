@@ -7,7 +7,7 @@ use Rattle.ms_linear.specs.Values.{default_of}
 use Rattle.ms_module.specs.declared.instr.Instr.{Instr}
 use Rattle.ms_task.specs.Thread.{Activation, Do, Frame, Item, Label, Thread, dos, thread}
 use Rattle.ms_types.specs.declared.types.ValType.{ValType}
-use Rattle.ms_machine.specs.Holding.{Each, EachGlobal, EachKept, ThreadHolds}
+use Rattle.ms_machine.specs.refinement.Holding.{Each, EachGlobal, EachKept, ThreadHolds}
 use Rattle.ms_machine.specs.Step.{value_in}
 
 -- ---- one fact

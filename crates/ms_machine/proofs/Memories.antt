@@ -13,7 +13,7 @@ use Rattle.ms_operate.specs.declared.trap.Fault.{Fault as OperateFault}
 use Rattle.ms_operate.specs.declared.trap.Fault.TheVariants as faults
 use Rattle.ms_task.specs.declared.func.FuncInst.{FuncInst}
 use Rattle.ms_task.specs.Thread.{Thread, thread}
-use Rattle.ms_machine.specs.Doing.{DoesOutcome, fault_of}
+use Rattle.ms_machine.specs.refinement.Doing.{DoesOutcome, fault_of}
 use Rattle.ms_machine.specs.Step.{Next, Stuck, in_memory, linear, on_memory}
 use Rattle.ms_machine.specs.Store.{Store, instance_of, memory_address, with_memories}
 

@@ -14,13 +14,13 @@ use Rattle.ms_segment.specs.Memory.{IsFit}
 use Rattle.ms_task.specs.Control.{exited as exited_thread}
 use Rattle.ms_task.specs.Thread.{Thread, thread}
 use Rattle.ms_types.specs.declared.types.ValType.TheVariants.{I32}
-use Rattle.ms_machine.specs.Holding.{Each, Fits, StoreFits, ThreadFits, ThreadHolds}
+use Rattle.ms_machine.specs.refinement.Holding.{Each, Fits, StoreFits, ThreadFits, ThreadHolds}
 use Rattle.ms_machine.specs.Hosting as hosting
 use Rattle.ms_machine.specs.Hosting.{host_on, takes}
 use Rattle.ms_machine.specs.Moves as moves
 use Rattle.ms_machine.specs.Moves.{Goes, IsPutting, IsTaking, Move, hosted, move_for, move_on}
 use Rattle.ms_machine.specs.Step.{Calls, Next, Outcome, Stuck, Trap, step_of}
-use Rattle.ms_machine.specs.Stepped.{DoesStep, InputAfter, IsWell, DoesExit, OutAfter, got_of}
+use Rattle.ms_machine.specs.refinement.Stepped.{DoesStep, InputAfter, IsWell, DoesExit, OutAfter, got_of}
 use Rattle.ms_machine.specs.Store.{Store}
 use Rattle.ms_machine.specs.declared.stepped.Stepped.{Stepped}
 use Rattle.ms_machine.specs.declared.stepped.Stepped.TheVariants as answers

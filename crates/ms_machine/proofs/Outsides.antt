@@ -1,12 +1,12 @@
 -- What is seen of a source and a sink over several calls.
 use Rattle.std.proofs.Common.{◌≡◌, ℕ, Bool, true, false, List, [], ◌∷◌, ◌++◌, map, Option, Some, None, refl, sym, ap, subst, ◌∙◌, append-nil, append_assoc}
 use Rattle.ms_outside.specs.Sink.{IsFront, Puts}
-use Rattle.ms_outside.specs.Source.{Takes}
+use Rattle.ms_outside.specs.refinement.Source.{Takes}
 use Rattle.ms_outside.specs.declared.sink.Put.TheVariants as puts
 use Rattle.ms_outside.specs.declared.source.Got.TheVariants as gots
 use Rattle.ms_machine.specs.Moves.{first_of, rest_of}
 use Rattle.ms_machine.specs.Running.{IsLeft, MayGive, TellsAlike}
-use Rattle.ms_machine.specs.Stepped.{InputAfter, OutAfter}
+use Rattle.ms_machine.specs.refinement.Stepped.{InputAfter, OutAfter}
 
 abbrev pub Input : Type 0
 Input = List (Option ℕ)

@@ -21,7 +21,7 @@ use Rattle.ms_segment.proofs.Sound.{IsData, All-data_of, piece_of}
 use Rattle.ms_tagged.specs.Bytes.{Byte, IsHandleAt, Piece, cleared, data_of, number_at, pieces, range, torn, whole}
 use Rattle.ms_tagged.proofs.Numbers.{length-data_of}
 use Rattle.ms_tagged.proofs.Ranges.{length-overwritten, length-range}
-use Rattle.ms_machine.specs.Safety.{IsMonitored, KnowsHandle}
+use Rattle.ms_machine.specs.refinement.Safety.{IsMonitored, KnowsHandle}
 use Rattle.ms_machine.proofs.SafePaints.{paint}
 use Rattle.ms_machine.proofs.SafeStates.{Follows, grows-refl}
 

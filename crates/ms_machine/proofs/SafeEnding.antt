@@ -15,7 +15,7 @@ use Rattle.ms_segment.specs.declared.trap.SegTrap.{SegTrap}
 use Rattle.ms_segment.specs.Memory.{Memory, freed}
 use Rattle.ms_segment.specs.Parts.{with_ended}
 use Rattle.ms_segment.proofs.Reach.{freed-live}
-use Rattle.ms_machine.specs.Safety.{IsMonitored, IsPaintOf}
+use Rattle.ms_machine.specs.refinement.Safety.{IsMonitored, IsPaintOf}
 use Rattle.ms_machine.proofs.SafePaints.{Contains-filter, Contains-filtered, Contains-map, filter-map}
 use Rattle.ms_machine.proofs.SafeStates.{Follows}
 

@@ -11,7 +11,7 @@ use Rattle.ms_handle.specs.declared.handle.Handle.TheVariants as handles
 use Rattle.ms_handle.specs.Handle.{add, is_near, moved, part, slice}
 use Rattle.ms_segment.specs.Memory.{Memory}
 use Rattle.ms_machine.specs.Running.{with_event}
-use Rattle.ms_machine.specs.Safety.{IsMonitored, KnowsHandle}
+use Rattle.ms_machine.specs.refinement.Safety.{IsMonitored, KnowsHandle}
 use Rattle.ms_machine.specs.Segments.{slice_event}
 use Rattle.ms_machine.proofs.SafeStates.{Follows, Grows, follows-none, handle_grows}
 

@@ -21,7 +21,7 @@ use Rattle.ms_segment.proofs.Keeps.{length-Makes}
 use Rattle.ms_segment.proofs.Sound.{IsData}
 use Rattle.ms_tagged.specs.Bytes.{Data, Piece}
 use Rattle.ms_machine.specs.Running.{with_event}
-use Rattle.ms_machine.specs.Safety.{IsMonitored, IsPaintOf, KnowsHandle}
+use Rattle.ms_machine.specs.refinement.Safety.{IsMonitored, IsPaintOf, KnowsHandle}
 use Rattle.ms_machine.proofs.SafePaints.{coat_has, coat_is, paint, paint_is}
 use Rattle.ms_machine.proofs.SafeStates.{Follows, Grows, grows-refl, handle_grows}
 

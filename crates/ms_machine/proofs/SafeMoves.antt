@@ -4,12 +4,12 @@ use Rattle.std.proofs.lemmas.List.Elements.{All-head, All-tail}
 use Rattle.ms_event.specs.declared.event.Event.{Event}
 use Rattle.ms_event.specs.Monitor.{after_all, nothing_yet}
 use Rattle.ms_task.specs.Thread.{Thread}
-use Rattle.ms_machine.specs.Holding.{StoreFits, ThreadFits, ThreadHolds}
+use Rattle.ms_machine.specs.refinement.Holding.{StoreFits, ThreadFits, ThreadHolds}
 use Rattle.ms_machine.specs.Moves.{Goes, move_for, move_on}
-use Rattle.ms_machine.specs.Safety.{Knows, Sound}
+use Rattle.ms_machine.specs.refinement.Safety.{Knows, Sound}
 use Rattle.ms_machine.specs.Step.{Calls, Next, Outcome, Stuck, Trap, step_of}
 use Rattle.ms_machine.specs.Running.{with_event}
-use Rattle.ms_machine.specs.Stepped.{DoesStep, IsWell, event_of}
+use Rattle.ms_machine.specs.refinement.Stepped.{DoesStep, IsWell, event_of}
 use Rattle.ms_machine.specs.Store.{Store}
 use Rattle.ms_machine.specs.declared.stepped.Stepped.{Stepped}
 use Rattle.ms_machine.specs.declared.stepped.Stepped.TheVariants as answers

@@ -18,9 +18,9 @@ use Rattle.ms_segment.specs.Calls as call
 use Rattle.ms_segment.specs.Calls.{Change}
 use Rattle.ms_segment.specs.Memory.{IsFit, IsSound, Memory, loaded, once_more}
 use Rattle.ms_segment.specs.declared.trap.SegTrap.{SegTrap}
-use Rattle.ms_machine.specs.Holding.{Each, Fits}
+use Rattle.ms_machine.specs.refinement.Holding.{Each, Fits}
 use Rattle.ms_machine.specs.Running.{with_event}
-use Rattle.ms_machine.specs.Safety.{IsMonitored, Knows, KnowsHandle}
+use Rattle.ms_machine.specs.refinement.Safety.{IsMonitored, Knows, KnowsHandle}
 use Rattle.ms_machine.specs.Segments as segments
 use Rattle.ms_machine.specs.Segments.{changed, handle_read, measured, number_read, number_stored, segment_on, slice_event}
 use Rattle.ms_machine.proofs.HeldSegments.{FreshIn, FreshRead}

@@ -5,35 +5,35 @@ use Rattle.std.proofs.lemmas.List.Elements.{All-contains, All-nil, All-push, All
 use Rattle.ms_event.specs.declared.event.Event.{Event}
 use Rattle.ms_event.specs.declared.event.Event.TheVariants.{Alloc, Free, Read, Refused, Slice, Write}
 use Rattle.ms_event.specs.Monitor.{Accepts, AcceptsFrom, May, Shade, State, after, after_all, nothing_yet, shade_of}
-use Rattle.ms_machine.specs.Safety.{IsWithin}
+use Rattle.ms_machine.specs.refinement.Safety.{IsWithinSegment}
 
-within_more : (events more : List Event) (shade : Shade) → IsWithin events shade → IsWithin (events ++ more) shade
+within_more : (events more : List Event) (shade : Shade) → IsWithinSegment events shade → IsWithinSegment (events ++ more) shade
 within_more events more shade is = (is.0, is.1, Contains-append_left events more (Alloc shade.colour is.0 is.1) is.2, is.3)
 
-all_within_more : (events more : List Event) (shades : List Shade) → All (IsWithin events) shades → All (IsWithin (events ++ more)) shades
-all_within_more events more shades old = All-weaker (IsWithin events) (IsWithin (events ++ more)) (within_more events more) shades old
+all_within_more : (events more : List Event) (shades : List Shade) → All (IsWithinSegment events) shades → All (IsWithinSegment (events ++ more)) shades
+all_within_more events more shades old = All-weaker (IsWithinSegment events) (IsWithinSegment (events ++ more)) (within_more events more) shades old
 
 -- an event that may come next makes no shade that goes past its colour's size
-new_within : (capacity : ℕ) (events : List Event) (state : State) (e : Event) → All (IsWithin events) state.shades → May capacity state e → All (IsWithin (events ++ e ∷ [])) (after state e).shades
+new_within : (capacity : ℕ) (events : List Event) (state : State) (e : Event) → All (IsWithinSegment events) state.shades → May capacity state e → All (IsWithinSegment (events ++ e ∷ [])) (after state e).shades
 new_within capacity events state (Alloc id addr size) old may =
     let e = Alloc id addr size in
-    All-push (IsWithin (events ++ e ∷ [])) state.shades (shade_of id 0 size) (all_within_more events (e ∷ []) state.shades old) (addr, size, Contains-push events e, omega arith)
+    All-push (IsWithinSegment (events ++ e ∷ [])) state.shades (shade_of id 0 size) (all_within_more events (e ∷ []) state.shades old) (addr, size, Contains-push events e, omega arith)
 new_within capacity events state (Slice id lo hi lo2 hi2) old may =
     let e = Slice id lo hi lo2 hi2 in
-    let whole = All-contains (IsWithin events) state.shades (shade_of id lo hi) old may.0 in
-    All-push (IsWithin (events ++ e ∷ [])) state.shades (shade_of id lo2 hi2) (all_within_more events (e ∷ []) state.shades old)
+    let whole = All-contains (IsWithinSegment events) state.shades (shade_of id lo hi) old may.0 in
+    All-push (IsWithinSegment (events ++ e ∷ [])) state.shades (shade_of id lo2 hi2) (all_within_more events (e ∷ []) state.shades old)
     (whole.0, whole.1, Contains-append_left events (e ∷ []) (Alloc id whole.0 whole.1) whole.2, omega (arith, whole.3, may.3))
 new_within capacity events state (Refused size) old may = all_within_more events (Refused size ∷ []) state.shades old
 new_within capacity events state (Read id lo hi addr width) old may = all_within_more events (Read id lo hi addr width ∷ []) state.shades old
 new_within capacity events state (Write id lo hi addr width) old may = all_within_more events (Write id lo hi addr width ∷ []) state.shades old
 new_within capacity events state (Free id) old may = all_within_more events (Free id ∷ []) state.shades old
 
-sizes_after : (capacity : ℕ) (before : List Event) (state : State) (es : List Event) → All (IsWithin before) state.shades → AcceptsFrom capacity state es → All (IsWithin (before ++ es)) (after_all state es).shades
-sizes_after capacity before state [] old accepts = subst (λ b. All (IsWithin b) state.shades) (sym (append-nil before)) old
+sizes_after : (capacity : ℕ) (before : List Event) (state : State) (es : List Event) → All (IsWithinSegment before) state.shades → AcceptsFrom capacity state es → All (IsWithinSegment (before ++ es)) (after_all state es).shades
+sizes_after capacity before state [] old accepts = subst (λ b. All (IsWithinSegment b) state.shades) (sym (append-nil before)) old
 sizes_after capacity before state (e ∷ es) old accepts =
-    subst (λ b. All (IsWithin b) (after_all (after state e) es).shades) (append_assoc before (e ∷ []) es)
+    subst (λ b. All (IsWithinSegment b) (after_all (after state e) es).shades) (append_assoc before (e ∷ []) es)
     (sizes_after capacity (before ++ e ∷ []) (after state e) es (new_within capacity before state e old accepts.0) accepts.1)
 
 -- So it is after each trace that is accepted.
-pub sizes_of : (capacity : ℕ) (events : List Event) → Accepts capacity events → All (IsWithin events) (after_all nothing_yet events).shades
-sizes_of capacity events accepts = sizes_after capacity [] nothing_yet events (All-nil (IsWithin [])) accepts
+pub sizes_of : (capacity : ℕ) (events : List Event) → Accepts capacity events → All (IsWithinSegment events) (after_all nothing_yet events).shades
+sizes_of capacity events accepts = sizes_after capacity [] nothing_yet events (All-nil (IsWithinSegment [])) accepts

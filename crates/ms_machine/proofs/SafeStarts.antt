@@ -9,8 +9,8 @@ use Rattle.ms_task.specs.declared.func.FuncInst.{FuncInst}
 use Rattle.ms_task.specs.Thread.{Activation, Thread, result_of, sequence}
 use Rattle.ms_types.specs.declared.types.ValType.{ValType}
 use Rattle.ms_types.specs.declared.types.ValType.TheVariants as types
-use Rattle.ms_machine.specs.Holding.{ThreadHolds}
-use Rattle.ms_machine.specs.Safety.{Knows, Sound}
+use Rattle.ms_machine.specs.refinement.Holding.{ThreadHolds}
+use Rattle.ms_machine.specs.refinement.Safety.{Knows, Sound}
 use Rattle.ms_machine.specs.Store.{Store}
 use Rattle.ms_machine.proofs.HeldControl.{exit_holds}
 use Rattle.ms_machine.proofs.HeldValues.{each_default, kept_dos}

@@ -9,7 +9,7 @@ use Rattle.ms_linear.specs.declared.value.Value.{Value}
 use Rattle.ms_linear.specs.declared.value.Value.TheVariants as values
 use Rattle.ms_segment.specs.Memory.{Memory}
 use Rattle.ms_machine.specs.Running.{with_event}
-use Rattle.ms_machine.specs.Safety.{IsMonitored, Knows, KnowsHandle}
+use Rattle.ms_machine.specs.refinement.Safety.{IsMonitored, Knows, KnowsHandle}
 
 -- ---- what is known stays known
 

@@ -9,9 +9,9 @@ use Rattle.ms_module.specs.declared.instr.Instr.{Instr}
 use Rattle.ms_module.specs.declared.instr.Instr.TheVariants.{Segment}
 use Rattle.ms_task.specs.Thread.{Activation, Do, Frame, Item, Label, Thread, thread}
 use Rattle.ms_segment.specs.Memory.{IsSound, Memory}
-use Rattle.ms_machine.specs.Holding.{Each, EachGlobal, Fits, StoreFits, ThreadFits, ThreadHolds}
+use Rattle.ms_machine.specs.refinement.Holding.{Each, EachGlobal, Fits, StoreFits, ThreadFits, ThreadHolds}
 use Rattle.ms_machine.specs.Running.{with_event}
-use Rattle.ms_machine.specs.Safety.{IsMonitored, Knows, Sound}
+use Rattle.ms_machine.specs.refinement.Safety.{IsMonitored, Knows, Sound}
 use Rattle.ms_machine.specs.Segments as segments
 use Rattle.ms_machine.specs.Segments.{Effect, segment_on}
 use Rattle.ms_machine.specs.Step.{Next, first, in_segments, exited, step_of}

@@ -3,14 +3,14 @@ use Rattle.std.proofs.Common.{◌≡◌, ℕ, List, [], ◌∷◌, Some, Result,
 use Rattle.ms_event.specs.declared.event.Event.{Event}
 use Rattle.ms_task.specs.Control.{exited, started}
 use Rattle.ms_task.specs.Thread.{Thread}
-use Rattle.ms_task.specs.View.{thread_of}
+use Rattle.ms_task.specs.refinement.View.{thread_of}
 use Rattle.ms_task.specs.declared.func.FuncInst.{FuncInst}
 use Rattle.ms_task.specs.declared.task.Task.{Task}
 use Rattle.ms_machine.proofs.HeldFits.{starts_fit}
 use Rattle.ms_machine.proofs.SafeStarts.{sound_start}
 use Rattle.ms_machine.proofs.TypedSteps.{starts_well}
-use Rattle.ms_machine.specs.Holding.{ThreadFits}
-use Rattle.ms_machine.specs.Safety.{Sound}
+use Rattle.ms_machine.specs.refinement.Holding.{ThreadFits}
+use Rattle.ms_machine.specs.refinement.Safety.{Sound}
 use Rattle.ms_machine.specs.Store.{Store}
 use Rattle.ms_machine.specs.Typing.{StoreTyped, TaskTyped, outline_of}
 

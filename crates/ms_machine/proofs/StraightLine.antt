@@ -12,17 +12,17 @@ use Rattle.ms_operate.specs.Effects.{Effect}
 use Rattle.ms_operate.specs.Memories.{linear_on}
 use Rattle.ms_task.specs.Control.{Moved, Repeats, exit_ended, exited as exited_thread}
 use Rattle.ms_task.specs.Thread.{Activation, Begins, Do, Item, Label, Thread, sequence, thread, with_first}
-use Rattle.ms_task.specs.View.{at_next, before, frame_of, outer_of, rest_at, thread_of}
+use Rattle.ms_task.specs.refinement.View.{at_next, before, frame_of, outer_of, rest_at, thread_of}
 use Rattle.ms_task.specs.declared.func.FuncInst.{FuncInst}
 use Rattle.ms_task.specs.declared.task.Task.{Task}
 use Rattle.ms_task.proofs.Items.{begins_past}
 use Rattle.ms_task.proofs.Places.{held, held_before}
-use Rattle.ms_machine.specs.StraightLine.{DoesAgain, DoesTurn, GoesQuietly, IsCalm, IsHalted, IsMet, IsNext, StepsQuietly}
-use Rattle.ms_machine.specs.declared.straight.Turned.TheVariants as turns
+use Rattle.ms_machine.specs.refinement.StraightLine.{DoesAgain, DoesQuietly, GoesQuietly, IsCalm, IsHalted, IsMet, IsNext, StepsQuietly}
+use Rattle.ms_machine.specs.declared.straight.CarriedOut.TheVariants as carried
 use Rattle.ms_machine.specs.declared.straight.Stretch.{Stretch}
 use Rattle.ms_machine.specs.declared.straight.Stretch.TheVariants as stretches
-use Rattle.ms_machine.specs.Doing.{Carries}
-use Rattle.ms_machine.specs.Holding.{StoreFits, ThreadFits}
+use Rattle.ms_machine.specs.refinement.Doing.{Carries}
+use Rattle.ms_machine.specs.refinement.Holding.{StoreFits, ThreadFits}
 use Rattle.ms_machine.specs.Moves.{Goes, move_for, move_on}
 use Rattle.ms_machine.specs.Step.{Next, Outcome, act, exited, first, in_memory, linear, moved, on_memory, on_top, set_global, set_global_at, step_of}
 use Rattle.ms_machine.specs.Store.{Store, global_address, instance_of, memory_address}
@@ -123,7 +123,7 @@ begins_at : (s : Store) (w : List Item) (f q next : ℕ) → next < length (sequ
 begins_at s w f q next within = begins_past (drop next (sequence s.funcs f q)) w (λ e. absurd (omega (arith, within, length-drop next (sequence s.funcs f q), ap length e)))
 
 -- another one stands behind it
-pub carried_on : (s : Store) (t t' : Task) (i : Instr) (next : ℕ) → IsNext i next s t → Carries i next s t t' → next < length (sequence s.funcs t.function t.sequence) → DoesTurn turns.On i next s t t'
+pub carried_on : (s : Store) (t t' : Task) (i : Instr) (next : ℕ) → IsNext i next s t → Carries i next s t t' → next < length (sequence s.funcs t.function t.sequence) → DoesQuietly carried.On i next s t t'
 carried_on s t t' i next here (acts, at) within =
     let begins = begins_at s (outer_of s.funcs t') t.function t.sequence next within in
     let e : rest_at s.funcs t.function t.sequence next ≡ rest_at s.funcs t'.function t'.sequence t'.place = rw (at.0, at.1, at.2) refl in

@@ -8,8 +8,8 @@ use Rattle.ms_linear.specs.declared.value.Value.TheVariants as values
 use Rattle.ms_module.specs.declared.instr.Instr.{Instr}
 use Rattle.ms_module.specs.declared.instr.Instr.TheVariants.{Unreachable, Nop, Block, Loop, If, Br, BrIf, BrTable, Return, Call, CallIndirect, Drop, Select, LocalGet, LocalSet, LocalTee, GlobalGet, GlobalSet, I32Const, I64Const, Numeric, Linear, Segment}
 use Rattle.ms_operate.specs.Numbers.{numeric_on}
-use Rattle.ms_rules.specs.Instructions.{numeric_arrow, segment_arrow}
-use Rattle.ms_rules.specs.Typing.{Calls, CallsByTable, types}
+use Rattle.ms_rules.specs.Instructions.{numeric_type, segment_type}
+use Rattle.ms_rules.specs.Typing.{CallTyped, CallIndirectTyped, types}
 use Rattle.ms_task.specs.Control.{Moved, To, TooDeep, Stuck, block_on, br_if_on, br_table_on, branch, call_on, else_on, if_on, loop_on, return_on}
 use Rattle.ms_task.specs.declared.func.FuncInst.{FuncInst}
 use Rattle.ms_task.specs.Thread.{Frame, Item, thread}
@@ -58,7 +58,7 @@ called_typed s store fr vs w f g k r below found results frame operands work =
           work = work;
         }
 
-call_outcome : (s : Store) → StoreTyped (outline_of s) → (x : ℕ) (fr : Frame) (vs : List Value) (w : List Item) (ts t below : List ValType) → FrameTyped (outline_of s) fr → types_of vs ≡ ts ++ below → Calls (slice_get (context_at (outline_of s) fr.function).funcs x) ts t → WorkTyped (outline_of s) fr.function w t below → OutcomeTyped (outline_of s) (call s (thread fr vs w) (func_address (instance_at (outline_of s) fr.function) x))
+call_outcome : (s : Store) → StoreTyped (outline_of s) → (x : ℕ) (fr : Frame) (vs : List Value) (w : List Item) (ts t below : List ValType) → FrameTyped (outline_of s) fr → types_of vs ≡ ts ++ below → CallTyped (slice_get (context_at (outline_of s) fr.function).funcs x) ts t → WorkTyped (outline_of s) fr.function w t below → OutcomeTyped (outline_of s) (call s (thread fr vs w) (func_address (instance_at (outline_of s) fr.function) x))
 call_outcome s store x fr vs w ts t below frame operands (sig, there, (k, r, results, before, left)) work =
     let o = outline_of s in
     let f = func_named o fr.function x sig there in
@@ -73,7 +73,7 @@ target_outcome s store sig (Ok f) (g, there, is) fr vs w k r below results frame
     (operands ∙ ap (λ (y : FuncType). (reverse y.params ++ r) ++ below) (sym is)) work
 target_outcome s store sig (Err trap) typed fr vs w k r below results frame operands work = tt
 
-call_through_outcome : (s : Store) → StoreTyped (outline_of s) → (x : ℕ) (fr : Frame) (vs : List Value) (w : List Item) (ts t below : List ValType) → FrameTyped (outline_of s) fr → types_of vs ≡ ts ++ below → CallsByTable (length (context_at (outline_of s) fr.function).tables) (slice_get (context_at (outline_of s) fr.function).sigs x) ts t → WorkTyped (outline_of s) fr.function w t below → OutcomeTyped (outline_of s) (call_through s (thread fr vs w) (at s.tables (table_address (instance_at (outline_of s) fr.function))) (type_at (instance_at (outline_of s) fr.function) x) vs)
+call_through_outcome : (s : Store) → StoreTyped (outline_of s) → (x : ℕ) (fr : Frame) (vs : List Value) (w : List Item) (ts t below : List ValType) → FrameTyped (outline_of s) fr → types_of vs ≡ ts ++ below → CallIndirectTyped (length (context_at (outline_of s) fr.function).tables) (slice_get (context_at (outline_of s) fr.function).sigs x) ts t → WorkTyped (outline_of s) fr.function w t below → OutcomeTyped (outline_of s) (call_through s (thread fr vs w) (at s.tables (table_address (instance_at (outline_of s) fr.function))) (type_at (instance_at (outline_of s) fr.function) x) vs)
 call_through_outcome s store x fr vs w ts t below frame operands (sig, rest, some, there, top, (k, r, results, before, left)) work =
     let o = outline_of s in
     let table = table_named o store fr.function some in
@@ -134,9 +134,9 @@ act_typed s store (I32Const n) fr vs w ts t below frame operands h work =
 act_typed s store (I64Const n) fr vs w ts t below frame operands h work =
     goes_typed s fr vs (values.I64 _ ∷ vs) w t below (ap (λ l. I64 ∷ l) operands ∙ ap (λ l. l ++ below) (sym h)) frame work
 act_typed s store (Numeric i) fr vs w ts t below frame operands (r, before, left) work =
-    let e = over_below (reverse (numeric_arrow i).takes) (types (numeric_arrow i).gives) r ts t below vs operands before left in
+    let e = over_below (reverse (numeric_type i).params) (types (numeric_type i).result) r ts t below vs operands before left in
     worked_typed s fr vs w t below (numeric_on i vs) (subst (λ l. GivesTyped l (numeric_on i vs)) e.1 (numeric_typed i vs (r ++ below) e.0)) frame work
 act_typed s store (Linear i) fr vs w ts t below frame operands h work = linear_outcome s store i fr vs w ts t below frame operands h work
 act_typed s store (Segment i) fr vs w ts t below frame operands (r, before, left) work =
-    let e = over_below (reverse (segment_arrow i).takes) (types (segment_arrow i).gives) r ts t below vs operands before left in
+    let e = over_below (reverse (segment_type i).params) (types (segment_type i).result) r ts t below vs operands before left in
     in_segments_typed s fr vs w t below (segment_on i s.segments vs) (subst (λ l. EffectTyped l (segment_on i s.segments vs)) e.1 (segment_typed i s.segments vs (r ++ below) e.0)) frame work

@@ -27,7 +27,7 @@ use Rattle.ms_operate.specs.Effects.{Effect}
 use Rattle.ms_operate.specs.Outcomes as operate
 use Rattle.ms_operate.specs.Outcomes.{Outcome}
 use Rattle.ms_operate.specs.declared.trap.Trap.TheVariants as traps
-use Rattle.ms_rules.specs.Instructions.{integer, linear_arrow, loaded, numeric_arrow, stored}
+use Rattle.ms_rules.specs.Instructions.{integer, linear_type, loaded, numeric_type, stored}
 use Rattle.ms_rules.specs.Typing.{types}
 use Rattle.ms_types.specs.declared.types.ValType.{ValType}
 use Rattle.ms_types.specs.declared.types.ValType.TheVariants.{I32, I64}
@@ -97,7 +97,7 @@ two_typed i f w vs t ts is typed e =
     (subst (λ o. GivesTyped (t ∷ ts) (on_two (f a.2) (Some a.1) o)) (sym b.4)
     (typed a.1 b.1 a.2 a.5))))
 
-pub numeric_typed : (i : Numeric) (vs : List Value) (r : List ValType) → types_of vs ≡ reverse (numeric_arrow i).takes ++ r → GivesTyped (types (numeric_arrow i).gives ++ r) (numeric_on i vs)
+pub numeric_typed : (i : Numeric) (vs : List Value) (r : List ValType) → types_of vs ≡ reverse (numeric_type i).params ++ r → GivesTyped (types (numeric_type i).result ++ r) (numeric_on i vs)
 numeric_typed (Eqz w) vs r e = one_typed (Eqz w) _ w vs I32 r (λ v rest. refl) (λ n. refl) e
 numeric_typed (Unary w op) vs r e = one_typed (Unary w op) _ w vs (integer w) r (λ v rest. refl) (λ n. integer_typed w _) e
 numeric_typed Wrap vs r e = one_typed Wrap _ W64 vs I32 r (λ v rest. refl) (λ n. refl) e
@@ -135,7 +135,7 @@ grow_typed m rest size n r is e =
     subst (λ o. EffectTyped (I32 ∷ r) (grow_by m rest o)) (sym is)
     (either_typed (I32 ∷ r) (may_grow m n) (effects.Gives (values.I32 (pages m) ∷ rest) (grown m n)) (effects.Gives (values.I32 (2 ^ 32 - 1) ∷ rest) m) (ap (λ l. I32 ∷ l) e) (ap (λ l. I32 ∷ l) e))
 
-pub linear_typed : (i : Linear) (m : Memory) (vs : List Value) (r : List ValType) → types_of vs ≡ reverse (linear_arrow i).takes ++ r → EffectTyped (types (linear_arrow i).gives ++ r) (linear_on i m vs)
+pub linear_typed : (i : Linear) (m : Memory) (vs : List Value) (r : List ValType) → types_of vs ≡ reverse (linear_type i).params ++ r → EffectTyped (types (linear_type i).result ++ r) (linear_on i m vs)
 linear_typed (Load op arg) m vs r e =
     let a = number_top W32 vs r e in
     subst (λ l. EffectTyped (loaded op ∷ r) (linear_on (Load op arg) m l)) (sym a.3) (load_typed op arg m a.2 (number_of W32 a.0) a.1 r a.4 a.5)

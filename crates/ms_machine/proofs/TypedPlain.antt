@@ -11,8 +11,8 @@ use Rattle.ms_module.specs.declared.access.Linear.{Linear as LinearInstr}
 use Rattle.ms_operate.specs.Memories.{linear_on}
 use Rattle.ms_operate.specs.Effects as effects
 use Rattle.ms_operate.specs.Outcomes as operate
-use Rattle.ms_rules.specs.Instructions.{linear_arrow}
-use Rattle.ms_rules.specs.Typing.{Accesses, Gets, GetsGlobal, Selects, Sets, SetsGlobal, Tees, types}
+use Rattle.ms_rules.specs.Instructions.{linear_type}
+use Rattle.ms_rules.specs.Typing.{LinearTyped, LocalGetTyped, GlobalGetTyped, SelectTyped, LocalSetTyped, GlobalSetTyped, LocalTeeTyped, types}
 use Rattle.ms_task.specs.Thread.{Frame, Item, Thread, thread}
 use Rattle.ms_types.specs.declared.types.GlobalType.{GlobalType}
 use Rattle.ms_types.specs.declared.types.ValType.{ValType}
@@ -68,19 +68,19 @@ pub over_below : (takes gives r ts t below : List ValType) (vs : List Value) →
 over_below takes gives r ts t below vs operands before left =
     (operands ∙ ap (λ l. l ++ below) before ∙ append_assoc takes r below, sym (append_assoc gives r below) ∙ ap (λ l. l ++ below) (sym left))
 
-pub linear_outcome : (s : Store) → StoreTyped (outline_of s) → (i : LinearInstr) (fr : Frame) (vs : List Value) (w : List Item) (ts t below : List ValType) → FrameTyped (outline_of s) fr → types_of vs ≡ ts ++ below → Accesses (length (context_at (outline_of s) fr.function).memories) i ts t → WorkTyped (outline_of s) fr.function w t below → OutcomeTyped (outline_of s) (linear s (thread fr vs w) i (memory_address (instance_at (outline_of s) fr.function)))
+pub linear_outcome : (s : Store) → StoreTyped (outline_of s) → (i : LinearInstr) (fr : Frame) (vs : List Value) (w : List Item) (ts t below : List ValType) → FrameTyped (outline_of s) fr → types_of vs ≡ ts ++ below → LinearTyped (length (context_at (outline_of s) fr.function).memories) i ts t → WorkTyped (outline_of s) fr.function w t below → OutcomeTyped (outline_of s) (linear s (thread fr vs w) i (memory_address (instance_at (outline_of s) fr.function)))
 linear_outcome s store i fr vs w ts t below frame operands (some, aligned, (r, before, left)) work =
     let o = outline_of s in
     let a = memory_named o store fr.function some in
     let m = get_within s.memories a.0 a.2 in
-    let e = over_below (reverse (linear_arrow i).takes) (types (linear_arrow i).gives) r ts t below vs operands before left in
+    let e = over_below (reverse (linear_type i).params) (types (linear_type i).result) r ts t below vs operands before left in
     subst (λ x. OutcomeTyped o (linear s (thread fr vs w) i x)) (sym a.1)
     (subst (λ x. OutcomeTyped o (on_memory s (thread fr vs w) i a.0 x)) (sym m.1)
     (in_memory_typed s fr vs w t below a.0 (linear_on i m.0 vs) (subst (λ l. EffectTyped l (linear_on i m.0 vs)) e.1 (linear_typed i m.0 vs (r ++ below) e.0)) frame work))
 
 -- ---- parametric instructions
 
-pub select_typed : (s : Store) (fr : Frame) (vs : List Value) (w : List Item) (ts t below : List ValType) → FrameTyped (outline_of s) fr → types_of vs ≡ ts ++ below → Selects ts t → WorkTyped (outline_of s) fr.function w t below → OutcomeTyped (outline_of s) (select s (thread fr vs w) vs)
+pub select_typed : (s : Store) (fr : Frame) (vs : List Value) (w : List Item) (ts t below : List ValType) → FrameTyped (outline_of s) fr → types_of vs ≡ ts ++ below → SelectTyped ts t → WorkTyped (outline_of s) fr.function w t below → OutcomeTyped (outline_of s) (select s (thread fr vs w) vs)
 select_typed s fr vs w ts t below frame operands (k, r, before, left) work =
     let o = outline_of s in
     let n = i32_top vs (k ∷ k ∷ r ++ below) (operands ∙ ap (λ l. l ++ below) before) in
@@ -107,7 +107,7 @@ pushed_typed s fr vs w x v k ts t below is typed frame operands left work =
     subst (λ y. OutcomeTyped (outline_of s) (pushed s (thread fr vs w) y)) (sym is)
     (goes_typed s fr vs (v ∷ vs) w t below (ap₂ (λ y l. y ∷ l) typed operands ∙ ap (λ l. l ++ below) (sym left)) frame work)
 
-pub local_get_typed : (s : Store) (x : ℕ) (fr : Frame) (vs : List Value) (w : List Item) (ts t below : List ValType) → FrameTyped (outline_of s) fr → types_of vs ≡ ts ++ below → Gets (slice_get (context_at (outline_of s) fr.function).locals x) ts t → WorkTyped (outline_of s) fr.function w t below → OutcomeTyped (outline_of s) (pushed s (thread fr vs w) (slice_get fr.locals x))
+pub local_get_typed : (s : Store) (x : ℕ) (fr : Frame) (vs : List Value) (w : List Item) (ts t below : List ValType) → FrameTyped (outline_of s) fr → types_of vs ≡ ts ++ below → LocalGetTyped (slice_get (context_at (outline_of s) fr.function).locals x) ts t → WorkTyped (outline_of s) fr.function w t below → OutcomeTyped (outline_of s) (pushed s (thread fr vs w) (slice_get fr.locals x))
 local_get_typed s x fr vs w ts t below frame operands (k, there, left) work =
     let v = get_mapped type_of fr.locals x k (ap (λ l. slice_get l x) frame ∙ there) in
     pushed_typed s fr vs w (slice_get fr.locals x) v.0 k ts t below v.1 v.2 frame operands left work
@@ -119,13 +119,13 @@ set_local_typed s x v fr vs0 vs w t below there frame operands work =
     subst (λ b. OutcomeTyped (outline_of s) (cond b (Next s (thread (record { function = fr.function; locals = slice_set fr.locals x v }) vs w) None) Stuck)) (sym (lt-ltb _ _ (slice_get_within fr.locals x old.0 old.1)))
     (refl, record { ts = t; below = below; operands = operands; frame = set_mapped type_of fr.locals x v at ∙ frame; work = work })
 
-pub local_set_typed : (s : Store) (x : ℕ) (fr : Frame) (vs : List Value) (w : List Item) (ts t below : List ValType) → FrameTyped (outline_of s) fr → types_of vs ≡ ts ++ below → Sets (slice_get (context_at (outline_of s) fr.function).locals x) ts t → WorkTyped (outline_of s) fr.function w t below → OutcomeTyped (outline_of s) (on_top vs (λ v rest. set_local s (thread fr vs w) x v rest))
+pub local_set_typed : (s : Store) (x : ℕ) (fr : Frame) (vs : List Value) (w : List Item) (ts t below : List ValType) → FrameTyped (outline_of s) fr → types_of vs ≡ ts ++ below → LocalSetTyped (slice_get (context_at (outline_of s) fr.function).locals x) ts t → WorkTyped (outline_of s) fr.function w t below → OutcomeTyped (outline_of s) (on_top vs (λ v rest. set_local s (thread fr vs w) x v rest))
 local_set_typed s x fr vs w ts t below frame operands (k, there, before) work =
     let v = value_top vs k (t ++ below) (operands ∙ ap (λ l. l ++ below) before) in
     subst (λ l. OutcomeTyped (outline_of s) (on_top l (λ v rest. set_local s (thread fr vs w) x v rest))) (sym v.2)
     (set_local_typed s x v.0 fr vs v.1 w t below (there ∙ ap Some (sym v.3)) frame v.4 work)
 
-pub local_tee_typed : (s : Store) (x : ℕ) (fr : Frame) (vs : List Value) (w : List Item) (ts t below : List ValType) → FrameTyped (outline_of s) fr → types_of vs ≡ ts ++ below → Tees (slice_get (context_at (outline_of s) fr.function).locals x) ts t → WorkTyped (outline_of s) fr.function w t below → OutcomeTyped (outline_of s) (on_top vs (λ v rest. set_local s (thread fr vs w) x v (v ∷ rest)))
+pub local_tee_typed : (s : Store) (x : ℕ) (fr : Frame) (vs : List Value) (w : List Item) (ts t below : List ValType) → FrameTyped (outline_of s) fr → types_of vs ≡ ts ++ below → LocalTeeTyped (slice_get (context_at (outline_of s) fr.function).locals x) ts t → WorkTyped (outline_of s) fr.function w t below → OutcomeTyped (outline_of s) (on_top vs (λ v rest. set_local s (thread fr vs w) x v (v ∷ rest)))
 local_tee_typed s x fr vs w ts t below frame operands (k, r, there, before, left) work =
     let v = value_top vs k (r ++ below) (operands ∙ ap (λ l. l ++ below) before) in
     subst (λ l. OutcomeTyped (outline_of s) (on_top l (λ v rest. set_local s (thread fr vs w) x v (v ∷ rest)))) (sym v.2)
@@ -133,7 +133,7 @@ local_tee_typed s x fr vs w ts t below frame operands (k, r, there, before, left
 
 -- ---- globals
 
-pub global_get_typed : (s : Store) → StoreTyped (outline_of s) → (x : ℕ) (fr : Frame) (vs : List Value) (w : List Item) (ts t below : List ValType) → FrameTyped (outline_of s) fr → types_of vs ≡ ts ++ below → GetsGlobal (slice_get (context_at (outline_of s) fr.function).globals x) ts t → WorkTyped (outline_of s) fr.function w t below → OutcomeTyped (outline_of s) (pushed s (thread fr vs w) (value_in (at s.globals (global_address (instance_at (outline_of s) fr.function) x))))
+pub global_get_typed : (s : Store) → StoreTyped (outline_of s) → (x : ℕ) (fr : Frame) (vs : List Value) (w : List Item) (ts t below : List ValType) → FrameTyped (outline_of s) fr → types_of vs ≡ ts ++ below → GlobalGetTyped (slice_get (context_at (outline_of s) fr.function).globals x) ts t → WorkTyped (outline_of s) fr.function w t below → OutcomeTyped (outline_of s) (pushed s (thread fr vs w) (value_in (at s.globals (global_address (instance_at (outline_of s) fr.function) x))))
 global_get_typed s store x fr vs w ts t below frame operands (g, there, left) work =
     let a = global_named (outline_of s) store fr.function x g there in
     let inst = get_mapped global_type_of s.globals a.0 g a.2 in
@@ -144,7 +144,7 @@ set_global_typed : (s : Store) (a : ℕ) (g : GlobalInst) (v : Value) (fr : Fram
 set_global_typed s a g v fr vs0 vs w t below there same frame operands work =
     rw there (same_globals s a g v there same, record { ts = t; below = below; operands = operands; frame = frame; work = work })
 
-pub global_set_typed : (s : Store) → StoreTyped (outline_of s) → (x : ℕ) (fr : Frame) (vs : List Value) (w : List Item) (ts t below : List ValType) → FrameTyped (outline_of s) fr → types_of vs ≡ ts ++ below → SetsGlobal (slice_get (context_at (outline_of s) fr.function).globals x) ts t → WorkTyped (outline_of s) fr.function w t below → OutcomeTyped (outline_of s) (on_top vs (λ v rest. set_global s (thread fr vs w) (global_address (instance_at (outline_of s) fr.function) x) v rest))
+pub global_set_typed : (s : Store) → StoreTyped (outline_of s) → (x : ℕ) (fr : Frame) (vs : List Value) (w : List Item) (ts t below : List ValType) → FrameTyped (outline_of s) fr → types_of vs ≡ ts ++ below → GlobalSetTyped (slice_get (context_at (outline_of s) fr.function).globals x) ts t → WorkTyped (outline_of s) fr.function w t below → OutcomeTyped (outline_of s) (on_top vs (λ v rest. set_global s (thread fr vs w) (global_address (instance_at (outline_of s) fr.function) x) v rest))
 global_set_typed s store x fr vs w ts t below frame operands (g, there, mutable, before) work =
     let o = outline_of s in
     let v = value_top vs g.ty (t ++ below) (operands ∙ ap (λ l. l ++ below) before) in

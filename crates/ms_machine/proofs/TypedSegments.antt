@@ -11,7 +11,7 @@ use Rattle.ms_module.specs.declared.access.LoadOp.{LoadOp}
 use Rattle.ms_module.specs.declared.access.Segment.{Segment}
 use Rattle.ms_module.specs.declared.access.Segment.TheVariants.{Null, New, Free, Add, Slice, Eq, IsNull, Diff, LoadHandle, StoreHandle, Load, Store}
 use Rattle.ms_operate.specs.Accesses.{number_of, width_of}
-use Rattle.ms_rules.specs.Instructions.{loaded as loaded_type, segment_arrow}
+use Rattle.ms_rules.specs.Instructions.{loaded as loaded_type, segment_type}
 use Rattle.ms_rules.specs.Typing.{types}
 use Rattle.ms_segment.specs.Calls as call
 use Rattle.ms_segment.specs.Calls.{Change}
@@ -58,7 +58,7 @@ handles_top vs r e =
     let a = handle_top b.1 r b.3 in
     (b.0, a.0, a.1, b.2 ∙ ap (λ l. values.Handle b.0 ∷ l) a.2, a.3)
 
-pub segment_typed : (i : Segment) (m : Memory) (vs : List Value) (r : List ValType) → types_of vs ≡ reverse (segment_arrow i).takes ++ r → EffectTyped (types (segment_arrow i).gives ++ r) (segment_on i m vs)
+pub segment_typed : (i : Segment) (m : Memory) (vs : List Value) (r : List ValType) → types_of vs ≡ reverse (segment_type i).params ++ r → EffectTyped (types (segment_type i).result ++ r) (segment_on i m vs)
 segment_typed Null m vs r e = ap (λ l. Handle ∷ l) e
 segment_typed (New kind) m vs r e =
     let n = i32_top vs r e in

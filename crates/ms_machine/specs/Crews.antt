@@ -1,4 +1,5 @@
--- A run of several tasks by a schedule: a list of entries, each of which names a task. An entry is one step at most.
+-- A run of several tasks, each an invocation (WebAssembly 1.0, 4.5.5) behind the start functions (4.5.4), by a schedule: a list of
+-- entries, each of which names a task. An entry is one step at most.
 use Rattle.std.specs.Prelude.{ℕ, zero, suc, ◌+◌, ◌/◌, ◌%◌, Bool, true, false, if◌then◌else◌, List, [], ◌∷◌, ◌++◌, map, slice_get, slice_set, Option, Some, None}
 use Rattle.ms_event.specs.declared.event.Event.{Event}
 use Rattle.ms_host.specs.declared.trap.TrapKind.{TrapKind}

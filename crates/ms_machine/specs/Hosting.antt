@@ -1,4 +1,4 @@
--- What a call of the host makes of the operands.
+-- What a call of the host makes of the operands (WebAssembly 1.0, 4.4.7.3).
 use Rattle.std.specs.Prelude.{ℕ, Bool, true, false, List, ◌∷◌, Option, Some, None}
 use Rattle.ms_host.specs.Host.{lowest_byte, number_of}
 use Rattle.ms_host.specs.declared.host.Host.{Host}

@@ -3,16 +3,11 @@ pub mod Segments
 pub mod Step
 pub mod Hosting
 pub mod Moves
-pub mod Stepped
 pub mod Running
-pub mod Accesses
-pub mod StraightLine
 pub mod Crews
 pub mod Constants
 pub mod Writing
 pub mod Externs
 pub mod Linked
-pub mod Safety
 pub mod Typing
-pub mod Holding
-pub mod Doing
+pub mod refinement

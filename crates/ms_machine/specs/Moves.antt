@@ -1,4 +1,4 @@
--- One step of a thread on the store and the outside: what it takes from the input, and what it puts to the output.
+-- One step of a thread on the store (WebAssembly 1.0, 4.4) and the outside: what it takes from the input, and what it puts to the output.
 use Rattle.std.specs.Prelude.{◌≡◌, ℕ, Bool, true, false, List, [], ◌∷◌, Option, Some, None}
 use Rattle.ms_event.specs.declared.event.Event.{Event}
 use Rattle.ms_host.specs.declared.trap.TrapKind.{TrapKind}

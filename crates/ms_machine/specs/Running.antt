@@ -1,4 +1,4 @@
--- The thread of a function that is run, what has happened at a step, and what a source may give.
+-- The thread of a function that is run (WebAssembly 1.0, 4.5.5), what has happened at a step, and what a source may give.
 use Rattle.std.specs.Prelude.{◌≡◌, ℕ, List, [], ◌∷◌, ◌++◌, map, slice_get, Option, Some, None, MatchOption}
 use Rattle.ms_event.specs.declared.event.Event.{Event}
 use Rattle.ms_task.specs.Control.{exited as exited_thread, started}

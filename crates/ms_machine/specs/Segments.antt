@@ -1,5 +1,6 @@
--- What instructions on handles and segments make of the operands and of the segment memory. Of several operands the last
--- one is topmost.
+-- What instructions on handles and segments make of the operands and of the segment memory: MSWasm's instructions (POPL 2023), in the
+-- form of the standard's numeric and memory instructions (WebAssembly 1.0, 4.4.1 and 4.4.4). Of several operands the last one is
+-- topmost.
 use Rattle.std.specs.Prelude.{ℕ, ◌+◌, Bool, true, false, List, ◌∷◌, Option, Some, None, Result, Ok, Err, ℤ}
 use Rattle.ms_num.specs.Integers.{signed, truth, wrapped}
 use Rattle.ms_event.specs.declared.event.Event.{Event}

@@ -1,11 +1,11 @@
 //! Control instructions on the store (WebAssembly 1.0, 4.4.5).
 
 ghost use Rattle.std.specs.Prelude.{◌≡◌, ◌≢◌, ◌<◌, Some, length, slice_get};
-ghost use Rattle.ms_machine.specs.Doing.{Can, DoesInstr, DoesOutcome, IsQuiet, TellsNone};
+ghost use Rattle.ms_machine.specs.refinement.Doing.{Can, DoesInstr, DoesOutcome, IsQuiet, TellsNone};
 ghost use Rattle.ms_machine.specs.Step.{Stuck, asks, called, host_in, popped, table_trap};
 ghost use Rattle.ms_machine.specs.Store.{Store as Spec};
 ghost use Rattle.ms_module.specs.declared.instr.Instr.TheVariants as instr;
-ghost use Rattle.ms_task.specs.View.{at_next, before, thread_of};
+ghost use Rattle.ms_task.specs.refinement.View.{at_next, before, thread_of};
 
 use crate::fault::Fault;
 use crate::lookup::{func_address, func_type, table};

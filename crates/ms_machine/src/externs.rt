@@ -3,7 +3,7 @@
 use ms_host::Host as HostFunc;
 
 /// What an import may be given (WebAssembly 1.0, 4.2.11): a function of the host, or what stands at an address of the store.
-#[derive(Clone, Copy, Debug, PartialEq, Eq)]
+#[derive(Clone, Copy, PartialEq, Eq)]
 pub enum Extern {
     /// A function of the host.
     Host(HostFunc),
@@ -18,7 +18,7 @@ pub enum Extern {
 }
 
 /// Why modules are not linked.
-#[derive(Clone, Copy, Debug, PartialEq, Eq)]
+#[derive(Clone, Copy, PartialEq, Eq)]
 pub enum Why {
     /// An import is from no module before, nor from `env` or `c`.
     NoModule,

@@ -1,7 +1,7 @@
 //! Why an instruction was not carried out.
 
 ghost use Rattle.std.specs.Prelude.{◌≡◌};
-ghost use Rattle.ms_machine.specs.Doing.{fault_of};
+ghost use Rattle.ms_machine.specs.refinement.Doing.{fault_of};
 ghost use Rattle.ms_machine.specs.Segments.{trap_of as segment_trap_of};
 ghost use Rattle.ms_machine.specs.Step.{trap_of};
 
@@ -11,7 +11,7 @@ use ms_segment::SegTrap;
 use std::alloc::AllocError;
 
 /// Why an instruction was not carried out.
-#[derive(Clone, Copy, Debug, PartialEq, Eq)]
+#[derive(Clone, Copy, PartialEq, Eq)]
 pub(crate) enum Fault {
     /// It stops the program.
     Trap(TrapKind),

@@ -2,12 +2,12 @@
 
 ghost use Rattle.std.specs.Prelude.{◌≡◌, ◌≢◌, ℕ, false, true, List, [], Option, None, slice_get};
 ghost use Rattle.ms_host.specs.declared.host.Host.TheVariants as hosts;
-ghost use Rattle.ms_machine.specs.Doing.{IsAsking};
+ghost use Rattle.ms_machine.specs.refinement.Doing.{IsAsking};
 ghost use Rattle.ms_machine.specs.Hosting as effects;
 ghost use Rattle.ms_machine.specs.Hosting.{host_on, takes};
 ghost use Rattle.ms_machine.specs.Moves.{hosted};
-ghost use Rattle.ms_machine.specs.Stepped.{CountsInput, CountsOut, DoesExit, DoesStep};
-ghost use Rattle.ms_task.specs.View.{thread_of};
+ghost use Rattle.ms_machine.specs.refinement.Stepped.{CountsInput, CountsOut, DoesExit, DoesStep};
+ghost use Rattle.ms_task.specs.refinement.View.{thread_of};
 
 use crate::stepped::Stepped;
 use crate::store::Store;

@@ -2,7 +2,7 @@
 
 ghost use Rattle.std.specs.Prelude.{◌≡◌, ◌≢◌, None, Some};
 ghost use Rattle.ms_machine.specs.Store.{at, func_address, global_address, instance_of, memory_address, table_address, type_at};
-ghost use Rattle.ms_task.specs.View.{frame_of};
+ghost use Rattle.ms_task.specs.refinement.View.{frame_of};
 
 use crate::store::{Instance, Store};
 use ms_linear::{GlobalInst, Table};

@@ -2,20 +2,20 @@
 
 ghost use Rattle.std.specs.Prelude.{◌≡◌, ◌≢◌, ℕ, ◌+◌, ◌<◌, ◌≤◌, ◌^◌, ◌++◌, List, [], ◌∷◌, length, IfOk, IsTrue, Option, None, Some};
 ghost use Rattle.ms_handle.specs.declared.handle.Handle.{Handle};
-ghost use Rattle.ms_machine.specs.Accesses.{counted_all};
-ghost use Rattle.ms_machine.specs.Doing.{Can, DoesFirst, LeavesStore, with_more};
-ghost use Rattle.ms_machine.specs.Holding.{Each, Fits, StoreFits, ThreadFits};
+ghost use Rattle.ms_machine.specs.refinement.Accesses.{counted_all};
+ghost use Rattle.ms_machine.specs.refinement.Doing.{Can, DoesFirst, LeavesStore, with_more};
+ghost use Rattle.ms_machine.specs.refinement.Holding.{Each, Fits, StoreFits, ThreadFits};
 ghost use Rattle.ms_machine.specs.Moves as moves;
 ghost use Rattle.ms_machine.specs.Moves.{move_for};
 ghost use Rattle.ms_machine.specs.Step.{Stuck, act, begin};
 ghost use Rattle.ms_machine.specs.Running.{with_event};
-ghost use Rattle.ms_machine.specs.Safety.{Sound};
-ghost use Rattle.ms_machine.specs.Stepped.{CountsInput, CountsOut, DoesStep, IsWell, event_of};
+ghost use Rattle.ms_machine.specs.refinement.Safety.{Sound};
+ghost use Rattle.ms_machine.specs.refinement.Stepped.{CountsInput, CountsOut, DoesStep, IsWell, event_of};
 ghost use Rattle.ms_machine.specs.Typing.{StoreTyped, TaskTyped, outline_of};
 ghost use Rattle.ms_segment.specs.Memory.{IsFit};
 ghost use Rattle.ms_event.specs.declared.event.Event.{Event};
 ghost use Rattle.ms_task.specs.Thread.{Begins, Thread};
-ghost use Rattle.ms_task.specs.View.{at_next, before, thread_of};
+ghost use Rattle.ms_task.specs.refinement.View.{at_next, before, thread_of};
 
 use crate::fault::Fault;
 use crate::hosting::ask_host;

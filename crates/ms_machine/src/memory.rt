@@ -1,8 +1,8 @@
 //! Numeric instructions, and those on the linear memory and on segments, on the store.
 
 ghost use Rattle.std.specs.Prelude.{◌≡◌, ◌<◌, ◌^◌};
-ghost use Rattle.ms_machine.specs.Doing.{Can, DoesInstr, Stays, TellsNone};
-ghost use Rattle.ms_machine.specs.Holding.{Each, Fits};
+ghost use Rattle.ms_machine.specs.refinement.Doing.{Can, DoesInstr, Stays, TellsNone};
+ghost use Rattle.ms_machine.specs.refinement.Holding.{Each, Fits};
 ghost use Rattle.ms_module.specs.declared.instr.Instr.TheVariants as instr;
 
 use crate::fault::{Fault, of_fault, of_operate};

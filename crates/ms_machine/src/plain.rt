@@ -1,7 +1,7 @@
 //! Constants, and parametric and variable instructions (WebAssembly 1.0, 4.4.1 to 4.4.3), each in a small function.
 
 ghost use Rattle.std.specs.Prelude.{◌≡◌};
-ghost use Rattle.ms_machine.specs.Doing.{Can, DoesInstr, Stays, TellsNone};
+ghost use Rattle.ms_machine.specs.refinement.Doing.{Can, DoesInstr, Stays, TellsNone};
 ghost use Rattle.ms_module.specs.declared.instr.Instr.TheVariants as instr;
 
 use crate::fault::Fault;

@@ -2,8 +2,8 @@
 
 ghost use Rattle.std.specs.Prelude.{◌≡◌, ◌≢◌, ◌<◌, ◌^◌, List, [], ◌∷◌};
 ghost use Rattle.ms_handle.specs.Handle.{HasBounds};
-ghost use Rattle.ms_machine.specs.Doing.{DoesInSegments};
-ghost use Rattle.ms_machine.specs.Holding.{Each, Fits};
+ghost use Rattle.ms_machine.specs.refinement.Doing.{DoesInSegments};
+ghost use Rattle.ms_machine.specs.refinement.Holding.{Each, Fits};
 ghost use Rattle.ms_machine.specs.Segments.{Stuck, is_null, segment_on, slice_event};
 ghost use Rattle.ms_module.specs.declared.access.Segment.TheVariants as instr;
 

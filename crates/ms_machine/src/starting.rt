@@ -2,12 +2,12 @@
 
 ghost use Rattle.std.specs.Prelude.{◌≡◌, ◌↔◌, List, [], ◌∷◌, IfOk, IsTrue, Some, slice_get};
 ghost use Rattle.ms_event.specs.declared.event.Event.{Event};
-ghost use Rattle.ms_machine.specs.Holding.{ThreadFits};
-ghost use Rattle.ms_machine.specs.Safety.{Sound};
+ghost use Rattle.ms_machine.specs.refinement.Holding.{ThreadFits};
+ghost use Rattle.ms_machine.specs.refinement.Safety.{Sound};
 ghost use Rattle.ms_machine.specs.Typing.{StoreTyped, TaskTyped, outline_of};
 ghost use Rattle.ms_task.specs.Control.{exited, started};
 ghost use Rattle.ms_task.specs.Thread.{Thread};
-ghost use Rattle.ms_task.specs.View.{thread_of};
+ghost use Rattle.ms_task.specs.refinement.View.{thread_of};
 ghost use Rattle.ms_task.specs.declared.func.FuncInst.{FuncInst};
 
 use crate::store::Store;

@@ -5,7 +5,7 @@ use ms_host::TrapKind;
 use ms_linear::Value;
 
 /// What came of a step.
-#[derive(Clone, Copy, Debug, PartialEq, Eq)]
+#[derive(Clone, Copy, PartialEq, Eq)]
 pub enum Stepped {
     /// The task has more to do.
     On(Option<Event>),

@@ -15,7 +15,7 @@ use ms_types::{SharedType, Vector};
 use std::marker::Model;
 
 /// An instance of a module (WebAssembly 1.0, 4.2.5): its types, and the addresses of what its indices name.
-#[derive(Debug, Drop)]
+#[derive(Drop)]
 pub struct Instance {
     /// The function types.
     pub types: Vector<SharedType>,

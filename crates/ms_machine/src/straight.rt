@@ -1,14 +1,14 @@
 //! Steps in a row that tell nothing: all but those that work on segments, call the host, or go through a table.
 
 ghost use Rattle.std.specs.Prelude.{◌≡◌, ◌≢◌, ◌<◌, ◌≤◌, ◌-◌, [], None, false, length, IsTrue, MatchOption, Some};
-ghost use Rattle.ms_machine.specs.StraightLine.{DoesAgain, DoesCall, DoesLeave, DoesMeet, DoesTurn, DoesWork, IsAgain, IsCalm, IsHalted, IsNext};
-ghost use Rattle.ms_machine.specs.Doing.{Can, Carries};
-ghost use Rattle.ms_machine.specs.Holding.{StoreFits, ThreadFits};
+ghost use Rattle.ms_machine.specs.refinement.StraightLine.{DoesAgain, DoesCall, DoesLeave, DoesMeet, DoesQuietly, DoesWork, IsAgain, IsCalm, IsHalted, IsNext};
+ghost use Rattle.ms_machine.specs.refinement.Doing.{Can, Carries};
+ghost use Rattle.ms_machine.specs.refinement.Holding.{StoreFits, ThreadFits};
 ghost use Rattle.ms_machine.specs.Step.{Next, act};
 ghost use Rattle.ms_machine.specs.Typing.{StoreTyped, TaskTyped, outline_of};
 ghost use Rattle.ms_module.specs.declared.instr.Instr.TheVariants as instr;
 ghost use Rattle.ms_task.specs.Thread.{sequence};
-ghost use Rattle.ms_task.specs.View.{at_next, before, thread_of};
+ghost use Rattle.ms_task.specs.refinement.View.{at_next, before, thread_of};
 
 use crate::fault::Fault;
 use crate::lookup::func_address;
@@ -128,7 +128,7 @@ fn call<G: Gaps, T: Tagged>(store: &Store<G, T>, task: &mut Task, x: u32, next: 
 
 /// What came of an instruction.
 #[derive(Clone, Copy)]
-pub(crate) enum Turned<'a> {
+pub(crate) enum CarriedOut<'a> {
     /// It was carried out, and the task goes on behind it in the same sequence.
     On,
     /// It was carried out, and the task goes on in this sequence.
@@ -149,12 +149,12 @@ pub(crate) enum Turned<'a> {
 
 /// Exits the blocks and calls that are at their ends.
 #[inline(always)]
-fn leave<'a, G: Gaps, T: Tagged>(store: &'a Store<G, T>, task: &mut Task) -> Turned<'a>
+fn leave<'a, G: Gaps, T: Tagged>(store: &'a Store<G, T>, task: &mut Task) -> CarriedOut<'a>
     ensures { DoesLeave result store.now.funcs (thread_of store.now.funcs task.old) task.new }
 {
     match task.resume(&store.funcs) {
-        Some(code) => Turned::Elsewhere(code),
-        None => Turned::Ended,
+        Some(code) => CarriedOut::Elsewhere(code),
+        None => CarriedOut::Ended,
     }
 }
 
@@ -167,18 +167,18 @@ fn straight<'a, G: Gaps, T: Tagged>(
     instr: &Instr,
     next: usize,
     more: bool,
-) -> Turned<'a>
+) -> CarriedOut<'a>
     requires next { IsNext instr.now next store.now task.old }
     requires more { IsTrue more → next < length (sequence store.now.funcs task.old.function task.old.sequence) }
-    ensures turned { DoesTurn result instr.now next store.now task.old task.new }
-    ensures on { result ≡ Turned.On → IsTrue more }
+    ensures done { DoesQuietly result instr.now next store.now task.old task.new }
+    ensures on { result ≡ CarriedOut.On → IsTrue more }
     ensures once { ¬ IsAgain result }
 {
     if !carry_straight(store, task, instr, next) {
-        return Turned::Not;
+        return CarriedOut::Not;
     }
     if more {
-        return Turned::On;
+        return CarriedOut::On;
     }
     leave(store, task)
 }
@@ -190,17 +190,17 @@ fn leap<'a, G: Gaps, T: Tagged>(
     task: &mut Task,
     instr: &Instr,
     next: usize,
-) -> Turned<'a>
+) -> CarriedOut<'a>
     requires before { before store.now.funcs task.old next ≡ Some instr.now }
     requires next { IsNext instr.now next store.now task.old }
-    ensures turned { DoesTurn result instr.now next store.now task.old task.new }
-    ensures off { result ≢ Turned.On }
+    ensures done { DoesQuietly result instr.now next store.now task.old task.new }
+    ensures off { result ≢ CarriedOut.On }
     ensures once { ¬ IsAgain result }
 {
     if jump(store, task, instr, next) {
         leave(store, task)
     } else {
-        Turned::Memory
+        CarriedOut::Memory
     }
 }
 
@@ -230,18 +230,18 @@ fn branch<'a, G: Gaps, T: Tagged>(
     instr: &Instr,
     next: usize,
     two: bool,
-) -> Turned<'a>
+) -> CarriedOut<'a>
     requires before { before store.now.funcs task.old next ≡ Some instr.now }
     requires next { IsNext instr.now next store.now task.old }
-    ensures turned { DoesTurn result instr.now next store.now task.old task.new }
-    ensures off { result ≢ Turned.On }
+    ensures done { DoesQuietly result instr.now next store.now task.old task.new }
+    ensures off { result ≢ CarriedOut.On }
     ensures again { IsAgain result → IsTrue two }
 {
     if !two {
         return leap(store, task, instr, next);
     }
     match repeat(store, task, instr, next) {
-        Some(code) => Turned::Again(code),
+        Some(code) => CarriedOut::Again(code),
         None => leap(store, task, instr, next),
     }
 }
@@ -252,19 +252,19 @@ fn branch<'a, G: Gaps, T: Tagged>(
 ///
 /// Each has an arm of its own, so that one jump of the processor leads to its code.
 #[inline(always)]
-fn turn<'a, G: Gaps, T: Tagged>(
+fn quietly<'a, G: Gaps, T: Tagged>(
     store: &'a Store<G, T>,
     task: &mut Task,
     instr: &Instr,
     next: usize,
     more: bool,
     two: bool,
-) -> Turned<'a>
+) -> CarriedOut<'a>
     requires before { before store.now.funcs task.old next ≡ Some instr.now }
     requires next { IsNext instr.now next store.now task.old }
     requires more { IsTrue more → next < length (sequence store.now.funcs task.old.function task.old.sequence) }
-    ensures turned { DoesTurn result instr.now next store.now task.old task.new }
-    ensures on { result ≡ Turned.On → IsTrue more }
+    ensures done { DoesQuietly result instr.now next store.now task.old task.new }
+    ensures on { result ≡ CarriedOut.On → IsTrue more }
     ensures again { IsAgain result → IsTrue two }
 {
     match *instr {
@@ -287,12 +287,12 @@ fn turn<'a, G: Gaps, T: Tagged>(
         Instr::Return => leap(store, task, instr, next),
         Instr::Call(x) => match call(store, task, x, next) {
             Called::Made => leave(store, task),
-            Called::Not => Turned::Not,
-            Called::Memory => Turned::Memory,
+            Called::Not => CarriedOut::Not,
+            Called::Memory => CarriedOut::Memory,
         },
-        Instr::Linear(i) => Turned::Linear(i),
-        Instr::GlobalSet(x) => Turned::Global(x),
-        _ => Turned::Not,
+        Instr::Linear(i) => CarriedOut::Linear(i),
+        Instr::GlobalSet(x) => CarriedOut::Global(x),
+        _ => CarriedOut::Not,
     }
 }
 
@@ -327,22 +327,22 @@ fn go<G: Gaps, T: Tagged>(store: &Store<G, T>, task: &mut Task, most: u64) -> (M
     let mut place = task.place();
     while left > 0 {
         let next = place + 1;
-        match turn(store, task, &code[place], next, next < code.len(), left > 1) {
-            Turned::On => place = next,
-            Turned::Elsewhere(there) => {
+        match quietly(store, task, &code[place], next, next < code.len(), left > 1) {
+            CarriedOut::On => place = next,
+            CarriedOut::Elsewhere(there) => {
                 code = there;
                 place = task.place();
             }
-            Turned::Again(there) => {
+            CarriedOut::Again(there) => {
                 code = there;
                 place = task.place();
                 left -= 1;
             }
-            Turned::Ended => return (Met::Ended, left - 1),
-            Turned::Linear(i) => return (Met::Linear(i, next, next < code.len()), left),
-            Turned::Global(x) => return (Met::Global(x, next, next < code.len()), left),
-            Turned::Not => return (Met::Paused, left),
-            Turned::Memory => return (Met::Memory, left),
+            CarriedOut::Ended => return (Met::Ended, left - 1),
+            CarriedOut::Linear(i) => return (Met::Linear(i, next, next < code.len()), left),
+            CarriedOut::Global(x) => return (Met::Global(x, next, next < code.len()), left),
+            CarriedOut::Not => return (Met::Paused, left),
+            CarriedOut::Memory => return (Met::Memory, left),
         }
         left -= 1;
     }
@@ -420,7 +420,7 @@ fn global<G: Gaps, T: Tagged>(
 }
 
 /// What quiet steps in a row came to.
-#[derive(Clone, Copy, Debug, PartialEq, Eq)]
+#[derive(Clone, Copy, PartialEq, Eq)]
 pub enum Stretch {
     /// No steps are left, or the next one is not quiet.
     Paused,

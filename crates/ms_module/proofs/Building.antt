@@ -6,9 +6,9 @@ use Rattle.ms_types.proofs.Reversed.{reverse-set_last, reverse-take}
 use Rattle.ms_types.specs.declared.types.ValType.{ValType}
 use Rattle.ms_module.specs.declared.instr.Instr.{Instr}
 use Rattle.ms_module.specs.declared.builder.Opening.{Opening}
-use Rattle.ms_module.specs.declared.builder.Arm.TheVariants.{First, Second, Turned}
+use Rattle.ms_module.specs.declared.builder.Arm.TheVariants.{First, Second, AfterElse}
 use Rattle.ms_module.specs.declared.builder.Open.{Open}
-use Rattle.ms_module.specs.Building.{Builds, State, begun, begun_in, closed, current, in_second, is_turned, may_turn, placed, put, started, turned_blocks, whole}
+use Rattle.ms_module.specs.Building.{Builds, State, begun, begun_in, closed, current, in_second, is_after_else, may_else, placed, put, started, after_else_blocks, whole}
 use Rattle.ms_module.proofs.Order.{Fall, current_within, in_order}
 
 -- ---- instructions at the end of a sequence
@@ -33,9 +33,9 @@ pub second-is : (os : List Open) (k n : ℕ) (o : Open) → k + 1 ≡ length os 
     → reverse (slice_set os k (record { arm = Second o.seq; ty = o.ty; seq = n })) ≡ in_second n (reverse os)
 second-is os k n o e is = rw (last_is os k o e is) (reverse-set_last os k (record { arm = Second o.seq; ty = o.ty; seq = n }) e)
 
-pub turned-is : (os : List Open) (k : ℕ) (o : Open) → k + 1 ≡ length os → get_or os k o ≡ o
-    → reverse (slice_set os k (record { arm = Turned; ty = o.ty; seq = o.seq })) ≡ turned_blocks (reverse os)
-turned-is os k o e is = rw (last_is os k o e is) (reverse-set_last os k (record { arm = Turned; ty = o.ty; seq = o.seq }) e)
+pub after_else-is : (os : List Open) (k : ℕ) (o : Open) → k + 1 ≡ length os → get_or os k o ≡ o
+    → reverse (slice_set os k (record { arm = AfterElse; ty = o.ty; seq = o.seq })) ≡ after_else_blocks (reverse os)
+after_else-is os k o e is = rw (last_is os k o e is) (reverse-set_last os k (record { arm = AfterElse; ty = o.ty; seq = o.seq }) e)
 
 rest_is : (os : List Open) (k : ℕ) → k + 1 ≡ length os → reverse (take k os) ≡ drop 1 (reverse os)
 rest_is os k e = reverse-take os k (omega arith) ∙ ap (λ n. drop n (reverse os)) (let one : length os - k ≡ 1 = omega arith in one)
@@ -55,31 +55,31 @@ pub closed-is : (os : List Open) (ss : List (List Instr)) (k : ℕ) (o : Open) �
     → ◌≡◌ {A = State} (record { blocks = reverse (take k os); seqs = put ss (current (reverse (take k os))) (whole o.arm o.ty o.seq) }) (closed (record { blocks = reverse os; seqs = ss }))
 closed-is os ss k o e is = rw (rest_is os k e, last_is os k o e is) refl
 
-some_turned : (blocks : List Open) (n : ℕ) → is_turned blocks ≡ true → current (in_second n blocks) ≡ n
-some_turned [] n e = absurd cc
-some_turned (o ∷ os) n e = refl
+some_after_else : (blocks : List Open) (n : ℕ) → is_after_else blocks ≡ true → current (in_second n blocks) ≡ n
+some_after_else [] n e = absurd cc
+some_after_else (o ∷ os) n e = refl
 
-pub may_turn-some : (os : List Open) → may_turn (reverse os) ≡ true → 0 < length os
-may_turn-some [] e = absurd cc
-may_turn-some (o ∷ os) e = omega arith
+pub may_else-some : (os : List Open) → may_else (reverse os) ≡ true → 0 < length os
+may_else-some [] e = absurd cc
+may_else-some (o ∷ os) e = omega arith
 
-pub turned-some : (os : List Open) → is_turned (reverse os) ≡ true → 0 < length os
-turned-some [] e = absurd cc
-turned-some (o ∷ os) e = omega arith
+pub after_else-some : (os : List Open) → is_after_else (reverse os) ≡ true → 0 < length os
+after_else-some [] e = absurd cc
+after_else-some (o ∷ os) e = omega arith
 
-pub placed-second : (blocks : List Open) (ss : List (List Instr)) (n : ℕ) (i : Instr) → is_turned blocks ≡ true → n ≡ length ss
+pub placed-second : (blocks : List Open) (ss : List (List Instr)) (n : ℕ) (i : Instr) → is_after_else blocks ≡ true → n ≡ length ss
     → ◌≡◌ {A = State} (record { blocks = in_second n blocks; seqs = ss ++ (i ∷ []) ∷ [] }) (placed (record { blocks = blocks; seqs = ss }) i)
-placed-second blocks ss n i e is = rw (e, some_turned blocks (length ss) e, is, put_new ss (length ss) i refl) refl
+placed-second blocks ss n i e is = rw (e, some_after_else blocks (length ss) e, is, put_new ss (length ss) i refl) refl
 
-pub placed-same : (blocks : List Open) (ss : List (List Instr)) (i : Instr) → is_turned blocks ≡ false
+pub placed-same : (blocks : List Open) (ss : List (List Instr)) (i : Instr) → is_after_else blocks ≡ false
     → ◌≡◌ {A = State} (record { blocks = blocks; seqs = put ss (current blocks) i }) (placed (record { blocks = blocks; seqs = ss }) i)
 placed-same blocks ss i e = rw e refl
 
-pub started-second : (blocks : List Open) (ss : List (List Instr)) (n : ℕ) → is_turned blocks ≡ true → n ≡ length ss
+pub started-second : (blocks : List Open) (ss : List (List Instr)) (n : ℕ) → is_after_else blocks ≡ true → n ≡ length ss
     → ◌≡◌ {A = State} (record { blocks = in_second n blocks; seqs = ss ++ [] ∷ [] }) (started (record { blocks = blocks; seqs = ss }))
 started-second blocks ss n e is = rw (e, is) refl
 
-pub started-same : (blocks : List Open) (ss : List (List Instr)) → is_turned blocks ≡ false
+pub started-same : (blocks : List Open) (ss : List (List Instr)) → is_after_else blocks ≡ false
     → ◌≡◌ {A = State} (record { blocks = blocks; seqs = ss }) (started (record { blocks = blocks; seqs = ss }))
 started-same blocks ss e = rw e refl
 

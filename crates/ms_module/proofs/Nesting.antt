@@ -4,7 +4,7 @@ use Rattle.std.specs.Prelude.{Some, None}
 use Rattle.ms_module.specs.declared.instr.Instr.{Instr}
 use Rattle.ms_module.specs.declared.instr.Instr.TheVariants.{Block, Loop, If}
 use Rattle.ms_module.specs.Building.{IsNumbered}
-use Rattle.ms_module.specs.Nesting.{NestsWithin, OfAllNamed, OfNamed}
+use Rattle.ms_module.specs.refinement.Nesting.{NestsWithin, OfAllNamed, OfNamed}
 use Rattle.ms_module.specs.Numbered.{AllNameWithin, NamesWithin, sequence_at}
 use Rattle.ms_module.proofs.Order.{names_later}
 

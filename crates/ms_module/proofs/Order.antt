@@ -7,10 +7,10 @@ use Rattle.ms_module.specs.declared.instr.Instr.TheVariants as instr
 use Rattle.ms_module.specs.declared.builder.Opening.{Opening}
 use Rattle.ms_module.specs.declared.builder.Opening.TheVariants.{Block, If, Loop}
 use Rattle.ms_module.specs.declared.builder.Arm.{Arm}
-use Rattle.ms_module.specs.declared.builder.Arm.TheVariants.{First, Second, Turned}
+use Rattle.ms_module.specs.declared.builder.Arm.TheVariants.{First, Second, AfterElse}
 use Rattle.ms_module.specs.declared.builder.Open.{Open}
 use Rattle.ms_types.specs.declared.types.ValType.{ValType}
-use Rattle.ms_module.specs.Building.{Builds, IsNumbered, State, begins, begun_in, closed_in, closes, current, in_second, is_turned, is_turned_in, may_turn, may_turn_in, opens, placed_in, places, put, started, turned_blocks, turns, whole}
+use Rattle.ms_module.specs.Building.{Builds, IsNumbered, State, begins, begun_in, closed_in, closes, current, in_second, is_after_else, is_after_else_in, may_else, may_else_in, opens, placed_in, places, put, started, after_else_blocks, elses, whole}
 use Rattle.ms_module.specs.Numbered.{AllNameWithin, IsPlain, NamesWithin, sequence_at}
 
 -- ---- sequences that grow
@@ -54,7 +54,7 @@ all_last n k (j ∷ is) i h g = (h.0, all_last n k is i h.1 g)
 
 abbrev pub ArmFalls : Arm → ℕ → ℕ → ℕ → Type 0
 ArmFalls (First opening) around seq n = (around < seq) × (seq < n)
-ArmFalls Turned around seq n = (around < seq) × (seq < n)
+ArmFalls AfterElse around seq n = (around < seq) × (seq < n)
 ArmFalls (Second before) around seq n = (around < before) × (before < seq) × (seq < n)
 
 abbrev pub Fall : List Open → ℕ → Type 0
@@ -63,7 +63,7 @@ Fall (o ∷ os) n = ArmFalls o.arm (current os) o.seq n × Fall os n
 
 arm_more : (arm : Arm) (around seq n m : ℕ) → n ≤ m → ArmFalls arm around seq n → ArmFalls arm around seq m
 arm_more (First opening) around seq n m le h = (h.0, omega (arith, h.1))
-arm_more Turned around seq n m le h = (h.0, omega (arith, h.1))
+arm_more AfterElse around seq n m le h = (h.0, omega (arith, h.1))
 arm_more (Second before) around seq n m le h = (h.0, h.1, omega (arith, h.2))
 
 fall_more : (os : List Open) (n m : ℕ) → n ≤ m → Fall os n → Fall os m
@@ -72,7 +72,7 @@ fall_more (o ∷ os) n m le h = (arm_more o.arm (current os) o.seq n m le h.0, f
 
 arm_within : (arm : Arm) (around seq n : ℕ) → ArmFalls arm around seq n → seq < n
 arm_within (First opening) around seq n h = h.1
-arm_within Turned around seq n h = h.1
+arm_within AfterElse around seq n h = h.1
 arm_within (Second before) around seq n h = h.2
 
 pub current_within : (os : List Open) (n : ℕ) → Fall os n → current os < n
@@ -104,20 +104,20 @@ begun_in-in_order st opening ty h =
     let c = current_within st.blocks (length st.seqs) h.1 in
     (more_in_order st.seqs h.0, ((c, omega (arith, l)), fall_more st.blocks (length st.seqs) (length (st.seqs ++ [] ∷ [])) (omega (arith, l)) h.1))
 
-second_falls : (arm : Arm) (o : Open) (os : List Open) (n m : ℕ) → o.arm ≡ arm → is_turned_in arm ≡ true → m ≡ suc n → Fall (o ∷ os) n → Fall (in_second n (o ∷ os)) m
+second_falls : (arm : Arm) (o : Open) (os : List Open) (n m : ℕ) → o.arm ≡ arm → is_after_else_in arm ≡ true → m ≡ suc n → Fall (o ∷ os) n → Fall (in_second n (o ∷ os)) m
 second_falls (First opening) o os n m e is l h = absurd cc
 second_falls (Second before) o os n m e is l h = absurd cc
-second_falls Turned o os n m e is l h =
+second_falls AfterElse o os n m e is l h =
     let f = subst (λ (a : Arm). ArmFalls a (current os) o.seq n) e h.0 in
     ((f.0, f.1, omega arith), fall_more os n m (omega arith) h.1)
 
-started_falls : (blocks : List Open) (n m : ℕ) → is_turned blocks ≡ true → m ≡ suc n → Fall blocks n → Fall (in_second n blocks) m
+started_falls : (blocks : List Open) (n m : ℕ) → is_after_else blocks ≡ true → m ≡ suc n → Fall blocks n → Fall (in_second n blocks) m
 started_falls [] n m is l h = absurd cc
 started_falls (o ∷ os) n m is l h = second_falls o.arm o os n m refl is l h
 
 started-in_order : (st : State) → InOrder st → InOrder (started st)
-started-in_order st h = go (is_turned st.blocks) refl where
-  go : (b : Bool) → is_turned st.blocks ≡ b → InOrder (started st)
+started-in_order st h = go (is_after_else st.blocks) refl where
+  go : (b : Bool) → is_after_else st.blocks ≡ b → InOrder (started st)
   go false e = rw e h
   go true e = rw e (more_in_order st.seqs h.0, started_falls st.blocks (length st.seqs) (length (st.seqs ++ [] ∷ [])) e (longer st.seqs) h.1)
 
@@ -127,20 +127,20 @@ plain_names n k (instr.Loop ty body) h = absurd h
 plain_names n k (instr.If ty then_ other) h = absurd h
 plain_names n k _ h = tt
 
-turned_falls : (arm : Arm) (around seq n : ℕ) → may_turn_in arm ≡ true → ArmFalls arm around seq n → ArmFalls Turned around seq n
-turned_falls (First opening) around seq n e h = h
-turned_falls Turned around seq n e h = h
-turned_falls (Second before) around seq n e h = absurd cc
+after_else_falls : (arm : Arm) (around seq n : ℕ) → may_else_in arm ≡ true → ArmFalls arm around seq n → ArmFalls AfterElse around seq n
+after_else_falls (First opening) around seq n e h = h
+after_else_falls AfterElse around seq n e h = h
+after_else_falls (Second before) around seq n e h = absurd cc
 
-turned-in_order : (blocks : List Open) (n : ℕ) → may_turn blocks ≡ true → Fall blocks n → Fall (turned_blocks blocks) n
-turned-in_order [] n e h = absurd cc
-turned-in_order (o ∷ os) n e h = (turned_falls o.arm (current os) o.seq n e h.0, h.1)
+after_else-in_order : (blocks : List Open) (n : ℕ) → may_else blocks ≡ true → Fall blocks n → Fall (after_else_blocks blocks) n
+after_else-in_order [] n e h = absurd cc
+after_else-in_order (o ∷ os) n e h = (after_else_falls o.arm (current os) o.seq n e h.0, h.1)
 
 whole_names : (arm : Arm) (ty : Option ValType) (around seq n : ℕ) → ArmFalls arm around seq n → NamesWithin n around (whole arm ty seq)
 whole_names (First Block) ty around seq n h = h
 whole_names (First Loop) ty around seq n h = h
 whole_names (First If) ty around seq n h = (h.0, h.1, tt)
-whole_names Turned ty around seq n h = (h.0, h.1, tt)
+whole_names AfterElse ty around seq n h = (h.0, h.1, tt)
 whole_names (Second before) ty around seq n h = (h.0, omega (arith, h.1, h.2), (h.1, h.2))
 
 closed_in-in_order : (blocks : List Open) (ss : List (List Instr)) → InOrder (record { blocks = blocks; seqs = ss }) → InOrder (closed_in blocks ss)
@@ -157,7 +157,7 @@ in_order begins = (first_names, omega arith)
 in_order (places {st = st} i plain b) =
     placed_in-in_order (started st) i (plain_names (length (started st).seqs) (current (started st).blocks) i plain) (started-in_order st (in_order b))
 in_order (opens {st = st} opening ty b) = begun_in-in_order (started st) opening ty (started-in_order st (in_order b))
-in_order (turns {st = st} may b) = let h = in_order b in (h.0, turned-in_order st.blocks (length st.seqs) may h.1)
+in_order (elses {st = st} may b) = let h = in_order b in (h.0, after_else-in_order st.blocks (length st.seqs) may h.1)
 in_order (closes {st = st} some b) = closed_in-in_order st.blocks st.seqs (in_order b)
 
 -- ---- bodies

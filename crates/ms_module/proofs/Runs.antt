@@ -6,7 +6,7 @@ use Rattle.std.proofs.lemmas.Bool.{leb-true, leb-false, le-leb}
 use Rattle.std.proofs.lemmas.List.{append-nil, length-append, length-replicate, replicate-append-replicate}
 use Rattle.ms_types.specs.declared.types.ValType.{ValType}
 use Rattle.ms_module.specs.declared.locals.Run.{Run}
-use Rattle.ms_module.specs.Locals.{BeginsOther, Differ, end_of, Rise, types_of}
+use Rattle.ms_module.specs.refinement.Locals.{BeginsOther, Differ, end_of, Rise, types_of}
 
 pub length-types_of : (from : ℕ) (rs : List Run) → Rise from rs → from + length (types_of from rs) ≡ end_of from rs
 length-types_of from [] h = omega arith

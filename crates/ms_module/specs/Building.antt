@@ -8,7 +8,7 @@ use Rattle.ms_module.specs.declared.instr.Instr.TheVariants as instr
 use Rattle.ms_module.specs.declared.builder.Opening.{Opening}
 use Rattle.ms_module.specs.declared.builder.Opening.TheVariants.{Block, Loop, If}
 use Rattle.ms_module.specs.declared.builder.Arm.{Arm}
-use Rattle.ms_module.specs.declared.builder.Arm.TheVariants.{First, Turned, Second}
+use Rattle.ms_module.specs.declared.builder.Arm.TheVariants.{First, AfterElse, Second}
 use Rattle.ms_module.specs.declared.builder.Open.{Open}
 use Rattle.ms_module.specs.Numbered.{IsPlain}
 
@@ -34,15 +34,15 @@ put (s ∷ ss) (suc k) i = s ∷ put ss k i
 
 -- ---- the second sequence of an `if`
 
-abbrev pub is_turned_in : Arm → Bool
-is_turned_in (First opening) = false
-is_turned_in Turned = true
-is_turned_in (Second before) = false
+abbrev pub is_after_else_in : Arm → Bool
+is_after_else_in (First opening) = false
+is_after_else_in AfterElse = true
+is_after_else_in (Second before) = false
 
 -- whether the innermost block stands behind an `else`, before the first instruction there
-abbrev pub is_turned : List Open → Bool
-is_turned [] = false
-is_turned (o ∷ os) = is_turned_in o.arm
+abbrev pub is_after_else : List Open → Bool
+is_after_else [] = false
+is_after_else (o ∷ os) = is_after_else_in o.arm
 
 -- the innermost block in its second sequence, which has the number n
 abbrev pub in_second : ℕ → List Open → List Open
@@ -51,7 +51,7 @@ in_second n (o ∷ os) = record { arm = Second o.seq; ty = o.ty; seq = n } ∷ o
 
 -- before an instruction behind an `else`: the second sequence begins
 abbrev pub started : State → State
-started st = if is_turned st.blocks then record { blocks = in_second (length st.seqs) st.blocks; seqs = st.seqs ++ [] ∷ [] } else st
+started st = if is_after_else st.blocks then record { blocks = in_second (length st.seqs) st.blocks; seqs = st.seqs ++ [] ∷ [] } else st
 
 -- ---- what is added
 
@@ -72,24 +72,24 @@ abbrev pub begun : State → Opening → Option ValType → State
 begun st opening ty = begun_in (started st) opening ty
 
 -- whether an `else` may come: in the first sequence of an `if`
-abbrev pub may_turn_in : Arm → Bool
-may_turn_in (First Block) = false
-may_turn_in (First Loop) = false
-may_turn_in (First If) = true
-may_turn_in Turned = false
-may_turn_in (Second before) = false
+abbrev pub may_else_in : Arm → Bool
+may_else_in (First Block) = false
+may_else_in (First Loop) = false
+may_else_in (First If) = true
+may_else_in AfterElse = false
+may_else_in (Second before) = false
 
-abbrev pub may_turn : List Open → Bool
-may_turn [] = false
-may_turn (o ∷ os) = may_turn_in o.arm
+abbrev pub may_else : List Open → Bool
+may_else [] = false
+may_else (o ∷ os) = may_else_in o.arm
 
 -- an `else`
-abbrev pub turned_blocks : List Open → List Open
-turned_blocks [] = []
-turned_blocks (o ∷ os) = record { arm = Turned; ty = o.ty; seq = o.seq } ∷ os
+abbrev pub after_else_blocks : List Open → List Open
+after_else_blocks [] = []
+after_else_blocks (o ∷ os) = record { arm = AfterElse; ty = o.ty; seq = o.seq } ∷ os
 
-abbrev pub turned : State → State
-turned st = record { blocks = turned_blocks st.blocks; seqs = st.seqs }
+abbrev pub after_else : State → State
+after_else st = record { blocks = after_else_blocks st.blocks; seqs = st.seqs }
 
 -- The block of an arm, once it has ended: n is the number of its latest sequence. An `else` with no instruction behind it
 -- is none.
@@ -97,7 +97,7 @@ abbrev pub whole : Arm → Option ValType → ℕ → Instr
 whole (First Block) ty n = instr.Block ty n
 whole (First Loop) ty n = instr.Loop ty n
 whole (First If) ty n = instr.If ty n None
-whole Turned ty n = instr.If ty n None
+whole AfterElse ty n = instr.If ty n None
 whole (Second before) ty n = instr.If ty before (Some n)
 
 abbrev pub closed_in : List Open → List (List Instr) → State
@@ -115,7 +115,7 @@ pub data Builds : State → Type 0 where
   begins : Builds first_state
   places : {st : State} (i : Instr) → IsPlain i → Builds st → Builds (placed st i)
   opens : {st : State} (opening : Opening) (ty : Option ValType) → Builds st → Builds (begun st opening ty)
-  turns : {st : State} → may_turn st.blocks ≡ true → Builds st → Builds (turned st)
+  elses : {st : State} → may_else st.blocks ≡ true → Builds st → Builds (after_else st)
   closes : {st : State} → 0 < length st.blocks → Builds st → Builds (closed st)
 
 -- these are the sequences of a body, its own one first

@@ -6,7 +6,7 @@ ghost use Rattle.ms_module.specs.Accesses.{load_bytes, store_bytes};
 use ms_handle::Kind;
 
 /// A load, by the type that it gives and the bytes that it reads. `S` extends them by their sign, `U` by zeros.
-#[derive(Clone, Copy, Debug, PartialEq, Eq)]
+#[derive(Clone, Copy, PartialEq, Eq)]
 pub enum LoadOp {
     I32Load,
     I64Load,
@@ -37,7 +37,7 @@ impl LoadOp {
 }
 
 /// A store, by the type that it takes and the bytes that it writes.
-#[derive(Clone, Copy, Debug, PartialEq, Eq)]
+#[derive(Clone, Copy, PartialEq, Eq)]
 pub enum StoreOp {
     I32Store,
     I64Store,
@@ -63,7 +63,7 @@ impl StoreOp {
 }
 
 /// How a linear access is aligned, and where it is (WebAssembly 1.0, 2.4.4).
-#[derive(Clone, Copy, Debug, PartialEq, Eq)]
+#[derive(Clone, Copy, PartialEq, Eq)]
 pub struct MemArg {
     /// The address is taken to be a multiple of 2 to this power, which is at most 31 in a body.
     pub align: u32,
@@ -72,7 +72,7 @@ pub struct MemArg {
 }
 
 /// An instruction on the linear memory (WebAssembly 1.0, 2.4.4).
-#[derive(Clone, Copy, Debug, PartialEq, Eq)]
+#[derive(Clone, Copy, PartialEq, Eq)]
 pub enum Linear {
     /// Reads from an address.
     Load(LoadOp, MemArg),
@@ -85,7 +85,7 @@ pub enum Linear {
 }
 
 /// An instruction on handles and segments, in the order of their codes behind E0.
-#[derive(Clone, Copy, Debug, PartialEq, Eq)]
+#[derive(Clone, Copy, PartialEq, Eq)]
 pub enum Segment {
     /// `handle.null`.
     Null,

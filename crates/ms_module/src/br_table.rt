@@ -7,7 +7,7 @@ use std::alloc::{AllocError, Global};
 use std::marker::Model;
 
 /// The labels that a `br_table` goes to (WebAssembly 1.0, 2.4.5).
-#[derive(Debug, Drop)]
+#[derive(Drop)]
 pub struct Targets {
     /// The labels, by the operand.
     pub labels: Vector<u32>,
@@ -16,7 +16,7 @@ pub struct Targets {
 }
 
 /// The labels of a `br_table`, kept apart, so that an instruction stays small. Contracts see the labels.
-#[derive(Debug, Drop)]
+#[derive(Drop)]
 pub struct BrTable {
     targets: Box<Targets>,
 }

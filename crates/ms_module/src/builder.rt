@@ -2,7 +2,7 @@
 
 ghost use Rattle.std.specs.Prelude.{◌≡◌, ◌+◌, ◌<◌, ◌∷◌, List, length, reverse, drop, true, IfOk, OnOk, OnErr};
 ghost use Rattle.std.specs.Vec.{vec_capacity, vec_len};
-ghost use Rattle.ms_module.specs.Building.{begun, closed, current, first_state, in_second, is_turned, may_turn, placed, put, turned, whole};
+ghost use Rattle.ms_module.specs.Building.{begun, closed, current, first_state, in_second, is_after_else, may_else, placed, put, after_else, whole};
 ghost use Rattle.ms_module.specs.Numbered.{IsPlain};
 
 use crate::code::Code;
@@ -12,7 +12,7 @@ use std::alloc::{AllocError, Global};
 use std::marker::Model;
 
 /// What opens a block (WebAssembly 1.0, 2.4.5).
-#[derive(Clone, Copy, Debug, PartialEq, Eq)]
+#[derive(Clone, Copy, PartialEq, Eq)]
 pub enum Opening {
     /// `block`.
     Block,
@@ -23,18 +23,18 @@ pub enum Opening {
 }
 
 /// Where an open block stands.
-#[derive(Clone, Copy, Debug, PartialEq, Eq)]
+#[derive(Clone, Copy, PartialEq, Eq)]
 pub enum Arm {
     /// In its first sequence.
     First(Opening),
     /// Behind the `else` of an `if`, before the first instruction there.
-    Turned,
+    AfterElse,
     /// In the second sequence of an `if`, whose first one has this number.
     Second(u32),
 }
 
 /// A block that is still open.
-#[derive(Clone, Copy, Debug, PartialEq, Eq)]
+#[derive(Clone, Copy, PartialEq, Eq)]
 pub struct Open {
     /// Where it stands.
     pub arm: Arm,
@@ -53,7 +53,7 @@ impl Open {
         match arm {
             Arm::First(Opening::Block) => Instr::Block { ty, body: seq },
             Arm::First(Opening::Loop) => Instr::Loop { ty, body: seq },
-            Arm::First(Opening::If) | Arm::Turned => Instr::If {
+            Arm::First(Opening::If) | Arm::AfterElse => Instr::If {
                 ty,
                 then: seq,
                 other: None,
@@ -108,8 +108,8 @@ impl Builder {
     }
 
     /// Whether an `else` may come: the innermost open block stands in the first sequence of an `if`.
-    pub fn may_turn(&self) -> bool
-        ensures { result ≡ may_turn self.now.blocks }
+    pub fn may_else(&self) -> bool
+        ensures { result ≡ may_else self.now.blocks }
     {
         match self.blocks.last() {
             Some(open) => matches!(open.arm, Arm::First(Opening::If)),
@@ -123,7 +123,7 @@ impl Builder {
         ensures ok { OnOk result (self.new ≡ placed self.old instr) }
         ensures err { OnErr result (self.new ≡ self.old) }
     {
-        if self.is_turned() {
+        if self.is_after_else() {
             let seq = self.next()?;
             let mut instrs = Vector::new(self.alloc);
             instrs.push(instr)?;
@@ -141,14 +141,14 @@ impl Builder {
         ensures ok { OnOk result (self.new ≡ begun self.old opening ty) }
         ensures err { OnErr result (self.new ≡ self.old) }
     {
-        let turned = self.is_turned();
+        let after_else = self.is_after_else();
         let second = self.next()?;
-        let Some(seq) = second.checked_add(turned as u32) else {
+        let Some(seq) = second.checked_add(after_else as u32) else {
             return Err(AllocError);
         };
         self.blocks.reserve(1)?;
         self.sequences.reserve(2)?;
-        if turned {
+        if after_else {
             enter_second(&mut self.blocks, second);
             self.sequences.push_reserved(Vector::new(self.alloc));
         }
@@ -162,14 +162,14 @@ impl Builder {
     }
 
     /// Begins the else arm of the innermost block. Where no instruction follows, there is none. Takes no memory.
-    pub fn turn(&mut self)
-        requires { may_turn self.old.blocks ≡ true }
-        ensures { self.new ≡ turned self.old }
+    pub fn begin_else(&mut self)
+        requires { may_else self.old.blocks ≡ true }
+        ensures { self.new ≡ after_else self.old }
     {
         let last = self.blocks.len() - 1;
         let Open { arm: _, ty, seq } = self.blocks[last];
         self.blocks[last] = Open {
-            arm: Arm::Turned,
+            arm: Arm::AfterElse,
             ty,
             seq,
         };
@@ -206,11 +206,11 @@ impl Builder {
     }
 
     /// Whether the innermost block stands behind an `else`, before the first instruction there.
-    fn is_turned(&self) -> bool
-        ensures { result ≡ is_turned self.now.blocks }
+    fn is_after_else(&self) -> bool
+        ensures { result ≡ is_after_else self.now.blocks }
     {
         match self.blocks.last() {
-            Some(open) => matches!(open.arm, Arm::Turned),
+            Some(open) => matches!(open.arm, Arm::AfterElse),
             None => false,
         }
     }

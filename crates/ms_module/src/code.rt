@@ -10,7 +10,7 @@ use std::marker::Model;
 
 /// The instructions of a body or of a constant expression, as sequences that are numbered from 0 in the order in which
 /// they begin. The body's own sequence is the first one.
-#[derive(Debug, Drop)]
+#[derive(Drop)]
 pub struct Code {
     sequences: Vector<Vector<Instr>>,
 }

@@ -8,7 +8,7 @@ use ms_types::ValType;
 /// An instruction (WebAssembly 1.0, 2.4). Indices are those of the module, labels count from the innermost block.
 ///
 /// A block names its sequence of instructions by its number in the body.
-#[derive(Debug, Drop)]
+#[derive(Drop)]
 pub enum Instr {
     Unreachable,
     Nop,

@@ -4,7 +4,7 @@ ghost use Rattle.std.specs.Prelude.{◌≡◌, ◌==◌, ◌≤◌, Bool, false,
 ghost use Rattle.std.specs.Str.{bytes_eq};
 ghost use Rattle.ms_module.specs.Building.{IsNumbered};
 ghost use Rattle.ms_module.specs.Instructions.{has_twice, keywords, opcodes, second_bytes};
-ghost use Rattle.ms_module.specs.Nesting.{NestsWithin};
+ghost use Rattle.ms_module.specs.refinement.Nesting.{NestsWithin};
 ghost use Rattle.ms_module.specs.declared.instr.Instr.{Instr};
 
 /// No opcode, no byte behind the prefix and no keyword stands twice.

@@ -1,14 +1,14 @@
 //! The declared locals of a body, as runs of one type.
 
 ghost use Rattle.std.specs.Prelude.{◌≡◌, ◌==◌, ◌+◌, ◌<◌, ◌^◌, ◌++◌, List, [], ◌∷◌, length, replicate, slice_get, is_ok, nat_le, OnErr, OnOk, if◌then◌else◌};
-ghost use Rattle.ms_module.specs.Locals.{Differ, Rise, types_of};
+ghost use Rattle.ms_module.specs.refinement.Locals.{Differ, Rise, types_of};
 
 use ms_types::ValType;
 use std::alloc::{AllocError, Global};
 use std::marker::Model;
 
 /// Locals of one type that follow each other, from where the run before them ends.
-#[derive(Clone, Copy, Debug, PartialEq, Eq)]
+#[derive(Clone, Copy, PartialEq, Eq)]
 pub struct Run {
     /// The index behind the last one.
     pub end: u32,
@@ -18,7 +18,7 @@ pub struct Run {
 
 /// The types of the locals that a function declares (WebAssembly 1.0, 2.5.3), at most 2^32 - 1. Contracts see them as a
 /// list; equal ones that follow each other are kept together.
-#[derive(Debug, Drop)]
+#[derive(Drop)]
 pub struct Locals {
     runs: Vec<Run>,
 }
@@ -26,7 +26,7 @@ pub struct Locals {
 impl Model for Locals {
     ghost use Rattle.std.specs.Prelude.{List};
     ghost use Rattle.ms_types.specs.declared.types.ValType.{ValType};
-    ghost use Rattle.ms_module.specs.Locals.{Differ, Rise, types_of};
+    ghost use Rattle.ms_module.specs.refinement.Locals.{Differ, Rise, types_of};
 
     ghost Value = { List ValType };
 

@@ -6,7 +6,7 @@ use crate::name::Name;
 use ms_types::{FuncType, GlobalType, Limits, Vector};
 
 /// What an import asks for (WebAssembly 1.0, 2.5.11).
-#[derive(Clone, Copy, Debug, PartialEq, Eq)]
+#[derive(Clone, Copy, PartialEq, Eq)]
 pub enum ImportDesc {
     /// A function, by the index of its type.
     Func(u32),
@@ -19,7 +19,7 @@ pub enum ImportDesc {
 }
 
 /// An import (WebAssembly 1.0, 2.5.11).
-#[derive(Debug, Drop)]
+#[derive(Drop)]
 pub struct Import {
     /// The module that it comes from.
     pub module: Name,
@@ -30,7 +30,7 @@ pub struct Import {
 }
 
 /// A function (WebAssembly 1.0, 2.5.3).
-#[derive(Debug, Drop)]
+#[derive(Drop)]
 pub struct Func {
     /// The index of its type.
     pub sig: u32,
@@ -41,7 +41,7 @@ pub struct Func {
 }
 
 /// A global (WebAssembly 1.0, 2.5.6).
-#[derive(Debug, Drop)]
+#[derive(Drop)]
 pub struct Global {
     /// Its type.
     pub ty: GlobalType,
@@ -50,7 +50,7 @@ pub struct Global {
 }
 
 /// What an export gives, by its index (WebAssembly 1.0, 2.5.10).
-#[derive(Clone, Copy, Debug, PartialEq, Eq)]
+#[derive(Clone, Copy, PartialEq, Eq)]
 pub enum ExportDesc {
     Func(u32),
     Table(u32),
@@ -59,7 +59,7 @@ pub enum ExportDesc {
 }
 
 /// An export (WebAssembly 1.0, 2.5.10).
-#[derive(Debug, Drop)]
+#[derive(Drop)]
 pub struct Export {
     /// The name that it is known by.
     pub name: Name,
@@ -68,7 +68,7 @@ pub struct Export {
 }
 
 /// Entries that a table begins with (WebAssembly 1.0, 2.5.7).
-#[derive(Debug, Drop)]
+#[derive(Drop)]
 pub struct Element {
     /// The index of the table.
     pub table: u32,
@@ -79,7 +79,7 @@ pub struct Element {
 }
 
 /// Bytes that a memory begins with, a data segment of the standard (WebAssembly 1.0, 2.5.8).
-#[derive(Debug, Drop)]
+#[derive(Drop)]
 pub struct Fill {
     /// The index of the memory.
     pub memory: u32,
@@ -90,7 +90,7 @@ pub struct Fill {
 }
 
 /// A module (WebAssembly 1.0, 2.5).
-#[derive(Debug, Drop)]
+#[derive(Drop)]
 pub struct Module {
     /// The function types.
     pub sigs: Vector<FuncType>,

@@ -4,7 +4,7 @@ ghost use Rattle.std.specs.Prelude.{◌≡◌};
 ghost use Rattle.ms_module.specs.Accesses.{bits};
 
 /// The width of an integer type (WebAssembly 1.0, 2.3.1).
-#[derive(Clone, Copy, Debug, PartialEq, Eq)]
+#[derive(Clone, Copy, PartialEq, Eq)]
 pub enum Width {
     /// 32 bits.
     W32,
@@ -25,7 +25,7 @@ impl Width {
 }
 
 /// An operation on one integer.
-#[derive(Clone, Copy, Debug, PartialEq, Eq)]
+#[derive(Clone, Copy, PartialEq, Eq)]
 pub enum UnOp {
     Clz,
     Ctz,
@@ -33,7 +33,7 @@ pub enum UnOp {
 }
 
 /// An operation on two integers. `S` reads them as signed, `U` as unsigned.
-#[derive(Clone, Copy, Debug, PartialEq, Eq)]
+#[derive(Clone, Copy, PartialEq, Eq)]
 pub enum BinOp {
     Add,
     Sub,
@@ -53,7 +53,7 @@ pub enum BinOp {
 }
 
 /// A comparison of two integers. `S` reads them as signed, `U` as unsigned.
-#[derive(Clone, Copy, Debug, PartialEq, Eq)]
+#[derive(Clone, Copy, PartialEq, Eq)]
 pub enum RelOp {
     Eq,
     Ne,
@@ -68,7 +68,7 @@ pub enum RelOp {
 }
 
 /// A numeric instruction that is no constant (WebAssembly 1.0, 2.4.1), by the width of its operands.
-#[derive(Clone, Copy, Debug, PartialEq, Eq)]
+#[derive(Clone, Copy, PartialEq, Eq)]
 pub enum Numeric {
     /// `eqz`.
     Eqz(Width),

@@ -5,11 +5,11 @@ use Rattle.std.proofs.lemmas.List.Elements.{Contains-append_left, Contains-push,
 use Rattle.ms_event.specs.Monitor.{IsInside, MayAccess, Shade, State, after}
 use Rattle.ms_event.specs.Monitor as monitor
 use Rattle.ms_event.specs.declared.event.Event.TheVariants.{Slice}
-use Rattle.ms_gap_tree.specs.Rooms.{Arena}
-use Rattle.ms_monitor.specs.Colours.{colour_of}
-use Rattle.ms_monitor.specs.Kept.{Kept}
-use Rattle.ms_monitor.specs.Shades.{Learns}
-use Rattle.ms_monitor.specs.Showing.{IsCovered, IsKnown, Shows}
+use Rattle.ms_gap_tree.specs.refinement.Rooms.{Arena}
+use Rattle.ms_monitor.specs.refinement.Colours.{colour_of}
+use Rattle.ms_monitor.specs.refinement.Kept.{Kept}
+use Rattle.ms_monitor.specs.refinement.Shades.{Learns}
+use Rattle.ms_monitor.specs.refinement.Showing.{IsCovered, IsKnown, Shows}
 use Rattle.ms_monitor.specs.declared.colours.Colour.{Colour}
 use Rattle.ms_monitor.proofs.Allocated.{one_colour}
 

@@ -8,15 +8,15 @@ use Rattle.std.proofs.lemmas.List.Quantifiers.{all_pairs_push}
 use Rattle.ms_event.specs.Monitor.{May, Paint, Shade, State, after, coat, coat_from, most_live}
 use Rattle.ms_event.specs.Monitor as monitor
 use Rattle.ms_event.specs.declared.event.Event.TheVariants.{Alloc}
-use Rattle.ms_gap_tree.specs.Rooms.{Arena, room_at, size_of}
+use Rattle.ms_gap_tree.specs.refinement.Rooms.{Arena, room_at, size_of}
 use Rattle.ms_handle.specs.declared.handle.Kind.TheVariants.{Heap}
-use Rattle.ms_live.specs.Layout.{IsLayout}
+use Rattle.ms_live.specs.refinement.Layout.{IsLayout}
 use Rattle.ms_live.specs.declared.gaps.Live.{Live}
 use Rattle.ms_live.proofs.Layouts.{entered_empty, near, Joins}
-use Rattle.ms_monitor.specs.Colours.{Adds, Changes, colour_of, live_in}
-use Rattle.ms_monitor.specs.Gaps.{IsBefore, IsNear, Splits, back, segment}
-use Rattle.ms_monitor.specs.Kept.{IsKept, IsLive, Kept}
-use Rattle.ms_monitor.specs.Showing.{IsWhole, Shows}
+use Rattle.ms_monitor.specs.refinement.Colours.{Adds, Changes, colour_of, live_in}
+use Rattle.ms_monitor.specs.refinement.Gaps.{IsBefore, IsNear, Splits, back, segment}
+use Rattle.ms_monitor.specs.refinement.Kept.{IsKept, IsLive, Kept}
+use Rattle.ms_monitor.specs.refinement.Showing.{IsWhole, Shows}
 use Rattle.ms_monitor.specs.declared.colours.Colour.{Colour}
 use Rattle.ms_monitor.proofs.Colouring.{filled_few}
 use Rattle.ms_monitor.proofs.Seen.{gap_from_run, run_from_gap}

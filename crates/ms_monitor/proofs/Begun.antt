@@ -1,10 +1,10 @@
 -- What is kept before any event.
 use Rattle.std.proofs.Common.{◌≡◌, ℕ, List, ◌+◌, ◌<◌, cond, nat_eq, [], Some, None, arith, ap, sym, ◌∙◌}
 use Rattle.ms_event.specs.Monitor.{Shade, most_live}
-use Rattle.ms_gap_tree.specs.Rooms.{Arena, room_at, size_of}
+use Rattle.ms_gap_tree.specs.refinement.Rooms.{Arena, room_at, size_of}
 use Rattle.ms_live.proofs.Layouts.{layout_new}
-use Rattle.ms_monitor.specs.Colours.{colour_of, filled_in, live_in}
-use Rattle.ms_monitor.specs.Kept.{IsKept, IsLive}
+use Rattle.ms_monitor.specs.refinement.Colours.{colour_of, filled_in, live_in}
+use Rattle.ms_monitor.specs.refinement.Kept.{IsKept, IsLive}
 use Rattle.ms_monitor.specs.declared.colours.Colour.{Colour}
 use Rattle.ms_live.specs.declared.gaps.TheConstants.{GAP_LEVELS}
 use Rattle.ms_live.proofs.Keeping.{at_other}

@@ -8,7 +8,7 @@ use Rattle.std.proofs.lemmas.List.Sums.{sum_by-le-sum_by}
 use Rattle.std.proofs.lemmas.Map.Entries.{sum_by-insert_entry, sum_by-set_value}
 use Rattle.std.proofs.lemmas.Map.Lookups.{exact_unsigned}
 use Rattle.std.proofs.lemmas.Map.Views.{tells_apart}
-use Rattle.ms_monitor.specs.Colours.{Adds, Ends, IsPutOut, colour_of, ended, filled_in, live_in, one_filled, one_live}
+use Rattle.ms_monitor.specs.refinement.Colours.{Adds, Ends, IsPutOut, colour_of, ended, filled_in, live_in, one_filled, one_live}
 use Rattle.ms_monitor.specs.declared.colours.Colour.{Colour}
 use Rattle.ms_live.proofs.Keeping.{one_at_most}
 

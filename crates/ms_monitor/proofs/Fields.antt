@@ -1,5 +1,5 @@
 -- What a monitor's fields keep.
-use Rattle.ms_monitor.specs.Kept.{Kept}
+use Rattle.ms_monitor.specs.refinement.Kept.{Kept}
 use Rattle.ms_monitor.specs.declared.monitor.Monitor.TheInside.{Inside}
 
 abbrev pub kept : Inside → Kept

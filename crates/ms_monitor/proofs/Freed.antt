@@ -6,15 +6,15 @@ use Rattle.std.proofs.lemmas.Bool.Decides.{nat_tests}
 use Rattle.std.proofs.lemmas.List.Kept.{AllPairs-filter}
 use Rattle.ms_event.specs.Monitor.{Paint, Shade, State, after}
 use Rattle.ms_event.specs.declared.event.Event.TheVariants.{Free}
-use Rattle.ms_gap_tree.specs.Rooms.{Arena, room_at, size_of}
-use Rattle.ms_live.specs.Layout.{IsLayout}
-use Rattle.ms_live.specs.Layout as layout
+use Rattle.ms_gap_tree.specs.refinement.Rooms.{Arena, room_at, size_of}
+use Rattle.ms_live.specs.refinement.Layout.{IsLayout}
+use Rattle.ms_live.specs.refinement.Layout as layout
 use Rattle.ms_live.specs.declared.gaps.Live.{Live}
 use Rattle.ms_live.proofs.Layouts.{left, left_empty, Leaves}
-use Rattle.ms_monitor.specs.Colours.{Changes, Ends, colour_of, ended}
-use Rattle.ms_monitor.specs.Gaps.{back, segment}
-use Rattle.ms_monitor.specs.Kept.{IsKept, IsLive, Kept}
-use Rattle.ms_monitor.specs.Showing.{Shows}
+use Rattle.ms_monitor.specs.refinement.Colours.{Changes, Ends, colour_of, ended}
+use Rattle.ms_monitor.specs.refinement.Gaps.{back, segment}
+use Rattle.ms_monitor.specs.refinement.Kept.{IsKept, IsLive, Kept}
+use Rattle.ms_monitor.specs.refinement.Showing.{Shows}
 use Rattle.ms_monitor.specs.declared.colours.Colour.{Colour}
 use Rattle.ms_monitor.proofs.Allocated.{live_colour, no_colour, one_colour, same_segment}
 use Rattle.ms_monitor.proofs.Colouring.{live_one}

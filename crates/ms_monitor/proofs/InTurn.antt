@@ -4,9 +4,9 @@ use Rattle.std.proofs.lemmas.List.{drop_more, take-append-drop, take_all, take_m
 use Rattle.ms_event.specs.declared.event.Event.{Event}
 use Rattle.ms_event.specs.Monitor.{Accepts, May, State, after, after_all, nothing_yet}
 use Rattle.ms_event.proofs.Traces.{accepted_by_steps}
-use Rattle.ms_monitor.specs.Judging.{Judges}
-use Rattle.ms_monitor.specs.Kept.{Kept}
-use Rattle.ms_monitor.specs.Showing.{Shows}
+use Rattle.ms_monitor.specs.refinement.Judging.{Judges}
+use Rattle.ms_monitor.specs.refinement.Kept.{Kept}
+use Rattle.ms_monitor.specs.refinement.Showing.{Shows}
 use Rattle.ms_monitor.specs.Traces.{RejectsAt}
 use Rattle.ms_monitor.specs.declared.monitor.Verdict.{Verdict}
 use Rattle.ms_monitor.specs.declared.monitor.Verdict.TheVariants.{Reject}

@@ -3,10 +3,10 @@ use Rattle.std.proofs.Common.{ℕ, ◌+◌, ◌*◌, ◌<◌, ◌≤◌, arith, 
 use Rattle.std.proofs.lemmas.Bool.{cases_lt}
 use Rattle.ms_event.specs.Monitor.{May, State, most_live}
 use Rattle.ms_event.specs.declared.event.Event.TheVariants.{Refused}
-use Rattle.ms_gap_tree.specs.Rooms.{HasRoom, room_at}
-use Rattle.ms_monitor.specs.Colours.{live_in}
-use Rattle.ms_monitor.specs.Kept.{IsKept, IsLive, Kept}
-use Rattle.ms_monitor.specs.Showing.{Shows}
+use Rattle.ms_gap_tree.specs.refinement.Rooms.{HasRoom, room_at}
+use Rattle.ms_monitor.specs.refinement.Colours.{live_in}
+use Rattle.ms_monitor.specs.refinement.Kept.{IsKept, IsLive, Kept}
+use Rattle.ms_monitor.specs.refinement.Showing.{Shows}
 use Rattle.ms_monitor.proofs.Seen.{gap_from_run, run_from_gap}
 use Rattle.ms_monitor.proofs.Splitting.{gap_has_run}
 

@@ -2,12 +2,12 @@
 use Rattle.std.proofs.Common.{◌≡◌, ℕ, ◌+◌, ◌-◌, ◌<◌, Bool, true, Some, refl, arith, subst, inl, inr}
 use Rattle.std.proofs.lemmas.Bool.{cases_lt}
 use Rattle.ms_event.specs.Monitor.{IsGap, IsUnpainted, State}
-use Rattle.ms_live.specs.Layout.{IsOpen, IsRun}
+use Rattle.ms_live.specs.refinement.Layout.{IsOpen, IsRun}
 use Rattle.ms_live.proofs.Layouts.{closed}
-use Rattle.ms_monitor.specs.Colours.{colour_of}
-use Rattle.ms_monitor.specs.Gaps.{segment}
-use Rattle.ms_monitor.specs.Kept.{IsLive, Kept}
-use Rattle.ms_monitor.specs.Showing.{Shows}
+use Rattle.ms_monitor.specs.refinement.Colours.{colour_of}
+use Rattle.ms_monitor.specs.refinement.Gaps.{segment}
+use Rattle.ms_monitor.specs.refinement.Kept.{IsLive, Kept}
+use Rattle.ms_monitor.specs.refinement.Showing.{Shows}
 use Rattle.ms_monitor.specs.declared.colours.Colour.{Colour}
 
 -- a live colour is a live allocation

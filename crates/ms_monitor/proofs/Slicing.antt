@@ -10,7 +10,7 @@ use Rattle.std.proofs.lemmas.List.Elements.{Contains-append_right}
 use Rattle.std.proofs.lemmas.Map.Lookups.{CmpEqualImpliesEq, exact_unsigned}
 use Rattle.std.proofs.lemmas.Map.Views.{btree_set_contains_iff, tells_apart}
 use Rattle.ms_event.specs.Monitor.{Shade}
-use Rattle.ms_monitor.specs.Shades.{Learns, shade_of}
+use Rattle.ms_monitor.specs.refinement.Shades.{Learns, shade_of}
 use Rattle.ms_monitor.specs.contracts.shades.PartOrd.TheImpl.{cmp-value}
 use Rattle.ms_monitor.specs.contracts.shades.PartOrd.TheImpl.Laws.{total-law}
 use Rattle.ms_monitor.specs.declared.shades.Part.{Part}

@@ -1,11 +1,11 @@
 -- The layout of gaps is kept where an allocation begins anywhere in a gap.
 use Rattle.std.proofs.Common.{◌≡◌, ℕ, ◌+◌, ◌-◌, ◌*◌, ◌%◌, ◌<◌, ◌≤◌, Option, Some, None, arith, ap, sym, ◌∙◌, subst, inl, inr}
 use Rattle.std.proofs.lemmas.Bool.{cases_eq, cases_lt}
-use Rattle.ms_live.specs.Layout.{behind, IsIn, IsLayout, IsOpen, IsRun}
+use Rattle.ms_live.specs.refinement.Layout.{behind, IsIn, IsLayout, IsOpen, IsRun}
 use Rattle.ms_live.specs.Place.{IsOutside}
 use Rattle.ms_live.specs.declared.gaps.Live.{Live}
 use Rattle.ms_live.proofs.Layouts.{behind_is, closed, wall, Joins, nothing, same_room, three}
-use Rattle.ms_monitor.specs.Gaps.{IsBefore, Splits}
+use Rattle.ms_monitor.specs.refinement.Gaps.{IsBefore, Splits}
 
 -- an allocation in a gap: the key of the gap behind it is free
 pub no_gap_behind : (IsLive : Live → Type 0) (capacity : ℕ) (f : ℕ → Option ℕ) → IsLayout IsLive capacity f → (s : Live) (key room : ℕ) → 0 < s.size → s.base % 16 ≡ 0 → f key ≡ Some room → 16 * key ≤ s.base → s.base + s.size ≤ 16 * key + room → f (behind s) ≡ None

@@ -4,14 +4,14 @@ ghost use Rattle.std.specs.Prelude.{◌≡◌, ◌+◌, ◌<◌, [], Some, None,
 ghost use Rattle.std.specs.BTreeMap.{Updates};
 ghost use Rattle.std.specs.Ordering.{nat_cmp};
 ghost use Rattle.ms_event.specs.Monitor.{most_live};
-ghost use Rattle.ms_monitor.specs.Colours.{Adds, Ends, IsPutOut, colour_of, live_in};
+ghost use Rattle.ms_monitor.specs.refinement.Colours.{Adds, Ends, IsPutOut, colour_of, live_in};
 
 use std::alloc::{AllocError, Global};
 use std::collections::BTreeMap;
 use std::marker::Model;
 
 /// The colour of an allocation, which is kept when the allocation has ended.
-#[derive(Clone, Copy, Debug, PartialEq, Eq)]
+#[derive(Clone, Copy, PartialEq, Eq)]
 pub(crate) struct Colour {
     /// The address of the first byte.
     pub base: u32,
@@ -31,7 +31,7 @@ pub(crate) struct Colours {
 impl Model for Colours {
     ghost use Rattle.std.specs.Prelude.{◌≡◌, ℕ, List};
     ghost use Rattle.ms_monitor.specs.declared.colours.Colour.{Colour};
-    ghost use Rattle.ms_monitor.specs.Colours.{live_in};
+    ghost use Rattle.ms_monitor.specs.refinement.Colours.{live_in};
 
     ghost Value = { List (ℕ × Colour) };
 

@@ -1,9 +1,9 @@
 //! The gaps between the live allocations, as rooms under keys: a key by 16 is the address at which a gap begins.
 
 ghost use Rattle.std.specs.Prelude.{◌≡◌, ℕ, ◌+◌, ◌*◌, ◌/◌, ◌<◌, ◌≤◌, ◌^◌, ◌↔◌, IsTrue, IsSome, None, Some, cond, nat_lt};
-ghost use Rattle.ms_gap_tree.specs.Rooms.{HasRoom, room_at, size_of};
-ghost use Rattle.ms_live.specs.Layout as layout;
-ghost use Rattle.ms_monitor.specs.Gaps.{IsBefore, IsNear, Splits, back, segment};
+ghost use Rattle.ms_gap_tree.specs.refinement.Rooms.{HasRoom, room_at, size_of};
+ghost use Rattle.ms_live.specs.refinement.Layout as layout;
+ghost use Rattle.ms_monitor.specs.refinement.Gaps.{IsBefore, IsNear, Splits, back, segment};
 ghost use Rattle.ms_live.specs.declared.gaps.TheConstants.{GAP_LEVELS};
 
 use ms_gap_tree::{Item, Rooms, Steps};

@@ -1,13 +1,13 @@
 //! Judging a whole trace.
 
-ghost use Rattle.ms_monitor.specs.Answers.{JudgesTrace};
+ghost use Rattle.ms_monitor.specs.refinement.Answers.{JudgesTrace};
 
 use crate::monitor::{Monitor, Verdict};
 use ms_event::Event;
 use std::alloc::Global;
 
 /// Why a trace isn't accepted.
-#[derive(Clone, Copy, Debug, PartialEq, Eq)]
+#[derive(Clone, Copy, PartialEq, Eq)]
 pub enum JudgeFault {
     /// The event of this number, counted from 1, is the first that may not come next.
     Rejected { n: usize },

@@ -2,10 +2,10 @@
 
 ghost use Rattle.std.specs.Prelude.{◌≡◌, ◌<◌, ◌≤◌, ◌+◌, ◌%◌, ◌⊎◌, IfOk, IsTrue, ◌↔◌, Contains, None};
 ghost use Rattle.ms_event.specs.Monitor.{most_live, nothing_yet};
-ghost use Rattle.ms_monitor.specs.Colours.{colour_of, live_in};
-ghost use Rattle.ms_monitor.specs.Judging.{Judges};
-ghost use Rattle.ms_monitor.specs.Showing.{IsCovered, IsWhole, LieIn, Shows};
-ghost use Rattle.ms_monitor.specs.Shades.{shade_of};
+ghost use Rattle.ms_monitor.specs.refinement.Colours.{colour_of, live_in};
+ghost use Rattle.ms_monitor.specs.refinement.Judging.{Judges};
+ghost use Rattle.ms_monitor.specs.refinement.Showing.{IsCovered, IsWhole, LieIn, Shows};
+ghost use Rattle.ms_monitor.specs.refinement.Shades.{shade_of};
 
 use crate::colours::{Colour, Colours};
 use crate::gaps::{gap_before, has_room, join, reaches, split};
@@ -17,7 +17,7 @@ use std::alloc::{AllocError, Global};
 use std::marker::Model;
 
 /// Why a monitor doesn't go on.
-#[derive(Clone, Copy, Debug, PartialEq, Eq)]
+#[derive(Clone, Copy, PartialEq, Eq)]
 pub enum Verdict {
     /// The event may not come next.
     Reject,
@@ -36,7 +36,7 @@ pub struct Monitor {
 }
 
 impl Model for Monitor {
-    ghost use Rattle.ms_monitor.specs.Kept.{IsKept, Kept};
+    ghost use Rattle.ms_monitor.specs.refinement.Kept.{IsKept, Kept};
 
     ghost Value = { Kept };
 

@@ -1,14 +1,14 @@
 //! The shades that were sliced.
 
 ghost use Rattle.std.specs.Prelude.{◌≡◌, [], Contains, ◌↔◌, IsTrue, OnOk, OnErr};
-ghost use Rattle.ms_monitor.specs.Shades.{Learns, shade_of};
+ghost use Rattle.ms_monitor.specs.refinement.Shades.{Learns, shade_of};
 
 use std::alloc::{AllocError, Global};
 use std::collections::BTreeSet;
 use std::marker::Model;
 
 /// A part of an allocation, from `lo` to `hi`, counted from its beginning, `hi` excluded.
-#[derive(Clone, Copy, Debug, PartialEq, Eq, PartialOrd, Ord)]
+#[derive(Clone, Copy, PartialEq, Eq, PartialOrd, Ord)]
 pub(crate) struct Part {
     /// The identity of its colour.
     pub colour: u64,
@@ -25,7 +25,7 @@ pub(crate) struct Shades {
 impl Model for Shades {
     ghost use Rattle.std.specs.Prelude.{List, map};
     ghost use Rattle.ms_event.specs.Monitor.{Shade};
-    ghost use Rattle.ms_monitor.specs.Shades.{shade_of};
+    ghost use Rattle.ms_monitor.specs.refinement.Shades.{shade_of};
 
     ghost Value = { List Shade };
 

@@ -2,7 +2,7 @@
 
 ghost use Rattle.std.specs.Prelude.{◌≡◌, IfOk, MatchOption, MatchResult, Ok, Err};
 ghost use Rattle.ms_event.specs.declared.event.Event.{Event};
-ghost use Rattle.ms_monitor.specs.Answers.{ReadsTrace};
+ghost use Rattle.ms_monitor.specs.refinement.Answers.{ReadsTrace};
 ghost use Rattle.ms_monitor.specs.Traces.{IsOf, trace_text};
 
 use crate::lines::split_line;
@@ -10,7 +10,7 @@ use ms_event::Event;
 use std::alloc::{AllocError, Global};
 
 /// Why a text is no trace.
-#[derive(Clone, Copy, Debug, PartialEq, Eq)]
+#[derive(Clone, Copy, PartialEq, Eq)]
 pub enum TraceFault {
     /// The line of this number, counted from 1, is the first that is no event.
     Line { n: usize },

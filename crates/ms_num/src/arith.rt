@@ -1,7 +1,7 @@
 //! Why a division has no result (WebAssembly 1.0, 4.3.2).
 
 /// Why a division has no result.
-#[derive(Clone, Copy, Debug, PartialEq, Eq)]
+#[derive(Clone, Copy, PartialEq, Eq)]
 pub enum Arith {
     /// The divisor is 0.
     ZeroDivide,

@@ -28,7 +28,7 @@ pub fn shl(w: u32, a: u64, b: u64) -> u64
 }
 
 /// To the right, with zeros from the left.
-#[tactic(auto, using(crate::proofs::Turns::lowered_below))]
+#[tactic(auto, using(crate::proofs::Rotations::lowered_below))]
 pub fn shr_u(w: u32, a: u64, b: u64) -> u64
     requires width { IsWidth w }
     requires a { a < 2 ^ w }
@@ -40,7 +40,7 @@ pub fn shr_u(w: u32, a: u64, b: u64) -> u64
 }
 
 /// To the right, with copies of the sign from the left.
-#[tactic(auto, using(crate::proofs::Turns::halved_is))]
+#[tactic(auto, using(crate::proofs::Rotations::halved_is))]
 pub fn shr_s(w: u32, a: u64, b: u64) -> u64
     requires width { IsWidth w }
     requires a { a < 2 ^ w }
@@ -60,7 +60,7 @@ pub fn rotl(w: u32, a: u64, b: u64) -> u64
     ensures small { result < 2 ^ w }
 {
     let up = places(w, b);
-    turned(w, a, up, u64::from(w) - up)
+    rotated(w, a, up, u64::from(w) - up)
 }
 
 /// To the right, where what leaves comes in from the left.
@@ -72,11 +72,11 @@ pub fn rotr(w: u32, a: u64, b: u64) -> u64
     ensures small { result < 2 ^ w }
 {
     let down = places(w, b);
-    turned(w, a, u64::from(w) - down, down)
+    rotated(w, a, u64::from(w) - down, down)
 }
 
 /// The lowest `w` bits of the number moved up.
-#[tactic(auto, using(crate::proofs::Turns::low_of_low))]
+#[tactic(auto, using(crate::proofs::Rotations::low_of_low))]
 fn raised(w: u32, a: u64, up: u64) -> u64
     requires width { IsWidth w }
     requires up { up < w }
@@ -87,8 +87,8 @@ fn raised(w: u32, a: u64, up: u64) -> u64
 }
 
 /// The bits moved up by so many places, and what leaves there moved down to the others.
-#[tactic(auto, using(crate::proofs::Turns::turned_below, crate::proofs::Turns::unmoved))]
-fn turned(w: u32, a: u64, up: u64, down: u64) -> u64
+#[tactic(auto, using(crate::proofs::Rotations::rotated_below, crate::proofs::Rotations::unmoved))]
+fn rotated(w: u32, a: u64, up: u64, down: u64) -> u64
     requires width { IsWidth w }
     requires a { a < 2 ^ w }
     requires whole { up + down ≡ w }

@@ -1,4 +1,4 @@
--- What an instruction on the linear memory makes of the operands, the topmost one first, and of the memory.
+-- What an instruction on the linear memory (WebAssembly 1.0, 4.4.4) makes of the operands, the topmost one first, and of the memory.
 use Rattle.std.specs.Prelude.{◌≡◌, List, Result, Ok, Err}
 use Rattle.ms_linear.specs.declared.value.Value.{Value}
 use Rattle.ms_linear.specs.Memory.{Memory}

@@ -1,4 +1,4 @@
--- What an instruction on operands alone makes of them, the topmost one first.
+-- What an instruction on operands alone (WebAssembly 1.0, 4.4.1) makes of them, the topmost one first.
 use Rattle.std.specs.Prelude.{◌≡◌, List, Result, Ok, Err}
 use Rattle.ms_linear.specs.declared.value.Value.{Value}
 use Rattle.ms_operate.specs.declared.trap.Trap.{Trap as TrapKind}

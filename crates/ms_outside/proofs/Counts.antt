@@ -11,7 +11,7 @@ use Rattle.std.specs.declared.cmp.Ordering.{Ordering}
 use Rattle.std.specs.declared.cmp.Ordering.TheVariants.{Less, Equal, Greater}
 use Rattle.ms_outside.specs.Faults.{CountsFault}
 use Rattle.ms_outside.specs.Files.{Counts, count_of, name_cmp}
-use Rattle.ms_outside.specs.Kept.{counts_of}
+use Rattle.ms_outside.specs.refinement.Kept.{counts_of}
 use Rattle.ms_outside.specs.Shelf.{CountsReadFault}
 use Rattle.ms_outside.proofs.Kept.{get-by_name}
 

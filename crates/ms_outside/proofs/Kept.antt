@@ -10,7 +10,7 @@ use Rattle.std.specs.Ordering.{nat_cmp, is_eq}
 use Rattle.std.specs.Str.{bytes_eq}
 use Rattle.std.proofs.lemmas.Map.Text.{is_eq-slice_cmp, btree_map_updates_text}
 use Rattle.ms_outside.specs.Files.{name_cmp}
-use Rattle.ms_outside.specs.Kept.{by_name}
+use Rattle.ms_outside.specs.refinement.Kept.{by_name}
 
 cond-seen : {V W : Type 0} (seen : V → W) (b : Bool) (v : V) (x : Option W) (y : Option V) → x ≡ option_map seen y → cond b (Some (seen v)) x ≡ option_map seen (cond b (Some v) y)
 cond-seen seen true v x y e = refl

@@ -1,11 +1,5 @@
 pub mod Faults
-pub mod Source
 pub mod Sink
 pub mod Files
 pub mod Shelf
-pub mod Script
-pub mod Memory
-pub mod Kept
-pub mod Adapters
-pub mod Devices
-pub mod System
+pub mod refinement

@@ -2,7 +2,7 @@
 
 ghost use Rattle.std.specs.Prelude.{◌≡◌};
 ghost use Rattle.ms_outside.specs.Faults.{CountsFault};
-ghost use Rattle.ms_outside.specs.Script.{one_more};
+ghost use Rattle.ms_outside.specs.refinement.Script.{one_more};
 
 /// A count after one more fault. At its last value it stays.
 pub fn one_more_fault(count: u64) -> u64

@@ -6,10 +6,10 @@
 ghost use Rattle.std.specs.Prelude.{◌≡◌, ℕ, List, Option, IfOk, OnOk};
 ghost use Rattle.std.specs.Io.{ReadsAtMost, WritesAtMost};
 ghost use Rattle.std.specs.Io.KnownBytes.{Keeps, ReadConsumes, WriteAppends};
-ghost use Rattle.ms_outside.specs.Devices.{CountsOutcome, TakesSome};
+ghost use Rattle.ms_outside.specs.refinement.Devices.{CountsOutcome, TakesSome};
 
 /// A call of a device failed, which the device has counted.
-#[derive(Clone, Copy, Debug, PartialEq, Eq)]
+#[derive(Clone, Copy, PartialEq, Eq)]
 pub struct Fault;
 
 /// A device that gives bytes.

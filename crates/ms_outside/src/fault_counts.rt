@@ -3,7 +3,7 @@
 ghost use Rattle.std.specs.Prelude.{◌≡◌, IfOk, OnErr, IsNone};
 ghost use Rattle.std.specs.FinMap.{empty, get, insert};
 ghost use Rattle.ms_outside.specs.Files.{count_of};
-ghost use Rattle.ms_outside.specs.Script.{one_more};
+ghost use Rattle.ms_outside.specs.refinement.Script.{one_more};
 ghost use Rattle.ms_outside.specs.Shelf.{CountsReadFault};
 
 use crate::count::one_more_fault;
@@ -19,13 +19,13 @@ pub struct FaultCounts {
 
 impl Model for FaultCounts {
     ghost use Rattle.ms_outside.specs.Files.{Counts};
-    ghost use Rattle.ms_outside.specs.Memory.{counts_code};
+    ghost use Rattle.ms_outside.specs.refinement.Memory.{counts_code};
 
     ghost Value = { Counts };
 
     ghost coded = { counts_code };
 
-    ghost use Rattle.ms_outside.specs.Kept.{counts_of};
+    ghost use Rattle.ms_outside.specs.refinement.Kept.{counts_of};
 
     ghost view = { λ s. counts_of s.counts.entries };
 }

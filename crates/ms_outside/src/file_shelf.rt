@@ -1,10 +1,10 @@
 //! A shelf of the files of a disk.
 
 ghost use Rattle.std.specs.Prelude.{◌≡◌, ℕ, List};
-ghost use Rattle.ms_outside.specs.Adapters.{ReadsFile, ReadsToEnd, WritesFile};
+ghost use Rattle.ms_outside.specs.refinement.Adapters.{ReadsFile, ReadsToEnd, WritesFile};
 ghost use Rattle.ms_outside.specs.Shelf.{CountsRead, Fetches, SameCounts, Writes};
 ghost use Rattle.ms_outside.specs.Sink.{CountsPut};
-ghost use Rattle.ms_outside.specs.System.{disk_read_faults, disk_write_faults, shelf_disk};
+ghost use Rattle.ms_outside.specs.refinement.System.{disk_read_faults, disk_write_faults, shelf_disk};
 
 use crate::device::{Disk, ReadDevice};
 use crate::shelf::{Fetched, Shelf};
@@ -54,7 +54,7 @@ impl<R: Files> FileShelf<SystemDisk<R>> {
 
 impl<D: Disk> Shelf for FileShelf<D> {
     ghost use Rattle.std.specs.Prelude.{None};
-    ghost use Rattle.ms_outside.specs.System.{shelf_disk};
+    ghost use Rattle.ms_outside.specs.refinement.System.{shelf_disk};
 
     ghost files = { λ _. None };
 

@@ -3,8 +3,8 @@
 ghost use Rattle.std.specs.Prelude.{◌≡◌, ◌≤◌, false, IfOk, OnErr, IsTrue, ◌↔◌, length, option_copied};
 ghost use Rattle.std.specs.FinMap.{empty, get, insert};
 ghost use Rattle.ms_outside.specs.Files.{bytes_of, count_of};
-ghost use Rattle.ms_outside.specs.Memory.{Folder, read_fails};
-ghost use Rattle.ms_outside.specs.Script.{also_failing, called, counted, next_fails, no_script};
+ghost use Rattle.ms_outside.specs.refinement.Memory.{Folder, read_fails};
+ghost use Rattle.ms_outside.specs.refinement.Script.{also_failing, called, counted, next_fails, no_script};
 ghost use Rattle.ms_outside.specs.Shelf.{CountsRead, Fetches, SameCounts, Writes};
 ghost use Rattle.ms_outside.specs.Sink.{CountsPut};
 
@@ -29,7 +29,7 @@ pub struct MemShelf {
 }
 
 impl Model for MemShelf {
-    ghost use Rattle.ms_outside.specs.Memory.{Folder, folder_code};
+    ghost use Rattle.ms_outside.specs.refinement.Memory.{Folder, folder_code};
 
     ghost Value = { Folder };
 

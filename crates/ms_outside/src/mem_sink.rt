@@ -1,8 +1,8 @@
 //! A sink in memory whose calls fail by a script.
 
 ghost use Rattle.std.specs.Prelude.{◌≡◌, ◌≢◌, ◌≤◌, ◌-◌, [], IfOk, OnErr, IsTrue, ◌↔◌, length};
-ghost use Rattle.ms_outside.specs.Memory.{Output};
-ghost use Rattle.ms_outside.specs.Script.{also_failing, called, counted, next_fails, no_script};
+ghost use Rattle.ms_outside.specs.refinement.Memory.{Output};
+ghost use Rattle.ms_outside.specs.refinement.Script.{also_failing, called, counted, next_fails, no_script};
 ghost use Rattle.ms_outside.specs.Sink.{CountsPut, Puts};
 
 use crate::count::one_more_fault;
@@ -21,7 +21,7 @@ pub struct MemSink {
 }
 
 impl Model for MemSink {
-    ghost use Rattle.ms_outside.specs.Memory.{Output};
+    ghost use Rattle.ms_outside.specs.refinement.Memory.{Output};
 
     ghost Value = { Output };
 

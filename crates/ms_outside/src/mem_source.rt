@@ -1,9 +1,9 @@
 //! A source in memory whose calls fail by a script.
 
 ghost use Rattle.std.specs.Prelude.{◌≡◌, IfOk, OnErr, IsTrue, ◌↔◌};
-ghost use Rattle.ms_outside.specs.Memory.{Input};
-ghost use Rattle.ms_outside.specs.Script.{also_failing, called, counted, next_fails, no_script};
-ghost use Rattle.ms_outside.specs.Source.{CountsTake, Takes};
+ghost use Rattle.ms_outside.specs.refinement.Memory.{Input};
+ghost use Rattle.ms_outside.specs.refinement.Script.{also_failing, called, counted, next_fails, no_script};
+ghost use Rattle.ms_outside.specs.refinement.Source.{CountsTake, Takes};
 
 use crate::count::one_more_fault;
 use crate::script::Script;
@@ -21,7 +21,7 @@ pub struct MemSource {
 }
 
 impl Model for MemSource {
-    ghost use Rattle.ms_outside.specs.Memory.{Input};
+    ghost use Rattle.ms_outside.specs.refinement.Memory.{Input};
 
     ghost Value = { Input };
 

@@ -1,7 +1,7 @@
 //! Which calls of an object in memory fail.
 
 ghost use Rattle.std.specs.Prelude.{◌≡◌, IfOk, OnErr};
-ghost use Rattle.ms_outside.specs.Script.{also_failing, called, next_fails, no_script};
+ghost use Rattle.ms_outside.specs.refinement.Script.{also_failing, called, next_fails, no_script};
 
 use std::alloc::{AllocError, Global};
 use std::marker::Model;
@@ -14,7 +14,7 @@ pub struct Script {
 }
 
 impl Model for Script {
-    ghost use Rattle.ms_outside.specs.Script as words;
+    ghost use Rattle.ms_outside.specs.refinement.Script as words;
 
     ghost Value = { words.Script };
 

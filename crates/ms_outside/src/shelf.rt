@@ -7,7 +7,7 @@ use crate::sink::Put;
 use std::alloc::Global;
 
 /// What reading a file from a shelf gives.
-#[derive(Debug, Drop)]
+#[derive(Drop)]
 pub enum Fetched {
     /// All bytes of the file.
     Bytes(Vec<u8>),

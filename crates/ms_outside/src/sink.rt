@@ -4,7 +4,7 @@ ghost use Rattle.std.specs.Prelude.{ℕ, List, Option};
 ghost use Rattle.ms_outside.specs.Sink.{CountsPut, Puts};
 
 /// What a put into a sink, or a write to a shelf, gives.
-#[derive(Clone, Copy, Debug, PartialEq, Eq)]
+#[derive(Clone, Copy, PartialEq, Eq)]
 pub enum Put {
     /// It holds the piece.
     Done,

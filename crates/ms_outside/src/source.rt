@@ -1,10 +1,10 @@
 //! The contract of a source of bytes.
 
 ghost use Rattle.std.specs.Prelude.{ℕ, List, Option};
-ghost use Rattle.ms_outside.specs.Source.{CountsTake, Takes};
+ghost use Rattle.ms_outside.specs.refinement.Source.{CountsTake, Takes};
 
 /// What a take from a source gives.
-#[derive(Clone, Copy, Debug, PartialEq, Eq)]
+#[derive(Clone, Copy, PartialEq, Eq)]
 pub enum Got {
     /// The next byte.
     Byte(u8),

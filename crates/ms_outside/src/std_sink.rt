@@ -1,9 +1,9 @@
 //! A sink over a device.
 
 ghost use Rattle.std.specs.Prelude.{◌≡◌};
-ghost use Rattle.ms_outside.specs.Adapters.{Flushes, WritesPiece};
+ghost use Rattle.ms_outside.specs.refinement.Adapters.{Flushes, WritesPiece};
 ghost use Rattle.ms_outside.specs.Sink.{CountsPut, Puts};
-ghost use Rattle.ms_outside.specs.System.{sink_device, writer_faults, writer_of};
+ghost use Rattle.ms_outside.specs.refinement.System.{sink_device, writer_faults, writer_of};
 
 use crate::device::WriteDevice;
 use crate::sink::{Put, Sink};
@@ -39,7 +39,7 @@ impl<W: Write> StdSink<SystemWriter<W>> {
 
 impl<D: WriteDevice> Sink for StdSink<D> {
     ghost use Rattle.std.specs.Prelude.{None};
-    ghost use Rattle.ms_outside.specs.System.{sink_device};
+    ghost use Rattle.ms_outside.specs.refinement.System.{sink_device};
 
     ghost held = { λ _. None };
 

@@ -1,9 +1,9 @@
 //! A source over a device.
 
 ghost use Rattle.std.specs.Prelude.{◌≡◌};
-ghost use Rattle.ms_outside.specs.Adapters.{ReadsByte};
-ghost use Rattle.ms_outside.specs.Source.{CountsTake, Takes};
-ghost use Rattle.ms_outside.specs.System.{reader_faults, reader_of, source_device};
+ghost use Rattle.ms_outside.specs.refinement.Adapters.{ReadsByte};
+ghost use Rattle.ms_outside.specs.refinement.Source.{CountsTake, Takes};
+ghost use Rattle.ms_outside.specs.refinement.System.{reader_faults, reader_of, source_device};
 
 use crate::device::ReadDevice;
 use crate::source::{Got, Source};
@@ -39,7 +39,7 @@ impl<R: Read> StdSource<SystemReader<R>> {
 
 impl<D: ReadDevice> Source for StdSource<D> {
     ghost use Rattle.std.specs.Prelude.{None};
-    ghost use Rattle.ms_outside.specs.System.{source_device};
+    ghost use Rattle.ms_outside.specs.refinement.System.{source_device};
 
     ghost left = { λ _. None };
 

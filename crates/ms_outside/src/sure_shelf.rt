@@ -3,7 +3,7 @@
 ghost use Rattle.std.specs.Prelude.{◌≡◌, ◌≢◌, ◌≤◌, IfOk, OnErr, length, option_copied};
 ghost use Rattle.std.specs.FinMap.{empty, get, insert};
 ghost use Rattle.ms_outside.specs.Files.{bytes_of};
-ghost use Rattle.ms_outside.specs.Kept.{Copies, files_of};
+ghost use Rattle.ms_outside.specs.refinement.Kept.{Copies, files_of};
 ghost use Rattle.ms_outside.specs.Shelf.{CountsRead, Fetches, SameCounts, Writes};
 ghost use Rattle.ms_outside.specs.Sink.{CountsPut};
 
@@ -21,13 +21,13 @@ pub struct SureShelf {
 
 impl Model for SureShelf {
     ghost use Rattle.ms_outside.specs.Files.{Files};
-    ghost use Rattle.ms_outside.specs.Memory.{files_code};
+    ghost use Rattle.ms_outside.specs.refinement.Memory.{files_code};
 
     ghost Value = { Files };
 
     ghost coded = { files_code };
 
-    ghost use Rattle.ms_outside.specs.Kept.{files_of};
+    ghost use Rattle.ms_outside.specs.refinement.Kept.{files_of};
 
     ghost view = { λ s. files_of s.kept.entries };
 }

@@ -1,7 +1,7 @@
 //! A sink that never fails.
 
 ghost use Rattle.std.specs.Prelude.{◌≡◌, ◌≢◌, ◌≤◌, ◌-◌, [], IfOk, length};
-ghost use Rattle.ms_outside.specs.Memory.{Held};
+ghost use Rattle.ms_outside.specs.refinement.Memory.{Held};
 ghost use Rattle.ms_outside.specs.Sink.{CountsPut, Puts};
 
 use crate::sink::{Put, Sink};
@@ -17,7 +17,7 @@ pub struct SureSink {
 
 impl Model for SureSink {
     ghost use Rattle.std.specs.Prelude.{◌+◌, ◌≤◌, vec_capacity, vec_len};
-    ghost use Rattle.ms_outside.specs.Memory.{Held};
+    ghost use Rattle.ms_outside.specs.refinement.Memory.{Held};
 
     ghost Value = { Held };
 

@@ -1,7 +1,7 @@
 //! A source that never fails.
 
 ghost use Rattle.std.specs.Prelude.{◌≡◌, ◌≢◌};
-ghost use Rattle.ms_outside.specs.Source.{CountsTake, Takes};
+ghost use Rattle.ms_outside.specs.refinement.Source.{CountsTake, Takes};
 
 use crate::source::{Got, Source};
 use std::marker::Model;

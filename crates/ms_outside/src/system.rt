@@ -2,7 +2,7 @@
 //! nowhere else.
 
 ghost use Rattle.std.specs.Prelude.{◌≡◌};
-ghost use Rattle.ms_outside.specs.System.{disk_read_faults, disk_write_faults, reader_faults, reader_of, writer_faults, writer_of};
+ghost use Rattle.ms_outside.specs.refinement.System.{disk_read_faults, disk_write_faults, reader_faults, reader_of, writer_faults, writer_of};
 
 use crate::count::one_more_fault;
 use crate::device::{Disk, Fault, ReadDevice, WriteDevice};
@@ -35,7 +35,7 @@ impl<R: Read> SystemReader<R> {
 }
 
 impl<R: Read> ReadDevice for SystemReader<R> {
-    ghost use Rattle.ms_outside.specs.System.{reader_faults, reader_of};
+    ghost use Rattle.ms_outside.specs.refinement.System.{reader_faults, reader_of};
 
     ghost left = { λ s. R.remaining (reader_of s) };
 
@@ -77,7 +77,7 @@ impl<W: Write> SystemWriter<W> {
 }
 
 impl<W: Write> WriteDevice for SystemWriter<W> {
-    ghost use Rattle.ms_outside.specs.System.{writer_faults, writer_of};
+    ghost use Rattle.ms_outside.specs.refinement.System.{writer_faults, writer_of};
 
     ghost held = { λ s. W.contents (writer_of s) };
 
@@ -143,7 +143,7 @@ impl<R: Files> SystemDisk<R> {
 }
 
 impl<R: Files> Disk for SystemDisk<R> {
-    ghost use Rattle.ms_outside.specs.System.{disk_read_faults, disk_write_faults};
+    ghost use Rattle.ms_outside.specs.refinement.System.{disk_read_faults, disk_write_faults};
 
     type Reader = SystemReader<R::File>;
 

@@ -5,7 +5,7 @@ use Rattle.ms_module.specs.declared.instr.Instr.{Instr}
 use Rattle.ms_module.specs.declared.instr.Instr.TheVariants.{Return, Call, CallIndirect, LocalGet, LocalSet, LocalTee, GlobalGet, GlobalSet, Linear}
 use Rattle.ms_module.specs.Numbered.{sequence_at}
 use Rattle.ms_rules.specs.Context.{Context, inside}
-use Rattle.ms_rules.specs.Typing.{Accesses, Calls, CallsByTable, Derived, Gets, GetsGlobal, InstrTyped, Known, Leads, SequenceTyped, Sets, SetsGlobal, Tees, Typed, types}
+use Rattle.ms_rules.specs.Typing.{LinearTyped, CallTyped, CallIndirectTyped, Derived, LocalGetTyped, GlobalGetTyped, InstrTyped, Known, BrTyped, SequenceTyped, LocalSetTyped, GlobalSetTyped, LocalTeeTyped, Typed, types}
 use Rattle.ms_rules.proofs.Bodies.{Grows, sequence_map}
 
 -- Contexts that differ in the sizes of tables and memories alone.
@@ -23,16 +23,16 @@ pub inside_alike : (c d : Context) → Alike c d → (locals : List ValType) (k 
 inside_alike c d a locals k = record { sigs = a.sigs; funcs = a.funcs; tables = a.tables; memories = a.memories; globals = a.globals; locals = refl; returns = refl }
 
 instr_alike : (K : Known) (c d : Context) → Alike c d → (labels : List (Option ValType)) (i : Instr) (t1 t2 : List ValType) → InstrTyped K c labels i t1 t2 → InstrTyped K d labels i t1 t2
-instr_alike K c d a labels Return t1 t2 h = subst (λ o. Leads o t1 t2) a.returns h
-instr_alike K c d a labels (Call f) t1 t2 h = subst (λ fs. Calls (slice_get fs f) t1 t2) a.funcs h
+instr_alike K c d a labels Return t1 t2 h = subst (λ o. BrTyped o t1 t2) a.returns h
+instr_alike K c d a labels (Call f) t1 t2 h = subst (λ fs. CallTyped (slice_get fs f) t1 t2) a.funcs h
 instr_alike K c d a labels (CallIndirect sig) t1 t2 h =
-    subst (λ n. CallsByTable n (slice_get d.sigs sig) t1 t2) a.tables (subst (λ ss. CallsByTable (length c.tables) (slice_get ss sig) t1 t2) a.sigs h)
-instr_alike K c d a labels (LocalGet x) t1 t2 h = subst (λ ls. Gets (slice_get ls x) t1 t2) a.locals h
-instr_alike K c d a labels (LocalSet x) t1 t2 h = subst (λ ls. Sets (slice_get ls x) t1 t2) a.locals h
-instr_alike K c d a labels (LocalTee x) t1 t2 h = subst (λ ls. Tees (slice_get ls x) t1 t2) a.locals h
-instr_alike K c d a labels (GlobalGet x) t1 t2 h = subst (λ gs. GetsGlobal (slice_get gs x) t1 t2) a.globals h
-instr_alike K c d a labels (GlobalSet x) t1 t2 h = subst (λ gs. SetsGlobal (slice_get gs x) t1 t2) a.globals h
-instr_alike K c d a labels (Linear i) t1 t2 h = subst (λ n. Accesses n i t1 t2) a.memories h
+    subst (λ n. CallIndirectTyped n (slice_get d.sigs sig) t1 t2) a.tables (subst (λ ss. CallIndirectTyped (length c.tables) (slice_get ss sig) t1 t2) a.sigs h)
+instr_alike K c d a labels (LocalGet x) t1 t2 h = subst (λ ls. LocalGetTyped (slice_get ls x) t1 t2) a.locals h
+instr_alike K c d a labels (LocalSet x) t1 t2 h = subst (λ ls. LocalSetTyped (slice_get ls x) t1 t2) a.locals h
+instr_alike K c d a labels (LocalTee x) t1 t2 h = subst (λ ls. LocalTeeTyped (slice_get ls x) t1 t2) a.locals h
+instr_alike K c d a labels (GlobalGet x) t1 t2 h = subst (λ gs. GlobalGetTyped (slice_get gs x) t1 t2) a.globals h
+instr_alike K c d a labels (GlobalSet x) t1 t2 h = subst (λ gs. GlobalSetTyped (slice_get gs x) t1 t2) a.globals h
+instr_alike K c d a labels (Linear i) t1 t2 h = subst (λ n. LinearTyped n i t1 t2) a.memories h
 instr_alike K c d a labels _ t1 t2 h = h
 
 sequence_alike : (K : Known) (c d : Context) → Alike c d → (labels : List (Option ValType)) (is : List Instr) (t1 t2 : List ValType) → SequenceTyped K c labels is t1 t2 → SequenceTyped K d labels is t1 t2

@@ -16,25 +16,25 @@ use Rattle.ms_module.specs.declared.access.Segment.{Segment}
 use Rattle.ms_module.specs.declared.access.Segment.TheVariants as segment
 
 -- from operands of these types, the last one topmost, to this result
-pub record Arrow : Type 0 where
-  pub takes : List ValType
-  pub gives : Option ValType
+pub record InstrType : Type 0 where
+  pub params : List ValType
+  pub result : Option ValType
 
-abbrev pub arrow : List ValType → Option ValType → Arrow
-arrow takes gives = record { takes = takes; gives = gives }
+abbrev pub instr_type : List ValType → Option ValType → InstrType
+instr_type params result = record { params = params; result = result }
 
 abbrev pub integer : Width → ValType
 integer W32 = I32
 integer W64 = I64
 
-abbrev pub numeric_arrow : Numeric → Arrow
-numeric_arrow (Eqz w) = arrow (integer w ∷ []) (Some I32)
-numeric_arrow (Compare w op) = arrow (integer w ∷ integer w ∷ []) (Some I32)
-numeric_arrow (Unary w op) = arrow (integer w ∷ []) (Some (integer w))
-numeric_arrow (Binary w op) = arrow (integer w ∷ integer w ∷ []) (Some (integer w))
-numeric_arrow Wrap = arrow (I64 ∷ []) (Some I32)
-numeric_arrow ExtendS = arrow (I32 ∷ []) (Some I64)
-numeric_arrow ExtendU = arrow (I32 ∷ []) (Some I64)
+abbrev pub numeric_type : Numeric → InstrType
+numeric_type (Eqz w) = instr_type (integer w ∷ []) (Some I32)
+numeric_type (Compare w op) = instr_type (integer w ∷ integer w ∷ []) (Some I32)
+numeric_type (Unary w op) = instr_type (integer w ∷ []) (Some (integer w))
+numeric_type (Binary w op) = instr_type (integer w ∷ integer w ∷ []) (Some (integer w))
+numeric_type Wrap = instr_type (I64 ∷ []) (Some I32)
+numeric_type ExtendS = instr_type (I32 ∷ []) (Some I64)
+numeric_type ExtendU = instr_type (I32 ∷ []) (Some I64)
 
 -- ---- accesses: the type of the value
 
@@ -54,22 +54,22 @@ stored _ = I64
 
 -- ---- the linear memory, and segments
 
-abbrev pub linear_arrow : Linear → Arrow
-linear_arrow (linear.Load op arg) = arrow (I32 ∷ []) (Some (loaded op))
-linear_arrow (linear.Store op arg) = arrow (I32 ∷ stored op ∷ []) None
-linear_arrow linear.Size = arrow [] (Some I32)
-linear_arrow linear.Grow = arrow (I32 ∷ []) (Some I32)
+abbrev pub linear_type : Linear → InstrType
+linear_type (linear.Load op arg) = instr_type (I32 ∷ []) (Some (loaded op))
+linear_type (linear.Store op arg) = instr_type (I32 ∷ stored op ∷ []) None
+linear_type linear.Size = instr_type [] (Some I32)
+linear_type linear.Grow = instr_type (I32 ∷ []) (Some I32)
 
-abbrev pub segment_arrow : Segment → Arrow
-segment_arrow segment.Null = arrow [] (Some Handle)
-segment_arrow (segment.New kind) = arrow (I32 ∷ []) (Some Handle)
-segment_arrow (segment.Free kind) = arrow (Handle ∷ []) None
-segment_arrow (segment.Add scale) = arrow (Handle ∷ I64 ∷ []) (Some Handle)
-segment_arrow segment.Slice = arrow (Handle ∷ I32 ∷ I32 ∷ []) (Some Handle)
-segment_arrow segment.Eq = arrow (Handle ∷ Handle ∷ []) (Some I32)
-segment_arrow segment.IsNull = arrow (Handle ∷ []) (Some I32)
-segment_arrow segment.Diff = arrow (Handle ∷ Handle ∷ []) (Some I64)
-segment_arrow segment.LoadHandle = arrow (Handle ∷ []) (Some Handle)
-segment_arrow segment.StoreHandle = arrow (Handle ∷ Handle ∷ []) None
-segment_arrow (segment.Load op) = arrow (Handle ∷ []) (Some (loaded op))
-segment_arrow (segment.Store op) = arrow (Handle ∷ stored op ∷ []) None
+abbrev pub segment_type : Segment → InstrType
+segment_type segment.Null = instr_type [] (Some Handle)
+segment_type (segment.New kind) = instr_type (I32 ∷ []) (Some Handle)
+segment_type (segment.Free kind) = instr_type (Handle ∷ []) None
+segment_type (segment.Add scale) = instr_type (Handle ∷ I64 ∷ []) (Some Handle)
+segment_type segment.Slice = instr_type (Handle ∷ I32 ∷ I32 ∷ []) (Some Handle)
+segment_type segment.Eq = instr_type (Handle ∷ Handle ∷ []) (Some I32)
+segment_type segment.IsNull = instr_type (Handle ∷ []) (Some I32)
+segment_type segment.Diff = instr_type (Handle ∷ Handle ∷ []) (Some I64)
+segment_type segment.LoadHandle = instr_type (Handle ∷ []) (Some Handle)
+segment_type segment.StoreHandle = instr_type (Handle ∷ Handle ∷ []) None
+segment_type (segment.Load op) = instr_type (Handle ∷ []) (Some (loaded op))
+segment_type (segment.Store op) = instr_type (Handle ∷ stored op ∷ []) None

@@ -10,7 +10,7 @@ use Rattle.ms_module.specs.declared.instr.Instr.{Instr}
 use Rattle.ms_module.specs.declared.instr.Instr.TheVariants.{Unreachable, Nop, Block, Loop, If, Br, BrIf, BrTable, Return, Call, CallIndirect, Drop, Select, LocalGet, LocalSet, LocalTee, GlobalGet, GlobalSet, I32Const, I64Const, Numeric, Linear, Segment}
 use Rattle.ms_module.specs.Numbered.{sequence_at}
 use Rattle.ms_module.specs.Accesses.{load_bytes, store_bytes}
-use Rattle.ms_rules.specs.Instructions.{Arrow, linear_arrow, numeric_arrow, segment_arrow}
+use Rattle.ms_rules.specs.Instructions.{InstrType, linear_type, numeric_type, segment_type}
 use Rattle.ms_rules.specs.Context.{Context}
 
 -- A result type: one value or none (2.3.2).
@@ -22,33 +22,33 @@ types (Some t) = t ∷ []
 abbrev pub Rel : Type 1
 Rel = List ValType → List ValType → Type 0
 
-abbrev pub Turns : Arrow → Rel
-Turns a t1 t2 = (r : List ValType) × (t1 ≡ reverse a.takes ++ r) × (t2 ≡ types a.gives ++ r)
+abbrev pub HasType : InstrType → Rel
+HasType a t1 t2 = (r : List ValType) × (t1 ≡ reverse a.params ++ r) × (t2 ≡ types a.result ++ r)
 
 -- ---- parametric instructions (3.3.2)
 
-abbrev pub Drops : Rel
-Drops t1 t2 = (t : ValType) × (t1 ≡ t ∷ t2)
+abbrev pub DropTyped : Rel
+DropTyped t1 t2 = (t : ValType) × (t1 ≡ t ∷ t2)
 
-abbrev pub Selects : Rel
-Selects t1 t2 = (t : ValType) × (r : List ValType) × (t1 ≡ I32 ∷ t ∷ t ∷ r) × (t2 ≡ t ∷ r)
+abbrev pub SelectTyped : Rel
+SelectTyped t1 t2 = (t : ValType) × (r : List ValType) × (t1 ≡ I32 ∷ t ∷ t ∷ r) × (t2 ≡ t ∷ r)
 
 -- ---- variable instructions (3.3.3), by what the index names
 
-abbrev pub Gets : Option ValType → Rel
-Gets o t1 t2 = (t : ValType) × (o ≡ Some t) × (t2 ≡ t ∷ t1)
+abbrev pub LocalGetTyped : Option ValType → Rel
+LocalGetTyped o t1 t2 = (t : ValType) × (o ≡ Some t) × (t2 ≡ t ∷ t1)
 
-abbrev pub Sets : Option ValType → Rel
-Sets o t1 t2 = (t : ValType) × (o ≡ Some t) × (t1 ≡ t ∷ t2)
+abbrev pub LocalSetTyped : Option ValType → Rel
+LocalSetTyped o t1 t2 = (t : ValType) × (o ≡ Some t) × (t1 ≡ t ∷ t2)
 
-abbrev pub Tees : Option ValType → Rel
-Tees o t1 t2 = (t : ValType) × (r : List ValType) × (o ≡ Some t) × (t1 ≡ t ∷ r) × (t2 ≡ t ∷ r)
+abbrev pub LocalTeeTyped : Option ValType → Rel
+LocalTeeTyped o t1 t2 = (t : ValType) × (r : List ValType) × (o ≡ Some t) × (t1 ≡ t ∷ r) × (t2 ≡ t ∷ r)
 
-abbrev pub GetsGlobal : Option GlobalType → Rel
-GetsGlobal o t1 t2 = (g : GlobalType) × (o ≡ Some g) × (t2 ≡ g.ty ∷ t1)
+abbrev pub GlobalGetTyped : Option GlobalType → Rel
+GlobalGetTyped o t1 t2 = (g : GlobalType) × (o ≡ Some g) × (t2 ≡ g.ty ∷ t1)
 
-abbrev pub SetsGlobal : Option GlobalType → Rel
-SetsGlobal o t1 t2 = (g : GlobalType) × (o ≡ Some g) × (g.mutable ≡ true) × (t1 ≡ g.ty ∷ t2)
+abbrev pub GlobalSetTyped : Option GlobalType → Rel
+GlobalSetTyped o t1 t2 = (g : GlobalType) × (o ≡ Some g) × (g.mutable ≡ true) × (t1 ≡ g.ty ∷ t2)
 
 -- ---- the linear memory (3.3.4): there is one, and the alignment is at most the natural one
 
@@ -57,34 +57,34 @@ IsAligned (Load op arg) = 2 ^ arg.align ≤ load_bytes op
 IsAligned (Store op arg) = 2 ^ arg.align ≤ store_bytes op
 IsAligned _ = Unit {0}
 
-abbrev pub Accesses : ℕ → LinearInstr → Rel
-Accesses memories i t1 t2 = (0 < memories) × IsAligned i × Turns (linear_arrow i) t1 t2
+abbrev pub LinearTyped : ℕ → LinearInstr → Rel
+LinearTyped memories i t1 t2 = (0 < memories) × IsAligned i × HasType (linear_type i) t1 t2
 
 -- ---- branches and calls (3.3.5). What follows a branch that is always taken has any types.
 
-abbrev pub Leads : Option (Option ValType) → Rel
-Leads o t1 t2 = (k : Option ValType) × (r : List ValType) × (o ≡ Some k) × (t1 ≡ types k ++ r)
+abbrev pub BrTyped : Option (Option ValType) → Rel
+BrTyped o t1 t2 = (k : Option ValType) × (r : List ValType) × (o ≡ Some k) × (t1 ≡ types k ++ r)
 
-abbrev pub LeadsIf : Option (Option ValType) → Rel
-LeadsIf o t1 t2 = (k : Option ValType) × (r : List ValType) × (o ≡ Some k) × (t1 ≡ I32 ∷ (types k ++ r)) × (t2 ≡ types k ++ r)
+abbrev pub BrIfTyped : Option (Option ValType) → Rel
+BrIfTyped o t1 t2 = (k : Option ValType) × (r : List ValType) × (o ≡ Some k) × (t1 ≡ I32 ∷ (types k ++ r)) × (t2 ≡ types k ++ r)
 
 -- each of these labels takes what k says
 abbrev pub AllTake : List (Option ValType) → Option ValType → List ℕ → Type 0
 AllTake labels k [] = Unit {0}
 AllTake labels k (l ∷ ls) = (slice_get labels l ≡ Some k) × AllTake labels k ls
 
-abbrev pub LeadsByTable : List (Option ValType) → List ℕ → ℕ → Rel
-LeadsByTable labels ls default t1 t2 =
+abbrev pub BrTableTyped : List (Option ValType) → List ℕ → ℕ → Rel
+BrTableTyped labels ls default t1 t2 =
     (k : Option ValType) × (r : List ValType) × (slice_get labels default ≡ Some k) × AllTake labels k ls × (t1 ≡ I32 ∷ (types k ++ r))
 
 abbrev pub Invokes : FuncType → Rel
 Invokes f t1 t2 = (k : Option ValType) × (r : List ValType) × (f.results ≡ types k) × (t1 ≡ reverse f.params ++ r) × (t2 ≡ types k ++ r)
 
-abbrev pub Calls : Option (Option FuncType) → Rel
-Calls o t1 t2 = (f : FuncType) × (o ≡ Some (Some f)) × Invokes f t1 t2
+abbrev pub CallTyped : Option (Option FuncType) → Rel
+CallTyped o t1 t2 = (f : FuncType) × (o ≡ Some (Some f)) × Invokes f t1 t2
 
-abbrev pub CallsByTable : ℕ → Option FuncType → Rel
-CallsByTable tables o t1 t2 = (f : FuncType) × (r : List ValType) × (0 < tables) × (o ≡ Some f) × (t1 ≡ I32 ∷ r) × Invokes f r t2
+abbrev pub CallIndirectTyped : ℕ → Option FuncType → Rel
+CallIndirectTyped tables o t1 t2 = (f : FuncType) × (r : List ValType) × (0 < tables) × (o ≡ Some f) × (t1 ≡ I32 ∷ r) × Invokes f r t2
 
 -- ---- instructions
 
@@ -105,24 +105,24 @@ InstrTyped known c labels (Block k s) t1 t2 = known (k ∷ labels) s k × (t2 �
 InstrTyped known c labels (Loop k s) t1 t2 = known (None ∷ labels) s k × (t2 ≡ types k ++ t1)
 InstrTyped known c labels (If k s other) t1 t2 =
     (r : List ValType) × (t1 ≡ I32 ∷ r) × known (k ∷ labels) s k × OtherTyped known labels k other × (t2 ≡ types k ++ r)
-InstrTyped known c labels (Br l) t1 t2 = Leads (slice_get labels l) t1 t2
-InstrTyped known c labels (BrIf l) t1 t2 = LeadsIf (slice_get labels l) t1 t2
-InstrTyped known c labels (BrTable table) t1 t2 = LeadsByTable labels table.labels table.default t1 t2
-InstrTyped known c labels Return t1 t2 = Leads c.returns t1 t2
-InstrTyped known c labels (Call f) t1 t2 = Calls (slice_get c.funcs f) t1 t2
-InstrTyped known c labels (CallIndirect sig) t1 t2 = CallsByTable (length c.tables) (slice_get c.sigs sig) t1 t2
-InstrTyped known c labels Drop t1 t2 = Drops t1 t2
-InstrTyped known c labels Select t1 t2 = Selects t1 t2
-InstrTyped known c labels (LocalGet x) t1 t2 = Gets (slice_get c.locals x) t1 t2
-InstrTyped known c labels (LocalSet x) t1 t2 = Sets (slice_get c.locals x) t1 t2
-InstrTyped known c labels (LocalTee x) t1 t2 = Tees (slice_get c.locals x) t1 t2
-InstrTyped known c labels (GlobalGet x) t1 t2 = GetsGlobal (slice_get c.globals x) t1 t2
-InstrTyped known c labels (GlobalSet x) t1 t2 = SetsGlobal (slice_get c.globals x) t1 t2
+InstrTyped known c labels (Br l) t1 t2 = BrTyped (slice_get labels l) t1 t2
+InstrTyped known c labels (BrIf l) t1 t2 = BrIfTyped (slice_get labels l) t1 t2
+InstrTyped known c labels (BrTable table) t1 t2 = BrTableTyped labels table.labels table.default t1 t2
+InstrTyped known c labels Return t1 t2 = BrTyped c.returns t1 t2
+InstrTyped known c labels (Call f) t1 t2 = CallTyped (slice_get c.funcs f) t1 t2
+InstrTyped known c labels (CallIndirect sig) t1 t2 = CallIndirectTyped (length c.tables) (slice_get c.sigs sig) t1 t2
+InstrTyped known c labels Drop t1 t2 = DropTyped t1 t2
+InstrTyped known c labels Select t1 t2 = SelectTyped t1 t2
+InstrTyped known c labels (LocalGet x) t1 t2 = LocalGetTyped (slice_get c.locals x) t1 t2
+InstrTyped known c labels (LocalSet x) t1 t2 = LocalSetTyped (slice_get c.locals x) t1 t2
+InstrTyped known c labels (LocalTee x) t1 t2 = LocalTeeTyped (slice_get c.locals x) t1 t2
+InstrTyped known c labels (GlobalGet x) t1 t2 = GlobalGetTyped (slice_get c.globals x) t1 t2
+InstrTyped known c labels (GlobalSet x) t1 t2 = GlobalSetTyped (slice_get c.globals x) t1 t2
 InstrTyped known c labels (I32Const n) t1 t2 = t2 ≡ I32 ∷ t1
 InstrTyped known c labels (I64Const n) t1 t2 = t2 ≡ I64 ∷ t1
-InstrTyped known c labels (Numeric i) t1 t2 = Turns (numeric_arrow i) t1 t2
-InstrTyped known c labels (Linear i) t1 t2 = Accesses (length c.memories) i t1 t2
-InstrTyped known c labels (Segment i) t1 t2 = Turns (segment_arrow i) t1 t2
+InstrTyped known c labels (Numeric i) t1 t2 = HasType (numeric_type i) t1 t2
+InstrTyped known c labels (Linear i) t1 t2 = LinearTyped (length c.memories) i t1 t2
+InstrTyped known c labels (Segment i) t1 t2 = HasType (segment_type i) t1 t2
 
 -- one instruction after the other (3.3.6)
 abbrev pub SequenceTyped : Known → Context → List (Option ValType) → List Instr → Rel

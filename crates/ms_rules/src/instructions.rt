@@ -19,7 +19,7 @@ pub fn integer(width: Width) -> ValType
 
 /// The types of the operands of a numeric instruction, the last one topmost.
 pub fn numeric_params(i: Numeric) -> &'static [ValType]
-    ensures { result.now ≡ (spec.numeric_arrow i).takes }
+    ensures { result.now ≡ (spec.numeric_type i).params }
 {
     match i {
         Numeric::Eqz(Width::W32) => &[I32],
@@ -37,7 +37,7 @@ pub fn numeric_params(i: Numeric) -> &'static [ValType]
 
 /// The type of the result of a numeric instruction.
 pub fn numeric_result(i: Numeric) -> Option<ValType>
-    ensures { result ≡ (spec.numeric_arrow i).gives }
+    ensures { result ≡ (spec.numeric_type i).result }
 {
     match i {
         Numeric::Eqz(_) | Numeric::Compare(_, _) | Numeric::Wrap => Some(I32),
@@ -72,7 +72,7 @@ pub fn stored(op: StoreOp) -> ValType
 
 /// The types of the operands of an instruction on the linear memory, the last one topmost.
 pub fn linear_params(i: Linear) -> &'static [ValType]
-    ensures { result.now ≡ (spec.linear_arrow i).takes }
+    ensures { result.now ≡ (spec.linear_type i).params }
 {
     match i {
         Linear::Load(_, _) | Linear::Grow => &[I32],
@@ -87,7 +87,7 @@ pub fn linear_params(i: Linear) -> &'static [ValType]
 
 /// The type of the result of an instruction on the linear memory, if it has one.
 pub fn linear_result(i: Linear) -> Option<ValType>
-    ensures { result ≡ (spec.linear_arrow i).gives }
+    ensures { result ≡ (spec.linear_type i).result }
 {
     match i {
         Linear::Load(op, _) => Some(loaded(op)),
@@ -98,7 +98,7 @@ pub fn linear_result(i: Linear) -> Option<ValType>
 
 /// The types of the operands of an instruction on handles and segments, the last one topmost.
 pub fn segment_params(i: Segment) -> &'static [ValType]
-    ensures { result.now ≡ (spec.segment_arrow i).takes }
+    ensures { result.now ≡ (spec.segment_type i).params }
 {
     match i {
         Segment::Null => &[],
@@ -117,7 +117,7 @@ pub fn segment_params(i: Segment) -> &'static [ValType]
 
 /// The type of the result of an instruction on handles and segments, if it has one.
 pub fn segment_result(i: Segment) -> Option<ValType>
-    ensures { result ≡ (spec.segment_arrow i).gives }
+    ensures { result ≡ (spec.segment_type i).result }
 {
     match i {
         Segment::Null | Segment::New(_) | Segment::Add(_) | Segment::Slice | Segment::LoadHandle =>

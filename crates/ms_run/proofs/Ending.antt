@@ -9,10 +9,10 @@ use Rattle.ms_tasks.proofs.Chaining.{drop_at}
 use Rattle.ms_host.specs.declared.trap.TrapKind.{TrapKind}
 use Rattle.ms_machine.specs.Crews.{Crew, End, Input, OutOfBudget as BudgetEnd, Results, Run, Trap, begun, bytes_of, events_of, results, run_of}
 use Rattle.ms_machine.specs.Running.{IsLeft}
-use Rattle.ms_tasks.specs.Logs.{Log, Trace, all_seen}
+use Rattle.ms_tasks.specs.refinement.Logs.{Log, Trace, all_seen}
 use Rattle.ms_tasks.proofs.Deeds.{events_kept}
-use Rattle.ms_tasks.specs.Outside.{HasBegun, HasRun}
-use Rattle.ms_tasks.specs.Runs.{CountsInput, CountsOut, DoesRun}
+use Rattle.ms_tasks.specs.refinement.Outside.{HasBegun, HasRun}
+use Rattle.ms_tasks.specs.refinement.Runs.{CountsInput, CountsOut, DoesRun}
 use Rattle.ms_tasks.specs.declared.ran.Ran.TheVariants as answers
 use Rattle.ms_run.specs.Answers.{Answer, File}
 use Rattle.ms_run.specs.Executions.{EndsAs, TellsOf}

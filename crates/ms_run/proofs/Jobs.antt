@@ -1,10 +1,10 @@
 -- What `exec` and `run` did, put together from its parts: reading the files of a job, and running it.
 use Rattle.std.proofs.Common.{◌≡◌, ◌∙◌, ◌≤◌, ◌≢◌, ℕ, inr, List, ◌∷◌, length, map, refl, sym, ap, subst, arith}
 use Rattle.std.specs.Prelude.{Option, Some, None, Result, Ok, Err}
-use Rattle.ms_words.specs.Commands as options
-use Rattle.ms_job.specs.Bounds.{IsBounded}
+use Rattle.ms_command_line.specs.Commands as options
+use Rattle.ms_job.specs.refinement.Bounds.{IsBounded}
 use Rattle.ms_job.specs.Jobs.{job_in}
-use Rattle.ms_job.specs.Reading.{ReadsJob}
+use Rattle.ms_job.specs.refinement.Reading.{ReadsJob}
 use Rattle.ms_job.specs.declared.fault.JobFault.{JobFault}
 use Rattle.ms_job.specs.declared.fault.JobFault.TheVariants as job_faults
 use Rattle.ms_job.specs.declared.job.Job.{Job}
@@ -19,7 +19,7 @@ use Rattle.ms_machine.specs.Linked.{linked}
 use Rattle.ms_machine.specs.Running.{IsLeft, MayGive}
 use Rattle.ms_machine.specs.Store.{Store}
 use Rattle.ms_machine.proofs.Outsides.{some_input}
-use Rattle.ms_tasks.specs.Schedules.{entries_of}
+use Rattle.ms_tasks.specs.refinement.Schedules.{entries_of}
 use Rattle.ms_tasks.specs.Tasks.{crew_of, threads_from}
 use Rattle.ms_tasks.specs.declared.schedule.Schedule.{Schedule}
 use Rattle.ms_tasks.proofs.Leaving.{run_leaves}

@@ -16,11 +16,11 @@ use Rattle.ms_machine.specs.Linked.{linked}
 use Rattle.ms_machine.specs.Store.{Store}
 use Rattle.ms_link.proofs.Plain.{linked_fits, linked_sound}
 use Rattle.ms_link.proofs.Stores.{linked_made, linked_typed}
-use Rattle.ms_tasks.specs.Ready.{IsReady}
+use Rattle.ms_tasks.specs.refinement.Ready.{IsReady}
 use Rattle.ms_tasks.specs.Tasks.{crew_of, threads_from}
 use Rattle.ms_tasks.proofs.Making.{crew_ready, crew_sound}
 use Rattle.ms_tasks.proofs.Safe.{run_accepted}
-use Rattle.ms_words.specs.Commands as options
+use Rattle.ms_command_line.specs.Commands as options
 use Rattle.ms_job.specs.Jobs.{job_in}
 use Rattle.ms_job.specs.declared.job.Job.{Job}
 use Rattle.ms_job.proofs.Bounded.{job_is_bounded}

@@ -1,5 +1,4 @@
 pub mod Observed
-pub mod Statuses
 pub mod Telling
 pub mod Lines
 pub mod Loading
@@ -9,3 +8,4 @@ pub mod Jobs
 pub mod Reporting
 pub mod Flows
 pub mod SafeRuns
+pub mod refinement

@@ -68,9 +68,9 @@ IsOfReading (faults.Invalid refusal) = ⊥
 IsOfReading _ = Unit {0}
 
 -- the module that the bytes spell, or why there is none
-abbrev pub Reads : Form → List ℕ → Result Module LoadFault → Type 0
-Reads form bytes (Ok m) = Spells form bytes m
-Reads form bytes (Err fault) = Refuses form bytes fault
+abbrev pub ReadsForm : Form → List ℕ → Result Module LoadFault → Type 0
+ReadsForm form bytes (Ok m) = Spells form bytes m
+ReadsForm form bytes (Err fault) = Refuses form bytes fault
 
 abbrev pub refusal_words : Refusal → List ℕ
 refusal_words (Invalid part) = part_words part

@@ -4,7 +4,7 @@ ghost use Rattle.std.specs.Prelude.{◌≡◌, IfErr, Some, length};
 ghost use Rattle.ms_outside.specs.Shelf.{SameCounts};
 ghost use Rattle.ms_run.specs.Answers.{Assembles, Disassembles, OnFile, writes};
 ghost use Rattle.ms_run.specs.Lines.{written_line};
-ghost use Rattle.ms_run.specs.Loading.{Binary, IsOfReading, Reads};
+ghost use Rattle.ms_run.specs.Loading.{Binary, IsOfReading, ReadsForm};
 ghost use Rattle.ms_run.specs.Reporting.{Delivers, Did, IsFound, Makes};
 ghost use Rattle.ms_run.specs.declared.status.Status.{Status};
 ghost use Rattle.ms_run.specs.Observed.{reported, shelved};
@@ -97,7 +97,7 @@ pub fn asm_file<F: Shelf, I: Source, O: Sink, R: Sink>(
 
 /// Reads a module, and gives back the memory of the bytes that spelled it.
 fn take_binary(alloc: Global, bytes: Vec<u8>) -> Result<Module, LoadFault>
-    ensures reads { Reads Binary bytes.items result }
+    ensures reads { ReadsForm Binary bytes.items result }
     ensures reading { IfErr result IsOfReading }
 {
     read_binary(alloc, bytes.as_slice())

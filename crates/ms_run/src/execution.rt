@@ -2,7 +2,7 @@
 
 ghost use Rattle.std.specs.Prelude.{◌≡◌, ℕ, ◌+◌, ◌<◌, ◌≤◌, ◌^◌, ◌++◌, List, IfOk, length, map, string_bytes};
 ghost use Rattle.ms_machine.specs.Crews.{results, run_of};
-ghost use Rattle.ms_machine.specs.Holding.{StoreFits};
+ghost use Rattle.ms_machine.specs.refinement.Holding.{StoreFits};
 ghost use Rattle.ms_machine.specs.Linked.{StartsTyped};
 ghost use Rattle.ms_machine.specs.Typing.{StoreTyped, outline_of};
 ghost use Rattle.ms_rules.specs.Modules.{AreDistinct};
@@ -13,8 +13,8 @@ ghost use Rattle.ms_run.specs.Observed.{flowed, reported, shelved};
 ghost use Rattle.ms_run.specs.Reporting.{Delivers};
 ghost use Rattle.ms_run.specs.Telling.{dumped, traced};
 ghost use Rattle.ms_outside.specs.Shelf.{SameCounts};
-ghost use Rattle.ms_tasks.specs.Ready.{IsReady};
-ghost use Rattle.ms_tasks.specs.Schedules.{HasTurns, entries_of};
+ghost use Rattle.ms_tasks.specs.refinement.Ready.{IsReady};
+ghost use Rattle.ms_tasks.specs.refinement.Schedules.{HasTurns, entries_of};
 
 use crate::dump::dump_all;
 use crate::lines::{budget_line, link_line, result_line, task_line, trap_line};

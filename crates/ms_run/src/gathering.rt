@@ -1,7 +1,7 @@
 //! Reading the files of a job: its modules, and its schedule.
 
 ghost use Rattle.std.specs.Prelude.{◌≡◌, ◌<◌, IfErr, IfOk, length, string_bytes};
-ghost use Rattle.ms_tasks.specs.Schedules.{HasTurns, entries_of};
+ghost use Rattle.ms_tasks.specs.refinement.Schedules.{HasTurns, entries_of};
 ghost use Rattle.ms_run.specs.Answers.{HasModule, Unloaded};
 ghost use Rattle.ms_run.specs.Jobs.{AllLoaded, FirstUnloaded, HasEntries, HasNumbers, Unnumbered, Unscheduled, what_of};
 ghost use Rattle.ms_run.specs.Observed.{reported, shelved};
@@ -20,7 +20,7 @@ use ms_valid::Valid;
 use std::alloc::{AllocError, Global};
 
 /// How the report tells of a module that is refused.
-#[derive(Clone, Copy, Debug, PartialEq, Eq)]
+#[derive(Clone, Copy, PartialEq, Eq)]
 pub enum Naming {
     /// There is no other one.
     Only,

@@ -26,5 +26,5 @@ pub use gathering::Naming;
 pub use judging::judge;
 pub use loading::{LoadFault, load_module};
 pub use report::answer;
-pub use running::{exec, run, run_job};
+pub use running::{exec, run_job, run_parsed};
 pub use status::Status;

@@ -7,7 +7,7 @@ ghost use Rattle.ms_rules.specs.Modules.{WellTyped};
 ghost use Rattle.ms_run.specs.Answers.{HasModule, Unloaded};
 ghost use Rattle.ms_run.specs.Observed.{reported, shelved};
 ghost use Rattle.ms_run.specs.Reporting.{Holds, IsFound, IsUntouched, Tells};
-ghost use Rattle.ms_run.specs.Loading.{Binary, IsOfReading, Reads, Refuses, Spells, Text, form_of, text_ending};
+ghost use Rattle.ms_run.specs.Loading.{Binary, IsOfReading, ReadsForm, Refuses, Spells, Text, form_of, text_ending};
 ghost use Rattle.ms_run.specs.declared.loading.LoadFault.TheVariants.{Memory};
 
 use crate::fetch::fetch;
@@ -47,7 +47,7 @@ fn is_text(name: &str) -> bool
 
 /// Reads the module that the bytes of a binary file spell.
 pub fn read_binary(alloc: Global, bytes: &[u8]) -> Result<Module, LoadFault>
-    ensures reads { Reads Binary bytes.now result }
+    ensures reads { ReadsForm Binary bytes.now result }
     ensures reading { IfErr result IsOfReading }
 {
     match ms_bin_read::read(alloc, bytes) {
@@ -59,7 +59,7 @@ pub fn read_binary(alloc: Global, bytes: &[u8]) -> Result<Module, LoadFault>
 
 /// Reads the module that the bytes of a text file spell.
 pub fn read_text(alloc: Global, bytes: &[u8]) -> Result<Module, LoadFault>
-    ensures reads { Reads Text bytes.now result }
+    ensures reads { ReadsForm Text bytes.now result }
     ensures reading { IfErr result IsOfReading }
 {
     match ms_text_read::read(alloc, bytes) {
@@ -71,7 +71,7 @@ pub fn read_text(alloc: Global, bytes: &[u8]) -> Result<Module, LoadFault>
 
 /// Reads the module of a file of this name.
 fn read_module(alloc: Global, name: &str, bytes: &[u8]) -> Result<Module, LoadFault>
-    ensures { Reads (form_of name.now) bytes.now result }
+    ensures { ReadsForm (form_of name.now) bytes.now result }
 {
     if is_text(name) {
         read_text(alloc, bytes)

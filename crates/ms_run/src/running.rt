@@ -1,8 +1,8 @@
 //! `exec` and `run`: the files of a job are read, its modules are linked, and its tasks are run.
 
 ghost use Rattle.std.specs.Prelude.{◌≡◌, ◌≤◌, ◌<◌, ◌^◌, IfOk};
-ghost use Rattle.ms_words.specs.Commands as options;
-ghost use Rattle.ms_job.specs.Bounds.{IsBounded};
+ghost use Rattle.ms_command_line.specs.Commands as options;
+ghost use Rattle.ms_job.specs.refinement.Bounds.{IsBounded};
 ghost use Rattle.ms_machine.specs.Crews.{Input};
 ghost use Rattle.ms_machine.specs.Running.{MayGive};
 ghost use Rattle.ms_run.specs.Flows.{DidRun, Flows};
@@ -33,7 +33,7 @@ use std::alloc::{AllocError, Global};
 /// at most 10^12 and at most 2^24 bytes of segment memory. `naming` says how the report tells of a module that is refused. What
 /// becomes of `input` and `out` is as `exec` says.
 #[allow(clippy::too_many_arguments)]
-pub fn run_job<G: Gaps, T: Tagged, F: Shelf, I: Source, O: Sink, R: Sink>(
+pub fn run_parsed<G: Gaps, T: Tagged, F: Shelf, I: Source, O: Sink, R: Sink>(
     alloc: Global,
     naming: Naming,
     job: Job,
@@ -122,7 +122,7 @@ pub fn exec<F: Shelf, I: Source, O: Sink, R: Sink>(
         result }
 {
     match exec_job(alloc, file, budget, memory) {
-        Ok(job) => run_job::<TreeGaps, Granules, F, I, O, R>(
+        Ok(job) => run_parsed::<TreeGaps, Granules, F, I, O, R>(
             alloc,
             Naming::Only,
             job,
@@ -140,33 +140,33 @@ pub fn exec<F: Shelf, I: Source, O: Sink, R: Sink>(
 /// each task.
 ///
 /// What becomes of `input` and `out` is as `exec` says.
-pub fn run<F: Shelf, I: Source, O: Sink, R: Sink>(
+pub fn run_job<F: Shelf, I: Source, O: Sink, R: Sink>(
     alloc: Global,
-    file: &str,
+    job: &str,
     shelf: &mut F,
     input: &mut I,
     out: &mut O,
     report: &mut R,
 ) -> Status
     ensures { (given : Input) × MayGive (I.left input.old) given × DidRun
-        (RunsFile (IsFound (shelved F.files F.read_faults F.write_faults shelf.old shelf.new)) given file.now) given
+        (RunsFile (IsFound (shelved F.files F.read_faults F.write_faults shelf.old shelf.new)) given job.now) given
         (shelved F.files F.read_faults F.write_faults shelf.old shelf.new)
         (reported R.held R.faults report.old report.new)
         (flowed I.left I.faults O.held O.faults input.old input.new out.old out.new)
         result
-        × Flows given (RunOfFile (Holds (F.files shelf.old)) given file.now)
+        × Flows given (RunOfFile (Holds (F.files shelf.old)) given job.now)
         (flowed I.left I.faults O.held O.faults input.old input.new out.old out.new)
         result }
 {
-    let bytes = match fetch(alloc, file, shelf, report) {
+    let bytes = match fetch(alloc, job, shelf, report) {
         Ok(bytes) => bytes,
         Err(status) => return status,
     };
     match parse(alloc, bytes.as_slice()) {
-        Ok(job) => run_job::<TreeGaps, Granules, F, I, O, R>(
+        Ok(parsed) => run_parsed::<TreeGaps, Granules, F, I, O, R>(
             alloc,
             Naming::Numbered,
-            job,
+            parsed,
             shelf,
             input,
             out,

@@ -3,7 +3,7 @@
 ghost use Rattle.std.specs.Prelude.{◌≡◌};
 
 /// A status. Its number is the exit status of the program.
-#[derive(Clone, Copy, Debug, PartialEq, Eq)]
+#[derive(Clone, Copy, PartialEq, Eq)]
 pub enum Status {
     /// All was done.
     Done = 0,
@@ -26,7 +26,7 @@ pub enum Status {
 }
 
 impl Status {
-    ghost use Rattle.ms_run.specs.Statuses.{code_of};
+    ghost use Rattle.ms_run.specs.refinement.Statuses.{code_of};
 
     /// The exit status of the program.
     pub fn code(self) -> u8

@@ -3,7 +3,7 @@
 use ms_module::Name;
 
 /// What a job asks for.
-#[derive(Debug, Drop)]
+#[derive(Drop)]
 pub struct Telling {
     /// The file that the events are written to.
     pub trace: Option<Name>,

@@ -15,7 +15,7 @@ use Rattle.ms_live.specs.Place.{IsAligned, IsFree, IsPlace}
 use Rattle.ms_live.proofs.Found.{is_some-find}
 use Rattle.ms_live.proofs.Places.{free-from_None, none_at_all, passes, taken}
 use Rattle.ms_tagged.specs.Bytes.{Byte, Data, IsHandleAt, Piece, cleared, data_of, pieces, range, torn, whole}
-use Rattle.ms_tagged.specs.Tags.{pieces_from}
+use Rattle.ms_tagged.specs.refinement.Tags.{pieces_from}
 use Rattle.ms_tagged.proofs.Handles.{IsHandleAt-unique}
 use Rattle.ms_tagged.proofs.Ranges.{length-range}
 use Rattle.ms_segment.specs.declared.trap.SegTrap.{SegTrap}

@@ -1,4 +1,4 @@
--- What each call gives and leaves, as functions: of a sound memory, and handles that fit, the relations of `Memory.antt`
+-- What each call gives and leaves (MSWasm's rules for segments and handles), as functions: of a sound memory, and handles that fit, the relations of `Memory.antt`
 -- hold of these alone.
 use Rattle.std.specs.Prelude.{◌≡◌, ◌==◌, ℕ, zero, suc, ◌+◌, Bool, true, false, not, ◌&&◌, ◌||◌, List, [], ◌∷◌, length, Option, Some, None, Result, Ok, Err, if◌then◌else◌, nat_le, nat_lt, pos}
 use Rattle.std.specs.List.{list_any}

@@ -1,4 +1,5 @@
--- The segment memory, on plain lists.
+-- The segment memory, on plain lists: after the rules of MSWasm (POPL 2023) for allocating and freeing segments and for loads and
+-- stores through handles, with its tags, which tell bytes of data from those of handles.
 use Rattle.std.specs.Prelude.{◌≡◌, ◌==◌, ℕ, ◌+◌, ◌%◌, ◌<◌, ◌≤◌, Bool, true, false, ◌&&◌, List, [], ◌∷◌, ◌++◌, length, replicate, All, AllPairs, Contains, find, min, Option, Some, None, Result, Ok, Err, if◌then◌else◌, nat_le, ℤ, pos, negsuc, ⊤}
 use Rattle.std.specs.Ordering.{int_eq}
 use Rattle.ms_event.specs.declared.event.Event.{Event}

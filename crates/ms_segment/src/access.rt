@@ -11,7 +11,7 @@ use ms_handle::Kind;
 use ms_live::Live;
 
 /// Where an access goes: its address, and the shade of the handle that it goes through.
-#[derive(Clone, Copy, Debug, PartialEq, Eq)]
+#[derive(Clone, Copy, PartialEq, Eq)]
 pub(crate) struct Access {
     /// The address of the first byte.
     pub(crate) address: u32,

@@ -2,7 +2,7 @@
 
 /// Why an access to the segment memory, or the end of a segment, is a trap. The first check that fails decides, in this
 /// order; `Whole` and `Kind` are of `free` alone, `Bounds` of accesses alone.
-#[derive(Clone, Copy, Debug, PartialEq, Eq)]
+#[derive(Clone, Copy, PartialEq, Eq)]
 pub enum SegTrap {
     /// The handle is null.
     Null,

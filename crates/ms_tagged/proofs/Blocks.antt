@@ -6,7 +6,7 @@ use Rattle.std.proofs.lemmas.Simd.{take_more_put_chunk}
 use Rattle.std.specs.List.{list_any}
 use Rattle.std.specs.Simd.{first_chunks}
 use lib.Lanes.{mask_l, put_chunk}
-use Rattle.ms_tagged.specs.Lanes.{has_piece}
+use Rattle.ms_tagged.specs.refinement.Lanes.{has_piece}
 
 odd_not_zero : (n : ℕ) → not (eqb (1 + 2 * n) 0) ≡ true
 odd_not_zero n = grind (arith, nat_tests)

@@ -2,7 +2,7 @@
 use Rattle.std.proofs.Common.{◌≡◌, ℕ, ◌+◌, ◌-◌, ◌<◌, ◌≤◌, zero, suc, List, ◌∷◌, ◌++◌, get_or, length, take, drop, refl, ap, sym, ◌∙◌, zero-add, add-zero, arith}
 use Rattle.std.proofs.lemmas.List.{drop_at, take_at}
 use Rattle.ms_tagged.specs.Bytes.{Byte, overwritten, range}
-use Rattle.ms_tagged.specs.Granules.{bytes_from}
+use Rattle.ms_tagged.specs.refinement.Granules.{bytes_from}
 
 pub length-bytes_from : (byte : ℕ → Byte) (i n : ℕ) → length (bytes_from byte i n) ≡ n
 length-bytes_from byte i zero = refl

@@ -5,7 +5,7 @@ use Rattle.std.proofs.Math.Seq.{drop-append-add, take-append-add}
 use Rattle.std.proofs.lemmas.Bool.{cases_lt}
 use Rattle.ms_tagged.specs.Bytes.{Byte, Data, IsHandleAt, Piece, number_at, number_with, overwritten, range}
 use Rattle.ms_handle.specs.declared.handle.Handle.TheVariants.{Broken}
-use Rattle.ms_tagged.specs.Tags.{byte_of, bytes_of, filled}
+use Rattle.ms_tagged.specs.refinement.Tags.{byte_of, bytes_of, filled}
 use Rattle.ms_tagged.specs.declared.tag.Tag.{Tag}
 use Rattle.ms_tagged.specs.declared.tag.Tag.TheVariants as tagged
 use Rattle.ms_tagged.proofs.Handles.{torn-with_data}

@@ -8,7 +8,7 @@ use Rattle.std.proofs.lemmas.Nat.{and_mask, or_shifted, pow_pos, shr-shr, shr_sp
 use Rattle.std.proofs.Math.Nat.{pow-le-pow_right}
 use Rattle.std.specs.Int.Bits.{bit_and, bit_or}
 use Rattle.std.proofs.lemmas.Nat.Bits.{bit_at_above, bit_at_cat_low, bit_at_cat_high, bit_at-zero, same_from_bits_below}
-use Rattle.ms_tagged.specs.Granules.{Clears, Forgets, HoldData, piece_bit}
+use Rattle.ms_tagged.specs.refinement.Granules.{Clears, Forgets, HoldData, piece_bit}
 
 -- ---- one mask
 

@@ -7,7 +7,7 @@ use Rattle.std.proofs.lemmas.Nat.Bits.{bit_at-lt, bit_at-zero, bit_at_ones, same
 use Rattle.ms_handle.specs.declared.handle.Handle.{Handle}
 use Rattle.ms_handle.specs.declared.handle.Handle.TheVariants.{Broken}
 use Rattle.ms_tagged.specs.Bytes.{Byte, Data, Piece, IsHandleAt, IsWidth, whole, torn, number_at, number_with, range, shown_at, zeros}
-use Rattle.ms_tagged.specs.Granules.{byte_at, byte_by, bytes_from, data_bytes, number_of, piece_bit, unset}
+use Rattle.ms_tagged.specs.refinement.Granules.{byte_at, byte_by, bytes_from, data_bytes, number_of, piece_bit, unset}
 use Rattle.ms_tagged.proofs.Handles.{torn-with_data}
 use Rattle.ms_tagged.proofs.Numbers.{number_at-none}
 use Rattle.ms_tagged.specs.declared.granules.StoredHandle.{StoredHandle}

@@ -6,7 +6,7 @@ use Rattle.std.proofs.lemmas.List.{places, drop-drop, drop_at, get_or-set_same, 
 use Rattle.std.proofs.lemmas.Nat.Bits.{bit_at_ones}
 use Rattle.ms_handle.specs.declared.handle.Handle.{Handle}
 use Rattle.ms_tagged.specs.Bytes.{Byte, Data, Piece, overwritten, pieces}
-use Rattle.ms_tagged.specs.Granules.{Forgets, byte_at, bytes_from, data_bytes, unset}
+use Rattle.ms_tagged.specs.refinement.Granules.{Forgets, byte_at, bytes_from, data_bytes, unset}
 use Rattle.ms_tagged.specs.declared.granules.StoredHandle.{StoredHandle}
 use Rattle.ms_tagged.proofs.BytesFrom.{length-bytes_from, bytes_from-same, bytes_from-overwritten}
 use Rattle.ms_tagged.proofs.GranuleBytes.{byte_at-same, bytes_from-data}

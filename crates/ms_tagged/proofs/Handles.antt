@@ -4,7 +4,7 @@ use Rattle.ms_handle.specs.declared.handle.Handle.{Handle}
 use Rattle.ms_handle.specs.declared.handle.Handle.TheVariants.{Broken}
 use Rattle.ms_tagged.specs.Bytes.{Byte, Data, Piece, pieces, zeros, IsHandleAt, whole, cleared, torn, range, overwritten}
 use Rattle.ms_tagged.proofs.Ranges.{range-overwritten_same}
-use Rattle.ms_tagged.specs.Tags.{pieces_from}
+use Rattle.ms_tagged.specs.refinement.Tags.{pieces_from}
 
 -- one more piece at the end
 pub pieces_from-more : (handle : Handle) (i n : ℕ) → pieces_from handle i (n + 1) ≡ pieces_from handle i n ++ Piece handle (i + n) ∷ []

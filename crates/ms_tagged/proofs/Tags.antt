@@ -7,7 +7,7 @@ use Rattle.std.specs.List.{list_all}
 use Rattle.std.proofs.lemmas.Bool.{eqb-true}
 use Rattle.ms_handle.specs.declared.handle.Handle.{Handle}
 use Rattle.ms_tagged.specs.Bytes.{Byte, Data, Piece, data_of, number_at, range, overwritten}
-use Rattle.ms_tagged.specs.Tags.{byte_of, bytes_of, pieces_from}
+use Rattle.ms_tagged.specs.refinement.Tags.{byte_of, bytes_of, pieces_from}
 use Rattle.ms_tagged.specs.declared.tag.Tag.{Tag}
 use Rattle.ms_tagged.specs.declared.tag.Tag.TheVariants as tagged
 use Rattle.ms_tagged.proofs.Numbers.{number_at-none}

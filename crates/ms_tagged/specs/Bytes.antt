@@ -1,4 +1,4 @@
--- Bytes of the segment memory, as a plain list.
+-- Bytes of the segment memory, as a plain list, each a datum or a piece of a handle: the tags of MSWasm (POPL 2023).
 use Rattle.std.specs.Prelude.{◌≡◌, ◌≢◌, ℕ, zero, suc, ◌+◌, ◌*◌, ◌/◌, ◌%◌, ◌⊎◌, List, [], ◌∷◌, ◌++◌, length, take, drop, map, replicate, Option, Some, None}
 use Rattle.ms_handle.specs.declared.handle.Handle.{Handle}
 use Rattle.ms_handle.specs.declared.handle.Handle.TheVariants.{Null, Broken}

@@ -26,7 +26,7 @@ pub struct ByteTags {
 impl Model for ByteTags {
     ghost use Rattle.std.specs.Prelude.{List};
     ghost use Rattle.ms_tagged.specs.Bytes.{Byte};
-    ghost use Rattle.ms_tagged.specs.Tags.{bytes_of, filled};
+    ghost use Rattle.ms_tagged.specs.refinement.Tags.{bytes_of, filled};
 
     ghost Value = { List Byte };
 

@@ -2,7 +2,7 @@
 
 ghost use Rattle.std.specs.Prelude.{◌≡◌, ◌≤◌, ◌<◌, ◌+◌, ◌-◌, ◌*◌, ◌/◌, ◌^◌, ◌++◌, ℕ, IfSome, length, replicate, vec_len, vec_capacity};
 ghost use Rattle.ms_tagged.specs.Bytes.{number_at, range, shown_at};
-ghost use Rattle.ms_tagged.specs.Granules.{byte_at};
+ghost use Rattle.ms_tagged.specs.refinement.Granules.{byte_at};
 
 use crate::pieces::{GRANULE, forget, forget_few, hold_data, is_piece};
 use crate::tagged::Tagged;
@@ -46,7 +46,7 @@ pub struct Granules {
 impl Model for Granules {
     ghost use Rattle.std.specs.Prelude.{List};
     ghost use Rattle.ms_tagged.specs.Bytes.{Byte};
-    ghost use Rattle.ms_tagged.specs.Granules.{byte_at, bytes_from};
+    ghost use Rattle.ms_tagged.specs.refinement.Granules.{byte_at, bytes_from};
 
     ghost Value = { List Byte };
 

@@ -1,7 +1,7 @@
 //! Masks of granules, eight at a time.
 ghost use Rattle.std.specs.Prelude.{◌≡◌, ◌-◌, ◌≤◌, ◌++◌, length, take, drop, replicate};
 ghost use Rattle.std.specs.List.{list_any};
-ghost use Rattle.ms_tagged.specs.Lanes.{has_piece};
+ghost use Rattle.ms_tagged.specs.refinement.Lanes.{has_piece};
 
 use std::simd::prelude::*;
 

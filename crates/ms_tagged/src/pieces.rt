@@ -1,7 +1,7 @@
 //! The masks of granules: which bytes are pieces of a handle.
 
 ghost use Rattle.std.specs.Prelude.{◌≡◌, ◌↔◌, ◌≤◌, ◌<◌, ◌+◌, ◌*◌, ◌/◌, ◌%◌, ◌^◌, IsTrue, length};
-ghost use Rattle.ms_tagged.specs.Granules.{Clears, Forgets, HoldData, piece_bit};
+ghost use Rattle.ms_tagged.specs.refinement.Granules.{Clears, Forgets, HoldData, piece_bit};
 
 use crate::lanes::wipe;
 

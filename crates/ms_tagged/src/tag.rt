@@ -2,7 +2,7 @@
 
 ghost use Rattle.std.specs.Prelude.{◌≡◌, ◌<◌, ◌≤◌, ◌^◌, ◌↔◌, IfSome, IsTrue, length, replicate};
 ghost use Rattle.ms_tagged.specs.Bytes.{Data, IsHandleAt, data_of, number_at, shown_at};
-ghost use Rattle.ms_tagged.specs.Tags.{bytes_of, filled, pieces_from};
+ghost use Rattle.ms_tagged.specs.refinement.Tags.{bytes_of, filled, pieces_from};
 
 use ms_handle::Handle;
 
@@ -10,7 +10,7 @@ use ms_handle::Handle;
 pub(crate) const PIECES: usize = 16;
 
 /// A byte: data, or the piece of a handle with this number.
-#[derive(Clone, Copy, Debug, PartialEq, Eq)]
+#[derive(Clone, Copy, PartialEq, Eq)]
 pub(crate) enum Tag {
     /// A data byte.
     Data(u8),

@@ -95,9 +95,8 @@ fn compare<T: Tagged>(rt: &impl Abort, memory: &T, capacity: u32, want: &Want, n
         }
         Want::At(address, handle) => {
             assert!(rt; address % 16 == 0 && address <= capacity && 16 <= capacity - address);
-            assert_eq!(rt;
-                memory.get_handle(address),
-                handle,
+            assert!(rt;
+                memory.get_handle(address) == handle,
                 "{name}: handle at {address}"
             );
         }

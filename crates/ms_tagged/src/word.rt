@@ -2,7 +2,7 @@
 
 ghost use Rattle.std.specs.Prelude.{◌≡◌, ◌↔◌, ◌<◌, ◌^◌, IsTrue, length, map, replicate};
 ghost use Rattle.ms_tagged.specs.Bytes.{IsWidth, data_of};
-ghost use Rattle.ms_tagged.specs.Granules.{data_bytes, number_of};
+ghost use Rattle.ms_tagged.specs.refinement.Granules.{data_bytes, number_of};
 
 /// The number that the bytes are, the lowest one first.
 #[inline(always)]

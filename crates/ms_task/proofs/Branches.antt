@@ -6,10 +6,10 @@ use Rattle.ms_linear.specs.declared.value.Value.TheVariants.{I32}
 use Rattle.ms_task.specs.declared.func.FuncInst.{FuncInst}
 use Rattle.ms_task.specs.declared.marks.Mark.{Mark}
 use Rattle.ms_task.specs.declared.marks.Mark.TheVariants as marks
-use Rattle.ms_task.specs.Marks.{labels_in}
+use Rattle.ms_task.specs.refinement.Marks.{labels_in}
 use Rattle.ms_task.specs.Control.{To, Stuck, again, br_if_on, br_table_on, branch, keep, kept, return_on}
 use Rattle.ms_task.specs.Thread.{Frame, Item, dos, sequence, thread}
-use Rattle.ms_task.specs.View.{again_at, items_of, resume, rest_at}
+use Rattle.ms_task.specs.refinement.View.{again_at, items_of, resume, rest_at}
 use Rattle.ms_task.proofs.Items.{branch_past, return_past, again-at}
 
 pub branch_within : (l : ℕ) (fr : Frame) (vs : List Value) (funcs : List FuncInst) (f : ℕ) (below : List Value) (ms : List Mark) → branch l fr vs (items_of funcs f below ms) ≢ Stuck → (l ≤ labels_in ms) × (l < length ms)

@@ -3,19 +3,19 @@ use Rattle.std.proofs.Common.{◌≡◌, ◌≢◌, ℕ, zero, suc, ◌+◌, ◌
 use Rattle.ms_types.specs.declared.types.ValType.{ValType}
 use Rattle.ms_linear.specs.declared.value.Value.{Value}
 use Rattle.ms_linear.specs.Values.{default_of}
-use Rattle.ms_module.specs.Locals.{Rise, types_of}
+use Rattle.ms_module.specs.refinement.Locals.{Rise, types_of}
 use Rattle.ms_module.specs.declared.locals.Run.{Run}
 use Rattle.ms_task.specs.declared.func.FuncInst.{FuncInst}
 use Rattle.ms_task.specs.declared.marks.Mark.{Mark}
 use Rattle.ms_task.specs.declared.marks.Mark.TheVariants as marks
-use Rattle.ms_task.specs.Marks.{calls_in}
+use Rattle.ms_task.specs.refinement.Marks.{calls_in}
 use Rattle.std.proofs.lemmas.Bool.{lt-ltb, le-ltb, le-leb, cases_lt, lt-leb}
 use Rattle.std.proofs.lemmas.Option.{slice_get_past, get_or_from_slice_get}
 use Rattle.std.proofs.lemmas.List.{drop_all, length-take-le, get_or-take, reverse-append}
 use Rattle.std.proofs.Math.Seq.{take-append_seam, drop-append_seam, drop-cons}
 use Rattle.ms_task.specs.Control.{To, Stuck, TooDeep, call_on, deepest, enter, entered, started}
 use Rattle.ms_task.specs.Thread.{Activation, Frame, Thread, depth_of, dos, result_of, sequence, thread}
-use Rattle.ms_task.specs.View.{items_of, rest_at}
+use Rattle.ms_task.specs.refinement.View.{items_of, rest_at}
 use Rattle.ms_task.proofs.Items.{depth_past}
 use Rattle.ms_task.proofs.Places.{no_function}
 

@@ -2,7 +2,7 @@
 use Rattle.std.proofs.Common.{◌≡◌, ℕ, zero, suc, ◌+◌, ◌≤◌, List, [], ◌∷◌, length, drop, refl, arith}
 use Rattle.ms_task.specs.declared.marks.Mark.{Mark}
 use Rattle.ms_task.specs.declared.marks.Mark.TheVariants.{Label, Activation}
-use Rattle.ms_task.specs.Marks.{labels_in, calls_in, IsFloored}
+use Rattle.ms_task.specs.refinement.Marks.{labels_in, calls_in, IsFloored}
 
 pub labels_and_floor : (ms : List Mark) (floor : ℕ) → IsFloored ms floor → labels_in ms + floor ≡ length ms
 labels_and_floor [] floor h = omega (arith, h)

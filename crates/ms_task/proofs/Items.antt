@@ -8,7 +8,7 @@ use Rattle.ms_task.specs.declared.func.FuncInst.{FuncInst}
 use Rattle.ms_task.specs.declared.task.Task.{Task}
 use Rattle.ms_task.specs.Control.{again, block_on, branch, loop_on, return_on, exit_ended}
 use Rattle.ms_task.specs.Thread.{Activation, Begins, Do, Frame, Item, Label, depth_of, dos, sequence, thread}
-use Rattle.ms_task.specs.View.{again_at, at_next, before, outer_of, resume, exit_one}
+use Rattle.ms_task.specs.refinement.View.{again_at, at_next, before, outer_of, resume, exit_one}
 
 -- ---- instructions are passed over
 

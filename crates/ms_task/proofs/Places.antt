@@ -10,7 +10,7 @@ use Rattle.ms_task.specs.declared.func.FuncInst.{FuncInst}
 use Rattle.ms_task.specs.declared.marks.Mark.{Mark}
 use Rattle.ms_task.specs.declared.marks.Mark.TheVariants as marks
 use Rattle.ms_task.specs.Thread.{Begins, Frame, Item, body_in, dos, sequence, thread, with_first}
-use Rattle.ms_task.specs.View.{again_at, items_of, rest_at}
+use Rattle.ms_task.specs.refinement.View.{again_at, items_of, rest_at}
 use Rattle.ms_task.proofs.Items.{begins_past}
 
 pub sequence_is : (funcs : List FuncInst) (f s : ℕ) (g : FuncInst) → slice_get funcs f ≡ Some g → sequence funcs f s ≡ sequence_at g.body s

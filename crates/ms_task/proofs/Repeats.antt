@@ -9,7 +9,7 @@ use Rattle.ms_task.specs.declared.marks.Mark.{Mark}
 use Rattle.ms_task.specs.declared.marks.Mark.TheVariants as marks
 use Rattle.ms_task.specs.Control.{Repeats, Stuck, To, again, branch, kept, lowest}
 use Rattle.ms_task.specs.Thread.{Frame, Label, dos, sequence, thread}
-use Rattle.ms_task.specs.View.{again_at, items_of, rest_at}
+use Rattle.ms_task.specs.refinement.View.{again_at, items_of, rest_at}
 use Rattle.ms_task.proofs.Branches.{branch_mark, label_keeps}
 use Rattle.ms_task.proofs.Kept.{lowest_past, lowest_within}
 

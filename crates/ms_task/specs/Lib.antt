@@ -1,4 +1,3 @@
 pub mod Thread
 pub mod Control
-pub mod Marks
-pub mod View
+pub mod refinement

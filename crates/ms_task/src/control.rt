@@ -4,7 +4,7 @@ ghost use Rattle.std.specs.Prelude.{◌≡◌, ◌≢◌, ℕ, ◌≤◌, List, 
 ghost use Rattle.ms_linear.specs.Values.{default_of};
 ghost use Rattle.ms_task.specs.Control.{To, Stuck, TooDeep, block_on, br_if_on, br_table_on, branch, call_on, if_on, keep, return_on};
 ghost use Rattle.ms_task.specs.Thread.{sequence};
-ghost use Rattle.ms_task.specs.View.{again_at, at_next, frame_of, outer_of, resume, thread_of};
+ghost use Rattle.ms_task.specs.refinement.View.{again_at, at_next, frame_of, outer_of, resume, thread_of};
 ghost use Rattle.ms_task.specs.declared.func.FuncInst.{FuncInst};
 ghost use Rattle.ms_task.specs.declared.control.CallFault.{CallFault};
 
@@ -21,7 +21,7 @@ use std::alloc::AllocError;
 pub(crate) const DEEPEST: usize = 4096;
 
 /// Why a function was not called.
-#[derive(Clone, Copy, Debug, PartialEq, Eq)]
+#[derive(Clone, Copy, PartialEq, Eq)]
 pub enum CallFault {
     /// 4,096 calls are open.
     TooDeep,

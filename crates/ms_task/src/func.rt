@@ -8,7 +8,7 @@ use ms_module::{Code, Locals};
 use ms_types::{SharedType, ValType};
 
 /// A function of the store (WebAssembly 1.0, 4.2.6).
-#[derive(Debug, Drop)]
+#[derive(Drop)]
 pub struct FuncInst {
     /// The number of its instance.
     pub instance: u32,

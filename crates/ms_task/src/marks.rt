@@ -3,14 +3,14 @@
 // The marks of open blocks and calls.
 
 ghost use Rattle.std.specs.Prelude.{◌≡◌, ◌≢◌, ℕ, ◌+◌, ◌-◌, ◌<◌, ◌≤◌, List, [], ◌∷◌, length, drop, take, slice_get, OnOk, OnErr, Option, Some, IsTrue, ◌↔◌};
-ghost use Rattle.ms_task.specs.Marks.{labels_in, calls_in};
+ghost use Rattle.ms_task.specs.refinement.Marks.{labels_in, calls_in};
 
 use ms_types::{Stack, ValType};
 use std::alloc::{AllocError, Global};
 use std::marker::Model;
 
 /// The end of an open block or call: what a branch keeps, the number of values below, and where the work goes on.
-#[derive(Clone, Copy, Debug)]
+#[derive(Clone, Copy)]
 pub enum Mark {
     Label {
         keeps: Option<ValType>,
@@ -44,7 +44,7 @@ impl Model for Marks {
 
     ghost Value = { List M };
 
-    ghost use Rattle.ms_task.specs.Marks.{IsCounted};
+    ghost use Rattle.ms_task.specs.refinement.Marks.{IsCounted};
 
     ghost view = { λ m. m.items };
 

@@ -4,7 +4,7 @@ ghost use Rattle.std.specs.Prelude.{◌≡◌, ◌≢◌, ◌*◌, ◌^◌, ◌<
 ghost use Rattle.ms_module.specs.declared.instr.Instr.TheVariants as instr;
 ghost use Rattle.ms_task.specs.Control.{Repeats, Stuck, br_if_on, branch};
 ghost use Rattle.ms_task.specs.Thread.{sequence};
-ghost use Rattle.ms_task.specs.View.{IsLoop, again_at, at_next, frame_of, outer_of, thread_of};
+ghost use Rattle.ms_task.specs.refinement.View.{IsLoop, again_at, at_next, frame_of, outer_of, thread_of};
 ghost use Rattle.ms_types.specs.declared.types.ValType.{ValType};
 
 use crate::func::FuncInst;

@@ -3,7 +3,7 @@
 ghost use Rattle.std.specs.Prelude.{◌≡◌, ◌≢◌, ◌↔◌, ℕ, ◌*◌, ◌^◌, ◌<◌, List, [], ◌∷◌, Some, IfOk, IfSome, IsTrue, MatchOption, drop, length, nat_lt, slice_get};
 ghost use Rattle.ms_task.specs.Control.{deepest, exited, started};
 ghost use Rattle.ms_task.specs.Thread.{Begins, depth_of, sequence, with_first};
-ghost use Rattle.ms_task.specs.View.{IsAt, at_next, before, frame_of, items_of, exit_one, thread_of};
+ghost use Rattle.ms_task.specs.refinement.View.{IsAt, at_next, before, frame_of, items_of, exit_one, thread_of};
 ghost use Rattle.ms_task.specs.declared.func.FuncInst.{FuncInst};
 
 use crate::control::{DEEPEST, add_locals};

@@ -7,18 +7,18 @@ use Rattle.ms_handle.specs.declared.handle.Handle.{Handle}
 use Rattle.ms_segment.specs.Memory.{IsFit}
 use Rattle.ms_machine.specs.Crews.{Crew, Input, OutOfBudget, Run, Start, ahead, ends, run_entries, with_start}
 use Rattle.ms_machine.specs.Crews as crews
-use Rattle.ms_machine.specs.Holding.{StoreFits, ThreadFits}
+use Rattle.ms_machine.specs.refinement.Holding.{StoreFits, ThreadFits}
 use Rattle.ms_machine.specs.Store.{Store}
 use Rattle.ms_machine.specs.Typing.{Outline, StoreTyped, TaskTyped, outline_of}
 use Rattle.ms_machine.proofs.HeldFits.{thread_fits_grows}
 use Rattle.ms_machine.proofs.Outsides.{Content}
 use Rattle.ms_task.specs.Thread.{Thread}
-use Rattle.ms_task.specs.View.{thread_of}
+use Rattle.ms_task.specs.refinement.View.{thread_of}
 use Rattle.ms_task.specs.declared.task.Task.{Task as CodeTask}
-use Rattle.ms_tasks.specs.Logs.{Log}
-use Rattle.ms_tasks.specs.Parts.{Answers, ComesTo, IsWell}
-use Rattle.ms_tasks.specs.Ready.{IsReady}
-use Rattle.ms_tasks.specs.Rows.{begun_with, threads_in}
+use Rattle.ms_tasks.specs.refinement.Logs.{Log}
+use Rattle.ms_tasks.specs.refinement.Parts.{HaltsBy, ComesTo, IsWell}
+use Rattle.ms_tasks.specs.refinement.Ready.{IsReady}
+use Rattle.ms_tasks.specs.refinement.Rows.{begun_with, threads_in}
 use Rattle.ms_tasks.specs.declared.burst.Halt.{Halt}
 use Rattle.ms_tasks.specs.declared.burst.Halt.TheVariants as answers
 use Rattle.ms_tasks.proofs.Coming.{answers_on, to_as, to_trans}
@@ -105,7 +105,7 @@ chain_ends l l' l'' h h' h'' old log new all ks most left rest s s' t t' ahead0 
     (to_trans l l' l'' h h' h'' old log new all mid (run_entries (drop (left - rest) (drop (most - left) ks)) (begun_with s' (t' ∷ more) tasks)) here second))
 
 stops : (a : Halt) (l l' h h' : Content) (old new : Log) (run ended ended' : Input → Run) (ks : List ℕ) (s' : Store) (t' : Thread) (more tasks : List Thread) (c' : Crew) → a ≢ answers.Ended → (a ≡ answers.Paused → (ks ≡ []) × (t'.work ≢ [])) → (IsWell a → begun_with s' (t' ∷ more) tasks ≡ c')
-    → Answers a run ended (run_entries ks (begun_with s' (t' ∷ more) tasks)) (begun_with s' (t' ∷ more) tasks) l l' h h' old new → Answers a run ended' (ends OutOfBudget c') c' l l' h h' old new
+    → HaltsBy a run ended (run_entries ks (begun_with s' (t' ∷ more) tasks)) (begun_with s' (t' ∷ more) tasks) l l' h h' old new → HaltsBy a run ended' (ends OutOfBudget c') c' l l' h h' old new
 stops answers.Ended l l' h h' old new run ended ended' ks s' t' more tasks c' not paused same is = absurd (not refl)
 stops answers.Paused l l' h h' old new run ended ended' ks s' t' more tasks c' not paused same is =
     let end = begun_with s' (t' ∷ more) tasks in
@@ -124,8 +124,8 @@ stops answers.Memory l l' h h' old new run ended ended' ks s' t' more tasks c' n
 -- Or it stops the run, with those that stand behind it.
 pub chain_stops : (a : Halt) (l l' l'' h h' h'' : Content) (old log new : Log) (all ended : Input → Run) (ks : List ℕ) (most left : ℕ) (s s' : Store) (t t' : Thread) (ahead0 more chain' tasks : List Thread) → length ks ≡ most → left ≤ most → ahead0 ≡ t ∷ more → a ≢ answers.Ended → (a ≡ answers.Paused → t'.work ≢ []) → (IsWell a → ahead (t' ∷ more) ≡ ahead chain')
     → ComesTo l l' h h' old log all (run_entries (drop (most - left) ks) (begun_with s ahead0 tasks)) → (before : Input → Run)
-    → Answers a (run_entries (drop (most - left) ks) (begun_with s (t ∷ more) tasks)) before (run_entries (drop left (drop (most - left) ks)) (begun_with s' (t' ∷ more) tasks)) (begun_with s' (t' ∷ more) tasks) l' l'' h' h'' log new
-    → Answers a all ended (ends OutOfBudget (begun_with s' chain' tasks)) (begun_with s' chain' tasks) l l'' h h'' old new
+    → HaltsBy a (run_entries (drop (most - left) ks) (begun_with s (t ∷ more) tasks)) before (run_entries (drop left (drop (most - left) ks)) (begun_with s' (t' ∷ more) tasks)) (begun_with s' (t' ∷ more) tasks) l' l'' h' h'' log new
+    → HaltsBy a all ended (ends OutOfBudget (begun_with s' chain' tasks)) (begun_with s' chain' tasks) l l'' h h'' old new
 chain_stops a l l' l'' h h' h'' old log new all ended ks most left s s' t t' ahead0 more chain' tasks many within front not paused same first before is =
     let c' = begun_with s' chain' tasks in
     let mid = run_entries (drop (most - left) ks) (begun_with s (t ∷ more) tasks) in

@@ -6,9 +6,9 @@ use Rattle.ms_machine.specs.Running.{IsLeft, MayGive, TellsAlike}
 use Rattle.ms_machine.proofs.Outsides.{Content, left_all, left_trans, puts_none, puts_on, some_input, tells_same, tells_trans}
 use Rattle.ms_outside.specs.Sink.{IsFront, Puts}
 use Rattle.ms_outside.specs.declared.sink.Put.TheVariants as puts
-use Rattle.ms_tasks.specs.Logs.{Log, all_seen, logged}
-use Rattle.ms_tasks.specs.Outside.{HasBegun}
-use Rattle.ms_tasks.specs.Parts.{Answers, Comes, ComesTo, IsWell}
+use Rattle.ms_tasks.specs.refinement.Logs.{Log, all_seen, logged}
+use Rattle.ms_tasks.specs.refinement.Outside.{HasBegun}
+use Rattle.ms_tasks.specs.refinement.Parts.{HaltsBy, Comes, ComesTo, IsWell}
 use Rattle.ms_tasks.specs.declared.burst.Halt.{Halt}
 use Rattle.ms_tasks.specs.declared.burst.Halt.TheVariants as answers
 use Rattle.ms_tasks.proofs.Deeds.{all_seen_both, behind_both, behind_nothing, both_bytes, both_events, logged_both, logged_nothing}
@@ -109,7 +109,7 @@ begun_here l l' l'' h h' h'' old new d run mid c same front out fronts leaves se
 
 -- ---- answers
 
-pub answers_on : (a : Halt) (l l' l'' h h' h'' : Content) (old log new : Log) (run mid ended paused : Input → Run) (c : Crew) → ComesTo l l' h h' old log run mid → Answers a mid ended paused c l' l'' h' h'' log new → Answers a run ended paused c l l'' h h'' old new
+pub answers_on : (a : Halt) (l l' l'' h h' h'' : Content) (old log new : Log) (run mid ended paused : Input → Run) (c : Crew) → ComesTo l l' h h' old log run mid → HaltsBy a mid ended paused c l' l'' h' h'' log new → HaltsBy a run ended paused c l l'' h h'' old new
 answers_on answers.Ended l l' l'' h h' h'' old log new run mid ended paused c first is = to_trans l l' l'' h h' h'' old log new run mid ended first is
 answers_on answers.Paused l l' l'' h h' h'' old log new run mid ended paused c first is = to_trans l l' l'' h h' h'' old log new run mid paused first is
 answers_on (answers.Trap why) l l' l'' h h' h'' old log new run mid ended paused c first (whose, is) =
@@ -118,7 +118,7 @@ answers_on answers.ReadFault l l' l'' h h' h'' old log new run mid ended paused 
 answers_on answers.WriteFault l l' l'' h h' h'' old log new run mid ended paused c first is = begun_on l l' l'' h h' h'' old log new run mid first is
 answers_on answers.Memory l l' l'' h h' h'' old log new run mid ended paused c first is = begun_on l l' l'' h h' h'' old log new run mid first is
 
-pub answers_as : (a : Halt) (l l' h h' : Content) (old new : Log) (run run' ended ended' paused paused' : Input → Run) (c c' : Crew) → run ≡ run' → (IsWell a → (ended ≡ ended') × (paused ≡ paused') × (c ≡ c')) → Answers a run ended paused c l l' h h' old new → Answers a run' ended' paused' c' l l' h h' old new
+pub answers_as : (a : Halt) (l l' h h' : Content) (old new : Log) (run run' ended ended' paused paused' : Input → Run) (c c' : Crew) → run ≡ run' → (IsWell a → (ended ≡ ended') × (paused ≡ paused') × (c ≡ c')) → HaltsBy a run ended paused c l l' h h' old new → HaltsBy a run' ended' paused' c' l l' h h' old new
 answers_as answers.Ended l l' h h' old new run run' ended ended' paused paused' c c' same with is =
     subst (λ r. ComesTo l l' h h' old new r ended') same (subst (ComesTo l l' h h' old new run) (with tt).0 is)
 answers_as answers.Paused l l' h h' old new run run' ended ended' paused paused' c c' same with is =
@@ -130,7 +130,7 @@ answers_as answers.WriteFault l l' h h' old new run run' ended ended' paused pau
 answers_as answers.Memory l l' h h' old new run run' ended ended' paused paused' c c' same with is = subst (Begun l l' h h' old new) same is
 
 -- what isn't its answer may be anything
-pub not_paused : (a : Halt) (l l' h h' : Content) (old new : Log) (run ended paused paused' : Input → Run) (c : Crew) → a ≢ answers.Paused → Answers a run ended paused c l l' h h' old new → Answers a run ended paused' c l l' h h' old new
+pub not_paused : (a : Halt) (l l' h h' : Content) (old new : Log) (run ended paused paused' : Input → Run) (c : Crew) → a ≢ answers.Paused → HaltsBy a run ended paused c l l' h h' old new → HaltsBy a run ended paused' c l l' h h' old new
 not_paused answers.Ended l l' h h' old new run ended paused paused' c not is = is
 not_paused answers.Paused l l' h h' old new run ended paused paused' c not is = absurd (not refl)
 not_paused (answers.Trap why) l l' h h' old new run ended paused paused' c not is = is
@@ -138,7 +138,7 @@ not_paused answers.ReadFault l l' h h' old new run ended paused paused' c not is
 not_paused answers.WriteFault l l' h h' old new run ended paused paused' c not is = is
 not_paused answers.Memory l l' h h' old new run ended paused paused' c not is = is
 
-pub not_ended : (a : Halt) (l l' h h' : Content) (old new : Log) (run ended ended' paused : Input → Run) (c : Crew) → a ≢ answers.Ended → Answers a run ended paused c l l' h h' old new → Answers a run ended' paused c l l' h h' old new
+pub not_ended : (a : Halt) (l l' h h' : Content) (old new : Log) (run ended ended' paused : Input → Run) (c : Crew) → a ≢ answers.Ended → HaltsBy a run ended paused c l l' h h' old new → HaltsBy a run ended' paused c l l' h h' old new
 not_ended answers.Ended l l' h h' old new run ended ended' paused c not is = absurd (not refl)
 not_ended answers.Paused l l' h h' old new run ended ended' paused c not is = is
 not_ended (answers.Trap why) l l' h h' old new run ended ended' paused c not is = is

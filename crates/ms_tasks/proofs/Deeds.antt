@@ -6,7 +6,7 @@ use Rattle.ms_event.specs.declared.event.Event.TheVariants.{Alloc, Free, Read, R
 use Rattle.ms_machine.specs.Crews.{Deeds, Run, Whose, behind, both, bytes_of, deed, events_of, nothing}
 use Rattle.ms_machine.specs.Running.{with_event}
 use Rattle.ms_machine.proofs.Outsides.{with_byte}
-use Rattle.ms_tasks.specs.Logs.{IsWithin, Log, Trace, all_seen, logged, seen}
+use Rattle.ms_tasks.specs.refinement.Logs.{CountsUpTo, Log, Trace, all_seen, logged, seen}
 
 deeds_is : (d e : Deeds) → d.puts ≡ e.puts → d.events ≡ e.events → d.used ≡ e.used → d ≡ e
 deeds_is d e a b u = ap (λ p. record { puts = p; events = d.events; used = d.used }) a ∙ (ap (λ p. record { puts = e.puts; events = p; used = d.used }) b ∙ ap (λ p. record { puts = e.puts; events = e.events; used = p }) u)
@@ -63,7 +63,7 @@ logged_both d e l =
 
 -- ---- its counts
 
-seen_within : (n : ℕ) (e : Event) (t : Trace) → IsWithin n t → IsWithin (n + 1) (seen e t)
+seen_within : (n : ℕ) (e : Event) (t : Trace) → CountsUpTo n t → CountsUpTo (n + 1) (seen e t)
 seen_within n (Alloc id addr size) t h = let a = h.allocs in let b = h.refused in let c = h.slices in let d = h.reads in let e = h.writes in let f = h.frees in record { allocs = omega (arith, a); refused = omega (arith, b); slices = omega (arith, c); reads = omega (arith, d); writes = omega (arith, e); frees = omega (arith, f) }
 seen_within n (Refused size) t h = let a = h.allocs in let b = h.refused in let c = h.slices in let d = h.reads in let e = h.writes in let f = h.frees in record { allocs = omega (arith, a); refused = omega (arith, b); slices = omega (arith, c); reads = omega (arith, d); writes = omega (arith, e); frees = omega (arith, f) }
 seen_within n (Slice id lo hi lo2 hi2) t h = let a = h.allocs in let b = h.refused in let c = h.slices in let d = h.reads in let e = h.writes in let f = h.frees in record { allocs = omega (arith, a); refused = omega (arith, b); slices = omega (arith, c); reads = omega (arith, d); writes = omega (arith, e); frees = omega (arith, f) }
@@ -71,12 +71,12 @@ seen_within n (Read id lo hi addr width) t h = let a = h.allocs in let b = h.ref
 seen_within n (Write id lo hi addr width) t h = let a = h.allocs in let b = h.refused in let c = h.slices in let d = h.reads in let e = h.writes in let f = h.frees in record { allocs = omega (arith, a); refused = omega (arith, b); slices = omega (arith, c); reads = omega (arith, d); writes = omega (arith, e); frees = omega (arith, f) }
 seen_within n (Free id) t h = let a = h.allocs in let b = h.refused in let c = h.slices in let d = h.reads in let e = h.writes in let f = h.frees in record { allocs = omega (arith, a); refused = omega (arith, b); slices = omega (arith, c); reads = omega (arith, d); writes = omega (arith, e); frees = omega (arith, f) }
 
-within_more : (n m : ℕ) (t : Trace) → n ≤ m → IsWithin n t → IsWithin m t
+within_more : (n m : ℕ) (t : Trace) → n ≤ m → CountsUpTo n t → CountsUpTo m t
 within_more n m t le h = let a = h.allocs in let b = h.refused in let c = h.slices in let d = h.reads in let e = h.writes in let f = h.frees in record { allocs = omega (arith, a, le); refused = omega (arith, b, le); slices = omega (arith, c, le); reads = omega (arith, d, le); writes = omega (arith, e, le); frees = omega (arith, f, le) }
 
-pub within_after : (n m : ℕ) (event : Option Event) (t t' : Trace) → n + 1 ≤ m → t' ≡ all_seen (with_event event []) t → IsWithin n t → IsWithin m t'
-within_after n m None t t' le is h = subst (IsWithin m) (sym is) (within_more n m t (omega (arith, le)) h)
-within_after n m (Some e) t t' le is h = subst (IsWithin m) (sym is) (within_more (n + 1) m (seen e t) le (seen_within n e t h))
+pub within_after : (n m : ℕ) (event : Option Event) (t t' : Trace) → n + 1 ≤ m → t' ≡ all_seen (with_event event []) t → CountsUpTo n t → CountsUpTo m t'
+within_after n m None t t' le is h = subst (CountsUpTo m) (sym is) (within_more n m t (omega (arith, le)) h)
+within_after n m (Some e) t t' le is h = subst (CountsUpTo m) (sym is) (within_more (n + 1) m (seen e t) le (seen_within n e t h))
 
 -- ---- what it keeps
 

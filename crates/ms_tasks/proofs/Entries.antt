@@ -6,8 +6,8 @@ use Rattle.ms_machine.specs.Crews as crews
 use Rattle.ms_machine.specs.Moves as moves
 use Rattle.ms_machine.specs.Moves.{Goes, Move, move_of, rest_of}
 use Rattle.ms_machine.specs.Store.{Store}
-use Rattle.ms_tasks.specs.Parts.{IsRow}
-use Rattle.ms_tasks.specs.Rows.{IsIdle}
+use Rattle.ms_tasks.specs.refinement.Parts.{IsRow}
+use Rattle.ms_tasks.specs.refinement.Rows.{IsIdle}
 use Rattle.ms_tasks.proofs.Deeds.{behind_both, behind_nothing}
 
 -- ---- by work

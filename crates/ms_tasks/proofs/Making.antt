@@ -9,15 +9,15 @@ use Rattle.ms_types.specs.declared.types.FuncType.{FuncType}
 use Rattle.ms_types.specs.declared.types.ValType.{ValType}
 use Rattle.ms_task.specs.Control.{exited, started}
 use Rattle.ms_task.specs.Thread.{Thread}
-use Rattle.ms_task.specs.View.{thread_of}
+use Rattle.ms_task.specs.refinement.View.{thread_of}
 use Rattle.ms_task.specs.declared.task.Task.{Task as CodeTask}
 use Rattle.ms_task.specs.declared.func.FuncInst.{FuncInst}
 use Rattle.ms_machine.specs.Crews.{ahead}
-use Rattle.ms_machine.specs.Holding.{StoreFits, ThreadFits}
+use Rattle.ms_machine.specs.refinement.Holding.{StoreFits, ThreadFits}
 use Rattle.ms_machine.specs.Linked.{StartTyped, StartsTyped, start_chain, with_start}
 use Rattle.ms_machine.specs.Running.{func_thread}
 use Rattle.ms_machine.specs.Running as running
-use Rattle.ms_machine.specs.Safety.{Sound}
+use Rattle.ms_machine.specs.refinement.Safety.{Sound}
 use Rattle.ms_machine.specs.Store.{Store}
 use Rattle.ms_machine.specs.Typing.{StoreTyped, TaskTyped, outline_of}
 use Rattle.ms_machine.specs.declared.store.Instance.{Instance}
@@ -26,7 +26,7 @@ use Rattle.ms_machine.proofs.SafeStarts.{sound_start}
 use Rattle.ms_machine.proofs.TypedSteps.{starts_well}
 use Rattle.ms_tasks.proofs.Chaining.{drop_at}
 use Rattle.ms_tasks.proofs.Keeping.{ahead_all}
-use Rattle.ms_tasks.specs.Ready.{IsReady, threads_of}
+use Rattle.ms_tasks.specs.refinement.Ready.{IsReady, threads_of}
 use Rattle.ms_tasks.specs.Tasks.{and_thread, crew_of, exported_func, exported_task, is_task_result, is_task_type, of_task_type, takes_nothing, task_address, task_of_instance, thread_at, threads_from}
 
 -- ---- a function that may be started: it is there, without parameters

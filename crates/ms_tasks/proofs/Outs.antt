@@ -5,16 +5,16 @@ use Rattle.std.proofs.lemmas.List.Elements.{All-nil, All-weaker}
 use Rattle.ms_handle.specs.declared.handle.Handle.{Handle}
 use Rattle.ms_segment.specs.Memory.{IsFit}
 use Rattle.ms_machine.specs.Crews.{turns_from}
-use Rattle.ms_machine.specs.Holding.{ThreadFits}
+use Rattle.ms_machine.specs.refinement.Holding.{ThreadFits}
 use Rattle.ms_machine.specs.Store.{Store}
 use Rattle.ms_machine.specs.Typing.{Outline, TaskTyped, outline_of}
 use Rattle.ms_machine.proofs.HeldFits.{thread_fits_grows}
 use Rattle.ms_task.specs.Thread.{Thread}
-use Rattle.ms_task.specs.View.{thread_of}
+use Rattle.ms_task.specs.refinement.View.{thread_of}
 use Rattle.ms_task.specs.declared.task.Task.{Task as CodeTask}
-use Rattle.ms_tasks.specs.Ready.{IsReady}
-use Rattle.ms_tasks.specs.Rows.{threads_in}
-use Rattle.ms_tasks.specs.Schedules.{HasEntries, entries_of, part_of}
+use Rattle.ms_tasks.specs.refinement.Ready.{IsReady}
+use Rattle.ms_tasks.specs.refinement.Rows.{threads_in}
+use Rattle.ms_tasks.specs.refinement.Schedules.{HasEntries, entries_of, part_of}
 use Rattle.ms_tasks.specs.declared.schedule.Schedule.{Schedule}
 use Rattle.ms_tasks.specs.declared.schedule.Schedule.TheVariants.{Listed, Turns}
 use Rattle.ms_tasks.proofs.Listing.{drop_take}

@@ -6,18 +6,18 @@ use Rattle.std.proofs.lemmas.List.Elements.{All-nil, All-set, All-weaker}
 use Rattle.ms_handle.specs.declared.handle.Handle.{Handle}
 use Rattle.ms_segment.specs.Memory.{IsFit}
 use Rattle.ms_machine.specs.Crews.{Crew, Input, OutOfBudget, Results, Run, are_ended, ends, results, run_entries}
-use Rattle.ms_machine.specs.Holding.{StoreFits, ThreadFits}
+use Rattle.ms_machine.specs.refinement.Holding.{StoreFits, ThreadFits}
 use Rattle.ms_machine.specs.Store.{Store}
 use Rattle.ms_machine.specs.Typing.{Outline, StoreTyped, TaskTyped, outline_of}
 use Rattle.ms_machine.proofs.HeldFits.{thread_fits_grows}
 use Rattle.ms_machine.proofs.Outsides.{Content, left_all, puts_none, tells_same}
 use Rattle.ms_task.specs.Thread.{Thread}
-use Rattle.ms_task.specs.View.{thread_of}
+use Rattle.ms_task.specs.refinement.View.{thread_of}
 use Rattle.ms_task.specs.declared.task.Task.{Task as CodeTask}
-use Rattle.ms_tasks.specs.Logs.{Log}
-use Rattle.ms_tasks.specs.Parts.{Answers, ComesTo, IsWell}
-use Rattle.ms_tasks.specs.Ready.{IsReady}
-use Rattle.ms_tasks.specs.Rows.{IsIdle, crew_in, threads_in}
+use Rattle.ms_tasks.specs.refinement.Logs.{Log}
+use Rattle.ms_tasks.specs.refinement.Parts.{HaltsBy, ComesTo, IsWell}
+use Rattle.ms_tasks.specs.refinement.Ready.{IsReady}
+use Rattle.ms_tasks.specs.refinement.Rows.{IsIdle, crew_in, threads_in}
 use Rattle.ms_tasks.specs.declared.burst.Halt.{Halt}
 use Rattle.ms_tasks.proofs.Coming.{answers_as, to_as}
 use Rattle.ms_tasks.proofs.Entries.{drop_row, get_set, idle_entries, no_entries, not_ended, over_entries, passes, with_only}
@@ -71,8 +71,8 @@ idle_ended s tasks k task found ended = subst IsIdle (sym (map_get (thread_of s.
 -- ---- a row
 
 pub row_answers : (a : Halt) (s s' : Store) (tasks : List CodeTask) (k most left : ℕ) (task task' : CodeTask) (rest : List ℕ) (l l' h h' : Content) (old new : Log) → slice_get tasks k ≡ Some task → left ≤ most → (IsWell a → s'.funcs ≡ s.funcs)
-    → Answers a (run_entries (replicate most k ++ rest) (with_only (threads_in s tasks) k s (thread_of s.funcs task))) (run_entries (drop (most - left) (replicate most k ++ rest)) (with_only (threads_in s tasks) k s' (thread_of s'.funcs task'))) (run_entries (drop most (replicate most k ++ rest)) (with_only (threads_in s tasks) k s' (thread_of s'.funcs task'))) (with_only (threads_in s tasks) k s' (thread_of s'.funcs task')) l l' h h' old new
-    → Answers a (run_entries (replicate most k ++ rest) (crew_in s tasks)) (run_entries (replicate left k ++ rest) (crew_in s' (slice_set tasks k task'))) (run_entries rest (crew_in s' (slice_set tasks k task'))) (crew_in s' (slice_set tasks k task')) l l' h h' old new
+    → HaltsBy a (run_entries (replicate most k ++ rest) (with_only (threads_in s tasks) k s (thread_of s.funcs task))) (run_entries (drop (most - left) (replicate most k ++ rest)) (with_only (threads_in s tasks) k s' (thread_of s'.funcs task'))) (run_entries (drop most (replicate most k ++ rest)) (with_only (threads_in s tasks) k s' (thread_of s'.funcs task'))) (with_only (threads_in s tasks) k s' (thread_of s'.funcs task')) l l' h h' old new
+    → HaltsBy a (run_entries (replicate most k ++ rest) (crew_in s tasks)) (run_entries (replicate left k ++ rest) (crew_in s' (slice_set tasks k task'))) (run_entries rest (crew_in s' (slice_set tasks k task'))) (crew_in s' (slice_set tasks k task')) l l' h h' old new
 row_answers a s s' tasks k most left task task' rest l l' h h' old new found within same is =
     let ts = threads_in s tasks in
     let t = thread_of s.funcs task in

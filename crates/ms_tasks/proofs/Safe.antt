@@ -6,17 +6,17 @@ use Rattle.ms_event.specs.declared.event.Event.{Event}
 use Rattle.ms_event.specs.Monitor.{Accepts, after_all, nothing_yet}
 use Rattle.ms_task.specs.Thread.{Thread}
 use Rattle.ms_machine.specs.Crews.{Crew, Input, Run, Stuck, ahead, begun, events_of, run_of}
-use Rattle.ms_machine.specs.Holding.{StoreFits, ThreadFits, ThreadHolds}
+use Rattle.ms_machine.specs.refinement.Holding.{StoreFits, ThreadFits, ThreadHolds}
 use Rattle.ms_machine.specs.Moves.{first_of}
 use Rattle.ms_machine.specs.Running.{with_event}
-use Rattle.ms_machine.specs.Safety.{Knows, Sound}
+use Rattle.ms_machine.specs.refinement.Safety.{Knows, Sound}
 use Rattle.ms_machine.specs.Store.{Store}
 use Rattle.ms_machine.specs.Typing.{Outline, StoreTyped, TaskTyped, outline_of}
 use Rattle.ms_machine.proofs.HeldFits.{thread_fits_grows}
 use Rattle.ms_machine.proofs.Moving.{move_keeps, move_stays_typed, move_unstuck}
 use Rattle.ms_machine.proofs.SafeMoves.{sound_move}
 use Rattle.ms_machine.proofs.SafeStarts.{with_thread}
-use Rattle.ms_tasks.specs.Ready.{IsReady, threads_of}
+use Rattle.ms_tasks.specs.refinement.Ready.{IsReady, threads_of}
 use Rattle.ms_tasks.proofs.Keeping.{NeverSticks, StepKeeps, ahead_all, ahead_going, entries_keep}
 
 -- ---- well typed, and handles that fit

@@ -8,17 +8,17 @@ use Rattle.ms_machine.specs.Moves as moves
 use Rattle.ms_machine.specs.Moves.{Goes, IsPutting, Move, first_of, move_for, move_of, move_on, rest_of}
 use Rattle.ms_machine.specs.Running.{with_event}
 use Rattle.ms_machine.specs.Step.{Next, step_of}
-use Rattle.ms_machine.specs.Stepped.{Went}
+use Rattle.ms_machine.specs.refinement.Stepped.{Went}
 use Rattle.ms_machine.specs.Store.{Store}
-use Rattle.ms_machine.specs.StraightLine.{GoesQuietly}
+use Rattle.ms_machine.specs.refinement.StraightLine.{GoesQuietly}
 use Rattle.ms_machine.proofs.Outsides.{Content, before, front_put, left_all, puts_after, puts_none, tells_after, tells_same}
 use Rattle.ms_machine.proofs.Quiet.{moves_so}
 use Rattle.ms_outside.specs.Sink.{IsFront, Puts}
 use Rattle.ms_outside.specs.declared.sink.Put.TheVariants as puts
 use Rattle.ms_segment.specs.Memory.{IsFit}
 use Rattle.ms_task.specs.Thread.{Thread}
-use Rattle.ms_tasks.specs.Logs.{Log, Trace, all_seen}
-use Rattle.ms_tasks.specs.Parts.{Comes, ComesTo, IsRow}
+use Rattle.ms_tasks.specs.refinement.Logs.{Log, Trace, all_seen}
+use Rattle.ms_tasks.specs.refinement.Parts.{Comes, ComesTo, IsRow}
 use Rattle.ms_tasks.proofs.Coming.{Begun, begun_here, comes_same, comes_trans, to_same}
 use Rattle.ms_tasks.proofs.Deeds.{all_seen_both, both_bytes, both_events, deed_bytes, deed_events}
 use Rattle.ms_tasks.proofs.Leaving.{run_leaves}

@@ -5,16 +5,16 @@ use Rattle.ms_event.proofs.Traces.{front_is_accepted}
 use Rattle.ms_task.specs.Thread.{Item, Thread}
 use Rattle.ms_machine.specs.Crews.{Crew, Deeds, End, Input, OutOfBudget, Results, Run, Trap, ahead, begun, by_work, bytes_of, ends, events_of, results, run_of}
 use Rattle.ms_machine.specs.Running.{MayGive}
-use Rattle.ms_machine.specs.Safety.{Sound}
+use Rattle.ms_machine.specs.refinement.Safety.{Sound}
 use Rattle.ms_machine.proofs.Outsides.{Content, some_input}
 use Rattle.ms_outside.specs.Sink.{Puts}
 use Rattle.ms_outside.specs.declared.sink.Put.TheVariants as puts
-use Rattle.ms_tasks.specs.Logs.{Log, logged}
-use Rattle.ms_tasks.specs.Outside.{HasBegun, HasRun}
-use Rattle.ms_tasks.specs.Parts as parts
-use Rattle.ms_tasks.specs.Parts.{Answers, ComesTo, IsWell}
-use Rattle.ms_tasks.specs.Ready.{IsReady, threads_of}
-use Rattle.ms_tasks.specs.Runs.{CountsInput, CountsOut, DoesRun, IsOver, answer_of}
+use Rattle.ms_tasks.specs.refinement.Logs.{Log, logged}
+use Rattle.ms_tasks.specs.refinement.Outside.{HasBegun, HasRun}
+use Rattle.ms_tasks.specs.refinement.Parts as parts
+use Rattle.ms_tasks.specs.refinement.Parts.{HaltsBy, ComesTo, IsWell}
+use Rattle.ms_tasks.specs.refinement.Ready.{IsReady, threads_of}
+use Rattle.ms_tasks.specs.refinement.Runs.{CountsInput, CountsOut, DoesRun, IsOver, answer_of}
 use Rattle.ms_tasks.specs.declared.burst.Halt.{Halt}
 use Rattle.ms_tasks.specs.declared.burst.Halt.TheVariants as halts
 use Rattle.ms_tasks.specs.declared.ran.Ran.{Ran}
@@ -45,7 +45,7 @@ run_ends l l' h h' old new run end c a =
       },
     )
 
-pub run_answers : (a : Halt) (l l' h h' : Content) (old new : Log) (run : Input → Run) (c : Crew) → Answers a run (ends (Results (results c.tasks)) (begun c)) (ends OutOfBudget (begun c)) (begun c) l l' h h' old new → (given : Input) × DoesRun (answer_of a) c l l' h h' old new given (run given)
+pub run_answers : (a : Halt) (l l' h h' : Content) (old new : Log) (run : Input → Run) (c : Crew) → HaltsBy a run (ends (Results (results c.tasks)) (begun c)) (ends OutOfBudget (begun c)) (begun c) l l' h h' old new → (given : Input) × DoesRun (answer_of a) c l l' h h' old new given (run given)
 run_answers halts.Ended l l' h h' old new run c is = let x = run_ends l l' h h' old new run (Results (results c.tasks)) (begun c) is in (x.0, (x.1, x.2, x.3))
 run_answers halts.Paused l l' h h' old new run c is = let x = run_ends l l' h h' old new run OutOfBudget (begun c) is in (x.0, (x.1, x.2, x.3))
 run_answers (halts.Trap why) l l' h h' old new run c (whose, is) = let x = run_ends l l' h h' old new run (Trap whose why) (begun c) is in (x.0, (whose, x.1, x.2, x.3))

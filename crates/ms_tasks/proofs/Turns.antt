@@ -3,7 +3,7 @@ use Rattle.std.proofs.Common.{◌≡◌, ◌<◌, ◌≤◌, ◌+◌, ◌-◌, �
 use Rattle.std.proofs.Math.Nat.{suc-mod}
 use Rattle.std.proofs.lemmas.Nat.{div-add-mod', div-mul-add}
 use Rattle.ms_machine.specs.Crews.{turns_from}
-use Rattle.ms_tasks.specs.Rows.{IsInTurn}
+use Rattle.ms_tasks.specs.refinement.Rows.{IsInTurn}
 
 -- the rest of a turn: a is how many turns came before, b the place in it
 pub turn_row : (q n a b m c : ℕ) → b + m ≤ q → turns_from q n (a * q + b) (m + c) ≡ replicate m (a % n) ++ turns_from q n (a * q + (b + m)) c

@@ -1,9 +1,2 @@
-pub mod Ready
-pub mod Logs
-pub mod Outside
-pub mod Parts
-pub mod Rows
-pub mod Schedules
-pub mod Runs
 pub mod Tasks
-pub mod Making
+pub mod refinement

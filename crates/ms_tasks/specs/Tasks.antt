@@ -1,4 +1,4 @@
--- Which functions the tasks of a crew run, and the crew of a store.
+-- Which functions the tasks of a crew run (exports that are invoked, WebAssembly 1.0, 4.5.5), and the crew of a store.
 use Rattle.std.specs.Prelude.{◌&&◌, ℕ, suc, Bool, true, false, List, [], ◌∷◌, map, Option, Some, None, Result, Ok, Err, find, option_and_then, slice_get, if◌then◌else◌}
 use Rattle.std.specs.Str.{bytes_eq}
 use Rattle.ms_module.specs.declared.module.Export.{Export}

@@ -5,11 +5,11 @@ ghost use Rattle.ms_handle.specs.declared.handle.Handle.{Handle};
 ghost use Rattle.ms_segment.specs.Memory.{IsFit};
 ghost use Rattle.ms_machine.specs.Crews.{OutOfBudget, Results, are_ended, begun, ends, results, run_entries, run_of};
 ghost use Rattle.ms_machine.specs.Typing.{outline_of};
-ghost use Rattle.ms_tasks.specs.Logs.{IsWithin};
-ghost use Rattle.ms_tasks.specs.Parts.{Answers, CountsInput, CountsOut, IsWell};
-ghost use Rattle.ms_tasks.specs.Ready.{IsReady};
-ghost use Rattle.ms_tasks.specs.Rows.{all_in, crew_in, threads_in};
-ghost use Rattle.ms_tasks.specs.Schedules.{HasEntries, HasTurns, entries_of, part_of};
+ghost use Rattle.ms_tasks.specs.refinement.Logs.{CountsUpTo};
+ghost use Rattle.ms_tasks.specs.refinement.Parts.{HaltsBy, CountsInput, CountsOut, IsWell};
+ghost use Rattle.ms_tasks.specs.refinement.Ready.{IsReady};
+ghost use Rattle.ms_tasks.specs.refinement.Rows.{all_in, crew_in, threads_in};
+ghost use Rattle.ms_tasks.specs.refinement.Schedules.{HasEntries, HasTurns, entries_of, part_of};
 
 use crate::burst::Halt;
 use crate::by_list::run_listed;
@@ -41,16 +41,16 @@ fn run_tasks<G: Gaps, T: Tagged, I: Source, O: Sink>(
     requires ready { IsReady (crew_in store.old tasks.old) }
     requires going { are_ended (threads_in store.old tasks.old) ≡ false }
     requires few { store.old.segments.made + most < 2 ^ 63 }
-    requires within { IsWithin log.old.entries log.old.trace }
+    requires within { CountsUpTo log.old.entries log.old.trace }
     requires room { log.old.entries + most < 2 ^ 63 }
     requires all { from + most < 2 ^ 63 }
-    ensures run { Answers result (run_entries (part_of schedule.now (length tasks.old) from most) (crew_in store.old tasks.old)) (ends (Results (results (threads_in store.new tasks.new))) (crew_in store.new tasks.new)) (ends OutOfBudget (crew_in store.new tasks.new)) (crew_in store.new tasks.new) (I.left input.old) (I.left input.new) (O.held out.old) (O.held out.new) log.old log.new }
+    ensures run { HaltsBy result (run_entries (part_of schedule.now (length tasks.old) from most) (crew_in store.old tasks.old)) (ends (Results (results (threads_in store.new tasks.new))) (crew_in store.new tasks.new)) (ends OutOfBudget (crew_in store.new tasks.new)) (crew_in store.new tasks.new) (I.left input.old) (I.left input.new) (O.held out.old) (O.held out.new) log.old log.new }
     ensures ready { IsWell result → IsReady (crew_in store.new tasks.new) }
     ensures outline { IsWell result → outline_of store.new ≡ outline_of store.old }
     ensures others { IsWell result → (h : Handle) → IsFit store.old.segments h → IsFit store.new.segments h }
     ensures made { IsWell result → store.new.segments.made ≤ store.old.segments.made + most }
     ensures entries { IsWell result → log.new.entries ≤ log.old.entries + most }
-    ensures within { IsWell result → IsWithin log.new.entries log.new.trace }
+    ensures within { IsWell result → CountsUpTo log.new.entries log.new.trace }
     ensures input_faults { CountsInput result (I.faults input.old) (I.faults input.new) }
     ensures out_faults { CountsOut result (O.faults out.old) (O.faults out.new) }
 {
@@ -78,13 +78,13 @@ pub(crate) fn run_all<G: Gaps, T: Tagged, I: Source, O: Sink>(
     requires tasks { (0 < length tasks.old) × (length tasks.old < 2 ^ 32) }
     requires ready { IsReady (all_in store.old chain.old tasks.old) }
     requires few { store.old.segments.made + budget < 2 ^ 63 }
-    requires within { IsWithin log.old.entries log.old.trace }
+    requires within { CountsUpTo log.old.entries log.old.trace }
     requires room { log.old.entries + budget < 2 ^ 63 }
-    ensures run { Answers result (run_of (entries_of schedule.now (length tasks.old) budget) (all_in store.old chain.old tasks.old)) (ends (Results (results (threads_in store.new tasks.new))) (begun (all_in store.new chain.new tasks.new))) (ends OutOfBudget (begun (all_in store.new chain.new tasks.new))) (begun (all_in store.new chain.new tasks.new)) (I.left input.old) (I.left input.new) (O.held out.old) (O.held out.new) log.old log.new }
+    ensures run { HaltsBy result (run_of (entries_of schedule.now (length tasks.old) budget) (all_in store.old chain.old tasks.old)) (ends (Results (results (threads_in store.new tasks.new))) (begun (all_in store.new chain.new tasks.new))) (ends OutOfBudget (begun (all_in store.new chain.new tasks.new))) (begun (all_in store.new chain.new tasks.new)) (I.left input.old) (I.left input.new) (O.held out.old) (O.held out.new) log.old log.new }
     ensures ready { IsWell result → IsReady (all_in store.new chain.new tasks.new) }
     ensures made { IsWell result → store.new.segments.made ≤ store.old.segments.made + budget }
     ensures entries { IsWell result → log.new.entries ≤ log.old.entries + budget }
-    ensures within { IsWell result → IsWithin log.new.entries log.new.trace }
+    ensures within { IsWell result → CountsUpTo log.new.entries log.new.trace }
     ensures input_faults { CountsInput result (I.faults input.old) (I.faults input.new) }
     ensures out_faults { CountsOut result (O.faults out.old) (O.faults out.new) }
 {

@@ -4,13 +4,13 @@ ghost use Rattle.std.specs.Prelude.{◌≡◌, ◌≢◌, ◌+◌, ◌-◌, ◌<
 ghost use Rattle.ms_handle.specs.declared.handle.Handle.{Handle};
 ghost use Rattle.ms_segment.specs.Memory.{IsFit};
 ghost use Rattle.ms_machine.specs.Crews.{Crew, Whose, run_entries};
-ghost use Rattle.ms_machine.specs.Holding.{StoreFits, ThreadFits};
+ghost use Rattle.ms_machine.specs.refinement.Holding.{StoreFits, ThreadFits};
 ghost use Rattle.ms_machine.specs.Store.{Store as StoreView};
 ghost use Rattle.ms_machine.specs.Typing.{StoreTyped, TaskTyped, outline_of};
 ghost use Rattle.ms_task.specs.Thread.{Thread};
-ghost use Rattle.ms_task.specs.View.{thread_of};
-ghost use Rattle.ms_tasks.specs.Logs.{IsWithin};
-ghost use Rattle.ms_tasks.specs.Parts.{Answers, CountsInput, CountsOut, IsRow, IsWell};
+ghost use Rattle.ms_task.specs.refinement.View.{thread_of};
+ghost use Rattle.ms_tasks.specs.refinement.Logs.{CountsUpTo};
+ghost use Rattle.ms_tasks.specs.refinement.Parts.{HaltsBy, CountsInput, CountsOut, IsRow, IsWell};
 
 use crate::log::Log;
 use ms_host::TrapKind;
@@ -21,7 +21,7 @@ use ms_tagged::Tagged;
 use ms_task::Task;
 
 /// Why a burst of steps was halted.
-#[derive(Clone, Copy, Debug, PartialEq, Eq)]
+#[derive(Clone, Copy, PartialEq, Eq)]
 pub(crate) enum Halt {
     /// The task has nothing left to do.
     Ended,
@@ -51,9 +51,9 @@ pub(crate) fn burst<G: Gaps, T: Tagged, I: Source, O: Sink>(
     requires few { store.old.segments.made + most < 2 ^ 63 }
     requires store_fits { StoreFits store.old }
     requires task_fits { ThreadFits store.old (thread_of store.old.funcs task.old) }
-    requires within { IsWithin log.old.entries log.old.trace }
+    requires within { CountsUpTo log.old.entries log.old.trace }
     requires room { log.old.entries + most < 2 ^ 63 }
-    ensures run { (whose : Whose) (next : StoreView → Thread → Crew) (entries : List ℕ) → IsRow whose next most entries → Answers result.0 (run_entries entries (next store.old (thread_of store.old.funcs task.old))) (run_entries (drop (most - result.1) entries) (next store.new (thread_of store.new.funcs task.new))) (run_entries (drop most entries) (next store.new (thread_of store.new.funcs task.new))) (next store.new (thread_of store.new.funcs task.new)) (I.left input.old) (I.left input.new) (O.held out.old) (O.held out.new) log.old log.new }
+    ensures run { (whose : Whose) (next : StoreView → Thread → Crew) (entries : List ℕ) → IsRow whose next most entries → HaltsBy result.0 (run_entries entries (next store.old (thread_of store.old.funcs task.old))) (run_entries (drop (most - result.1) entries) (next store.new (thread_of store.new.funcs task.new))) (run_entries (drop most entries) (next store.new (thread_of store.new.funcs task.new))) (next store.new (thread_of store.new.funcs task.new)) (I.left input.old) (I.left input.new) (O.held out.old) (O.held out.new) log.old log.new }
     ensures outline { IsWell result.0 → outline_of store.new ≡ outline_of store.old }
     ensures task { IsWell result.0 → TaskTyped (outline_of store.new) (thread_of store.new.funcs task.new) }
     ensures store_fits { IsWell result.0 → StoreFits store.new }
@@ -61,7 +61,7 @@ pub(crate) fn burst<G: Gaps, T: Tagged, I: Source, O: Sink>(
     ensures others { IsWell result.0 → (h : Handle) → IsFit store.old.segments h → IsFit store.new.segments h }
     ensures made { IsWell result.0 → store.new.segments.made + result.1 ≤ store.old.segments.made + most }
     ensures entries { IsWell result.0 → log.new.entries + result.1 ≡ log.old.entries + most }
-    ensures within { IsWell result.0 → IsWithin log.new.entries log.new.trace }
+    ensures within { IsWell result.0 → CountsUpTo log.new.entries log.new.trace }
     ensures left { result.1 ≤ most }
     ensures ended { result.0 ≡ Halt.Ended → (thread_of store.new.funcs task.new).work ≡ [] }
     ensures paused { result.0 ≡ Halt.Paused → (result.1 ≡ 0) × ((thread_of store.new.funcs task.new).work ≢ []) }

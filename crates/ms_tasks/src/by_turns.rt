@@ -5,10 +5,10 @@ ghost use Rattle.ms_handle.specs.declared.handle.Handle.{Handle};
 ghost use Rattle.ms_segment.specs.Memory.{IsFit};
 ghost use Rattle.ms_machine.specs.Crews.{OutOfBudget, Results, are_ended, ends, results, run_entries, turns_from};
 ghost use Rattle.ms_machine.specs.Typing.{outline_of};
-ghost use Rattle.ms_tasks.specs.Logs.{IsWithin};
-ghost use Rattle.ms_tasks.specs.Parts.{Answers, CountsInput, CountsOut, IsWell};
-ghost use Rattle.ms_tasks.specs.Ready.{IsReady};
-ghost use Rattle.ms_tasks.specs.Rows.{crew_in, threads_in};
+ghost use Rattle.ms_tasks.specs.refinement.Logs.{CountsUpTo};
+ghost use Rattle.ms_tasks.specs.refinement.Parts.{HaltsBy, CountsInput, CountsOut, IsWell};
+ghost use Rattle.ms_tasks.specs.refinement.Ready.{IsReady};
+ghost use Rattle.ms_tasks.specs.refinement.Rows.{crew_in, threads_in};
 
 use crate::burst::Halt;
 use crate::log::Log;
@@ -53,16 +53,16 @@ pub(crate) fn run_turns<G: Gaps, T: Tagged, I: Source, O: Sink>(
     requires ready { IsReady (crew_in store.old tasks.old) }
     requires going { are_ended (threads_in store.old tasks.old) ≡ false }
     requires few { store.old.segments.made + most < 2 ^ 63 }
-    requires within { IsWithin log.old.entries log.old.trace }
+    requires within { CountsUpTo log.old.entries log.old.trace }
     requires room { log.old.entries + most < 2 ^ 63 }
     requires all { from + most < 2 ^ 64 }
-    ensures run { Answers result (run_entries (turns_from q (length tasks.old) from most) (crew_in store.old tasks.old)) (ends (Results (results (threads_in store.new tasks.new))) (crew_in store.new tasks.new)) (ends OutOfBudget (crew_in store.new tasks.new)) (crew_in store.new tasks.new) (I.left input.old) (I.left input.new) (O.held out.old) (O.held out.new) log.old log.new }
+    ensures run { HaltsBy result (run_entries (turns_from q (length tasks.old) from most) (crew_in store.old tasks.old)) (ends (Results (results (threads_in store.new tasks.new))) (crew_in store.new tasks.new)) (ends OutOfBudget (crew_in store.new tasks.new)) (crew_in store.new tasks.new) (I.left input.old) (I.left input.new) (O.held out.old) (O.held out.new) log.old log.new }
     ensures ready { IsWell result → IsReady (crew_in store.new tasks.new) }
     ensures outline { IsWell result → outline_of store.new ≡ outline_of store.old }
     ensures others { IsWell result → (h : Handle) → IsFit store.old.segments h → IsFit store.new.segments h }
     ensures made { IsWell result → store.new.segments.made ≤ store.old.segments.made + most }
     ensures entries { IsWell result → log.new.entries ≤ log.old.entries + most }
-    ensures within { IsWell result → IsWithin log.new.entries log.new.trace }
+    ensures within { IsWell result → CountsUpTo log.new.entries log.new.trace }
     ensures input_faults { CountsInput result (I.faults input.old) (I.faults input.new) }
     ensures out_faults { CountsOut result (O.faults out.old) (O.faults out.new) }
 {

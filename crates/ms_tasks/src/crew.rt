@@ -3,18 +3,18 @@
 ghost use Rattle.std.specs.Prelude.{◌≡◌, ◌≢◌, ◌+◌, ◌<◌, ◌≤◌, ◌^◌, true, List, [], Some, IfOk, MatchResult, length, slice_get};
 ghost use Rattle.ms_event.specs.declared.event.Event.{Event};
 ghost use Rattle.ms_event.specs.Monitor.{Accepts};
-ghost use Rattle.ms_machine.specs.Accesses.{counted_all};
+ghost use Rattle.ms_machine.specs.refinement.Accesses.{counted_all};
 ghost use Rattle.ms_machine.specs.Crews.{Input, Stuck, events_of, run_of};
-ghost use Rattle.ms_machine.specs.Holding.{StoreFits};
+ghost use Rattle.ms_machine.specs.refinement.Holding.{StoreFits};
 ghost use Rattle.ms_machine.specs.Linked.{StartsTyped};
-ghost use Rattle.ms_machine.specs.Safety.{Sound};
+ghost use Rattle.ms_machine.specs.refinement.Safety.{Sound};
 ghost use Rattle.ms_machine.specs.Typing.{StoreTyped, outline_of};
-ghost use Rattle.ms_task.specs.View.{thread_of};
-ghost use Rattle.ms_tasks.specs.Logs.{IsWithin};
-ghost use Rattle.ms_tasks.specs.Making.{IsCrewOf, Refuses};
-ghost use Rattle.ms_tasks.specs.Ready.{IsReady, threads_of};
-ghost use Rattle.ms_tasks.specs.Runs.{CountsInput, CountsOut, DoesRun, IsOver};
-ghost use Rattle.ms_tasks.specs.Schedules.{HasTurns, entries_of};
+ghost use Rattle.ms_task.specs.refinement.View.{thread_of};
+ghost use Rattle.ms_tasks.specs.refinement.Logs.{CountsUpTo};
+ghost use Rattle.ms_tasks.specs.refinement.Making.{IsCrewOf, Refuses};
+ghost use Rattle.ms_tasks.specs.refinement.Ready.{IsReady, threads_of};
+ghost use Rattle.ms_tasks.specs.refinement.Runs.{CountsInput, CountsOut, DoesRun, IsOver};
+ghost use Rattle.ms_tasks.specs.refinement.Schedules.{HasTurns, entries_of};
 
 use crate::all::run_all;
 use crate::log::Log;
@@ -41,7 +41,7 @@ pub struct Crew<G: Gaps, T: Tagged> {
 
 impl<G: Gaps, T: Tagged> Model for Crew<G, T> {
     ghost use Rattle.ms_machine.specs.Crews.{Crew as C};
-    ghost use Rattle.ms_tasks.specs.Rows.{threads_in};
+    ghost use Rattle.ms_tasks.specs.refinement.Rows.{threads_in};
 
     ghost Value = { C };
 
@@ -106,7 +106,7 @@ impl<G: Gaps, T: Tagged> Crew<G, T> {
         requires tasks { (0 < length self.old.tasks) × (length self.old.tasks < 2 ^ 32) }
         requires turns { HasTurns schedule.now }
         requires few { self.old.store.segments.made + budget < 2 ^ 63 }
-        requires within { IsWithin log.old.entries log.old.trace }
+        requires within { CountsUpTo log.old.entries log.old.trace }
         requires room { log.old.entries + budget < 2 ^ 63 }
         ensures run { (given : Input) × DoesRun result self.new (I.left input.old) (I.left input.new) (O.held out.old) (O.held out.new) log.old log.new given (run_of (entries_of schedule.now (length self.old.tasks) budget) self.old given) }
         ensures input_faults { CountsInput result (I.faults input.old) (I.faults input.new) }
@@ -114,7 +114,7 @@ impl<G: Gaps, T: Tagged> Crew<G, T> {
         ensures ready { IsOver result → IsReady self.new }
         ensures made { IsOver result → self.new.store.segments.made ≤ self.old.store.segments.made + budget }
         ensures entries { IsOver result → log.new.entries ≤ log.old.entries + budget }
-        ensures within { IsOver result → IsWithin log.new.entries log.new.trace }
+        ensures within { IsOver result → CountsUpTo log.new.entries log.new.trace }
         ensures never_stuck { (given : Input) → (run_of (entries_of schedule.now (length self.old.tasks) budget) self.old given).end ≢ Stuck }
         // The events of the run are a trace that the colour monitor accepts.
         ensures accepted { Sound [] self.old.store (threads_of self.old) → (given : Input) → Accepts (length self.old.store.segments.bytes) (events_of (run_of (entries_of schedule.now (length self.old.tasks) budget) self.old given).deeds) }

@@ -3,10 +3,10 @@
 ghost use Rattle.std.specs.Prelude.{◌≡◌, ◌≢◌, ℕ, List, [], ◌++◌, length};
 ghost use Rattle.ms_event.specs.declared.event.Event.{Event};
 ghost use Rattle.ms_event.specs.Monitor.{Accepts};
-ghost use Rattle.ms_machine.specs.Accesses.{counted_all};
+ghost use Rattle.ms_machine.specs.refinement.Accesses.{counted_all};
 ghost use Rattle.ms_machine.specs.Crews.{Crew, Input, Stuck, events_of, run_of};
-ghost use Rattle.ms_machine.specs.Safety.{Sound};
-ghost use Rattle.ms_tasks.specs.Ready.{IsReady, threads_of};
+ghost use Rattle.ms_machine.specs.refinement.Safety.{Sound};
+ghost use Rattle.ms_tasks.specs.refinement.Ready.{IsReady, threads_of};
 
 /// A run of a crew is never stuck, stays ready, and keeps what ties each handle to the colour monitor: whatever its entries
 /// and its input. The segment memory has counted the accesses that its events are, and no others.

@@ -2,7 +2,7 @@
 
 ghost use Rattle.std.specs.Prelude.{◌≡◌, ◌+◌, ◌<◌, ◌^◌, [], OnErr, OnOk};
 ghost use Rattle.ms_machine.specs.Running.{with_event};
-ghost use Rattle.ms_tasks.specs.Logs.{IsWithin, all_seen, seen};
+ghost use Rattle.ms_tasks.specs.refinement.Logs.{CountsUpTo, all_seen, seen};
 
 use ms_event::Event;
 use std::alloc::{AllocError, Global};
@@ -23,7 +23,7 @@ pub struct Log {
 }
 
 impl Model for Log {
-    ghost use Rattle.ms_tasks.specs.Logs.{Log as L};
+    ghost use Rattle.ms_tasks.specs.refinement.Logs.{Log as L};
 
     ghost Value = { L };
 
@@ -106,7 +106,7 @@ impl Log {
 
     /// One more event.
     fn see_event(&mut self, event: Event) -> Result<(), AllocError>
-        requires { IsWithin (2 ^ 63) self.old.trace }
+        requires { CountsUpTo (2 ^ 63) self.old.trace }
         ensures entries { self.new.entries ≡ self.old.entries }
         ensures trace { OnOk result (self.new.trace ≡ seen event self.old.trace) }
         ensures lost { OnErr result (self.new.trace.events ≡ self.old.trace.events) }
@@ -128,7 +128,7 @@ impl Log {
     /// What a step told.
     #[inline(always)]
     pub(crate) fn see(&mut self, event: Option<Event>) -> Result<(), AllocError>
-        requires { IsWithin (2 ^ 63) self.old.trace }
+        requires { CountsUpTo (2 ^ 63) self.old.trace }
         ensures entries { self.new.entries ≡ self.old.entries }
         ensures trace { OnOk result (self.new.trace ≡ all_seen (with_event event []) self.old.trace) }
         ensures lost { OnErr result (self.new.trace.events ≡ self.old.trace.events) }

@@ -1,13 +1,13 @@
 //! How a run ends.
 
 ghost use Rattle.std.specs.Prelude.{◌≡◌};
-ghost use Rattle.ms_tasks.specs.Runs.{answer_of};
+ghost use Rattle.ms_tasks.specs.refinement.Runs.{answer_of};
 
 use crate::burst::Halt;
 use ms_host::TrapKind;
 
 /// How a run ended.
-#[derive(Clone, Copy, Debug, PartialEq, Eq)]
+#[derive(Clone, Copy, PartialEq, Eq)]
 pub enum Ran {
     /// The start functions and all tasks have ended.
     Results,

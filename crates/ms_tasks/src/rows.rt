@@ -5,10 +5,10 @@ ghost use Rattle.ms_handle.specs.declared.handle.Handle.{Handle};
 ghost use Rattle.ms_segment.specs.Memory.{IsFit};
 ghost use Rattle.ms_machine.specs.Crews.{Results, are_ended, ends, results, run_entries};
 ghost use Rattle.ms_machine.specs.Typing.{outline_of};
-ghost use Rattle.ms_tasks.specs.Logs.{IsWithin};
-ghost use Rattle.ms_tasks.specs.Parts.{Answers, CountsInput, CountsOut, IsWell};
-ghost use Rattle.ms_tasks.specs.Ready.{IsReady};
-ghost use Rattle.ms_tasks.specs.Rows.{IsIdle, crew_in, threads_in};
+ghost use Rattle.ms_tasks.specs.refinement.Logs.{CountsUpTo};
+ghost use Rattle.ms_tasks.specs.refinement.Parts.{HaltsBy, CountsInput, CountsOut, IsWell};
+ghost use Rattle.ms_tasks.specs.refinement.Ready.{IsReady};
+ghost use Rattle.ms_tasks.specs.refinement.Rows.{IsIdle, crew_in, threads_in};
 
 use crate::burst::{Halt, burst};
 use crate::log::Log;
@@ -54,9 +54,9 @@ fn row<G: Gaps, T: Tagged, I: Source, O: Sink>(
     requires there { k < length tasks.old }
     requires ready { IsReady (crew_in store.old tasks.old) }
     requires few { store.old.segments.made + most < 2 ^ 63 }
-    requires within { IsWithin log.old.entries log.old.trace }
+    requires within { CountsUpTo log.old.entries log.old.trace }
     requires room { log.old.entries + most < 2 ^ 63 }
-    ensures run { (rest : List ℕ) → Answers result.0 (run_entries (replicate most k ++ rest) (crew_in store.old tasks.old)) (run_entries (replicate result.1 k ++ rest) (crew_in store.new tasks.new)) (run_entries rest (crew_in store.new tasks.new)) (crew_in store.new tasks.new) (I.left input.old) (I.left input.new) (O.held out.old) (O.held out.new) log.old log.new }
+    ensures run { (rest : List ℕ) → HaltsBy result.0 (run_entries (replicate most k ++ rest) (crew_in store.old tasks.old)) (run_entries (replicate result.1 k ++ rest) (crew_in store.new tasks.new)) (run_entries rest (crew_in store.new tasks.new)) (crew_in store.new tasks.new) (I.left input.old) (I.left input.new) (O.held out.old) (O.held out.new) log.old log.new }
     ensures ready { IsWell result.0 → IsReady (crew_in store.new tasks.new) }
     ensures ended { result.0 ≡ Halt.Ended → IsIdle (slice_get (threads_in store.new tasks.new) k) }
     ensures paused { result.0 ≡ Halt.Paused → (result.1 ≡ 0) × (are_ended (threads_in store.new tasks.new) ≡ false) }
@@ -64,7 +64,7 @@ fn row<G: Gaps, T: Tagged, I: Source, O: Sink>(
     ensures others { IsWell result.0 → (h : Handle) → IsFit store.old.segments h → IsFit store.new.segments h }
     ensures made { IsWell result.0 → store.new.segments.made + result.1 ≤ store.old.segments.made + most }
     ensures entries { IsWell result.0 → log.new.entries + result.1 ≡ log.old.entries + most }
-    ensures within { IsWell result.0 → IsWithin log.new.entries log.new.trace }
+    ensures within { IsWell result.0 → CountsUpTo log.new.entries log.new.trace }
     ensures input_faults { CountsInput result.0 (I.faults input.old) (I.faults input.new) }
     ensures out_faults { CountsOut result.0 (O.faults out.old) (O.faults out.new) }
 {
@@ -85,16 +85,16 @@ pub(crate) fn turn<G: Gaps, T: Tagged, I: Source, O: Sink>(
     requires ready { IsReady (crew_in store.old tasks.old) }
     requires going { are_ended (threads_in store.old tasks.old) ≡ false }
     requires few { store.old.segments.made + most < 2 ^ 63 }
-    requires within { IsWithin log.old.entries log.old.trace }
+    requires within { CountsUpTo log.old.entries log.old.trace }
     requires room { log.old.entries + most < 2 ^ 63 }
-    ensures run { (rest : List ℕ) → Answers result.0 (run_entries (replicate most k ++ rest) (crew_in store.old tasks.old)) (ends (Results (results (threads_in store.new tasks.new))) (crew_in store.new tasks.new)) (run_entries rest (crew_in store.new tasks.new)) (crew_in store.new tasks.new) (I.left input.old) (I.left input.new) (O.held out.old) (O.held out.new) log.old log.new }
+    ensures run { (rest : List ℕ) → HaltsBy result.0 (run_entries (replicate most k ++ rest) (crew_in store.old tasks.old)) (ends (Results (results (threads_in store.new tasks.new))) (crew_in store.new tasks.new)) (run_entries rest (crew_in store.new tasks.new)) (crew_in store.new tasks.new) (I.left input.old) (I.left input.new) (O.held out.old) (O.held out.new) log.old log.new }
     ensures ready { IsWell result.0 → IsReady (crew_in store.new tasks.new) }
     ensures paused { result.0 ≡ Halt.Paused → (result.1 ≡ 0) × (are_ended (threads_in store.new tasks.new) ≡ false) }
     ensures outline { IsWell result.0 → outline_of store.new ≡ outline_of store.old }
     ensures others { IsWell result.0 → (h : Handle) → IsFit store.old.segments h → IsFit store.new.segments h }
     ensures made { IsWell result.0 → store.new.segments.made + result.1 ≤ store.old.segments.made + most }
     ensures entries { IsWell result.0 → log.new.entries + result.1 ≡ log.old.entries + most }
-    ensures within { IsWell result.0 → IsWithin log.new.entries log.new.trace }
+    ensures within { IsWell result.0 → CountsUpTo log.new.entries log.new.trace }
     ensures input_faults { CountsInput result.0 (I.faults input.old) (I.faults input.new) }
     ensures out_faults { CountsOut result.0 (O.faults out.old) (O.faults out.new) }
 {

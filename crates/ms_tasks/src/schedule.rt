@@ -1,10 +1,10 @@
 //! Which task each step is given to.
 
 ghost use Rattle.std.specs.Prelude.{◌≡◌, ℕ, ◌≤◌, length};
-ghost use Rattle.ms_tasks.specs.Schedules.{entries_of};
+ghost use Rattle.ms_tasks.specs.refinement.Schedules.{entries_of};
 
 /// A schedule: entry by entry the number of a task, whose step comes next.
-#[derive(Debug, Drop)]
+#[derive(Drop)]
 pub enum Schedule {
     /// So many entries for each task, one task after the other: at least 1.
     Turns(u32),

@@ -6,10 +6,10 @@ ghost use Rattle.ms_segment.specs.Memory.{IsFit};
 ghost use Rattle.ms_machine.specs.Crews.{OutOfBudget, ahead, ends, run_entries};
 ghost use Rattle.ms_machine.specs.Typing.{outline_of};
 ghost use Rattle.ms_task.specs.Thread.{Thread};
-ghost use Rattle.ms_tasks.specs.Logs.{IsWithin};
-ghost use Rattle.ms_tasks.specs.Parts.{Answers, CountsInput, CountsOut, IsWell};
-ghost use Rattle.ms_tasks.specs.Ready.{IsReady};
-ghost use Rattle.ms_tasks.specs.Rows.{begun_with, chain_in, threads_in};
+ghost use Rattle.ms_tasks.specs.refinement.Logs.{CountsUpTo};
+ghost use Rattle.ms_tasks.specs.refinement.Parts.{HaltsBy, CountsInput, CountsOut, IsWell};
+ghost use Rattle.ms_tasks.specs.refinement.Ready.{IsReady};
+ghost use Rattle.ms_tasks.specs.refinement.Rows.{begun_with, chain_in, threads_in};
 
 use crate::burst::{Halt, burst};
 use crate::log::Log;
@@ -30,9 +30,9 @@ pub(crate) fn run_chain<G: Gaps, T: Tagged, I: Source, O: Sink>(
 ) -> (Halt, u64)
     requires ready { IsReady (chain_in store.old chain.old []) }
     requires few { store.old.segments.made + most < 2 ^ 63 }
-    requires within { IsWithin log.old.entries log.old.trace }
+    requires within { CountsUpTo log.old.entries log.old.trace }
     requires room { log.old.entries + most < 2 ^ 63 }
-    ensures run { (entries : List ℕ) (tasks : List Thread) → length entries ≡ most → Answers result.0 (run_entries entries (begun_with store.old (threads_in store.old chain.old) tasks)) (run_entries (drop (most - result.1) entries) (begun_with store.new [] tasks)) (ends OutOfBudget (begun_with store.new (threads_in store.new chain.new) tasks)) (begun_with store.new (threads_in store.new chain.new) tasks) (I.left input.old) (I.left input.new) (O.held out.old) (O.held out.new) log.old log.new }
+    ensures run { (entries : List ℕ) (tasks : List Thread) → length entries ≡ most → HaltsBy result.0 (run_entries entries (begun_with store.old (threads_in store.old chain.old) tasks)) (run_entries (drop (most - result.1) entries) (begun_with store.new [] tasks)) (ends OutOfBudget (begun_with store.new (threads_in store.new chain.new) tasks)) (begun_with store.new (threads_in store.new chain.new) tasks) (I.left input.old) (I.left input.new) (O.held out.old) (O.held out.new) log.old log.new }
     ensures left { result.1 ≤ most }
     ensures ended { result.0 ≡ Halt.Ended → ahead (threads_in store.new chain.new) ≡ [] }
     ensures ready { IsWell result.0 → IsReady (chain_in store.new chain.new []) }
@@ -40,7 +40,7 @@ pub(crate) fn run_chain<G: Gaps, T: Tagged, I: Source, O: Sink>(
     ensures others { IsWell result.0 → (h : Handle) → IsFit store.old.segments h → IsFit store.new.segments h }
     ensures made { IsWell result.0 → store.new.segments.made + result.1 ≤ store.old.segments.made + most }
     ensures entries { IsWell result.0 → log.new.entries + result.1 ≡ log.old.entries + most }
-    ensures within { IsWell result.0 → IsWithin log.new.entries log.new.trace }
+    ensures within { IsWell result.0 → CountsUpTo log.new.entries log.new.trace }
     ensures input_faults { CountsInput result.0 (I.faults input.old) (I.faults input.new) }
     ensures out_faults { CountsOut result.0 (O.faults out.old) (O.faults out.new) }
 {

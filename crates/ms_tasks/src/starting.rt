@@ -5,8 +5,8 @@ ghost use Rattle.ms_machine.specs.Linked.{StartTyped, StartsTyped, start_chain, 
 ghost use Rattle.ms_machine.specs.Running.{func_thread};
 ghost use Rattle.ms_machine.specs.Typing.{StoreTyped, outline_of};
 ghost use Rattle.ms_machine.specs.declared.store.Instance.{Instance as InstanceView};
-ghost use Rattle.ms_tasks.specs.Making.{IsStartOf, Refuses};
-ghost use Rattle.ms_tasks.specs.Rows.{threads_in};
+ghost use Rattle.ms_tasks.specs.refinement.Making.{IsStartOf, Refuses};
+ghost use Rattle.ms_tasks.specs.refinement.Rows.{threads_in};
 ghost use Rattle.ms_tasks.specs.Tasks.{threads_from};
 
 use crate::finding::task_address;

@@ -16,11 +16,11 @@ use Rattle.ms_text_grammar.specs.declared.frame.Sign.TheVariants as sign
 use Rattle.ms_text_grammar.specs.declared.surface.Body.{Body}
 use Rattle.ms_text_grammar.specs.declared.surface.Op.{Op}
 use Rattle.ms_text_grammar.specs.declared.surface.Op.TheVariants as op
-use Rattle.ms_text_grammar.specs.Balance.{Balanced}
-use Rattle.ms_text_grammar.specs.Bodies.{body, body_goes, folded_body, inside_goes, turn}
+use Rattle.ms_text_grammar.specs.refinement.Balance.{Balanced}
+use Rattle.ms_text_grammar.specs.Bodies.{body, body_goes, folded_body, inside_goes, advance}
 use Rattle.ms_text_grammar.specs.Faults.{Textual}
 use Rattle.ms_text_grammar.specs.Tokens.{closes}
-use Rattle.ms_text_grammar.specs.Turns.{State, closed, condition, condition_on, else_arm, ended, first_state, flat_block, flat_else, flat_plain, folded, folded_block, folded_on, folded_plain, framed, given, instructions, marked, may_else, sign_of, turn_on}
+use Rattle.ms_text_grammar.specs.Advances.{State, closed, condition, condition_on, else_arm, ended, first_state, flat_block, flat_else, flat_plain, folded, folded_block, folded_on, folded_plain, framed, given, instructions, marked, may_else, sign_of, advance_on}
 
 -- the blocks that frames stand for
 abbrev open_in : List Frame → List Bool
@@ -128,33 +128,33 @@ module _ (source : List ℕ) (most : ℕ) where
   ended_agrees f fs ops may e b = adds (f ∷ fs) fs ops op.End b (λ os k. subst (λ (bs : List Bool). Balanced bs (op.End ∷ os)) (sym e) k)
 
   -- by the innermost frame of a state whose frames are these
-  turn_on_keeps : (st : State) (fs : List Frame) (x : Sign) → InStep st → Agrees fs st.ops → Keeps (turn_on source most st fs x)
-  unfolding turn_on
-  turn_on_keeps st [] x a b = instructions_keep st st x a a
-  turn_on_keeps st (Flat label may ∷ fs) sign.Ends a b = marked_keeps _ label (ended fs st) (ended_agrees (Flat label may) fs st.ops may refl b)
-  turn_on_keeps st (Flat label may ∷ fs) sign.Elses a b = flat_else_keeps label may fs st b
-  turn_on_keeps st (Flat label may ∷ fs) sign.Left a b = folded_keeps st a
-  turn_on_keeps st (Flat label may ∷ fs) (sign.Heads o) a b = flat_block_keeps st o a
-  turn_on_keeps st (Flat label may ∷ fs) sign.Right a b = flat_plain_keeps st a
-  turn_on_keeps st (Flat label may ∷ fs) sign.Thens a b = flat_plain_keeps st a
-  turn_on_keeps st (Flat label may ∷ fs) sign.Other a b = flat_plain_keeps st a
-  turn_on_keeps st (Folded ∷ fs) x a b = instructions_keep st (ended fs st) x a (ended_agrees Folded fs st.ops false refl b)
-  turn_on_keeps st (Arm ∷ fs) x a b = instructions_keep st (framed fs st) x a b
-  turn_on_keeps st (Operands p ∷ fs) sign.Left a b = folded_keeps st a
-  turn_on_keeps st (Operands p ∷ fs) _ a b = closed_keeps (given fs p st) (adds (Operands p ∷ fs) fs st.ops (op.Plain p) b (λ os k. k))
-  turn_on_keeps st (Condition label ty ∷ fs) sign.Left a b = condition_keeps label ty fs st a b
-  turn_on_keeps st (Condition label ty ∷ fs) _ a b = λ s next t h. absurd h
-  turn_on_keeps st (Then ∷ fs) sign.Left a b = else_arm_keeps fs st b
-  turn_on_keeps st (Then ∷ fs) _ a b = closed_keeps (ended fs st) (ended_agrees Then fs st.ops true refl b)
-  turn_on_keeps st (Other ∷ fs) _ a b = closed_keeps (ended fs st) (ended_agrees Other fs st.ops false refl b)
+  advance_on_keeps : (st : State) (fs : List Frame) (x : Sign) → InStep st → Agrees fs st.ops → Keeps (advance_on source most st fs x)
+  unfolding advance_on
+  advance_on_keeps st [] x a b = instructions_keep st st x a a
+  advance_on_keeps st (Flat label may ∷ fs) sign.Ends a b = marked_keeps _ label (ended fs st) (ended_agrees (Flat label may) fs st.ops may refl b)
+  advance_on_keeps st (Flat label may ∷ fs) sign.Elses a b = flat_else_keeps label may fs st b
+  advance_on_keeps st (Flat label may ∷ fs) sign.Left a b = folded_keeps st a
+  advance_on_keeps st (Flat label may ∷ fs) (sign.Heads o) a b = flat_block_keeps st o a
+  advance_on_keeps st (Flat label may ∷ fs) sign.Right a b = flat_plain_keeps st a
+  advance_on_keeps st (Flat label may ∷ fs) sign.Thens a b = flat_plain_keeps st a
+  advance_on_keeps st (Flat label may ∷ fs) sign.Other a b = flat_plain_keeps st a
+  advance_on_keeps st (Folded ∷ fs) x a b = instructions_keep st (ended fs st) x a (ended_agrees Folded fs st.ops false refl b)
+  advance_on_keeps st (Arm ∷ fs) x a b = instructions_keep st (framed fs st) x a b
+  advance_on_keeps st (Operands p ∷ fs) sign.Left a b = folded_keeps st a
+  advance_on_keeps st (Operands p ∷ fs) _ a b = closed_keeps (given fs p st) (adds (Operands p ∷ fs) fs st.ops (op.Plain p) b (λ os k. k))
+  advance_on_keeps st (Condition label ty ∷ fs) sign.Left a b = condition_keeps label ty fs st a b
+  advance_on_keeps st (Condition label ty ∷ fs) _ a b = λ s next t h. absurd h
+  advance_on_keeps st (Then ∷ fs) sign.Left a b = else_arm_keeps fs st b
+  advance_on_keeps st (Then ∷ fs) _ a b = closed_keeps (ended fs st) (ended_agrees Then fs st.ops true refl b)
+  advance_on_keeps st (Other ∷ fs) _ a b = closed_keeps (ended fs st) (ended_agrees Other fs st.ops false refl b)
 
-  turn_keeps : (st : State) → InStep st → Keeps (turn source most st)
-  unfolding turn
-  turn_keeps st a s next t h = turn_on_keeps st st.frames (sign_of source s) a a s next t h
+  advance_keeps : (st : State) → InStep st → Keeps (advance source most st)
+  unfolding advance
+  advance_keeps st a s next t h = advance_on_keeps st st.frames (sign_of source s) a a s next t h
 
-  turns_keep : (going : State → List Token → Bool) {st last : State} {s u : List Token} → Runs {F = TextFault} going (turn source most) st s last u → InStep st → InStep last
-  turns_keep going (rests h) a = a
-  turns_keep going (goes {st = st} {s = s} {t = t} next g h more) a = turns_keep going more (turn_keeps st a s next t h)
+  advances_keep : (going : State → List Token → Bool) {st last : State} {s u : List Token} → Runs {F = TextFault} going (advance source most) st s last u → InStep st → InStep last
+  advances_keep going (rests h) a = a
+  advances_keep going (goes {st = st} {s = s} {t = t} next g h more) a = advances_keep going more (advance_keeps st a s next t h)
 
   not_none : (n : ℕ) → (suc n == 0) ≡ false
   not_none n = grind (arith, nat_tests)
@@ -177,13 +177,13 @@ module _ (source : List ℕ) (most : ℕ) where
   unfolding body
   body_balanced s b t h =
       let last = h.0 in
-      let in_step = turns_keep (body_goes source most) h.2 (λ os k. k) in
-      subst (λ (x : Body). Balanced [] x.ops) (sym h.3.0) (complete last in_step (no_frames last.frames (closes h.1) (run_last {F = TextFault} (body_goes source most) (turn source most) h.2)))
+      let in_step = advances_keep (body_goes source most) h.2 (λ os k. k) in
+      subst (λ (x : Body). Balanced [] x.ops) (sym h.3.0) (complete last in_step (no_frames last.frames (closes h.1) (run_last {F = TextFault} (body_goes source most) (advance source most) h.2)))
 
   pub folded_balanced : (s : List Token) (b : Body) (t : List Token) → (folded_body source most).spelled s b t → Balanced [] b.ops
   unfolding folded_body
   folded_balanced s b t h =
       let first = h.0 in
       let last = h.3.0 in
-      let in_step = turns_keep (inside_goes source most) h.3.2 (folded_keeps first_state (λ os k. k) s first h.1 h.2) in
-      subst (λ (x : Body). Balanced [] x.ops) (sym h.3.3.0) (complete last in_step (none_open last.frames (run_last {F = TextFault} (inside_goes source most) (turn source most) h.3.2)))
+      let in_step = advances_keep (inside_goes source most) h.3.2 (folded_keeps first_state (λ os k. k) s first h.1 h.2) in
+      subst (λ (x : Body). Balanced [] x.ops) (sym h.3.3.0) (complete last in_step (none_open last.frames (run_last {F = TextFault} (inside_goes source most) (advance source most) h.3.2)))

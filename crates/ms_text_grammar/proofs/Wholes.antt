@@ -10,7 +10,7 @@ use Rattle.ms_text_grammar.specs.declared.surface.Field.{Field}
 use Rattle.ms_text_grammar.specs.declared.surface.ImportNames.{ImportNames}
 use Rattle.ms_text_grammar.specs.declared.word.Word.{Word}
 use Rattle.ms_text_grammar.specs.declared.word.Word.TheVariants as word
-use Rattle.ms_text_grammar.specs.Balance.{AreWhole, FieldIsWhole, IsWhole, ItemIsWhole}
+use Rattle.ms_text_grammar.specs.refinement.Balance.{AreWhole, FieldIsWhole, IsWhole, ItemIsWhole}
 use Rattle.ms_text_grammar.specs.Bounds.{Bounds, usual}
 use Rattle.ms_text_grammar.specs.Tokens.{begins, is_word, next}
 use Rattle.ms_text_grammar.specs.Keywords.{spelling}

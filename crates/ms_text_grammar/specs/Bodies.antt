@@ -11,40 +11,40 @@ use Rattle.ms_text_grammar.specs.declared.fault.TextFault.{TextFault}
 use Rattle.ms_text_grammar.specs.declared.surface.Body.{Body}
 use Rattle.ms_text_grammar.specs.Tokens.{closes}
 use Rattle.ms_text_grammar.specs.Faults.{Textual, bad}
-use Rattle.ms_text_grammar.specs.Turns.{State, first_state, folded, sign_of, turn_on}
-use Rattle.ms_text_grammar.specs.TurnLaws.{turn_on_least}
+use Rattle.ms_text_grammar.specs.Advances.{State, first_state, folded, sign_of, advance_on}
+use Rattle.ms_text_grammar.specs.AdvanceLaws.{advance_on_least}
 
 abbrev pub body_of : State → Body
 body_of st = record { uses = st.uses; ops = st.ops }
 
 module _ (source : List ℕ) (most : ℕ) where
-  unfoldable pub turn : State → Textual State
-  turn st = choose_least 1 (sign_of source) (turn_on source most st st.frames) (turn_on_least source most st st.frames)
+  unfoldable pub advance : State → Textual State
+  advance st = choose_least 1 (sign_of source) (advance_on source most st st.frames) (advance_on_least source most st st.frames)
 
   -- up to the parenthesis that closes what the body is in
   abbrev pub body_goes : State → List Token → Bool
   body_goes st s = not ((length st.frames == 0) && closes s)
 
-  pub turn_takes : TakesItem {F = TextFault} body_goes turn
-  unfolding turn
-  turn_takes = takes_least body_goes turn (λ st. omega arith)
+  pub advance_takes : TakesItem {F = TextFault} body_goes advance
+  unfolding advance
+  advance_takes = takes_least body_goes advance (λ st. omega arith)
 
   unfoldable pub body : Textual Body
   body = do
-    last ← run (bad source) body_goes turn turn_takes first_state
+    last ← run (bad source) body_goes advance advance_takes first_state
     pure (body_of last)
 
   -- while frames are open
   abbrev pub inside_goes : State → List Token → Bool
   inside_goes st s = not (length st.frames == 0)
 
-  pub inside_takes : TakesItem {F = TextFault} inside_goes turn
-  unfolding turn
-  inside_takes = takes_least inside_goes turn (λ st. omega arith)
+  pub inside_takes : TakesItem {F = TextFault} inside_goes advance
+  unfolding advance
+  inside_takes = takes_least inside_goes advance (λ st. omega arith)
 
   -- one folded instruction
   unfoldable pub folded_body : Textual Body
   folded_body = do
     first ← folded source most first_state
-    last ← run (bad source) inside_goes turn inside_takes first
+    last ← run (bad source) inside_goes advance inside_takes first
     pure (body_of last)

@@ -17,7 +17,8 @@ use Rattle.ms_text_grammar.specs.Types.{type_field, type_use}
 use Rattle.ms_text_grammar.specs.Bounds.{usual}
 use Rattle.ms_text_grammar.specs.Fields.{file}
 use Rattle.ms_text_grammar.specs.Shapes.{field_type, is_written, same_shape, use_type}
-use Rattle.ms_text_grammar.specs.Elaborating.{found, type_ids}
+use Rattle.ms_text_grammar.specs.Identifiers.{found}
+use Rattle.ms_text_grammar.specs.FieldKinds.{type_ids}
 
 -- ---- parentheses
 

@@ -6,7 +6,7 @@ use ms_text_lex::Token;
 use ms_types::ValType;
 
 /// What is open in a body (WebAssembly 1.0, 6.5.2 and 6.5.7).
-#[derive(Debug, Drop)]
+#[derive(Drop)]
 pub enum Frame {
     /// A block up to its `end`, in which an `else` may still come.
     Flat {
@@ -31,7 +31,7 @@ pub enum Frame {
 }
 
 /// What stands in front in a body.
-#[derive(Clone, Copy, Debug, PartialEq, Eq)]
+#[derive(Clone, Copy, PartialEq, Eq)]
 pub enum Sign {
     /// An opening parenthesis.
     Left,
@@ -50,7 +50,7 @@ pub enum Sign {
 }
 
 /// An instruction that is no block, as it was read.
-#[derive(Debug, Drop)]
+#[derive(Drop)]
 pub enum Fresh {
     /// One that is complete.
     Plain(Plain),

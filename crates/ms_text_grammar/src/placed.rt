@@ -3,7 +3,7 @@
 use crate::surface::TypeUse;
 
 /// A type use, and the place of its `(type`.
-#[derive(Debug, Drop)]
+#[derive(Drop)]
 pub struct Placed {
     pub at: usize,
     pub sig: TypeUse,

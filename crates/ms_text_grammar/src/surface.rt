@@ -8,21 +8,21 @@ use ms_text_lex::Token;
 use ms_types::{GlobalType, Limits, ValType, Vector};
 
 /// A number, or an identifier that stands for one (6.3.5, 6.6.1).
-#[derive(Clone, Copy, Debug)]
+#[derive(Clone, Copy)]
 pub enum Index {
     Number(u32),
     Name(Token),
 }
 
 /// A parameter or a local, with its identifier if it has one (6.4.3, 6.6.5).
-#[derive(Clone, Copy, Debug)]
+#[derive(Clone, Copy)]
 pub struct Param {
     pub id: Option<Token>,
     pub ty: ValType,
 }
 
 /// A type use: the type that it names, and the parameters and results that it writes (6.6.3).
-#[derive(Debug, Drop)]
+#[derive(Drop)]
 pub struct TypeUse {
     pub sig: Option<Index>,
     pub params: Vector<Param>,
@@ -30,7 +30,7 @@ pub struct TypeUse {
 }
 
 /// An instruction that is no block (6.5.2 to 6.5.6).
-#[derive(Debug, Drop)]
+#[derive(Drop)]
 pub enum Plain {
     /// One as it stands in the module; where an identifier stands for its index, that is 0.
     Instr { instr: Instr, id: Option<Token> },
@@ -41,7 +41,7 @@ pub enum Plain {
 }
 
 /// A step of a body: instructions in their flat order (6.5.2, 6.5.7).
-#[derive(Debug, Drop)]
+#[derive(Drop)]
 pub enum Op {
     Plain(Plain),
     Begin {
@@ -55,14 +55,14 @@ pub enum Op {
 
 /// Instructions in their flat order, and the type uses of its `call_indirect`s in the order of the text, by number. These have
 /// no identifiers of parameters.
-#[derive(Debug, Drop)]
+#[derive(Drop)]
 pub struct Body {
     pub uses: Vector<TypeUse>,
     pub ops: Vector<Op>,
 }
 
 /// A type field (6.6.2).
-#[derive(Debug, Drop)]
+#[derive(Drop)]
 pub struct TypeField {
     pub id: Option<Token>,
     pub params: Vector<Param>,
@@ -70,14 +70,14 @@ pub struct TypeField {
 }
 
 /// The two names of an import (6.6.4), as string tokens.
-#[derive(Clone, Copy, Debug)]
+#[derive(Clone, Copy)]
 pub struct ImportNames {
     pub module: Token,
     pub name: Token,
 }
 
 /// The kinds of what is imported, defined and exported.
-#[derive(Clone, Copy, Debug, PartialEq, Eq)]
+#[derive(Clone, Copy, PartialEq, Eq)]
 pub enum ExternKind {
     Func,
     Table,
@@ -86,7 +86,7 @@ pub enum ExternKind {
 }
 
 /// What an entry is (6.6.5 to 6.6.8). An imported one has no locals and no instructions.
-#[derive(Debug, Drop)]
+#[derive(Drop)]
 pub enum Item {
     Func {
         sig: TypeUse,
@@ -107,7 +107,7 @@ pub enum Item {
 
 /// A function, a table, a memory or a global, imported or defined. An import field is one, and so is a field with an
 /// inline import (6.6.4 to 6.6.8).
-#[derive(Debug, Drop)]
+#[derive(Drop)]
 pub struct Entry {
     pub id: Option<Token>,
     /// The names of its inline exports, in their order.
@@ -117,7 +117,7 @@ pub struct Entry {
 }
 
 /// A field of a module (6.6).
-#[derive(Debug, Drop)]
+#[derive(Drop)]
 pub enum Field {
     Type(TypeField),
     Entry(Entry),

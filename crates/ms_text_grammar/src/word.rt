@@ -5,7 +5,7 @@ ghost use Rattle.ms_text_grammar.specs.Keywords.{spelling};
 
 /// The keywords that belong to no instruction and are no value type (WebAssembly 1.0, chapter 6), and the two kinds of
 /// segments.
-#[derive(Clone, Copy, Debug, PartialEq, Eq)]
+#[derive(Clone, Copy, PartialEq, Eq)]
 pub enum Word {
     Module,
     Type,

@@ -28,9 +28,9 @@ Reads old new (Ok x) read = (read ≡ Ok (x, new.left)) × (new.end ≡ old.end)
 Reads old new (Err e) read = FailsBy (fault_of e) read
 
 -- the same where the answer is what a state has become
-abbrev pub Turns : {S : Type 0} → S → Spot → Spot → Result (Unit {0}) LexFault → Result (S × List ℕ) Fault → Type 0
-Turns after old new (Ok x) read = (read ≡ Ok (after, new.left)) × (new.end ≡ old.end)
-Turns after old new (Err e) read = FailsBy (fault_of e) read
+abbrev pub StepsTo : {S : Type 0} → S → Spot → Spot → Result (Unit {0}) LexFault → Result (S × List ℕ) Fault → Type 0
+StepsTo after old new (Ok x) read = (read ≡ Ok (after, new.left)) × (new.end ≡ old.end)
+StepsTo after old new (Err e) read = FailsBy (fault_of e) read
 
 -- a fault inside of what begins in front of s stands where it begins
 abbrev pub inside_of : ℕ → List ℕ → Option Fault → Option Fault

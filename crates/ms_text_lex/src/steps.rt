@@ -6,7 +6,7 @@ ghost use Rattle.ms_bytes.specs.Items.{item_at};
 ghost use Rattle.ms_bytes.specs.Runs.{run_at};
 ghost use Rattle.ms_bytes.specs.Texts.{text_before};
 ghost use Rattle.ms_text_lex.specs.Fault.{Fault, any, broken, char_here, this};
-ghost use Rattle.ms_text_lex.specs.Readers.{Reads, Turns, fault_of};
+ghost use Rattle.ms_text_lex.specs.Readers.{Reads, StepsTo, fault_of};
 
 use crate::fault::LexFault;
 use ms_bytes::Cursor;
@@ -27,7 +27,7 @@ pub trait Steps: Sized + Drop {
     /// Takes a step.
     fn step(&mut self, c: &mut Cursor) -> Result<(), LexFault>
         requires { fits self.old c.old.left }
-        ensures turns { Turns self.new c.old c.new result ((step c.old.end self.old).read c.old.end c.old.left) }
+        ensures turns { StepsTo self.new c.old c.new result ((step c.old.end self.old).read c.old.end c.old.left) }
         ensures fits { IfOk result (λ _. fits self.new c.new.left) };
 }
 

@@ -7,7 +7,7 @@ use Rattle.ms_bytes.specs.RunLaws.{run_ends, run_is_step, run_on, run_over}
 use Rattle.ms_text_lex.specs.declared.token.Token.{Token}
 use Rattle.ms_text_grammar.specs.declared.fault.TextFault.{TextFault}
 use Rattle.ms_text_grammar.specs.Faults.{bad}
-use Rattle.ms_text_parts.specs.Readers.{FailsBy}
+use Rattle.ms_text_parts.specs.refinement.Readers.{FailsBy}
 
 -- what fails in its first step fails
 pub fails_first : {A B : Type 0} (o : Option TextFault) (first : Result A TextFault) (next : A → Result B TextFault) → FailsBy o first → FailsBy o (first >>= next)

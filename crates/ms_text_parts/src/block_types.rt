@@ -2,11 +2,12 @@
 
 ghost use Rattle.std.specs.Prelude.{◌≡◌, length, Option};
 ghost use Rattle.ms_text_grammar.specs.declared.word.Word.TheVariants as word;
-ghost use Rattle.ms_text_grammar.specs.Parts.{group, group_goes, list_goes};
+ghost use Rattle.ms_text_grammar.specs.Parts.{list_goes};
 ghost use Rattle.ms_text_grammar.specs.Types.{block_result, block_results, block_type};
-ghost use Rattle.ms_text_parts.specs.Readers.{Reads};
+ghost use Rattle.ms_text_parts.specs.refinement.Readers.{Reads};
 
-use crate::parts::{closing, next_begins, next_closes, opening, the};
+use crate::groups::{Grouped, take_groups};
+use crate::parts::next_closes;
 use crate::steps::{Steps, run};
 use crate::types::value_type;
 use crate::words::{Words, bad};
@@ -59,11 +60,11 @@ fn block_results(ty: Option<ValType>, c: &mut Words) -> Result<Option<ValType>, 
 
 /// The groups of a block type.
 #[derive(Drop)]
-struct Groups {
+struct ResultType {
     ty: Option<ValType>,
 }
 
-impl Model for Groups {
+impl Model for ResultType {
     ghost use Rattle.std.specs.Prelude.{Option};
     ghost use Rattle.ms_types.specs.declared.types.ValType.{ValType};
 
@@ -72,30 +73,26 @@ impl Model for Groups {
     ghost view = { λ g. g.ty };
 }
 
-impl Steps for Groups {
-    ghost going = { λ source ty s. group_goes source word.Result (block_results source) ty s };
+impl Grouped for ResultType {
+    ghost word = { word.Result };
 
-    ghost step = { λ source ty. group source word.Result (block_results source) ty };
+    ghost inside = { block_results };
 
-    fn goes(&self, c: &Words) -> bool {
-        next_begins(Word::Result, c)
+    fn word(&self) -> Word {
+        Word::Result
     }
 
-    #[tactic(auto, unfolding(ms_text_grammar::specs::Parts::group))]
-    fn step(self, c: &mut Words) -> Result<Self, TextFault> {
-        opening(c)?;
-        the(Word::Result, c)?;
+    fn inside(self, c: &mut Words) -> Result<Self, TextFault> {
         let ty = block_results(self.ty, c)?;
-        closing(c)?;
-        Ok(Groups { ty })
+        Ok(ResultType { ty })
     }
 }
 
 /// Takes a block type: one type at most, in any number of groups of results.
-#[tactic(auto, unfolding(ms_text_grammar::specs::Types::block_type, ms_text_grammar::specs::Parts::groups))]
+#[tactic(auto, unfolding(ms_text_grammar::specs::Types::block_type))]
 pub fn block_type(c: &mut Words) -> Result<Option<ValType>, TextFault>
     ensures { Reads c.old c.new result ((block_type c.old.source).read (length c.old.source) c.old.left) }
 {
-    let Groups { ty } = run(Groups { ty: None }, c)?;
+    let ResultType { ty } = take_groups(ResultType { ty: None }, c)?;
     Ok(ty)
 }

@@ -5,6 +5,7 @@
 #![tactic(auto)]
 
 mod block_types;
+mod groups;
 mod locals;
 mod numbers;
 mod parts;

@@ -3,11 +3,12 @@
 ghost use Rattle.std.specs.Prelude.{◌≡◌, ◌++◌, length, List, Option};
 ghost use Rattle.ms_text_grammar.specs.Bounds.{usual};
 ghost use Rattle.ms_text_grammar.specs.declared.word.Word.TheVariants as word;
-ghost use Rattle.ms_text_grammar.specs.Parts.{group, group_goes, list_goes};
+ghost use Rattle.ms_text_grammar.specs.Parts.{list_goes};
 ghost use Rattle.ms_text_grammar.specs.Types.{local_type, locals, locals_by, locals_inside, next_local};
-ghost use Rattle.ms_text_parts.specs.Readers.{Reads};
+ghost use Rattle.ms_text_parts.specs.refinement.Readers.{Reads};
 
-use crate::parts::{closing, next_begins, next_closes, opening, optional_id, the};
+use crate::groups::{Grouped, take_groups};
+use crate::parts::{next_closes, optional_id};
 use crate::steps::{Steps, run};
 use crate::types::type_of;
 use crate::words::{Words, bad};
@@ -120,34 +121,29 @@ impl Model for LocalGroups {
     ghost view = { λ l. l.locals };
 }
 
-impl Steps for LocalGroups {
-    ghost going = { λ source ls s. group_goes source word.Local (locals_inside source usual.locals) ls s };
+impl Grouped for LocalGroups {
+    ghost word = { word.Local };
 
-    ghost step = { λ source ls. group source word.Local (locals_inside source usual.locals) ls };
+    ghost inside = { λ source ls. locals_inside source usual.locals ls };
 
-    fn goes(&self, c: &Words) -> bool {
-        next_begins(Word::Local, c)
+    fn word(&self) -> Word {
+        Word::Local
     }
 
-    #[tactic(auto, unfolding(ms_text_grammar::specs::Parts::group))]
-    fn step(self, c: &mut Words) -> Result<Self, TextFault> {
-        let LocalGroups { locals } = self;
-        opening(c)?;
-        the(Word::Local, c)?;
-        let locals = locals_inside(locals, c)?;
-        closing(c)?;
+    fn inside(self, c: &mut Words) -> Result<Self, TextFault> {
+        let locals = locals_inside(self.locals, c)?;
         Ok(LocalGroups { locals })
     }
 }
 
 /// Takes groups of locals, as many as there are.
-#[tactic(auto, unfolding(ms_text_grammar::specs::Types::locals, ms_text_grammar::specs::Parts::groups))]
+#[tactic(auto, unfolding(ms_text_grammar::specs::Types::locals))]
 pub fn all_locals(alloc: Global, c: &mut Words) -> Result<Vector<Param>, TextFault>
     ensures { Reads c.old c.new result ((locals c.old.source usual.locals).read (length c.old.source) c.old.left) }
 {
     let first = LocalGroups {
         locals: Vector::new(alloc),
     };
-    let LocalGroups { locals } = run(first, c)?;
+    let LocalGroups { locals } = take_groups(first, c)?;
     Ok(locals)
 }

@@ -6,7 +6,7 @@ ghost use Rattle.ms_text_lex.specs.Numbers.{constant_of, index_of};
 ghost use Rattle.ms_text_grammar.specs.Keywords.{align_is, offset_is};
 ghost use Rattle.ms_text_grammar.specs.Tokens.{begins_index, next};
 ghost use Rattle.ms_text_grammar.specs.Numbers.{align, behind, constant, exponent_in, index, is_front, is_numbered, is_plain_number, mem_arg, number, offset, optional_index, power_from};
-ghost use Rattle.ms_text_parts.specs.Readers.{Reads};
+ghost use Rattle.ms_text_parts.specs.refinement.Readers.{Reads};
 
 use crate::parts::{identifier, next_is_id};
 use crate::words::{Words, bad, is_id, is_keyword, is_number};

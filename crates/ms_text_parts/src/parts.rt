@@ -5,7 +5,7 @@ ghost use Rattle.std.specs.Str.{is_utf8};
 ghost use Rattle.ms_text_lex.specs.Values.{value_of};
 ghost use Rattle.ms_text_grammar.specs.Tokens.{begins, begins_id, closes, is_text, opens};
 ghost use Rattle.ms_text_grammar.specs.Parts.{closing, identifier, keyword, name, no_group, opening, optional_id, string, the};
-ghost use Rattle.ms_text_parts.specs.Readers.{Reads};
+ghost use Rattle.ms_text_parts.specs.refinement.Readers.{Reads};
 
 use crate::words::{Words, bad, is_close, is_id, is_open, is_text, is_word};
 use ms_names::utf8;

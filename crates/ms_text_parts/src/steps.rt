@@ -4,7 +4,7 @@ ghost use Rattle.std.specs.Prelude.{◌≡◌, ℕ, Bool, List, length};
 ghost use Rattle.ms_bytes.specs.Runs.{run_at};
 ghost use Rattle.ms_text_lex.specs.declared.token.Token.{Token};
 ghost use Rattle.ms_text_grammar.specs.Faults.{Textual, bad};
-ghost use Rattle.ms_text_parts.specs.Readers.{Reads};
+ghost use Rattle.ms_text_parts.specs.refinement.Readers.{Reads};
 
 use crate::words::{Words, bad};
 use ms_text_grammar::TextFault;

@@ -4,10 +4,11 @@ ghost use Rattle.std.specs.Prelude.{◌≡◌, ◌++◌, length, List, Option};
 ghost use Rattle.ms_module.specs.Instructions.{by_word, value_rows};
 ghost use Rattle.ms_text_grammar.specs.declared.word.Word.TheVariants as word;
 ghost use Rattle.ms_text_grammar.specs.Tokens.{is_number, next};
-ghost use Rattle.ms_text_grammar.specs.Parts.{group, group_goes, list_goes};
+ghost use Rattle.ms_text_grammar.specs.Parts.{list_goes};
 ghost use Rattle.ms_text_grammar.specs.Types.{global_type, limits, max_by, next_param, next_type, params, params_by, params_inside, results, table_type, type_field, type_of, type_ref, type_use, types, unnamed, unnamed_params, unnamed_use, value_type};
-ghost use Rattle.ms_text_parts.specs.Readers.{Reads};
+ghost use Rattle.ms_text_parts.specs.refinement.Readers.{Reads};
 
+use crate::groups::{Grouped, take_groups};
 use crate::numbers::{index, number};
 use crate::parts::{closing, next_begins, next_closes, no_group, opening, optional_id, the};
 use crate::steps::{Steps, run};
@@ -192,35 +193,30 @@ impl Model for ParamGroups {
     ghost view = { λ p. p.params };
 }
 
-impl Steps for ParamGroups {
-    ghost going = { λ source ps s. group_goes source word.Param (params_inside source) ps s };
+impl Grouped for ParamGroups {
+    ghost word = { word.Param };
 
-    ghost step = { λ source ps. group source word.Param (params_inside source) ps };
+    ghost inside = { params_inside };
 
-    fn goes(&self, c: &Words) -> bool {
-        next_begins(Word::Param, c)
+    fn word(&self) -> Word {
+        Word::Param
     }
 
-    #[tactic(auto, unfolding(ms_text_grammar::specs::Parts::group))]
-    fn step(self, c: &mut Words) -> Result<Self, TextFault> {
-        let ParamGroups { params } = self;
-        opening(c)?;
-        the(Word::Param, c)?;
-        let params = params_inside(params, c)?;
-        closing(c)?;
+    fn inside(self, c: &mut Words) -> Result<Self, TextFault> {
+        let params = params_inside(self.params, c)?;
         Ok(ParamGroups { params })
     }
 }
 
 /// Takes groups of parameters, as many as there are.
-#[tactic(auto, unfolding(ms_text_grammar::specs::Types::params, ms_text_grammar::specs::Parts::groups))]
+#[tactic(auto, unfolding(ms_text_grammar::specs::Types::params))]
 fn params(alloc: Global, c: &mut Words) -> Result<Vector<Param>, TextFault>
     ensures { Reads c.old c.new result ((params c.old.source).read (length c.old.source) c.old.left) }
 {
     let first = ParamGroups {
         params: Vector::new(alloc),
     };
-    let ParamGroups { params } = run(first, c)?;
+    let ParamGroups { params } = take_groups(first, c)?;
     Ok(params)
 }
 
@@ -239,35 +235,30 @@ impl Model for UnnamedGroups {
     ghost view = { λ p. p.params };
 }
 
-impl Steps for UnnamedGroups {
-    ghost going = { λ source ps s. group_goes source word.Param (unnamed source) ps s };
+impl Grouped for UnnamedGroups {
+    ghost word = { word.Param };
 
-    ghost step = { λ source ps. group source word.Param (unnamed source) ps };
+    ghost inside = { unnamed };
 
-    fn goes(&self, c: &Words) -> bool {
-        next_begins(Word::Param, c)
+    fn word(&self) -> Word {
+        Word::Param
     }
 
-    #[tactic(auto, unfolding(ms_text_grammar::specs::Parts::group))]
-    fn step(self, c: &mut Words) -> Result<Self, TextFault> {
-        let UnnamedGroups { params } = self;
-        opening(c)?;
-        the(Word::Param, c)?;
-        let params = unnamed(params, c)?;
-        closing(c)?;
+    fn inside(self, c: &mut Words) -> Result<Self, TextFault> {
+        let params = unnamed(self.params, c)?;
         Ok(UnnamedGroups { params })
     }
 }
 
 /// Takes groups of parameters without identifiers, as many as there are.
-#[tactic(auto, unfolding(ms_text_grammar::specs::Types::unnamed_params, ms_text_grammar::specs::Parts::groups))]
+#[tactic(auto, unfolding(ms_text_grammar::specs::Types::unnamed_params))]
 fn unnamed_params(alloc: Global, c: &mut Words) -> Result<Vector<Param>, TextFault>
     ensures { Reads c.old c.new result ((unnamed_params c.old.source).read (length c.old.source) c.old.left) }
 {
     let first = UnnamedGroups {
         params: Vector::new(alloc),
     };
-    let UnnamedGroups { params } = run(first, c)?;
+    let UnnamedGroups { params } = take_groups(first, c)?;
     Ok(params)
 }
 
@@ -286,35 +277,30 @@ impl Model for ResultGroups {
     ghost view = { λ r. r.types };
 }
 
-impl Steps for ResultGroups {
-    ghost going = { λ source tys s. group_goes source word.Result (types source) tys s };
+impl Grouped for ResultGroups {
+    ghost word = { word.Result };
 
-    ghost step = { λ source tys. group source word.Result (types source) tys };
+    ghost inside = { types };
 
-    fn goes(&self, c: &Words) -> bool {
-        next_begins(Word::Result, c)
+    fn word(&self) -> Word {
+        Word::Result
     }
 
-    #[tactic(auto, unfolding(ms_text_grammar::specs::Parts::group))]
-    fn step(self, c: &mut Words) -> Result<Self, TextFault> {
-        let ResultGroups { types: so_far } = self;
-        opening(c)?;
-        the(Word::Result, c)?;
-        let types = types(so_far, c)?;
-        closing(c)?;
+    fn inside(self, c: &mut Words) -> Result<Self, TextFault> {
+        let types = types(self.types, c)?;
         Ok(ResultGroups { types })
     }
 }
 
 /// Takes groups of results, as many as there are.
-#[tactic(auto, unfolding(ms_text_grammar::specs::Types::results, ms_text_grammar::specs::Parts::groups))]
+#[tactic(auto, unfolding(ms_text_grammar::specs::Types::results))]
 fn results(alloc: Global, c: &mut Words) -> Result<Vector<ValType>, TextFault>
     ensures { Reads c.old c.new result ((results c.old.source).read (length c.old.source) c.old.left) }
 {
     let first = ResultGroups {
         types: Vector::new(alloc),
     };
-    let ResultGroups { types } = run(first, c)?;
+    let ResultGroups { types } = take_groups(first, c)?;
     Ok(types)
 }
 

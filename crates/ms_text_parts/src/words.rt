@@ -5,7 +5,7 @@ ghost use Rattle.std.specs.Str.{bytes_eq};
 ghost use Rattle.ms_module.specs.Instructions.{begins_with, has_inside, is_float_word};
 ghost use Rattle.ms_text_grammar.specs.Faults.{bad, is_float, place_of};
 ghost use Rattle.ms_text_grammar.specs.Tokens.{is_close, is_id, is_keyword, is_number, is_open, is_text, is_word};
-ghost use Rattle.ms_text_parts.specs.Readers.{fault_of};
+ghost use Rattle.ms_text_parts.specs.refinement.Readers.{fault_of};
 
 use ms_text_grammar::TextFault;
 use ms_text_lex::{Kind, Token, text_of};

@@ -11,9 +11,10 @@ use denote.Ref.{Bor}
 use Rattle.ms_text_lex.specs.declared.token.Token.{Token}
 use Rattle.ms_text_lex.specs.Tokens.{text_of}
 use Rattle.ms_text_grammar.specs.declared.surface.TypeField.{TypeField}
-use Rattle.ms_text_grammar.specs.Elaborating.{found, is_named, type_ids}
+use Rattle.ms_text_grammar.specs.Identifiers.{found, is_named}
+use Rattle.ms_text_grammar.specs.FieldKinds.{type_ids}
 use Rattle.ms_text_grammar.specs.Faults.{kept}
-use Rattle.ms_text_read.specs.Names.{look, or_else}
+use Rattle.ms_text_read.specs.refinement.Names.{look, or_else}
 
 or_none : (o : Option ℕ) → o ≡ or_else o None
 or_none (Some n) = refl

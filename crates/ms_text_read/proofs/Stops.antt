@@ -9,8 +9,8 @@ use Rattle.ms_text_grammar.proofs.Files.{file_ends, one_way}
 use Rattle.ms_text_grammar.specs.Bounds.{usual}
 use Rattle.ms_text_grammar.specs.Scans.{before, earlier, fault_in, first_stop, limit_at, mismatch, plain_stop, syntax_at, with_mismatch, too_deep}
 use Rattle.ms_text_grammar.specs.TextSpells.{FieldsSpelled}
-use Rattle.ms_text_parts.specs.Readers.{FailsBy, fault_of}
-use Rattle.ms_text_read.specs.Fields.{FoundBy}
+use Rattle.ms_text_parts.specs.refinement.Readers.{FailsBy, fault_of}
+use Rattle.ms_text_read.specs.refinement.Fields.{FoundBy}
 
 -- what is read is spelled
 pub all_spelled : (source : List ℕ) (tokens : List Token) (fields : List Field) (t : List Token) → (file source).read (length source) tokens ≡ Ok (fields, t)

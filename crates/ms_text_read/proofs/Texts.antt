@@ -15,9 +15,9 @@ use Rattle.ms_text_grammar.specs.Elaborating.{module_of}
 use Rattle.ms_text_grammar.specs.Scans.{first_stop}
 use Rattle.ms_text_grammar.specs.TextSpells.{FieldsSpelled, Stops, TextSpells, TextStop}
 use Rattle.ms_text_grammar.specs.TextSpells.TextStop.{lex, name, syntax}
-use Rattle.ms_text_read.specs.Fields.{IsFirstStop}
+use Rattle.ms_text_read.specs.refinement.Fields.{IsFirstStop}
 use Rattle.ms_text_read.proofs.Stops.{no_stop, one_answer}
-use Rattle.ms_text_resolve.specs.Answers.{Resolves}
+use Rattle.ms_text_resolve.specs.refinement.Answers.{Resolves}
 use Rattle.ms_text_read.specs.Answers.{Tells, lexing_fault, error_of}
 
 -- ---- one list of tokens, one list of fields

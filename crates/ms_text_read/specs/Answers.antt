@@ -25,6 +25,6 @@ abbrev pub Tells : List ℕ → TextFault → Type 0
 Tells bytes e = (e ≡ Memory) ⊎ ((why : TextStop) × (error_of why ≡ e) × Stops bytes why)
 
 -- the module that the text spells, or why it spells none
-abbrev pub Reads : List ℕ → Result Module TextFault → Type 0
-Reads bytes (Ok m) = TextSpells bytes m
-Reads bytes (Err e) = Tells bytes e
+abbrev pub ReadsText : List ℕ → Result Module TextFault → Type 0
+ReadsText bytes (Ok m) = TextSpells bytes m
+ReadsText bytes (Err e) = Tells bytes e

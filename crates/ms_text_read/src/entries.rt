@@ -8,10 +8,10 @@ ghost use Rattle.ms_text_grammar.specs.declared.word.Word.TheVariants as word;
 ghost use Rattle.ms_bytes.specs.Parts.{item};
 ghost use Rattle.ms_text_grammar.specs.Tokens.{is_word, next};
 ghost use Rattle.ms_text_grammar.specs.Entries.{content, definition, entry_field, extern_kind, import_field, import_names, import_word, imported, inline_import, kind_of, no_body};
-ghost use Rattle.ms_text_parts.specs.Readers.{Reads};
+ghost use Rattle.ms_text_parts.specs.refinement.Readers.{Reads};
 
 use crate::lists::{indices, inline_exports, strings};
-use ms_text_code::body;
+use ms_text_bodies::body;
 use ms_text_grammar::{Body, Entry, ExternKind, ImportNames, Item, TextFault, Word};
 use ms_text_lex::{Token, text_of};
 use ms_text_parts::{

@@ -7,8 +7,8 @@ ghost use Rattle.ms_text_grammar.specs.declared.fault.TextFault.{TextFault};
 ghost use Rattle.ms_text_grammar.specs.Bounds.{usual};
 ghost use Rattle.ms_text_grammar.specs.Scans.{earlier, first_stop, limit_at, mismatch, place, with_mismatch, too_deep, up_to};
 ghost use Rattle.ms_text_grammar.specs.TextSpells.{FieldsSpelled};
-ghost use Rattle.ms_text_parts.specs.Readers.{fault_of};
-ghost use Rattle.ms_text_read.specs.Fields.{Finds, FoundBy, IsFirstStop};
+ghost use Rattle.ms_text_parts.specs.refinement.Readers.{fault_of};
+ghost use Rattle.ms_text_read.specs.refinement.Fields.{Finds, FoundBy, IsFirstStop};
 
 use crate::file::whole_file;
 use crate::names::differing;

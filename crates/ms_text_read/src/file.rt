@@ -5,7 +5,7 @@ ghost use Rattle.ms_bytes.specs.Parts.{ended, item};
 ghost use Rattle.ms_text_grammar.specs.Bounds.{usual};
 ghost use Rattle.ms_text_grammar.specs.Faults.{bad};
 ghost use Rattle.ms_text_grammar.specs.Fields.{all_fields, among, behind_field, field_word, field_words, fields_go, file, is_definition, is_start, may_stand, next_field, with_field};
-ghost use Rattle.ms_text_parts.specs.Readers.{Reads};
+ghost use Rattle.ms_text_parts.specs.refinement.Readers.{Reads};
 
 use crate::entries::{entry_field, import_field};
 use crate::others::{data_field, element_field, export_field};

@@ -5,7 +5,7 @@ ghost use Rattle.ms_text_grammar.specs.Bounds.{usual};
 ghost use Rattle.ms_text_grammar.specs.declared.word.Word.TheVariants as word;
 ghost use Rattle.ms_text_grammar.specs.Entries.{indices, inline_exports, next_export, next_index, next_string, strings};
 ghost use Rattle.ms_text_grammar.specs.Parts.{group, group_goes, list_goes};
-ghost use Rattle.ms_text_parts.specs.Readers.{Reads};
+ghost use Rattle.ms_text_parts.specs.refinement.Readers.{Reads};
 
 use ms_text_grammar::{Index, TextFault, Word};
 use ms_text_lex::Token;

@@ -3,10 +3,11 @@
 ghost use Rattle.std.specs.Prelude.{◌≡◌, IfOk, OnOk, length};
 ghost use Rattle.ms_text_lex.specs.declared.token.Token.{Token};
 ghost use Rattle.ms_text_lex.specs.Tokens.{text_of};
-ghost use Rattle.ms_text_grammar.specs.Elaborating.{found, is_named, type_ids};
+ghost use Rattle.ms_text_grammar.specs.Identifiers.{found, is_named};
+ghost use Rattle.ms_text_grammar.specs.FieldKinds.{type_ids};
 ghost use Rattle.ms_text_grammar.specs.Faults.{kept};
 ghost use Rattle.ms_text_grammar.specs.Scans.{differing, field_at, index_in, is_other};
-ghost use Rattle.ms_text_read.specs.Names.{look, or_else};
+ghost use Rattle.ms_text_read.specs.refinement.Names.{look, or_else};
 
 use crate::compare::is_other;
 use ms_text_grammar::{Index, Placed, TypeField, TypeUse};

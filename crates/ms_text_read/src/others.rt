@@ -3,11 +3,11 @@
 ghost use Rattle.std.specs.Prelude.{◌≡◌, length};
 ghost use Rattle.ms_text_grammar.specs.Bounds.{usual};
 ghost use Rattle.ms_text_grammar.specs.Entries.{data_field, element_field, export_field, offset};
-ghost use Rattle.ms_text_parts.specs.Readers.{Reads};
+ghost use Rattle.ms_text_parts.specs.refinement.Readers.{Reads};
 
 use crate::entries::take_kind;
 use crate::lists::{indices, strings};
-use ms_text_code::{body, folded_body};
+use ms_text_bodies::{body, folded_body};
 use ms_text_grammar::{Body, Field, TextFault, Word};
 use ms_text_parts::{Words, closing, index, name, next_begins, opening, optional_index, the};
 use std::alloc::Global;

@@ -4,7 +4,7 @@ ghost use Rattle.std.specs.Prelude.{◌≡◌, ◌⊎◌, IfErr, IfOk, Ok, Err};
 ghost use Rattle.ms_module.specs.declared.module.Module.{Module};
 ghost use Rattle.ms_text_grammar.specs.declared.fault.TextFault.TheVariants.{Memory};
 ghost use Rattle.ms_text_grammar.specs.TextSpells.{Stops, TextSpells, TextStop};
-ghost use Rattle.ms_text_read.specs.Answers.{Reads, Tells, lexing_fault, error_of};
+ghost use Rattle.ms_text_read.specs.Answers.{ReadsText, Tells, lexing_fault, error_of};
 
 use crate::fields::fields;
 use ms_module::Module;
@@ -26,7 +26,7 @@ fn lexing_fault(fault: LexFault) -> TextFault
 
 /// Lexes the text, reads its fields, and replaces their identifiers.
 fn read_text(alloc: Global, source: &[u8]) -> Result<Module, TextFault>
-    ensures { Reads source.now result }
+    ensures { ReadsText source.now result }
 {
     let tokens = match lex(alloc, source) {
         Ok(tokens) => tokens,

@@ -2,3 +2,4 @@ pub mod Blocks
 pub mod Pages
 pub mod Parts
 pub mod Targets
+pub mod Wholes

@@ -10,10 +10,14 @@ use Rattle.ms_module.specs.declared.module.Export.{Export}
 use Rattle.ms_module.specs.declared.module.Element.{Element}
 use Rattle.ms_module.specs.declared.module.Fill.{Fill}
 use Rattle.ms_text_grammar.specs.declared.surface.Field.{Field}
-use Rattle.ms_text_grammar.specs.Elaborating.{With, defined, elements_from, entries_in, exports_from, fills_from, funcs_of, globals_of, imports_of, module_of, no_entries, repeated, scope_of, starts_in}
-use Rattle.ms_text_space.specs.Answers.{Adds}
-use Rattle.ms_text_space.specs.Settings.{Setting}
-use Rattle.ms_text_resolve.specs.Assembled.{parts_of}
+use Rattle.ms_text_grammar.specs.Identifiers.{With}
+use Rattle.ms_text_grammar.specs.FieldKinds.{entries_in, no_entries}
+use Rattle.ms_text_grammar.specs.TypeUses.{scope_of}
+use Rattle.ms_text_grammar.specs.ResolvedParts.{defined, elements_from, exports_from, fills_from, funcs_of, globals_of, imports_of, starts_in}
+use Rattle.ms_text_grammar.specs.Elaborating.{module_of, repeated}
+use Rattle.ms_text_names.specs.refinement.Answers.{Adds}
+use Rattle.ms_text_names.specs.refinement.Settings.{Setting}
+use Rattle.ms_text_resolve.specs.refinement.Assembled.{parts_of}
 
 chained : (old w v a b : List ℕ) → w ≡ old ++ a → v ≡ w ++ b → v ≡ old ++ (a ++ b)
 chained old w v a b e h = h ∙ ap (λ (x : List ℕ). x ++ b) e ∙ append_assoc old a b

@@ -1,6 +1,6 @@
 -- The labels of a table, of which the last is the default one.
 use Rattle.std.proofs.Common.{◌≡◌, ℕ, List, [], ◌∷◌, ◌++◌, refl}
-use Rattle.ms_text_grammar.specs.Elaborating.{targets, targets_of}
+use Rattle.ms_text_grammar.specs.ResolvedBodies.{targets, targets_of}
 
 targets_end : (l : ℕ) (ls : List ℕ) (d : ℕ) → targets l (ls ++ d ∷ []) ≡ record { labels = l ∷ ls; default = d }
 targets_end l [] d = refl

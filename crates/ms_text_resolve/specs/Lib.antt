@@ -1,3 +1,1 @@
-pub mod Answers
-pub mod Assembled
-pub mod Steps
+pub mod refinement

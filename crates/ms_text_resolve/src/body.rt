@@ -1,17 +1,19 @@
 //! Bodies: flat instructions to numbered sequences (WebAssembly 1.0, 6.5).
 
 ghost use Rattle.std.specs.Prelude.{◌≡◌, ◌<◌, ◌++◌, ◌∷◌, [], true, length, IfOk, OnOk};
-ghost use Rattle.ms_module.specs.Building.{may_turn};
-ghost use Rattle.ms_text_grammar.specs.Balance.{Balanced, IsWhole};
-ghost use Rattle.ms_text_grammar.specs.Elaborating.{built, code_of, each, instr_of, nothing_built, use_index, with_begin, with_else, with_end, with_instr, with_op};
-ghost use Rattle.ms_text_resolve.specs.Steps.{MayCome};
-ghost use Rattle.ms_text_space.specs.Answers.{Adds};
+ghost use Rattle.ms_module.specs.Building.{may_else};
+ghost use Rattle.ms_text_grammar.specs.refinement.Balance.{Balanced, IsWhole};
+ghost use Rattle.ms_text_grammar.specs.Identifiers.{each};
+ghost use Rattle.ms_text_grammar.specs.TypeUses.{use_index};
+ghost use Rattle.ms_text_grammar.specs.ResolvedBodies.{built, code_of, instr_of, nothing_built, with_begin, with_else, with_end, with_instr, with_op};
+ghost use Rattle.ms_text_resolve.specs.refinement.Steps.{MayCome};
+ghost use Rattle.ms_text_names.specs.refinement.Answers.{Adds};
 
 use crate::instrs::{Around, instr_of, is_plain};
 use ms_module::{Builder, Code, Opening};
 use ms_text_grammar::{Body, Op, Plain, TypeUse};
 use ms_text_lex::Token;
-use ms_text_space::{Context, LocalIds};
+use ms_text_names::{Context, LocalIds};
 use ms_types::{Stack, ValType};
 use std::alloc::{AllocError, Global};
 use std::marker::Model;
@@ -25,7 +27,7 @@ struct Making {
 }
 
 impl Model for Making {
-    ghost use Rattle.ms_text_grammar.specs.Elaborating.{Built};
+    ghost use Rattle.ms_text_grammar.specs.ResolvedBodies.{Built};
 
     ghost Value = { Built };
 
@@ -73,11 +75,11 @@ impl Making {
     }
 
     /// An `else`.
-    fn turn(&mut self)
-        requires { may_turn self.old.st.blocks ≡ true }
+    fn begin_else(&mut self)
+        requires { may_else self.old.st.blocks ≡ true }
         ensures { self.new ≡ with_else self.old }
     {
-        self.builder.turn();
+        self.builder.begin_else();
     }
 
     /// Ends the innermost block.
@@ -101,7 +103,7 @@ impl Making {
             Op::Plain(plain) => self.plain(alloc, around, plain),
             Op::Begin { opening, label, ty } => self.begin(*opening, *label, *ty),
             Op::Else => {
-                self.turn();
+                self.begin_else();
                 Ok(())
             }
             Op::End => self.end(),

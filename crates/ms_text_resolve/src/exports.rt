@@ -1,14 +1,17 @@
 //! Exports and the start function (WebAssembly 1.0, 6.6.9 and 6.6.10), exports of entries at their places.
 
 ghost use Rattle.std.specs.Prelude.{◌≡◌, ◌++◌, IfOk, OnOk};
-ghost use Rattle.ms_text_grammar.specs.Elaborating.{export_desc, export_of, exports_from, inline_exports, no_entries, starts_in};
-ghost use Rattle.ms_text_space.specs.Answers.{Adds};
+ghost use Rattle.ms_text_grammar.specs.FieldKinds.{no_entries};
+ghost use Rattle.ms_text_grammar.specs.ResolvedParts.{export_desc, export_of, exports_from, inline_exports, starts_in};
+ghost use Rattle.ms_text_names.specs.refinement.Answers.{Adds};
+ghost use Rattle.ms_text_resolve.specs.refinement.Gathered.{onto};
 
+use crate::gather::{Part, gathered};
 use crate::texts::name_of;
 use ms_module::{Export, ExportDesc};
 use ms_text_grammar::{ExternKind, Field, Index};
 use ms_text_lex::Token;
-use ms_text_space::{Context, Tally, kind_of};
+use ms_text_names::{Context, Tally, kind_of};
 use ms_types::Vector;
 use std::alloc::{AllocError, Global};
 
@@ -60,6 +63,46 @@ fn export_of(
     })
 }
 
+/// The exports of fields so far, and how many entries stood before.
+#[derive(Drop)]
+struct Exports {
+    exports: Vector<Export>,
+    before: Tally,
+}
+
+impl Part for Exports {
+    type Item = Export;
+
+    ghost all = { λ s e fields. onto e.exports (exports_from s.source s.scope e.before fields) };
+
+    fn add(
+        &mut self,
+        alloc: Global,
+        context: &Context,
+        field: &Field,
+        wrong: &mut Vec<usize>,
+    ) -> Result<(), AllocError> {
+        if let Field::Export { name, kind, index } = field {
+            self.exports
+                .push(export_of(alloc, context, *name, *kind, *index, wrong)?)?;
+            return Ok(());
+        }
+        let Field::Entry(entry) = field else {
+            return Ok(());
+        };
+        let kind = kind_of(&entry.item);
+        let desc = export_desc(kind, self.before.of(kind));
+        add_inline(
+            alloc,
+            context.source(),
+            &mut self.exports,
+            entry.exports.as_slice(),
+            desc,
+        )?;
+        self.before.add(kind)
+    }
+}
+
 /// The exports of fields.
 pub fn exports_of(
     alloc: Global,
@@ -69,28 +112,12 @@ pub fn exports_of(
 ) -> Result<Vector<Export>, AllocError>
     ensures { IfOk result (λ exports. Adds wrong.old.items wrong.new.items exports (exports_from context.now.source context.now.scope no_entries fields.now)) }
 {
-    let mut exports = Vector::new(alloc);
-    let mut before = Tally::new();
-    for field in fields {
-        if let Field::Export { name, kind, index } = field {
-            exports.push(export_of(alloc, context, *name, *kind, *index, wrong)?)?;
-            continue;
-        }
-        let Field::Entry(entry) = field else {
-            continue;
-        };
-        let kind = kind_of(&entry.item);
-        let desc = export_desc(kind, before.of(kind));
-        add_inline(
-            alloc,
-            context.source(),
-            &mut exports,
-            entry.exports.as_slice(),
-            desc,
-        )?;
-        before.add(kind)?;
-    }
-    Ok(exports)
+    let mut exports = Exports {
+        exports: Vector::new(alloc),
+        before: Tally::new(),
+    };
+    gathered(alloc, context, &mut exports, fields, wrong)?;
+    Ok(exports.exports)
 }
 
 /// The start function, if there is one: the first that a field names.

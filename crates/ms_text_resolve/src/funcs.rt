@@ -1,15 +1,18 @@
 //! Functions and globals that are not imported (WebAssembly 1.0, 6.6.5 and 6.6.8).
 
 ghost use Rattle.std.specs.Prelude.{◌≡◌, ◌++◌, IfOk, OnOk};
-ghost use Rattle.ms_text_grammar.specs.Elaborating.{defined, entries_in, func_of, funcs_of, global_of, globals_of};
-ghost use Rattle.ms_text_grammar.specs.Balance.{AreWhole, IsWhole};
+ghost use Rattle.ms_text_grammar.specs.FieldKinds.{entries_in};
+ghost use Rattle.ms_text_grammar.specs.ResolvedParts.{defined, func_of, funcs_of, global_of, globals_of};
+ghost use Rattle.ms_text_grammar.specs.refinement.Balance.{AreWhole, FieldIsWhole, IsWhole};
 ghost use Rattle.ms_text_grammar.specs.Shapes.{param_types};
-ghost use Rattle.ms_text_space.specs.Answers.{Adds};
+ghost use Rattle.ms_text_names.specs.refinement.Answers.{Adds};
+ghost use Rattle.ms_text_resolve.specs.refinement.Gathered.{onto};
 
 use crate::body::code_of;
+use crate::gather::{Part, gathered};
 use ms_module::{Func, Global as GlobalVar, Locals};
 use ms_text_grammar::{Body, Field, Item, Param, TypeUse};
-use ms_text_space::{Context, LocalIds};
+use ms_text_names::{Context, LocalIds};
 use ms_types::{GlobalType, Vector};
 use std::alloc::{AllocError, Global};
 
@@ -51,7 +54,36 @@ fn func_of(
     })
 }
 
+impl Part for Vector<Func> {
+    type Item = Func;
+
+    ghost all = { λ s made fields. onto made (funcs_of s.source s.scope (defined (entries_in fields))) };
+
+    ghost fits = { FieldIsWhole };
+
+    fn add(
+        &mut self,
+        alloc: Global,
+        context: &Context,
+        field: &Field,
+        wrong: &mut Vec<usize>,
+    ) -> Result<(), AllocError> {
+        let Field::Entry(entry) = field else {
+            return Ok(());
+        };
+        if entry.import.is_some() {
+            return Ok(());
+        }
+        let Item::Func { sig, locals, body } = &entry.item else {
+            return Ok(());
+        };
+        self.push(func_of(alloc, context, sig, locals.as_slice(), body, wrong)?)?;
+        Ok(())
+    }
+}
+
 /// The functions of fields.
+#[tactic(auto, using(crate::proofs::Wholes::each_whole))]
 pub fn funcs_of(
     alloc: Global,
     context: &Context,
@@ -62,18 +94,7 @@ pub fn funcs_of(
     ensures { IfOk result (λ funcs. Adds wrong.old.items wrong.new.items funcs (funcs_of context.now.source context.now.scope (defined (entries_in fields.now)))) }
 {
     let mut funcs = Vector::new(alloc);
-    for field in fields {
-        let Field::Entry(entry) = field else {
-            continue;
-        };
-        if entry.import.is_some() {
-            continue;
-        }
-        let Item::Func { sig, locals, body } = &entry.item else {
-            continue;
-        };
-        funcs.push(func_of(alloc, context, sig, locals.as_slice(), body, wrong)?)?;
-    }
+    gathered(alloc, context, &mut funcs, fields, wrong)?;
     Ok(funcs)
 }
 
@@ -93,7 +114,36 @@ fn global_of(
     Ok(GlobalVar { ty, init })
 }
 
+impl Part for Vector<GlobalVar> {
+    type Item = GlobalVar;
+
+    ghost all = { λ s made fields. onto made (globals_of s.source s.scope (defined (entries_in fields))) };
+
+    ghost fits = { FieldIsWhole };
+
+    fn add(
+        &mut self,
+        alloc: Global,
+        context: &Context,
+        field: &Field,
+        wrong: &mut Vec<usize>,
+    ) -> Result<(), AllocError> {
+        let Field::Entry(entry) = field else {
+            return Ok(());
+        };
+        if entry.import.is_some() {
+            return Ok(());
+        }
+        let Item::Global { ty, init } = &entry.item else {
+            return Ok(());
+        };
+        self.push(global_of(alloc, context, *ty, init, wrong)?)?;
+        Ok(())
+    }
+}
+
 /// The globals of fields.
+#[tactic(auto, using(crate::proofs::Wholes::each_whole))]
 pub fn globals_of(
     alloc: Global,
     context: &Context,
@@ -104,17 +154,6 @@ pub fn globals_of(
     ensures { IfOk result (λ globals. Adds wrong.old.items wrong.new.items globals (globals_of context.now.source context.now.scope (defined (entries_in fields.now)))) }
 {
     let mut globals = Vector::new(alloc);
-    for field in fields {
-        let Field::Entry(entry) = field else {
-            continue;
-        };
-        if entry.import.is_some() {
-            continue;
-        }
-        let Item::Global { ty, init } = &entry.item else {
-            continue;
-        };
-        globals.push(global_of(alloc, context, *ty, init, wrong)?)?;
-    }
+    gathered(alloc, context, &mut globals, fields, wrong)?;
     Ok(globals)
 }

@@ -1,13 +1,16 @@
 //! Imports (WebAssembly 1.0, 6.6.4), and the sizes of tables and memories (6.6.6 and 6.6.7).
 
 ghost use Rattle.std.specs.Prelude.{◌≡◌, ◌++◌, IfOk};
-ghost use Rattle.ms_text_grammar.specs.Elaborating.{defined, desc_of, entries_in, exactly, import_of, imports_of, limits_of, of_kind, pages, sizes_of};
-ghost use Rattle.ms_text_space.specs.Answers.{Adds};
+ghost use Rattle.ms_text_grammar.specs.FieldKinds.{entries_in, of_kind};
+ghost use Rattle.ms_text_grammar.specs.ResolvedParts.{defined, desc_of, exactly, import_of, imports_of, limits_of, pages, sizes_of};
+ghost use Rattle.ms_text_names.specs.refinement.Answers.{Adds};
+ghost use Rattle.ms_text_resolve.specs.refinement.Gathered.{onto};
 
+use crate::gather::{Part, gathered};
 use crate::texts::{name_of, text_values};
 use ms_module::{Import, ImportDesc};
 use ms_text_grammar::{ExternKind, Field, ImportNames, Item};
-use ms_text_space::{Context, Space, enter_all, kind_of, number, same_kind};
+use ms_text_names::{Context, Space, enter_all, kind_of, number, same_kind};
 use ms_types::{Limits, PAGE, Vector};
 use std::alloc::{AllocError, Global};
 
@@ -86,6 +89,29 @@ fn import_of(
     Ok(Import { module, name, desc })
 }
 
+impl Part for Vector<Import> {
+    type Item = Import;
+
+    ghost all = { λ s made fields. onto made (imports_of s.source s.scope (entries_in fields)) };
+
+    fn add(
+        &mut self,
+        alloc: Global,
+        context: &Context,
+        field: &Field,
+        wrong: &mut Vec<usize>,
+    ) -> Result<(), AllocError> {
+        let Field::Entry(entry) = field else {
+            return Ok(());
+        };
+        let Some(names) = entry.import else {
+            return Ok(());
+        };
+        self.push(import_of(alloc, context, names, &entry.item, wrong)?)?;
+        Ok(())
+    }
+}
+
 /// The imports of fields.
 pub fn imports_of(
     alloc: Global,
@@ -96,15 +122,7 @@ pub fn imports_of(
     ensures { IfOk result (λ imports. Adds wrong.old.items wrong.new.items imports (imports_of context.now.source context.now.scope (entries_in fields.now))) }
 {
     let mut imports = Vector::new(alloc);
-    for field in fields {
-        let Field::Entry(entry) = field else {
-            continue;
-        };
-        let Some(names) = entry.import else {
-            continue;
-        };
-        imports.push(import_of(alloc, context, names, &entry.item, wrong)?)?;
-    }
+    gathered(alloc, context, &mut imports, fields, wrong)?;
     Ok(imports)
 }
 

@@ -5,13 +5,13 @@ ghost use Rattle.ms_module.specs.Numbered.{IsPlain};
 ghost use Rattle.ms_module.specs.declared.br_table.Targets.{Targets};
 ghost use Rattle.ms_text_grammar.specs.declared.surface.Plain.TheVariants as written;
 ghost use Rattle.std.specs.Prelude.{Some};
-ghost use Rattle.ms_text_grammar.specs.Elaborating.{instr_of, number_at, targets_of};
-ghost use Rattle.ms_text_space.specs.Answers.{Adds};
+ghost use Rattle.ms_text_grammar.specs.ResolvedBodies.{instr_of, number_at, targets_of};
+ghost use Rattle.ms_text_names.specs.refinement.Answers.{Adds};
 
 use ms_module::{BrTable, Instr, Linear, Targets};
 use ms_text_grammar::{ExternKind, Plain};
 use ms_text_lex::Token;
-use ms_text_space::{Context, LocalIds, label_identified, labels_resolved};
+use ms_text_names::{Context, LocalIds, label_identified, labels_resolved};
 use ms_types::{Stack, Vector};
 use std::alloc::{AllocError, Global};
 

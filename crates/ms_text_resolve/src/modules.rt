@@ -1,11 +1,12 @@
 //! From fields to a module.
 
 ghost use Rattle.std.specs.Prelude.{◌≡◌, ◌++◌, [], IfOk};
-ghost use Rattle.ms_text_grammar.specs.Elaborating.{module_of, scope_of};
-ghost use Rattle.ms_text_grammar.specs.Balance.{AreWhole};
-ghost use Rattle.ms_text_resolve.specs.Answers.{IsLeast, Resolves};
-ghost use Rattle.ms_text_resolve.specs.Assembled.{parts_of};
-ghost use Rattle.ms_text_space.specs.Answers.{Adds};
+ghost use Rattle.ms_text_grammar.specs.TypeUses.{scope_of};
+ghost use Rattle.ms_text_grammar.specs.Elaborating.{module_of};
+ghost use Rattle.ms_text_grammar.specs.refinement.Balance.{AreWhole};
+ghost use Rattle.ms_text_resolve.specs.refinement.Answers.{IsLeast, Resolves};
+ghost use Rattle.ms_text_resolve.specs.refinement.Assembled.{parts_of};
+ghost use Rattle.ms_text_names.specs.refinement.Answers.{Adds};
 
 use crate::exports::{exports_of, start_of};
 use crate::funcs::{funcs_of, globals_of};
@@ -13,7 +14,7 @@ use crate::imports::{imports_of, sizes_of};
 use crate::segments::{elements_of, fills_of};
 use ms_module::Module;
 use ms_text_grammar::{ExternKind, Field, TextFault};
-use ms_text_space::Context;
+use ms_text_names::Context;
 use ms_types::Vector;
 use std::alloc::{AllocError, Global};
 

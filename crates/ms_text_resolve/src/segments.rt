@@ -1,16 +1,20 @@
 //! Elements and data (WebAssembly 1.0, 6.6.11 and 6.6.12), those of tables and memories at their places.
 
 ghost use Rattle.std.specs.Prelude.{◌≡◌, ◌++◌, [], IfOk};
-ghost use Rattle.ms_text_grammar.specs.Elaborating.{at_zero, code_of, element_at_zero, element_of, elements_from, fill_at_zero, fill_of, fills_from, no_entries};
-ghost use Rattle.ms_text_grammar.specs.Balance.{AreWhole, IsWhole};
-ghost use Rattle.ms_text_space.specs.Answers.{Adds};
+ghost use Rattle.ms_text_grammar.specs.FieldKinds.{no_entries};
+ghost use Rattle.ms_text_grammar.specs.ResolvedBodies.{code_of};
+ghost use Rattle.ms_text_grammar.specs.ResolvedParts.{at_zero, element_at_zero, element_of, elements_from, fill_at_zero, fill_of, fills_from};
+ghost use Rattle.ms_text_grammar.specs.refinement.Balance.{AreWhole, FieldIsWhole, IsWhole};
+ghost use Rattle.ms_text_names.specs.refinement.Answers.{Adds};
+ghost use Rattle.ms_text_resolve.specs.refinement.Gathered.{onto};
 
 use crate::body::code_of;
+use crate::gather::{Part, gathered};
 use crate::texts::text_values;
 use ms_module::{Builder, Code, Element, Fill, Instr};
 use ms_text_grammar::{Body, ExternKind, Field, Index, Item};
 use ms_text_lex::Token;
-use ms_text_space::{Context, LocalIds, Tally, kind_of};
+use ms_text_names::{Context, LocalIds, Tally, kind_of};
 use ms_types::Vector;
 use std::alloc::{AllocError, Global};
 
@@ -77,7 +81,58 @@ fn element_at_zero(
     })
 }
 
+/// The elements of fields so far, and how many entries stood before.
+#[derive(Drop)]
+struct Elements {
+    elements: Vector<Element>,
+    before: Tally,
+}
+
+impl Part for Elements {
+    type Item = Element;
+
+    ghost all = { λ s e fields. onto e.elements (elements_from s.source s.scope e.before fields) };
+
+    ghost fits = { FieldIsWhole };
+
+    fn add(
+        &mut self,
+        alloc: Global,
+        context: &Context,
+        field: &Field,
+        wrong: &mut Vec<usize>,
+    ) -> Result<(), AllocError> {
+        if let Field::Element {
+            table,
+            offset,
+            funcs,
+        } = field
+        {
+            self.elements.push(element_of(
+                alloc,
+                context,
+                *table,
+                offset,
+                funcs.as_slice(),
+                wrong,
+            )?)?;
+            return Ok(());
+        }
+        let Field::Entry(entry) = field else {
+            return Ok(());
+        };
+        let table = self.before.of(ExternKind::Table);
+        self.before.add(kind_of(&entry.item))?;
+        let Item::Elements(funcs) = &entry.item else {
+            return Ok(());
+        };
+        self.elements.push(element_at_zero(alloc, context, table, funcs.as_slice(), wrong)?)?;
+        Ok(())
+    }
+}
+
 /// The elements of fields.
+#[tactic(auto, using(crate::proofs::Wholes::each_whole))]
 pub fn elements_of(
     alloc: Global,
     context: &Context,
@@ -87,29 +142,12 @@ pub fn elements_of(
     requires { AreWhole fields.now }
     ensures { IfOk result (λ elements. Adds wrong.old.items wrong.new.items elements (elements_from context.now.source context.now.scope no_entries fields.now)) }
 {
-    let mut elements = Vector::new(alloc);
-    let mut before = Tally::new();
-    for field in fields {
-        if let Field::Element {
-            table,
-            offset,
-            funcs,
-        } = field
-        {
-            elements.push(element_of(alloc, context, *table, offset, funcs.as_slice(), wrong)?)?;
-            continue;
-        }
-        let Field::Entry(entry) = field else {
-            continue;
-        };
-        let table = before.of(ExternKind::Table);
-        before.add(kind_of(&entry.item))?;
-        let Item::Elements(funcs) = &entry.item else {
-            continue;
-        };
-        elements.push(element_at_zero(alloc, context, table, funcs.as_slice(), wrong)?)?;
-    }
-    Ok(elements)
+    let mut elements = Elements {
+        elements: Vector::new(alloc),
+        before: Tally::new(),
+    };
+    gathered(alloc, context, &mut elements, fields, wrong)?;
+    Ok(elements.elements)
 }
 
 /// A data field.
@@ -151,7 +189,52 @@ fn fill_at_zero(
     })
 }
 
+/// The data of fields so far, and how many entries stood before.
+#[derive(Drop)]
+struct Fills {
+    fills: Vector<Fill>,
+    before: Tally,
+}
+
+impl Part for Fills {
+    type Item = Fill;
+
+    ghost all = { λ s e fields. onto e.fills (fills_from s.source s.scope e.before fields) };
+
+    ghost fits = { FieldIsWhole };
+
+    fn add(
+        &mut self,
+        alloc: Global,
+        context: &Context,
+        field: &Field,
+        wrong: &mut Vec<usize>,
+    ) -> Result<(), AllocError> {
+        if let Field::Data {
+            memory,
+            offset,
+            strings,
+        } = field
+        {
+            self.fills.push(fill_of(alloc, context, *memory, offset, strings.as_slice(), wrong)?)?;
+            return Ok(());
+        }
+        let Field::Entry(entry) = field else {
+            return Ok(());
+        };
+        let memory = self.before.of(ExternKind::Memory);
+        self.before.add(kind_of(&entry.item))?;
+        let Item::Data(strings) = &entry.item else {
+            return Ok(());
+        };
+        self.fills
+            .push(fill_at_zero(alloc, context, memory, strings.as_slice())?)?;
+        Ok(())
+    }
+}
+
 /// The data of fields.
+#[tactic(auto, using(crate::proofs::Wholes::each_whole))]
 pub fn fills_of(
     alloc: Global,
     context: &Context,
@@ -161,27 +244,10 @@ pub fn fills_of(
     requires { AreWhole fields.now }
     ensures { IfOk result (λ fills. Adds wrong.old.items wrong.new.items fills (fills_from context.now.source context.now.scope no_entries fields.now)) }
 {
-    let mut fills = Vector::new(alloc);
-    let mut before = Tally::new();
-    for field in fields {
-        if let Field::Data {
-            memory,
-            offset,
-            strings,
-        } = field
-        {
-            fills.push(fill_of(alloc, context, *memory, offset, strings.as_slice(), wrong)?)?;
-            continue;
-        }
-        let Field::Entry(entry) = field else {
-            continue;
-        };
-        let memory = before.of(ExternKind::Memory);
-        before.add(kind_of(&entry.item))?;
-        let Item::Data(strings) = &entry.item else {
-            continue;
-        };
-        fills.push(fill_at_zero(alloc, context, memory, strings.as_slice())?)?;
-    }
-    Ok(fills)
+    let mut fills = Fills {
+        fills: Vector::new(alloc),
+        before: Tally::new(),
+    };
+    gathered(alloc, context, &mut fills, fields, wrong)?;
+    Ok(fills.fills)
 }

@@ -1,7 +1,7 @@
 //! Names and data: what string tokens stand for (WebAssembly 1.0, 6.3.3 and 6.3.4).
 
 ghost use Rattle.std.specs.Prelude.{◌≡◌, IfOk};
-ghost use Rattle.ms_text_grammar.specs.Elaborating.{text_values};
+ghost use Rattle.ms_text_grammar.specs.ResolvedParts.{text_values};
 ghost use Rattle.ms_text_lex.specs.Values.{value_of};
 
 use ms_module::Name;

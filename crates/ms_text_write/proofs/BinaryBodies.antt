@@ -20,13 +20,13 @@ use Rattle.ms_module.specs.declared.access.Linear.TheVariants as linear
 use Rattle.ms_module.specs.declared.access.Segment.TheVariants as segment
 use Rattle.ms_module.specs.declared.br_table.Targets.{Targets}
 use Rattle.ms_module.specs.declared.builder.Arm.{Arm}
-use Rattle.ms_module.specs.declared.builder.Arm.TheVariants.{First, Second, Turned}
+use Rattle.ms_module.specs.declared.builder.Arm.TheVariants.{First, Second, AfterElse}
 use Rattle.ms_module.specs.declared.builder.Open.{Open}
 use Rattle.ms_module.specs.declared.builder.Opening.{Opening}
 use Rattle.ms_module.specs.declared.builder.Opening.TheVariants.{Block, If, Loop}
 use Rattle.ms_module.specs.declared.instr.Instr.{Instr}
 use Rattle.ms_module.specs.declared.instr.Instr.TheVariants as instr
-use Rattle.ms_module.specs.Building.{Builds, State, begins, begun, closed, closed_in, closes, current, first_state, is_turned, may_turn, opens, placed, places, put, started, turned, turns, whole}
+use Rattle.ms_module.specs.Building.{Builds, State, begins, begun, closed, closed_in, closes, current, first_state, is_after_else, may_else, opens, placed, places, put, started, after_else, elses, whole}
 use Rattle.ms_module.specs.Instructions.{Bare, Form, Func, Global, Int32, Int64, KindOf, Label, Labels, Local, Memory, Row, Scale, Type_, by_code, end_code, is_float, load_rows, numeric_rows, opening_rows, operand_rows, prefix, segment_load_rows, segment_rows, segment_store_rows, store_rows, value_rows}
 use Rattle.ms_module.specs.Numbered.{IsPlain}
 use Rattle.ms_bin_grammar.specs.declared.fault.ReadFault.{ReadFault}
@@ -35,10 +35,10 @@ use Rattle.ms_bin_grammar.specs.Faults.{malformed, wrong}
 use Rattle.ms_bin_grammar.specs.Numbers.{number}
 use Rattle.ms_bin_grammar.specs.Types.{block_type, block_types, no_type, val_type, val_types}
 use Rattle.ms_bin_grammar.specs.Code.{br_table, cases, form, kind, load, mem_arg, operations, plain, segment_accesses, segments, store}
-use Rattle.ms_bin_grammar.specs.Body.{block_rows, body, goes_on, opens as opens_case, turn, turns as all_turns}
+use Rattle.ms_bin_grammar.specs.Body.{block_rows, body, goes_on, opens as opens_case, advance, advance_codes}
 use Rattle.ms_text_write.proofs.Sayable.{Narrow, SayableBody, SayableInstr, Signed}
 use Rattle.ms_text_write.proofs.BinaryParts.{AllCoded, AllSpelled, CaseHolds, RowsHold, among_holds, coded_holds, ends, marks_hold, number_holds, pair_holds, runs_hold, signed_holds, table_holds, vec_holds}
-use Rattle.ms_text_write.proofs.Levels.{HasLevels, begun_levels, closed_levels, first_levels, levels_nest, placed_levels, turned_levels}
+use Rattle.ms_text_write.proofs.Levels.{HasLevels, begun_levels, closed_levels, first_levels, levels_nest, placed_levels, after_else_levels}
 
 left_false : (a b : Bool) → (a || b) ≡ false → a ≡ false
 left_false true b e = absurd cc
@@ -276,12 +276,12 @@ whole_says : (a : Arm) (ty : Option ValType) (n : ℕ) → SayableInstr (whole a
 whole_says (First Block) ty n = tt
 whole_says (First Loop) ty n = tt
 whole_says (First If) ty n = tt
-whole_says Turned ty n = tt
+whole_says AfterElse ty n = tt
 whole_says (Second before) ty n = tt
 
 started_say : (st : State) → AllSay st.seqs → AllSay (started st).seqs
-started_say st h = go (is_turned st.blocks) refl where
-  go : (b : Bool) → is_turned st.blocks ≡ b → AllSay (started st).seqs
+started_say st h = go (is_after_else st.blocks) refl where
+  go : (b : Bool) → is_after_else st.blocks ≡ b → AllSay (started st).seqs
   go false e = rw e h
   go true e = rw e (more_say st.seqs h)
 
@@ -307,8 +307,8 @@ module _ (most : ℕ) where
     ranges = more_say (started st).seqs (started_say st h.ranges);
   }
 
-  turned_so : (st : State) → may_turn st.blocks ≡ true → IsSo most st → IsSo most (turned st)
-  turned_so st may h = record { builds = turns may h.builds; levels = turned_levels most st h.levels; ranges = h.ranges }
+  after_else_so : (st : State) → may_else st.blocks ≡ true → IsSo most st → IsSo most (after_else st)
+  after_else_so st may h = record { builds = elses may h.builds; levels = after_else_levels most st h.levels; ranges = h.ranges }
 
   closed_so : (st : State) → 0 < length st.blocks → IsSo most st → IsSo most (closed st)
   closed_so st some h = record { builds = closes some h.builds; levels = closed_levels most st h.levels; ranges = closed_say st.blocks st.seqs h.ranges }
@@ -325,15 +325,15 @@ module _ (most : ℕ) where
   unfolding block_rows opening_rows
   rows_hold st so =
       opens_hold st so Block & opens_hold st so Loop & opens_hold st so If
-      & (λ s x t bs h. ends So_far h.1 (turned_so st h.0 so) bs)
+      & (λ s x t bs h. ends So_far h.1 (after_else_so st h.0 so) bs)
       & (λ s x t bs h. ends So_far h.1 (closed_so st (ltb-true 0 (length st.blocks) h.0) so) bs)
       & tt
 
-  turn_holds : (st : State) → IsSo most st → AllSpelled (turn most st) So_far
-  unfolding turn all_turns
-  turn_holds st so s x t bs h =
+  advance_holds : (st : State) → IsSo most st → AllSpelled (advance most st) So_far
+  unfolding advance advance_codes
+  advance_holds st so s x t bs h =
       let others : AllCoded (followed plain (λ i. pure (placed st i))) So_far = λ code s' x' t' bs' h'. let i = plain_holds code s' h'.0 h'.1 bs' h'.2 in ends So_far h'.3 (placed_so st h'.0 i.0 so) i.1 in
-      coded_holds So_far malformed (all_turns most st) (among_holds So_far (block_rows most st) (followed plain (λ i. pure (placed st i))) (rows_hold st so) others) s x t bs h
+      coded_holds So_far malformed (advance_codes most st) (among_holds So_far (block_rows most st) (followed plain (λ i. pure (placed st i))) (rows_hold st so) others) s x t bs h
 
   -- where no block is open
   body_is_sayable : (st : State) → IsSo most st → st.blocks ≡ [] → SayableBody most st.seqs
@@ -346,8 +346,8 @@ module _ (most : ℕ) where
   pub body_holds : AllSpelled (body most) (λ ss. SayableBody most ss)
   unfolding body
   body_holds s x t bs h =
-      let built = runs_hold (turn most) So_far turn_holds goes_on h.2 first_so bs in
-      let last : goes_on h.0 h.1 ≡ false = run_last goes_on (turn most) h.2 in
+      let built = runs_hold (advance most) So_far advance_holds goes_on h.2 first_so bs in
+      let last : goes_on h.0 h.1 ≡ false = run_last goes_on (advance most) h.2 in
       let few = ltb-false 0 (length h.0.blocks) (left_false (ltb 0 (length h.0.blocks)) _ last) in
       let none_open : h.0.blocks ≡ [] = nil_from_length h.0.blocks (omega arith) in
       ends (λ ss. SayableBody most ss) h.3.3 (body_is_sayable h.0 built.0 none_open) (marks_hold (end_code ∷ []) h.1 h.3.1 built.1 h.3.2)

@@ -57,7 +57,7 @@ signed_bounded bits (b ∷ c ∷ front) n bs h =
     let power = pow_signed bits h.1 in
     (omega (arith, ints, h.0, h.2.2, power, high.0), omega (arith, ints, h.0, h.2.2, power, high.1))
 
-signed_is : (bits : ℕ) (n : ℤ) → IsWithin (bits - 1) n → Signed bits n
+pub signed_is : (bits : ℕ) (n : ℤ) → IsWithin (bits - 1) n → Signed bits n
 signed_is bits (pos n) h = omega (arith, ints, h.1)
 signed_is bits (negsuc n) h = omega (arith, ints, h.0)
 

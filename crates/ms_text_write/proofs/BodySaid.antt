@@ -7,12 +7,14 @@ use Rattle.ms_module.specs.declared.instr.Instr.{Instr}
 use Rattle.ms_module.specs.declared.instr.Instr.TheVariants as instr
 use Rattle.ms_module.specs.Building.{IsNumbered, State}
 use Rattle.ms_flat.specs.Flat.{Item, Plain, Begin, Else, End, flat}
-use Rattle.ms_flat.specs.Rebuilt.{after}
+use Rattle.ms_flat.specs.refinement.Rebuilt.{after}
 use Rattle.ms_flat.proofs.Arriving.{flat_leads}
 use Rattle.ms_text_lex.specs.declared.token.Token.{Token}
 use Rattle.ms_text_grammar.specs.declared.surface.Index.TheVariants.{Number}
 use Rattle.ms_text_grammar.specs.declared.surface.TypeUse.{TypeUse}
-use Rattle.ms_text_grammar.specs.Elaborating.{Built, Scope, With, built, code_of, each, instr_of, nothing_built, number_at, resolved, right, targets, targets_of, use_index, with_begin, with_else, with_end, with_instr, with_uses}
+use Rattle.ms_text_grammar.specs.Identifiers.{With, each, resolved, right}
+use Rattle.ms_text_grammar.specs.TypeUses.{Scope, use_index, with_uses}
+use Rattle.ms_text_grammar.specs.ResolvedBodies.{Built, built, code_of, instr_of, nothing_built, number_at, targets, targets_of, with_begin, with_else, with_end, with_instr}
 use Rattle.ms_text_write.proofs.Said.{body_said, ops_of, plain_of, uses_behind, uses_of_instr, uses_of_item, uses_of_items}
 
 -- ---- numbers stand for themselves

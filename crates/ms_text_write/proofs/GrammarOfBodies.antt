@@ -8,19 +8,19 @@ use Rattle.std.proofs.lemmas.List.Elements.{All-head, All-tail, All-nil}
 use Rattle.ms_bytes.specs.Runs.{Runs}
 use Rattle.ms_types.specs.declared.types.ValType.{ValType}
 use Rattle.ms_module.specs.declared.builder.Arm.{Arm}
-use Rattle.ms_module.specs.declared.builder.Arm.TheVariants.{First, Turned, Second}
+use Rattle.ms_module.specs.declared.builder.Arm.TheVariants.{First, AfterElse, Second}
 use Rattle.ms_module.specs.declared.builder.Open.{Open}
 use Rattle.ms_module.specs.declared.builder.Opening.{Opening}
 use Rattle.ms_module.specs.declared.builder.Opening.TheVariants.{Block, If, Loop}
 use Rattle.ms_module.specs.declared.instr.Instr.{Instr}
 use Rattle.ms_module.specs.declared.instr.Instr.TheVariants as instr
 use Rattle.ms_module.specs.Building as build
-use Rattle.ms_module.specs.Building.{in_second, is_turned, may_turn_in, started}
+use Rattle.ms_module.specs.Building.{in_second, is_after_else, may_else_in, started}
 use Rattle.ms_module.specs.Instructions.{else_word, end_word, opening_rows}
 use Rattle.ms_module.specs.Numbered.{IsPlain, sequence_at}
 use Rattle.ms_flat.specs.Flat.{Item, Plain, Begin, Else, End, flat, items_of, items_within, sequence_items}
 use Rattle.ms_flat.specs.Keywords.{instr_word, opening_word}
-use Rattle.ms_flat.specs.Rebuilt.{AllMayCome, MayCome, after, after_item}
+use Rattle.ms_flat.specs.refinement.Rebuilt.{AllMayCome, MayCome, after, after_item}
 use Rattle.ms_flat.proofs.Depths.{flat_may_come}
 use Rattle.ms_flat.proofs.Arriving.{flat_leads}
 use Rattle.ms_text_lex.specs.declared.token.Kind.TheVariants.{Keyword}
@@ -34,9 +34,9 @@ use Rattle.ms_text_grammar.specs.declared.surface.Op.TheVariants as op
 use Rattle.ms_text_grammar.specs.declared.surface.TypeUse.{TypeUse}
 use Rattle.ms_text_grammar.specs.declared.word.Word.TheVariants as word
 use Rattle.ms_text_grammar.specs.Tokens.{begins_id, is_close, is_id, is_keyword, is_open}
-use Rattle.ms_text_grammar.specs.Bodies.{body, body_goes, turn}
-use Rattle.ms_text_grammar.specs.Turns as turns
-use Rattle.ms_text_grammar.specs.Turns.{State, first_state, flat_block, flat_else, flat_plain, head_word, heading, instructions, marked, may_else, repeated, repeated_by, sign_of, turn_on, word_sign}
+use Rattle.ms_text_grammar.specs.Bodies.{body, body_goes, advance}
+use Rattle.ms_text_grammar.specs.Advances as advances
+use Rattle.ms_text_grammar.specs.Advances.{State, first_state, flat_block, flat_else, flat_plain, head_word, heading, instructions, marked, may_else, repeated, repeated_by, sign_of, advance_on, word_sign}
 use Rattle.ms_text_write.proofs.Pieces as piece
 use Rattle.ms_text_write.proofs.Pieces.{Piece, Shows, block_type_pieces, body_pieces, item_pieces, operand_pieces, right}
 use Rattle.ms_text_write.proofs.Pieces.Shows.{none, more}
@@ -91,23 +91,23 @@ flat_sayable ss h = within_sayable (length ss) ss h 0
 -- a frame for each block
 abbrev frames_of : List Open → List Frame
 frames_of [] = []
-frames_of (o ∷ os) = Flat None (may_turn_in o.arm) ∷ frames_of os
+frames_of (o ∷ os) = Flat None (may_else_in o.arm) ∷ frames_of os
 
-second_frames : (n : ℕ) (os : List Open) → is_turned os ≡ true → (frames_of (in_second n os) ≡ frames_of os) × (length (in_second n os) ≡ length os)
+second_frames : (n : ℕ) (os : List Open) → is_after_else os ≡ true → (frames_of (in_second n os) ≡ frames_of os) × (length (in_second n os) ≡ length os)
 second_frames n [] e = (refl, refl)
 second_frames n (o ∷ os) e = (ap (λ (b : Bool). Flat None b ∷ frames_of os) (sym (go o.arm e)), refl) where
-  go : (a : Arm) → build.is_turned_in a ≡ true → may_turn_in a ≡ false
+  go : (a : Arm) → build.is_after_else_in a ≡ true → may_else_in a ≡ false
   go (First opening) h = absurd cc
-  go Turned h = refl
+  go AfterElse h = refl
   go (Second before) h = refl
 
 started_frames : (st : build.State) → (frames_of (started st).blocks ≡ frames_of st.blocks) × (length (started st).blocks ≡ length st.blocks)
-started_frames st = go (is_turned st.blocks) refl where
-  go : (b : Bool) → is_turned st.blocks ≡ b → (frames_of (started st).blocks ≡ frames_of st.blocks) × (length (started st).blocks ≡ length st.blocks)
+started_frames st = go (is_after_else st.blocks) refl where
+  go : (b : Bool) → is_after_else st.blocks ≡ b → (frames_of (started st).blocks ≡ frames_of st.blocks) × (length (started st).blocks ≡ length st.blocks)
   go false e = rw e (refl, refl)
   go true e = rw e (second_frames (length st.seqs) st.blocks e)
 
-else_first : (o : Opening) → may_else o ≡ may_turn_in (First o)
+else_first : (o : Opening) → may_else o ≡ may_else_in (First o)
 else_first If = refl
 else_first Block = refl
 else_first Loop = refl
@@ -140,7 +140,7 @@ op_of uses Else = op.Else
 op_of uses End = op.End
 
 -- an instruction as it was read, among the type uses so far
-plain_kept : (uses : List TypeUse) (i : Instr) → IsPlain i → (turns.plain_of uses (fresh_said i) ≡ plain_of (length uses) i) × (turns.uses_with uses (fresh_said i) ≡ uses ++ uses_of_instr i)
+plain_kept : (uses : List TypeUse) (i : Instr) → IsPlain i → (advances.plain_of uses (fresh_said i) ≡ plain_of (length uses) i) × (advances.uses_with uses (fresh_said i) ≡ uses ++ uses_of_instr i)
 plain_kept uses (instr.BrTable targets) h = (refl, sym (append-nil uses))
 plain_kept uses (instr.CallIndirect x) h = (refl, refl)
 plain_kept uses _ h = (refl, sym (append-nil uses))
@@ -201,31 +201,31 @@ and_false false = refl
 
 module _ {source : List ℕ} where
   -- what is taken in a turn by what stands in front
-  turn_by : (most : ℕ) (st : State) (g : Sign) (P Q : List Piece) (R : State → Type 0) → sign_in P ≡ g → Gives source (turn_on source most st st.frames g).spelled P R Q → Gives source (turn source most st).spelled P R Q
-  unfolding turn
-  turn_by most st g P Q R e a = chosen (sign_of source) (λ k. (turn_on source most st st.frames k).spelled) g (λ s h. sign_is source s P h ∙ e) a
+  advance_by : (most : ℕ) (st : State) (g : Sign) (P Q : List Piece) (R : State → Type 0) → sign_in P ≡ g → Gives source (advance_on source most st st.frames g).spelled P R Q → Gives source (advance source most st).spelled P R Q
+  unfolding advance
+  advance_by most st g P Q R e a = chosen (sign_of source) (λ k. (advance_on source most st st.frames k).spelled) g (λ s h. sign_is source s P h ∙ e) a
 
-  other_on : (most : ℕ) (st : State) (os : List Open) (P Q : List Piece) (R : State → Type 0) → Gives source (flat_plain source most st).spelled P R Q → Gives source (turn_on source most st (frames_of os) sign.Other).spelled P R Q
-  unfolding turn_on instructions
+  other_on : (most : ℕ) (st : State) (os : List Open) (P Q : List Piece) (R : State → Type 0) → Gives source (flat_plain source most st).spelled P R Q → Gives source (advance_on source most st (frames_of os) sign.Other).spelled P R Q
+  unfolding advance_on instructions
   other_on most st [] P Q R a = a
   other_on most st (o ∷ os) P Q R a = a
 
-  head_on : (most : ℕ) (st : State) (o : Opening) (os : List Open) (P Q : List Piece) (R : State → Type 0) → Gives source (flat_block source most st o).spelled P R Q → Gives source (turn_on source most st (frames_of os) (sign.Heads o)).spelled P R Q
-  unfolding turn_on instructions
+  head_on : (most : ℕ) (st : State) (o : Opening) (os : List Open) (P Q : List Piece) (R : State → Type 0) → Gives source (flat_block source most st o).spelled P R Q → Gives source (advance_on source most st (frames_of os) (sign.Heads o)).spelled P R Q
+  unfolding advance_on instructions
   head_on most st o [] P Q R a = a
   head_on most st o (p ∷ os) P Q R a = a
 
   -- ---- instructions that are no blocks
 
   plain_given : (most : ℕ) (b : build.State) (uses : List TypeUse) (ops : List Op) (i : Instr) (P : List Piece) → IsPlain i → SayableInstr i → IsCalm P
-      → Gives source (turn source most (state_at b.blocks uses ops)).spelled (piece.keyword (instr_word i) ∷ (operand_pieces i ++ P)) (λ y. y ≡ state_at (started b).blocks (uses ++ uses_of_item (Plain i)) (ops ++ op.Plain (plain_of (length uses) i) ∷ [])) P
+      → Gives source (advance source most (state_at b.blocks uses ops)).spelled (piece.keyword (instr_word i) ∷ (operand_pieces i ++ P)) (λ y. y ≡ state_at (started b).blocks (uses ++ uses_of_item (Plain i)) (ops ++ op.Plain (plain_of (length uses) i) ∷ [])) P
   unfolding flat_plain
   plain_given most b uses ops i P a h e =
       let st = state_at b.blocks uses ops in
       let at = started_frames b in
       let k = plain_kept uses i a in
-      let same : ◌≡◌ {A = State} (turns.given (frames_of b.blocks) (turns.plain_of uses (fresh_said i)) (turns.with_uses (fresh_said i) st)) (state_at (started b).blocks (uses ++ uses_of_instr i) (ops ++ op.Plain (plain_of (length uses) i) ∷ [])) = rw (k.0, k.1, at.0, at.1) refl in
-      turn_by most st sign.Other (piece.keyword (instr_word i) ∷ (operand_pieces i ++ P)) P _ (word_other i a).0
+      let same : ◌≡◌ {A = State} (advances.given (frames_of b.blocks) (advances.plain_of uses (fresh_said i)) (advances.with_uses (fresh_said i) st)) (state_at (started b).blocks (uses ++ uses_of_instr i) (ops ++ op.Plain (plain_of (length uses) i) ∷ [])) = rw (k.0, k.1, at.0, at.1) refl in
+      advance_by most st sign.Other (piece.keyword (instr_word i) ∷ (operand_pieces i ++ P)) P _ (word_other i a).0
       (other_on most st b.blocks (piece.keyword (instr_word i) ∷ (operand_pieces i ++ P)) P _ (known (instruction_given i P a h e) (gives (λ y. y ≡ state_at (started b).blocks (uses ++ uses_of_instr i) (ops ++ op.Plain (plain_of (length uses) i) ∷ [])) same)))
 
   -- ---- blocks
@@ -237,13 +237,13 @@ module _ {source : List ℕ} where
       past (read_as (head_word source most blocks) (λ t. Unit {0}) (λ t k w. (t, rw (few, k) refl, tt))) (λ head. known (no_id (no_label ty P e)) (known (block_type_given ty P (no_start word.Result P (calm_opens P e))) (gives (λ y. y ≡ (None, ty)) refl)))
 
   begin_given : (most : ℕ) (b : build.State) (uses : List TypeUse) (ops : List Op) (o : Opening) (ty : Option ValType) (P : List Piece) → length b.blocks < most → IsCalm P
-      → Gives source (turn source most (state_at b.blocks uses ops)).spelled (piece.keyword (opening_word o) ∷ (block_type_pieces ty ++ P)) (λ y. y ≡ state_at (build.begun b o ty).blocks (uses ++ []) (ops ++ op.Begin o None ty ∷ [])) P
+      → Gives source (advance source most (state_at b.blocks uses ops)).spelled (piece.keyword (opening_word o) ∷ (block_type_pieces ty ++ P)) (λ y. y ≡ state_at (build.begun b o ty).blocks (uses ++ []) (ops ++ op.Begin o None ty ∷ [])) P
   unfolding flat_block
   begin_given most b uses ops o ty P lt e =
       let st = state_at b.blocks uses ops in
       let at = started_frames b in
-      let same : ◌≡◌ {A = State} (turns.begun (Flat None (may_else o) ∷ frames_of b.blocks) o None ty st) (state_at (build.begun b o ty).blocks (uses ++ []) (ops ++ op.Begin o None ty ∷ [])) = rw (at.0, at.1, append-nil uses, else_first o) refl in
-      turn_by most st (sign.Heads o) (piece.keyword (opening_word o) ∷ (block_type_pieces ty ++ P)) P _ (opening_sign o).0
+      let same : ◌≡◌ {A = State} (advances.begun (Flat None (may_else o) ∷ frames_of b.blocks) o None ty st) (state_at (build.begun b o ty).blocks (uses ++ []) (ops ++ op.Begin o None ty ∷ [])) = rw (at.0, at.1, append-nil uses, else_first o) refl in
+      advance_by most st (sign.Heads o) (piece.keyword (opening_word o) ∷ (block_type_pieces ty ++ P)) P _ (opening_sign o).0
       (head_on most st o b.blocks (piece.keyword (opening_word o) ∷ (block_type_pieces ty ++ P)) P _ (known (heading_given most (length b.blocks) o ty P lt e) (gives (λ y. y ≡ state_at (build.begun b o ty).blocks (uses ++ []) (ops ++ op.Begin o None ty ∷ [])) same)))
 
   marked_given : (most : ℕ) (text : List ℕ) (st : State) (P : List Piece) → IsCalm P → Gives source (marked source most text None st).spelled (piece.keyword text ∷ P) (λ y. y ≡ st) P
@@ -251,34 +251,34 @@ module _ {source : List ℕ} where
   marked_given most text st P e =
       past (keyed text) (λ mark. past (chosen begins_id (λ b. (repeated_by source most None b).spelled) false (λ s h. first_is (λ k w. is_id k) s P h ∙ calm_id P e) (gives (λ x. Unit {0}) tt)) (λ id. gives (λ y. y ≡ st) refl))
 
-  else_given : (most : ℕ) (os : List Open) (uses : List TypeUse) (ops : List Op) (P : List Piece) → build.may_turn os ≡ true → IsCalm P
-      → Gives source (turn source most (state_at os uses ops)).spelled (piece.keyword else_word ∷ P) (λ y. y ≡ state_at (build.turned_blocks os) (uses ++ []) (ops ++ op.Else ∷ [])) P
-  unfolding turn_on flat_else opening_rows
+  else_given : (most : ℕ) (os : List Open) (uses : List TypeUse) (ops : List Op) (P : List Piece) → build.may_else os ≡ true → IsCalm P
+      → Gives source (advance source most (state_at os uses ops)).spelled (piece.keyword else_word ∷ P) (λ y. y ≡ state_at (build.after_else_blocks os) (uses ++ []) (ops ++ op.Else ∷ [])) P
+  unfolding advance_on flat_else opening_rows
   else_given most [] uses ops P m e = absurd cc
   else_given most (o ∷ os) uses ops P m e =
       let st = state_at (o ∷ os) uses ops in
-      let after = state_at (build.turned_blocks (o ∷ os)) (uses ++ []) (ops ++ op.Else ∷ []) in
-      let same : ◌≡◌ {A = State} after (turns.turned (Flat None false ∷ frames_of os) st) = rw (append-nil uses) refl in
-      let taken = subst (λ y. Gives source (flat_else source most None true (frames_of os) st).spelled (piece.keyword else_word ∷ P) (λ x. x ≡ y) P) (sym same) (marked_given most else_word (turns.turned (Flat None false ∷ frames_of os) st) P e) in
-      turn_by most st sign.Elses (piece.keyword else_word ∷ P) P _ refl
+      let after = state_at (build.after_else_blocks (o ∷ os)) (uses ++ []) (ops ++ op.Else ∷ []) in
+      let same : ◌≡◌ {A = State} after (advances.after_else (Flat None false ∷ frames_of os) st) = rw (append-nil uses) refl in
+      let taken = subst (λ y. Gives source (flat_else source most None true (frames_of os) st).spelled (piece.keyword else_word ∷ P) (λ x. x ≡ y) P) (sym same) (marked_given most else_word (advances.after_else (Flat None false ∷ frames_of os) st) P e) in
+      advance_by most st sign.Elses (piece.keyword else_word ∷ P) P _ refl
       (subst (λ (b : Bool). Gives source (flat_else source most None b (frames_of os) st).spelled (piece.keyword else_word ∷ P) (λ x. x ≡ after) P) (sym m) taken)
 
   end_given : (most : ℕ) (os : List Open) (ss : List (List Instr)) (uses : List TypeUse) (ops : List Op) (P : List Piece) → 0 < length os → IsCalm P
-      → Gives source (turn source most (state_at os uses ops)).spelled (piece.keyword end_word ∷ P) (λ y. y ≡ state_at (build.closed_in os ss).blocks (uses ++ []) (ops ++ op.End ∷ [])) P
-  unfolding turn_on opening_rows
+      → Gives source (advance source most (state_at os uses ops)).spelled (piece.keyword end_word ∷ P) (λ y. y ≡ state_at (build.closed_in os ss).blocks (uses ++ []) (ops ++ op.End ∷ [])) P
+  unfolding advance_on opening_rows
   end_given most [] ss uses ops P few e = absurd (omega arith)
   end_given most (o ∷ os) ss uses ops P some e =
       let st = state_at (o ∷ os) uses ops in
       let after = state_at os (uses ++ []) (ops ++ op.End ∷ []) in
       let one_less : length (o ∷ os) - 1 ≡ length os = omega arith in
-      let same : ◌≡◌ {A = State} after (turns.ended (frames_of os) st) = rw (append-nil uses, one_less) refl in
-      turn_by most st sign.Ends (piece.keyword end_word ∷ P) P _ refl
-      (subst (λ y. Gives source (marked source most end_word None (turns.ended (frames_of os) st)).spelled (piece.keyword end_word ∷ P) (λ x. x ≡ y) P) (sym same) (marked_given most end_word (turns.ended (frames_of os) st) P e))
+      let same : ◌≡◌ {A = State} after (advances.ended (frames_of os) st) = rw (append-nil uses, one_less) refl in
+      advance_by most st sign.Ends (piece.keyword end_word ∷ P) P _ refl
+      (subst (λ y. Gives source (marked source most end_word None (advances.ended (frames_of os) st)).spelled (piece.keyword end_word ∷ P) (λ x. x ≡ y) P) (sym same) (marked_given most end_word (advances.ended (frames_of os) st) P e))
 
   -- ---- items
 
   item_given : (most : ℕ) (b : build.State) (uses : List TypeUse) (ops : List Op) (x : Item) (P : List Piece) → MayCome most b x → SayableItem x → IsCalm P
-      → Gives source (turn source most (state_at b.blocks uses ops)).spelled (item_pieces x ++ P) (λ y. y ≡ state_at (after_item b x).blocks (uses ++ uses_of_item x) (ops ++ op_of (length uses) x ∷ [])) P
+      → Gives source (advance source most (state_at b.blocks uses ops)).spelled (item_pieces x ++ P) (λ y. y ≡ state_at (after_item b x).blocks (uses ++ uses_of_item x) (ops ++ op_of (length uses) x ∷ [])) P
   unfolding item_pieces
   item_given most b uses ops (Plain i) P a h e = plain_given most b uses ops i P a h e
   item_given most b uses ops (Begin o ty) P a h e = begin_given most b uses ops o ty P a e
@@ -289,17 +289,17 @@ module _ {source : List ℕ} where
   goes_on most st x P s h = rw (first_is (λ k w. is_close k) s (item_pieces x ++ P) h, no_close x P, and_false (eqb (length st.frames) 0)) refl
 
   items_given : (most : ℕ) (b : build.State) (uses : List TypeUse) (ops : List Op) (xs : List Item) (Q : List Piece) → AllMayCome most b xs → AllSayable xs → (after b xs).blocks ≡ []
-      → Gives source (λ s x t. Runs (body_goes source most) (turn source most) (state_at b.blocks uses ops) s x t) (flat_map item_pieces xs ++ right ∷ Q) (Ends uses ops xs) (right ∷ Q)
+      → Gives source (λ s x t. Runs (body_goes source most) (advance source most) (state_at b.blocks uses ops) s x t) (flat_map item_pieces xs ++ right ∷ Q) (Ends uses ops xs) (right ∷ Q)
   items_given most b uses ops [] Q a h e =
-      stops (λ st s. body_goes source most st s) (λ st. turn source most st) (Ends uses ops []) (state_at b.blocks uses ops) (λ s g. rw (e, first_is (λ k w. is_close k) s (right ∷ Q) g) refl) (sym (append-nil uses), sym (append-nil ops))
+      stops (λ st s. body_goes source most st s) (λ st. advance source most st) (Ends uses ops []) (state_at b.blocks uses ops) (λ s g. rw (e, first_is (λ k w. is_close k) s (right ∷ Q) g) refl) (sym (append-nil uses), sym (append-nil ops))
   items_given most b uses ops (x ∷ xs) Q a h e =
       let more_uses = uses ++ uses_of_item x in
       let more_ops = ops ++ op_of (length uses) x ∷ [] in
       let rest = flat_map item_pieces xs ++ right ∷ Q in
       let all = weaker (Ends more_uses more_ops xs) (Ends uses ops (x ∷ xs)) (λ y r. ends_on uses ops x xs y r) (items_given most (after_item b x) more_uses more_ops xs Q a.1 h.1 e) in
       grouped (item_pieces x) (flat_map item_pieces xs) (right ∷ Q)
-      (steps (λ st s. body_goes source most st s) (λ st. turn source most st) (state_at b.blocks uses ops) (λ s g. goes_on most (state_at b.blocks uses ops) x rest s g) (item_given most b uses ops x rest a.0 h.0 (calm_rest most (after_item b x) xs Q a.1))
-      (λ y k. subst (λ z. Gives source (λ s x t. Runs (body_goes source most) (turn source most) z s x t) rest (Ends uses ops (x ∷ xs)) (right ∷ Q)) (sym k) all))
+      (steps (λ st s. body_goes source most st s) (λ st. advance source most st) (state_at b.blocks uses ops) (λ s g. goes_on most (state_at b.blocks uses ops) x rest s g) (item_given most b uses ops x rest a.0 h.0 (calm_rest most (after_item b x) xs Q a.1))
+      (λ y k. subst (λ z. Gives source (λ s x t. Runs (body_goes source most) (advance source most) z s x t) rest (Ends uses ops (x ∷ xs)) (right ∷ Q)) (sym k) all))
 
   pub body_given : (most : ℕ) (ss : List (List Instr)) (Q : List Piece) → SayableBody most ss → Gives source (body source most).spelled (body_pieces ss ++ right ∷ Q) (λ y. y ≡ body_said ss) (right ∷ Q)
   unfolding body body_pieces body_said

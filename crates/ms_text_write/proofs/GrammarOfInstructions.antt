@@ -37,7 +37,7 @@ use Rattle.ms_text_grammar.specs.Keywords.{align_is, offset_is}
 use Rattle.ms_text_grammar.specs.Tokens.{is_id, is_keyword, is_number, is_open}
 use Rattle.ms_text_grammar.specs.Numbers.{if_so}
 use Rattle.ms_text_grammar.specs.Instructions.{behind, form_of, fresh_of, instruction, kind, kind_of, labels, labels_go, next_label, operands}
-use Rattle.ms_text_grammar.specs.Turns.{word_sign}
+use Rattle.ms_text_grammar.specs.Advances.{word_sign}
 use Rattle.ms_text_write.specs.Instrs.{kind_word}
 use Rattle.ms_text_write.proofs.Pieces as piece
 use Rattle.ms_text_write.proofs.Pieces.{Piece, Shows, linear_pieces, operand_pieces, segment_pieces}

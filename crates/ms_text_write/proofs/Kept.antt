@@ -1,6 +1,6 @@
 -- What is known of a module that was written and that keeps the limits.
 use Rattle.std.proofs.Common.{◌≡◌, ℕ, zero, suc, ◌<◌, ◌≤◌, Bool, true, false, List, [], ◌∷◌, ◌++◌, length, refl, subst}
-use Rattle.std.specs.Prelude.{ℤ, pos, negsuc, Option, Some, None, All}
+use Rattle.std.specs.Prelude.{Option, Some, None, All}
 use Rattle.std.proofs.lemmas.List.Elements.{All-cons, All-head, All-nil, All-tail}
 use Rattle.ms_types.specs.declared.types.Limits.{Limits}
 use Rattle.ms_types.specs.declared.types.ValType.{ValType}
@@ -9,7 +9,7 @@ use Rattle.ms_module.specs.declared.access.Linear.TheVariants as linear
 use Rattle.ms_module.specs.declared.access.Segment.{Segment}
 use Rattle.ms_module.specs.declared.access.Segment.TheVariants as segment
 use Rattle.ms_module.specs.declared.builder.Arm.{Arm}
-use Rattle.ms_module.specs.declared.builder.Arm.TheVariants.{First, Second, Turned}
+use Rattle.ms_module.specs.declared.builder.Arm.TheVariants.{First, Second, AfterElse}
 use Rattle.ms_module.specs.declared.builder.Open.{Open}
 use Rattle.ms_module.specs.declared.builder.Opening.TheVariants.{Block, If, Loop}
 use Rattle.ms_module.specs.declared.instr.Instr.{Instr}
@@ -25,15 +25,17 @@ use Rattle.ms_module.specs.declared.module.ExportDesc.{ExportDesc}
 use Rattle.ms_module.specs.declared.module.ExportDesc.TheVariants as exported
 use Rattle.ms_module.specs.declared.module.Element.{Element}
 use Rattle.ms_module.specs.declared.module.Fill.{Fill}
-use Rattle.ms_module.specs.Building.{IsNumbered, State, begun, closed, closed_in, current, first_state, is_turned, placed, put, started, turned, whole}
-use Rattle.ms_module.specs.Nesting.{NestsWithin}
+use Rattle.ms_module.specs.Building.{IsNumbered, State, begun, closed, closed_in, current, first_state, is_after_else, placed, put, started, after_else, whole}
+use Rattle.ms_module.specs.refinement.Nesting.{NestsWithin}
 use Rattle.ms_flat.specs.Flat.{Item, Plain, Begin, Else, End, flat}
-use Rattle.ms_flat.specs.Rebuilt.{after}
+use Rattle.ms_flat.specs.refinement.Rebuilt.{after}
 use Rattle.ms_flat.proofs.Arriving.{flat_leads}
 use Rattle.ms_text_grammar.specs.Bounds.{usual}
-use Rattle.ms_text_write.specs.Limits.{KeepsLimits}
-use Rattle.ms_text_write.specs.Ranges.{AllFit, ByteFits, CodeFits, ConstantFits, ElementFits, ExportDescFits, ExportFits, FillFits, FuncFits, GlobalFits, ImportDescFits, ImportFits, InstrFits, ItemFits, LimitsFit, LinearFits, NameFits, NumberFits, NumberFitsIf, PartsFit, SegmentFits, UsesFit}
-use Rattle.ms_text_write.proofs.Sayable.{Narrow, Sayable, SayableBody, SayableElement, SayableExport, SayableExportDesc, SayableFill, SayableFunc, SayableImport, SayableImportDesc, SayableInstr, SayableLimits, SayableLinear, SayableMax, SayableName, SayableSegment, Signed}
+use Rattle.ms_text_write.specs.refinement.Limits.{KeepsLimits}
+use Rattle.ms_text_write.proofs.BinaryParts.{signed_is}
+use Rattle.ms_flat.specs.refinement.Ranges.{AllFit, CodeFits, ElementFits, ExportDescFits, GlobalFits, ImportDescFits, InstrFits, ItemFits, LimitsFit, LinearFits, NumberFits, NumberFitsIf, SegmentFits}
+use Rattle.ms_text_write.specs.refinement.Ranges.{ByteFits, ExportFits, FillFits, FuncFits, ImportFits, NameFits, PartsFit, UsesFit}
+use Rattle.ms_text_write.proofs.Sayable.{Narrow, Sayable, SayableBody, SayableElement, SayableExport, SayableExportDesc, SayableFill, SayableFunc, SayableImport, SayableImportDesc, SayableInstr, SayableLimits, SayableLinear, SayableMax, SayableName, SayableSegment}
 use Rattle.ms_text_write.proofs.Showable.{AreBytes, CanBeShown, HasNames}
 use Rattle.ms_text_write.proofs.ModuleSaid.{Bodies, EachOf}
 
@@ -66,31 +68,31 @@ whole_fits : (a : Arm) (ty : Option ValType) (n : ℕ) → InstrFits (whole a ty
 whole_fits (First Block) ty n = tt
 whole_fits (First Loop) ty n = tt
 whole_fits (First If) ty n = tt
-whole_fits Turned ty n = tt
+whole_fits AfterElse ty n = tt
 whole_fits (Second before) ty n = tt
 
-abbrev Fits : State → Type 0
-Fits st = AllFit (λ is. AllFit InstrFits is) st.seqs
+abbrev AllInRange : State → Type 0
+AllInRange st = AllFit (λ is. AllFit InstrFits is) st.seqs
 
-started_fits : (st : State) → Fits st → Fits (started st)
-started_fits st h = go (is_turned st.blocks) refl where
-  go : (b : Bool) → is_turned st.blocks ≡ b → Fits (started st)
+started_fits : (st : State) → AllInRange st → AllInRange (started st)
+started_fits st h = go (is_after_else st.blocks) refl where
+  go : (b : Bool) → is_after_else st.blocks ≡ b → AllInRange (started st)
   go false e = rw e h
   go true e = rw e (append_fit (λ is. AllFit InstrFits is) st.seqs ([] ∷ []) h (tt, tt))
 
-closed_fits : (os : List Open) (ss : List (List Instr)) → AllFit (λ is. AllFit InstrFits is) ss → Fits (closed_in os ss)
+closed_fits : (os : List Open) (ss : List (List Instr)) → AllFit (λ is. AllFit InstrFits is) ss → AllInRange (closed_in os ss)
 closed_fits [] ss h = h
 closed_fits (o ∷ os) ss h = put_fit ss (current os) (whole o.arm o.ty o.seq) (whole_fits o.arm o.ty o.seq) h
 
-after_fits : (st : State) (xs : List Item) → AllFit ItemFits xs → Fits st → Fits (after st xs)
+after_fits : (st : State) (xs : List Item) → AllFit ItemFits xs → AllInRange st → AllInRange (after st xs)
 after_fits st [] f h = h
 after_fits st (Plain i ∷ xs) f h = after_fits (placed st i) xs f.1 (put_fit (started st).seqs (current (started st).blocks) i f.0 (started_fits st h))
 after_fits st (Begin opening ty ∷ xs) f h = after_fits (begun st opening ty) xs f.1 (append_fit (λ is. AllFit InstrFits is) (started st).seqs ([] ∷ []) (started_fits st h) (tt, tt))
-after_fits st (Else ∷ xs) f h = after_fits (turned st) xs f.1 h
+after_fits st (Else ∷ xs) f h = after_fits (after_else st) xs f.1 h
 after_fits st (End ∷ xs) f h = after_fits (closed st) xs f.1 (closed_fits st.blocks st.seqs h)
 
 code_fits : (ss : List (List Instr)) → CodeFits ss → AllFit (λ is. AllFit InstrFits is) ss
-code_fits ss h = subst (λ (st : State). Fits st) (flat_leads ss h.0).0 (after_fits first_state (flat ss) h.1 (tt, tt))
+code_fits ss h = subst (λ (st : State). AllInRange st) (flat_leads ss h.0).0 (after_fits first_state (flat ss) h.1 (tt, tt))
 
 -- ---- parts
 
@@ -108,26 +110,18 @@ name_said : (bs : List ℕ) → NameFits bs → SayableName bs
 name_said bs h = (all_fit ByteFits (λ b. b < 256) (λ b i. i) bs h.0, h.1)
 
 linear_said : (i : Linear) → LinearFits i → SayableLinear i
-linear_said (linear.Load op arg) h = h
-linear_said (linear.Store op arg) h = h
+linear_said (linear.Load op arg) h = h.1
+linear_said (linear.Store op arg) h = h.1
 linear_said _ h = tt
 
 segment_said : (i : Segment) → SegmentFits i → SayableSegment i
 segment_said (segment.Add scale) h = h
 segment_said _ h = tt
 
-narrow_said : (n : ℤ) → ConstantFits 31 n → Signed 32 n
-narrow_said (pos n) h = h
-narrow_said (negsuc n) h = h
-
-wide_said : (n : ℤ) → ConstantFits 63 n → Signed 64 n
-wide_said (pos n) h = h
-wide_said (negsuc n) h = h
-
 instr_said : (i : Instr) → InstrFits i → SayableInstr i
 instr_said (instr.BrTable t) h = (all_fit NumberFits Narrow number_said t.labels h.0, h.1)
-instr_said (instr.I32Const n) h = narrow_said n h
-instr_said (instr.I64Const n) h = wide_said n h
+instr_said (instr.I32Const n) h = signed_is 32 n h
+instr_said (instr.I64Const n) h = signed_is 64 n h
 instr_said (instr.Linear i) h = linear_said i h
 instr_said (instr.Segment i) h = segment_said i h
 instr_said _ h = h

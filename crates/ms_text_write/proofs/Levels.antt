@@ -6,17 +6,17 @@ use Rattle.ms_types.specs.declared.types.ValType.{ValType}
 use Rattle.ms_module.specs.declared.instr.Instr.{Instr}
 use Rattle.ms_module.specs.declared.instr.Instr.TheVariants as instr
 use Rattle.ms_module.specs.declared.builder.Arm.{Arm}
-use Rattle.ms_module.specs.declared.builder.Arm.TheVariants.{First, Second, Turned}
+use Rattle.ms_module.specs.declared.builder.Arm.TheVariants.{First, Second, AfterElse}
 use Rattle.ms_module.specs.declared.builder.Open.{Open}
 use Rattle.ms_module.specs.declared.builder.Opening.{Opening}
 use Rattle.ms_module.specs.declared.builder.Opening.TheVariants.{Block, If, Loop}
-use Rattle.ms_module.specs.Building.{State, begun, begun_in, closed, closed_in, current, first_state, in_second, is_turned, placed, placed_in, put, started, turned, turned_blocks, whole}
-use Rattle.ms_module.specs.Nesting.{NestsWithin, OfAllNamed, OfNamed}
+use Rattle.ms_module.specs.Building.{State, begun, begun_in, closed, closed_in, current, first_state, in_second, is_after_else, placed, placed_in, put, started, after_else, after_else_blocks, whole}
+use Rattle.ms_module.specs.refinement.Nesting.{NestsWithin, OfAllNamed, OfNamed}
 use Rattle.ms_module.specs.Numbered.{IsPlain, sequence_at}
 use Rattle.ms_module.proofs.Nesting.{of_all_named}
 use Rattle.ms_flat.proofs.Sequences.{plain_names_none}
 use Rattle.ms_flat.proofs.Growing.{all_last}
-use Rattle.ms_flat.proofs.Depths.{second_len, started_blocks, turned_len}
+use Rattle.ms_flat.proofs.Depths.{second_len, started_blocks, after_else_len}
 
 -- ---- levels by the numbers of sequences
 
@@ -95,7 +95,7 @@ nests_from most ls ss h m (suc e) k d at is =
 
 abbrev ArmAt : List ℕ → Arm → ℕ → Type 0
 ArmAt ls (First opening) d = Unit {0}
-ArmAt ls Turned d = Unit {0}
+ArmAt ls AfterElse d = Unit {0}
 ArmAt ls (Second before) d = IsAt ls before d
 
 abbrev OpenAt : List ℕ → List Open → Type 0
@@ -108,7 +108,7 @@ current_at ls (o ∷ os) h = h.0
 
 arm_more : (ls : List ℕ) (a : Arm) (d e : ℕ) → ArmAt ls a d → ArmAt (ls ++ e ∷ []) a d
 arm_more ls (First opening) d e h = tt
-arm_more ls Turned d e h = tt
+arm_more ls AfterElse d e h = tt
 arm_more ls (Second before) d e h = at_more ls before d e h
 
 open_more : (ls : List ℕ) (os : List Open) (e : ℕ) → OpenAt ls os → OpenAt (ls ++ e ∷ []) os
@@ -121,15 +121,15 @@ second_at ls n (o ∷ os) e h =
     let d : ℕ = suc (length os) in
     (at_last ls n d e, at_more ls o.seq d d h.0, open_more ls os d h.2)
 
-turned_at : (ls : List ℕ) (os : List Open) → OpenAt ls os → OpenAt ls (turned_blocks os)
-turned_at ls [] h = h
-turned_at ls (o ∷ os) h = (h.0, tt, h.2)
+after_else_at : (ls : List ℕ) (os : List Open) → OpenAt ls os → OpenAt ls (after_else_blocks os)
+after_else_at ls [] h = h
+after_else_at ls (o ∷ os) h = (h.0, tt, h.2)
 
 whole_at : (ls : List ℕ) (a : Arm) (ty : Option ValType) (seq d : ℕ) → IsAt ls seq d → ArmAt ls a d → OfNamed (λ n. IsAt ls n d) (whole a ty seq)
 whole_at ls (First Block) ty seq d at h = at
 whole_at ls (First Loop) ty seq d at h = at
 whole_at ls (First If) ty seq d at h = at
-whole_at ls Turned ty seq d at h = at
+whole_at ls AfterElse ty seq d at h = at
 whole_at ls (Second before) ty seq d at h = (h, at)
 
 -- ---- a body while it is built
@@ -155,8 +155,8 @@ module _ (most : ℕ) where
   }
 
   started_levels : (st : State) → HasLevels most st → HasLevels most (started st)
-  started_levels st h = go (is_turned st.blocks) refl where
-    go : (b : Bool) → is_turned st.blocks ≡ b → HasLevels most (started st)
+  started_levels st h = go (is_after_else st.blocks) refl where
+    go : (b : Bool) → is_after_else st.blocks ≡ b → HasLevels most (started st)
     go false e = rw e h
     go true e = rw e (second_levels st h)
 
@@ -188,13 +188,13 @@ module _ (most : ℕ) where
   pub begun_levels : (st : State) (opening : Opening) (ty : Option ValType) → length st.blocks < most → HasLevels most st → HasLevels most (begun st opening ty)
   begun_levels st opening ty room h = begun_in_levels (started st) opening ty (let n = started_blocks st in omega arith) (started_levels st h)
 
-  pub turned_levels : (st : State) → HasLevels most st → HasLevels most (turned st)
-  turned_levels st h = record {
+  pub after_else_levels : (st : State) → HasLevels most st → HasLevels most (after_else st)
+  after_else_levels st h = record {
     levels = h.levels;
     names = h.names;
-    opened = turned_at h.levels st.blocks h.opened;
+    opened = after_else_at h.levels st.blocks h.opened;
     bounded = h.bounded;
-    few = let n = turned_len st.blocks in let le = h.few in omega arith;
+    few = let n = after_else_len st.blocks in let le = h.few in omega arith;
   }
 
   closed_in_levels : (os : List Open) (ss : List (List Instr)) → HasLevels most (record { blocks = os; seqs = ss }) → HasLevels most (closed_in os ss)

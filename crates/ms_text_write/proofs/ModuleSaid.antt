@@ -31,7 +31,12 @@ use Rattle.ms_text_grammar.specs.declared.surface.Index.TheVariants.{Number}
 use Rattle.ms_text_grammar.specs.declared.surface.Item.{Item}
 use Rattle.ms_text_grammar.specs.declared.surface.Item.TheVariants as item
 use Rattle.ms_text_grammar.specs.declared.surface.TypeUse.{TypeUse}
-use Rattle.ms_text_grammar.specs.Elaborating.{Counts, Scope, With, all_uses, code_of, counted, defined, desc_of, each, element_of, elements_from, entries_in, entry_ids, export_desc, exports_from, field_types, fill_of, fills_from, func_of, funcs_of, global_of, globals_of, import_of, imports_of, inline_element, inline_fill, item_uses, joined, kind_of, local_ids, module_of, no_entries, of_kind, param_ids, params_len, repeated, repeats, resolved, right, same_kind, scope_of, sizes_of, starts_in, type_ids, types_in, with_uses}
+use Rattle.ms_text_grammar.specs.Identifiers.{With, each, joined, param_ids, repeats, resolved, right}
+use Rattle.ms_text_grammar.specs.FieldKinds.{Counts, counted, entries_in, entry_ids, kind_of, no_entries, of_kind, same_kind, type_ids, types_in}
+use Rattle.ms_text_grammar.specs.TypeUses.{Scope, all_uses, field_types, item_uses, local_ids, params_len, scope_of, with_uses}
+use Rattle.ms_text_grammar.specs.ResolvedBodies.{code_of}
+use Rattle.ms_text_grammar.specs.ResolvedParts.{defined, desc_of, element_of, elements_from, export_desc, exports_from, fill_of, fills_from, func_of, funcs_of, global_of, globals_of, import_of, imports_of, inline_element, inline_fill, sizes_of, starts_in}
+use Rattle.ms_text_grammar.specs.Elaborating.{module_of, repeated}
 use Rattle.ms_text_grammar.specs.Shapes.{field_type, param_types}
 use Rattle.ms_text_grammar.specs.Entries.{entry}
 use Rattle.ms_text_write.proofs.Said.{Says, SaysEach, SaysExport, SaysFill, SaysImport, body_said, element_field, export_field, func_field, global_field, import_item, memory_field, more, none, params_of, parts_fields, sig_field, start_fields, table_field, type_field_of, use_of, uses_fields}

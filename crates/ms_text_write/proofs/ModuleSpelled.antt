@@ -3,8 +3,8 @@ use Rattle.std.proofs.Common.{◌≡◌, ℕ, List, sym}
 use Rattle.ms_module.specs.declared.module.Module.{Module}
 use Rattle.ms_text_grammar.specs.TextSpells.{TextSpells}
 use Rattle.ms_text_grammar.proofs.Files.{one_module}
-use Rattle.ms_text_write.specs.Limits.{KeepsLimits}
-use Rattle.ms_text_write.specs.Ranges.{PartsFit, UsesFit}
+use Rattle.ms_text_write.specs.refinement.Limits.{KeepsLimits}
+use Rattle.ms_text_write.specs.refinement.Ranges.{PartsFit, UsesFit}
 use Rattle.ms_text_write.specs.Shown.{shown}
 use Rattle.ms_text_write.proofs.GrammarOfFiles.{fields_said}
 use Rattle.ms_text_write.proofs.Kept.{bodies, can_be_shown, sayable}

@@ -4,7 +4,7 @@ use Rattle.ms_module.specs.declared.instr.Instr.{Instr}
 use Rattle.ms_module.specs.Building.{IsNumbered, State, first_state}
 use Rattle.ms_module.proofs.Nesting.{nests}
 use Rattle.ms_flat.specs.Flat.{Item, Plain, Begin, Else, End, flat}
-use Rattle.ms_flat.specs.Rebuilt.{AllMayCome, after_item}
+use Rattle.ms_flat.specs.refinement.Rebuilt.{AllMayCome, after_item}
 use Rattle.ms_flat.proofs.Depths.{flat_may_come}
 use Rattle.ms_text_write.specs.Instrs.{AllPlain}
 

@@ -7,7 +7,7 @@ use Rattle.std.proofs.lemmas.Int.{ints}
 use Rattle.ms_text_lex.specs.Classes.{hex, is_between, is_decimal}
 use Rattle.ms_text_lex.specs.Words.{are_digits, has_sign, is_hexadecimal, is_id, is_unsigned}
 use Rattle.ms_text_lex.specs.Numbers.{digit_of, is_negative, with_digits}
-use Rattle.ms_text_write.specs.ReadBack.{ConstantIsRead, IndexIsRead}
+use Rattle.ms_text_write.specs.refinement.ReadBack.{ConstantIsRead, IndexIsRead}
 
 -- decimal digits alone
 abbrev AllDecimal : List ℕ → Type 0

@@ -11,7 +11,7 @@ use Rattle.ms_text_lex.specs.Strings.{behind_escape, behind_first, escape, escap
 use Rattle.ms_text_lex.specs.Values.{bytes_in, element, elements, string_bytes}
 use Rattle.ms_text_lex.specs.declared.strings.Escape.TheVariants.{High}
 use Rattle.ms_text_lex.specs.declared.strings.Piece.TheVariants.{Byte}
-use Rattle.ms_text_write.specs.ReadBack.{StringIsRead}
+use Rattle.ms_text_write.specs.refinement.ReadBack.{StringIsRead}
 use Rattle.ms_text_write.specs.Parts.{byte_text, hex_digit, is_itself, string_text}
 
 -- ---- digits

@@ -21,7 +21,7 @@ use Rattle.ms_module.specs.declared.module.Element.{Element}
 use Rattle.ms_module.specs.declared.module.Fill.{Fill}
 use Rattle.ms_module.specs.declared.module.Module.{Module}
 use Rattle.ms_module.specs.Building.{IsNumbered}
-use Rattle.ms_module.specs.Nesting.{NestsWithin}
+use Rattle.ms_module.specs.refinement.Nesting.{NestsWithin}
 use Rattle.ms_text_grammar.specs.Bounds.{usual}
 
 -- ---- numbers

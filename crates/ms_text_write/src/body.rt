@@ -2,9 +2,9 @@
 
 ghost use Rattle.std.specs.Prelude.{◌≡◌, ◌++◌, ◌≤◌, ◌^◌, OnOk, decimal};
 ghost use Rattle.ms_module.specs.Numbered.{HasAlign, IsPlain};
-ghost use Rattle.ms_flat.specs.Places.{item_of};
+ghost use Rattle.ms_flat.specs.refinement.Places.{item_of};
 ghost use Rattle.ms_text_write.specs.Parts.{spaced};
-ghost use Rattle.ms_text_write.specs.Ranges.{CodeFits, InstrFits, ItemFits, LinearFits, SegmentFits, TargetsFit};
+ghost use Rattle.ms_flat.specs.refinement.Ranges.{CodeFits, InstrFits, ItemFits, LinearFits, SegmentFits, TargetsFit};
 ghost use Rattle.ms_text_write.specs.Instrs.{ItemIsPlain, align_text, block_type_text, body_text, constant_text, item_text, kind_word, linear_operands, mem_arg_text, number_text, offset_text, operands, segment_operands};
 
 use crate::parts::{write_behind, write_indexed, write_number, write_signed};

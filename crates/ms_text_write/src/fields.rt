@@ -2,7 +2,8 @@
 
 ghost use Rattle.std.specs.Prelude.{◌≡◌, ◌++◌, ◌<◌, ◌^◌, OnOk};
 ghost use Rattle.ms_text_write.specs.Parts.{string_text};
-ghost use Rattle.ms_text_write.specs.Ranges.{CodeFits, ElementFits, ExportDescFits, ExportFits, FillFits, GlobalFits, ImportDescFits, ImportFits, NameFits};
+ghost use Rattle.ms_flat.specs.refinement.Ranges.{CodeFits, ElementFits, ExportDescFits, GlobalFits, ImportDescFits};
+ghost use Rattle.ms_text_write.specs.refinement.Ranges.{ExportFits, FillFits, ImportFits, NameFits};
 ghost use Rattle.ms_text_write.specs.Shown.{element_text, export_desc_text, export_text, fill_text, global_text, import_desc_text, import_text, place_text};
 
 use crate::body::write_body;

@@ -6,7 +6,7 @@ ghost use Rattle.ms_flat.specs.Keywords.{value_word};
 ghost use Rattle.ms_text_write.specs.Parts.{spaced};
 ghost use Rattle.ms_text_write.specs.Types.{group_text};
 ghost use Rattle.ms_text_write.specs.Shown.{func_text};
-ghost use Rattle.ms_text_write.specs.Ranges.{FuncFits};
+ghost use Rattle.ms_text_write.specs.refinement.Ranges.{FuncFits};
 
 use crate::body::write_body;
 use crate::parts::{Show, write_indexed, write_opened};

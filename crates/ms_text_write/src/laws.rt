@@ -11,7 +11,7 @@ ghost use Rattle.ms_bin_grammar.specs.Bounds.{usual};
 ghost use Rattle.ms_bin_grammar.specs.Module.{SpellsWithin};
 ghost use Rattle.ms_text_grammar.specs.TextSpells.{TextSpells};
 ghost use Rattle.ms_flat.specs.Keywords.{load_word, numeric_word, store_word, value_word};
-ghost use Rattle.ms_text_write.specs.ReadBack.{ConstantIsRead, IndexIsRead, StringIsRead};
+ghost use Rattle.ms_text_write.specs.refinement.ReadBack.{ConstantIsRead, IndexIsRead, StringIsRead};
 ghost use Rattle.ms_text_write.specs.Shown.{shown};
 
 /// Each index that is written is read as itself.

@@ -3,7 +3,8 @@
 ghost use Rattle.std.specs.Prelude.{◌≡◌, ◌++◌, ◌<◌, ℕ, List, OnOk, codes, decimal};
 ghost use Rattle.std.specs.Fmt.{signed_decimal};
 ghost use Rattle.ms_text_write.specs.Parts.{behind, byte_text, hex_digit, indexed, is_itself, opened, spaced, string_text};
-ghost use Rattle.ms_text_write.specs.Ranges.{AllFit, ByteFits, NumberFits};
+ghost use Rattle.ms_flat.specs.refinement.Ranges.{AllFit, NumberFits};
+ghost use Rattle.ms_text_write.specs.refinement.Ranges.{ByteFits};
 
 use itoa::Buffer;
 use ms_text_grammar::Word;

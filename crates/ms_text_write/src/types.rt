@@ -2,7 +2,7 @@
 
 ghost use Rattle.std.specs.Prelude.{◌≡◌, ◌++◌, ◌∷◌, [], OnOk};
 ghost use Rattle.ms_flat.specs.Keywords.{value_word};
-ghost use Rattle.ms_text_write.specs.Ranges.{LimitsFit};
+ghost use Rattle.ms_flat.specs.refinement.Ranges.{LimitsFit};
 ghost use Rattle.ms_text_write.specs.Types.{func_type_text, global_type_text, group_text, limits_text, memory_text, table_text};
 
 use crate::parts::{Show, write_behind, write_number, write_opened};

@@ -3,9 +3,10 @@
 ghost use Rattle.std.specs.Prelude.{◌≡◌, ◌++◌, OnOk, IfOk};
 ghost use Rattle.ms_module.specs.declared.module.Module.{Module};
 ghost use Rattle.ms_text_grammar.specs.TextSpells.{TextSpells};
-ghost use Rattle.ms_text_write.specs.Limits.{KeepsLimits};
+ghost use Rattle.ms_text_write.specs.refinement.Limits.{KeepsLimits};
 ghost use Rattle.ms_text_write.specs.Types.{memory_text, table_text};
-ghost use Rattle.ms_text_write.specs.Ranges.{AllFit, LimitsFit, NumberFitsIf, PartsFit, UsesFit};
+ghost use Rattle.ms_flat.specs.refinement.Ranges.{AllFit, LimitsFit, NumberFitsIf};
+ghost use Rattle.ms_text_write.specs.refinement.Ranges.{PartsFit, UsesFit};
 ghost use Rattle.ms_text_write.specs.Shown.{lines, parts_text, shown, start_line, uses_text};
 
 use crate::parts::{Show, write_behind, write_indexed, write_opened};

@@ -11,9 +11,9 @@ use Rattle.ms_outside.specs.Shelf.{SameCounts, Writes}
 use Rattle.ms_outside.specs.declared.sink.Put.TheVariants as putting
 use Rattle.ms_job.proofs.Bounded.{job_is_bounded}
 use Rattle.ms_job.specs.declared.job.Job.{Job}
-use Rattle.ms_words.specs.Asked.{Asked, Asm, Check, Dis, Exec, Judge, Run, asked_of, is_taken}
-use Rattle.ms_words.specs.Commands as options
-use Rattle.ms_words.specs.Commands.{usage_lines}
+use Rattle.ms_command_line.specs.Asked.{Asked, Asm, Check, Dis, Exec, Judge, Run, asked_of, is_taken}
+use Rattle.ms_command_line.specs.Commands as options
+use Rattle.ms_command_line.specs.Commands.{usage_lines}
 use Rattle.ms_machine.specs.Crews.{Input, Run as MachineRun}
 use Rattle.ms_machine.specs.Running.{MayGive}
 use Rattle.ms_run.specs.Answers.{Answer, Assembles, Checks, Disassembles, File, Found, Judges, OnFile, Unfound, Unloaded, Verdict, says}
@@ -32,8 +32,9 @@ use Rattle.ms_run.proofs.Jobs.{flows_more}
 use Rattle.ms_run.proofs.Safe.{file_safely, job_safely, run_is_accepted}
 use Rattle.ms_run.proofs.Once.{IsOrdinary, RunsOne, assembles_once, assembles_ordinary, checks_known, checks_once, checks_ordinary, disassembles_once, disassembles_ordinary, file_known, file_once, file_ordinary, found_held, holds_one, judges_known, judges_once, judges_ordinary, runs_file_known, runs_file_once, runs_file_ordinary, runs_job_known, runs_job_once, runs_job_ordinary}
 use Rattle.ms_run.proofs.Targets.{assembled_target, checks_target, disassembled_target, file_target, job_target, judges_target, unfound_target, wrote_none}
-use Rattle.ms_tool.specs.Responding.{Responds, gave, nothing, stopped}
-use Rattle.ms_tool.specs.Top.{AsksJob, AsksRun, FlowsFor, Gives, GivesFor, IsAnswer, IsCutOff, IsFaulty, IsOutFault, IsPutFault, IsStarved, IsTarget, IsUnwritten, Stays}
+use Rattle.ms_tool.specs.Outside.{Outside, flow_of, report_of, shelf_of}
+use Rattle.ms_tool.specs.refinement.Responding.{Responded, Responds, gave, nothing, stopped}
+use Rattle.ms_tool.specs.Top.{AsksJob, AsksRun, FlowsFor, Gives, GivesFor, IsAnswer, IsCutOff, IsFaulty, IsOutFault, IsPutFault, IsStarved, IsTarget, IsUnwritten, Keeps, Stays}
 
 -- ---- the table, by what the words ask for
 
@@ -174,8 +175,17 @@ other_name name target not =
 less_than_itself : (a b : ℕ) → b ≡ a → a < b → ⊥
 less_than_itself a b e h = omega arith
 
-module _ (words : List (List ℕ)) (given : Input) (s : Shelved) (r : Report) (f : Flow) where
-  pub answer_clause : (result : Status) → MayGive f.left_old given → Responds words given s r f result → FlowsFor s (asked_of words) given f result → IsPutFault result ⊎ IsAnswer s words r f result
+module _ (words : List (List ℕ)) (given : Input) (before after : Outside) where
+  abbrev s : Shelved
+  s = shelf_of before after
+
+  abbrev r : Report
+  r = report_of before after
+
+  abbrev f : Flow
+  f = flow_of before after
+
+  answer_clause : (result : Status) → MayGive f.left_old given → Responds words given s r f result → FlowsFor s.old (asked_of words) given f result → IsPutFault result ⊎ IsAnswer words before after result
   answer_clause result may (gave which a gives counts flow (put written (inl h)) u v) flows =
       inr (given, a, may, inl (which, gives, flow), h.0, h.1, written, flows)
   answer_clause result may (gave which a gives counts flow (put written (inr (inl h))) u v) flows = inl (inl h.0)
@@ -189,7 +199,7 @@ module _ (words : List (List ℕ)) (given : Input) (s : Shelved) (r : Report) (f
   answer_clause result may (stopped asks same files (out_failed rose kept)) flows = inl (inl refl)
   answer_clause result may (nothing same files kept) flows = inl (inr refl)
 
-  pub usage_clause : (result : Status) → Responds words given s r f result → result ≡ statuses.Usage → is_taken words ≡ false
+  usage_clause : (result : Status) → Responds words given s r f result → result ≡ statuses.Usage → is_taken words ≡ false
   usage_clause result (gave which a gives counts flow (put written (inl h)) u v) e = u (sym h.0 ∙ e)
   usage_clause result (gave which a gives counts flow (put written (inr (inl h))) u v) e = absurd (let both = sym h.0 ∙ e in cc)
   usage_clause result (gave which a gives counts flow (put written (inr (inr h))) u v) e = absurd (let both = sym h.0 ∙ e in cc)
@@ -201,7 +211,7 @@ module _ (words : List (List ℕ)) (given : Input) (s : Shelved) (r : Report) (f
   usage_clause result (stopped asks same files (out_failed rose kept)) e = absurd cc
   usage_clause result (nothing same files kept) e = absurd cc
 
-  pub refused_clause : (result : Status) → Responds words given s r f result → is_taken words ≡ false → (result ≡ statuses.Usage) ⊎ IsPutFault result
+  refused_clause : (result : Status) → Responds words given s r f result → is_taken words ≡ false → (result ≡ statuses.Usage) ⊎ IsPutFault result
   refused_clause result (gave which a gives counts flow (put written (inl h)) u v) e = inl (h.0 ∙ v e)
   refused_clause result (gave which a gives counts flow (put written (inr (inl h))) u v) e = inr (inl h.0)
   refused_clause result (gave which a gives counts flow (put written (inr (inr h))) u v) e = inr (inr h.0)
@@ -210,7 +220,7 @@ module _ (words : List (List ℕ)) (given : Input) (s : Shelved) (r : Report) (f
   refused_clause result (stopped asks same files c) e = absurd (subst AsksRun (asked_none words e) asks)
   refused_clause result (nothing same files kept) e = inr (inr refl)
 
-  pub write_fault_clause : (result : Status) → MayGive f.left_old given → Responds words given s r f result → result ≡ statuses.WriteFault → IsCutOff s words r f ⊎ (IsUnwritten s words r f ⊎ IsOutFault s words r f)
+  write_fault_clause : (result : Status) → MayGive f.left_old given → Responds words given s r f result → result ≡ statuses.WriteFault → IsCutOff words before after ⊎ (IsUnwritten words before after ⊎ IsOutFault words before after)
   write_fault_clause result may (gave which a gives counts flow (put written (inl h)) u v) e =
       absurd (subst IsUnfaulty (sym h.0 ∙ e) (unfaulty (IsFound s) given (asked_of words) which a gives))
   write_fault_clause result may (gave which a gives counts flow (put written (inr (inl h))) u v) e =
@@ -225,7 +235,7 @@ module _ (words : List (List ℕ)) (given : Input) (s : Shelved) (r : Report) (f
   write_fault_clause result may (stopped asks same files (out_failed rose kept)) e = inr (inr (asks, rose, kept.0, files))
   write_fault_clause result may (nothing same files kept) e = absurd cc
 
-  pub memory_clause : (result : Status) → MayGive f.left_old given → Responds words given s r f result → result ≡ statuses.OutOfMemory → IsStarved s words r f
+  memory_clause : (result : Status) → MayGive f.left_old given → Responds words given s r f result → result ≡ statuses.OutOfMemory → IsStarved words before after
   memory_clause result may (gave which a gives counts flow (put written (inl h)) u v) e =
       absurd (subst IsUnfaulty (sym h.0 ∙ e) (unfaulty (IsFound s) given (asked_of words) which a gives))
   memory_clause result may (gave which a gives counts flow (put written (inr (inl h))) u v) e = absurd (let both = sym h.0 ∙ e in cc)
@@ -267,7 +277,7 @@ module _ (words : List (List ℕ)) (given : Input) (s : Shelved) (r : Report) (f
         let same = once (Holds (Some known)) given (holds_one known) (asked_of words) which a ran' a' gives gives' in
         as_given result (subst (λ (x : Answer). Delivers x s r result) same.1 delivers)
 
-    pub complete_clause : (result : Status) → Responds words given s r f result → s.old ≡ Some known → Gives words (Holds (Some known)) given ran' a' → Completes result
+    complete_clause : (result : Status) → Responds words given s r f result → s.old ≡ Some known → Gives words (Holds (Some known)) given ran' a' → Completes result
     complete_clause result (gave which a gives counts flow delivers u v) e gives' =
         of_known result which a delivers gives' (given_known (IsFound s) (Holds (Some known)) given (found_held s known e) (asked_of words) which a gives)
     complete_clause result (stopped asks same files (input_failed rose (inl h))) e gives' = inr (inl h.0)
@@ -278,7 +288,7 @@ module _ (words : List (List ℕ)) (given : Input) (s : Shelved) (r : Report) (f
 
   -- ---- counted faults
 
-  pub reads_clause : (result : Status) → Responds words given s r f result → (name : List ℕ) → s.reads_old name < s.reads_new name → IsFaulty result
+  reads_clause : (result : Status) → Responds words given s r f result → (name : List ℕ) → s.reads_old name < s.reads_new name → IsFaulty result
   reads_clause result (gave which a gives (inl e) flow delivers u v) name lt = as_fault result a e delivers
   reads_clause result (gave which a gives (inr same) flow delivers u v) name lt = absurd (less_than_itself (s.reads_old name) (s.reads_new name) (same name) lt)
   reads_clause result (stopped asks same files c) name lt = absurd (less_than_itself (s.reads_old name) (s.reads_new name) (same name) lt)
@@ -293,7 +303,7 @@ module _ (words : List (List ℕ)) (given : Input) (s : Shelved) (r : Report) (f
   writes_of result a (failed part kept) lt = inl refl
   writes_of result a (starved files kept) lt = inr refl
 
-  pub writes_clause : (result : Status) → Responds words given s r f result → s.writes_old < s.writes_new → IsPutFault result
+  writes_clause : (result : Status) → Responds words given s r f result → s.writes_old < s.writes_new → IsPutFault result
   writes_clause result (gave which a gives counts flow delivers u v) lt = writes_of result a delivers lt
   writes_clause result (stopped asks same files c) lt = absurd (less_than_itself s.writes_old s.writes_new files.1 lt)
   writes_clause result (nothing same files kept) lt = inr refl
@@ -305,7 +315,7 @@ module _ (words : List (List ℕ)) (given : Input) (s : Shelved) (r : Report) (f
   puts_of result a (failed part kept) lt = inl refl
   puts_of result a (starved files kept) lt = inr refl
 
-  pub puts_clause : (result : Status) → Responds words given s r f result → r.puts_old < r.puts_new → IsPutFault result
+  puts_clause : (result : Status) → Responds words given s r f result → r.puts_old < r.puts_new → IsPutFault result
   puts_clause result (gave which a gives counts flow delivers u v) lt = puts_of result a delivers lt
   puts_clause result (stopped asks same files (input_failed rose (inl h))) lt = absurd (less_than_itself r.puts_old r.puts_new h.2 lt)
   puts_clause result (stopped asks same files (input_failed rose (inr (inl h)))) lt = inl h.0
@@ -333,23 +343,23 @@ module _ (words : List (List ℕ)) (given : Input) (s : Shelved) (r : Report) (f
   cut_stays name target bytes (Some known) new not (inl h) = kept_stays name (Some known) new h
   cut_stays name target bytes (Some known) new not (inr h) = inserted_stays name target h.0 known new not h.2
 
-  has_written_stays : (name : List ℕ) (file : Option File) → ((f : File) → file ≡ Some f → ¬ (name ≡ f.name)) → HasWritten s file → Stays s name
+  has_written_stays : (name : List ℕ) (file : Option File) → ((f : File) → file ≡ Some f → ¬ (name ≡ f.name)) → HasWritten s file → Stays s.old s.new name
   has_written_stays name None not h = kept_stays name s.old s.new h.0
   has_written_stays name (Some f) not h = written_stays name f.name f.bytes s.old s.new (not f refl) h.0
 
-  has_failed_stays : (name : List ℕ) (file : Option File) → ((f : File) → file ≡ Some f → ¬ (name ≡ f.name)) → HasFailed s file → Stays s name
+  has_failed_stays : (name : List ℕ) (file : Option File) → ((f : File) → file ≡ Some f → ¬ (name ≡ f.name)) → HasFailed s file → Stays s.old s.new name
   has_failed_stays name None not h = absurd h
   has_failed_stays name (Some f) not h = cut_stays name f.name f.bytes s.old s.new (not f refl) h.0
 
   not_target : (o : Option Asked) (name : List ℕ) (f : File) → ¬ IsTarget (Holds s.old) o name → IsTarget (Holds s.old) o f.name → ¬ (name ≡ f.name)
   not_target o name f not is e = not (subst (IsTarget (Holds s.old) o) (sym e) is)
 
-  delivered_stays : (name : List ℕ) (result : Status) (a : Answer) → ((f : File) → a.file ≡ Some f → ¬ (name ≡ f.name)) → Delivers a s r result → Stays s name
+  delivered_stays : (name : List ℕ) (result : Status) (a : Answer) → ((f : File) → a.file ≡ Some f → ¬ (name ≡ f.name)) → Delivers a s r result → Stays s.old s.new name
   delivered_stays name result a not (put written h) = has_written_stays name a.file not written
   delivered_stays name result a not (failed f kept) = has_failed_stays name a.file not f
   delivered_stays name result a not (starved files kept) = kept_stays name s.old s.new files.0
 
-  pub files_clause : (result : Status) → Responds words given s r f result → (name : List ℕ) → ¬ IsTarget (Holds s.old) (asked_of words) name → Stays s name
+  files_clause : (result : Status) → Responds words given s r f result → (name : List ℕ) → ¬ IsTarget (Holds s.old) (asked_of words) name → Stays s.old s.new name
   files_clause result (gave which a gives counts flow delivers u v) name not =
       delivered_stays name result a (λ f e. not_target (asked_of words) name f not (target_given (IsFound s) (Holds s.old) (λ n b x. x) given (asked_of words) which f a gives e)) delivers
   files_clause result (stopped asks same files c) name not = kept_stays name s.old s.new files.0
@@ -359,10 +369,10 @@ module _ (words : List (List ℕ)) (given : Input) (s : Shelved) (r : Report) (f
 
 module _ (s : Shelved) (given : Input) (f : Flow) where
   -- what is left by what the words ask for
-  flows_as : (words : List (List ℕ)) (o : Option Asked) (result : Status) → asked_of words ≡ o → FlowsFor s o given f result → FlowsFor s (asked_of words) given f result
-  flows_as words o result e flows = subst (λ (x : Option Asked). FlowsFor s x given f result) (sym e) flows
+  flows_as : (words : List (List ℕ)) (o : Option Asked) (result : Status) → asked_of words ≡ o → FlowsFor s.old o given f result → FlowsFor s.old (asked_of words) given f result
+  flows_as words o result e flows = subst (λ (x : Option Asked). FlowsFor s.old x given f result) (sym e) flows
 
-  quiet_for : (o : Option Asked) → IsQuiet f → FlowsFor s o given f statuses.OutOfMemory
+  quiet_for : (o : Option Asked) → IsQuiet f → FlowsFor s.old o given f statuses.OutOfMemory
   quiet_for None still = still
   quiet_for (Some (Exec file budget memory)) still = quiet tt still
   quiet_for (Some (Run job)) still = quiet tt still
@@ -388,7 +398,7 @@ module _ (s : Shelved) (given : Input) (f : Flow) where
     by statuses.Refused h = absurd h
     by statuses.TooLong h = absurd h
 
-  takes_clause : (o : Option Asked) (result : Status) → FlowsFor s o given f result → f.takes_old < f.takes_new → IsFaulty result
+  takes_clause : (o : Option Asked) (result : Status) → FlowsFor s.old o given f result → f.takes_old < f.takes_new → IsFaulty result
   takes_clause None result still lt = takes_still result still lt
   takes_clause (Some (Exec file budget memory)) result flows lt = takes_run _ result flows lt
   takes_clause (Some (Run job)) result flows lt = takes_run _ result flows lt
@@ -414,7 +424,7 @@ module _ (s : Shelved) (given : Input) (f : Flow) where
     by statuses.Refused h = absurd h
     by statuses.TooLong h = absurd h
 
-  outs_clause : (o : Option Asked) (result : Status) → FlowsFor s o given f result → f.puts_old < f.puts_new → IsPutFault result
+  outs_clause : (o : Option Asked) (result : Status) → FlowsFor s.old o given f result → f.puts_old < f.puts_new → IsPutFault result
   outs_clause None result still lt = outs_still result still lt
   outs_clause (Some (Exec file budget memory)) result flows lt = outs_run _ result flows lt
   outs_clause (Some (Run job)) result flows lt = outs_run _ result flows lt
@@ -424,29 +434,25 @@ module _ (s : Shelved) (given : Input) (f : Flow) where
   outs_clause (Some (Judge file memory)) result still lt = outs_still result still lt
 
 module _ (words : List (List ℕ)) (given : Input) (s : Shelved) (r : Report) (f : Flow) where
-  pub takes_both : (result : Status) → Responds words given s r f result → FlowsFor s (asked_of words) given f result → f.takes_old < f.takes_new → IsFaulty result
+  takes_both : (result : Status) → Responds words given s r f result → FlowsFor s.old (asked_of words) given f result → f.takes_old < f.takes_new → IsFaulty result
   takes_both result responds flows lt = takes_clause s given f (asked_of words) result flows lt
 
-  pub outs_both : (result : Status) → Responds words given s r f result → FlowsFor s (asked_of words) given f result → f.puts_old < f.puts_new → IsPutFault result
+  outs_both : (result : Status) → Responds words given s r f result → FlowsFor s.old (asked_of words) given f result → f.puts_old < f.puts_new → IsPutFault result
   outs_both result responds flows lt = outs_clause s given f (asked_of words) result flows lt
 
 -- ---- what was answered, and what became of the input and the output
 
 module _ (words : List (List ℕ)) (s : Shelved) (r : Report) (f : Flow) where
-  -- a run that has come to an end was safe
   abbrev Safely : Option Asked → Status → Type 0
   Safely o result = AsksRun o → IsEnd result → (job : Job) × AsksJob (Holds s.old) o job × RanSafely s r f job result
 
-  abbrev Responded : Status → Type 0
-  Responded result = (given : Input) × MayGive f.left_old given × Responds words given s r f result × FlowsFor s (asked_of words) given f result × Safely (asked_of words) result
-
   module _ (given : Input) (may : MayGive f.left_old given) where
-    responded_as : (asked : Asked) (result : Status) → asked_of words ≡ Some asked → Responds words given s r f result → FlowsFor s (Some asked) given f result → Safely (Some asked) result → Responded result
+    responded_as : (asked : Asked) (result : Status) → asked_of words ≡ Some asked → Responds words given s r f result → FlowsFor s.old (Some asked) given f result → Safely (Some asked) result → Responded words s r f result
     responded_as asked result e responds flows safely =
         (given, may, responds, flows_as s given f words (Some asked) result e flows, subst (λ (o : Option Asked). Safely o result) (sym e) safely)
 
     pub exec_responded : (file : List ℕ) (budget memory : ℕ) (result : Status) → memory ≤ options.memory.most → asked_of words ≡ Some (Exec file budget memory) → DidRun (RunsJob (IsFound s) Only given (exec_job file budget memory)) given s r f result
-        → Flows given (RunOfJob (Holds s.old) given (exec_job file budget memory)) f result → Responded result
+        → Flows given (RunOfJob (Holds s.old) given (exec_job file budget memory)) f result → Responded words s r f result
     exec_responded file budget memory result small e done flows =
         let asked = Exec file budget memory in
         let job = exec_job file budget memory in
@@ -454,36 +460,57 @@ module _ (words : List (List ℕ)) (s : Shelved) (r : Report) (f : Flow) where
         (flows_more given (RunOfJob (Holds s.old) given job) _ (λ run h. (h, run_is_accepted (Holds s.old) given job run small h)) f result flows)
         (λ asks end. (job, refl, job_safely s r f given may Only job small result end done))
 
-    pub run_responded : (name : List ℕ) (result : Status) → asked_of words ≡ Some (Run name) → DidRun (RunsFile (IsFound s) given name) given s r f result → Flows given (RunOfFile (Holds s.old) given name) f result → Responded result
+    pub run_responded : (name : List ℕ) (result : Status) → asked_of words ≡ Some (Run name) → DidRun (RunsFile (IsFound s) given name) given s r f result → Flows given (RunOfFile (Holds s.old) given name) f result → Responded words s r f result
     run_responded name result e done flows =
         let asked = Run name in
         responded_as asked result e (run_gave words given s r f asked e (RunsFile (IsFound s) given name) (λ which a gives. gives) tt result done)
         (flows_more given (RunOfFile (Holds s.old) given name) _ (λ run h. (h, run_is_accepted (Holds s.old) given h.job run (job_is_bounded h.bytes h.job h.is_job).memory h.runs)) f result flows)
         (λ asks end. file_safely s r f given may name result end done)
 
-    pub check_responded : (file : List ℕ) (result : Status) → asked_of words ≡ Some (Check file) → Tells (Checks (IsFound s) file) s r result → IsQuiet f → Responded result
+    pub check_responded : (file : List ℕ) (result : Status) → asked_of words ≡ Some (Check file) → Tells (Checks (IsFound s) file) s r result → IsQuiet f → Responded words s r f result
     check_responded file result e done still =
         let asked = Check file in
         responded_as asked result e (tells_gave words given s r f asked e (Checks (IsFound s) file) (λ a gives. (refl, gives)) still result done) still (λ asks end. absurd asks)
 
-    pub asm_responded : (file out : List ℕ) (result : Status) → asked_of words ≡ Some (Asm file out) → Did (OnFile (IsFound s) file (Assembles out)) s r result → IsQuiet f → Responded result
+    pub asm_responded : (file out : List ℕ) (result : Status) → asked_of words ≡ Some (Asm file out) → Did (OnFile (IsFound s) file (Assembles out)) s r result → IsQuiet f → Responded words s r f result
     asm_responded file out result e did still =
         let asked = Asm file out in
         responded_as asked result e (did_gave words given s r f asked e (OnFile (IsFound s) file (Assembles out)) (λ a gives. (refl, gives)) still result did) still (λ asks end. absurd asks)
 
-    pub dis_responded : (file out : List ℕ) (result : Status) → asked_of words ≡ Some (Dis file out) → Did (OnFile (IsFound s) file (Disassembles out)) s r result → IsQuiet f → Responded result
+    pub dis_responded : (file out : List ℕ) (result : Status) → asked_of words ≡ Some (Dis file out) → Did (OnFile (IsFound s) file (Disassembles out)) s r result → IsQuiet f → Responded words s r f result
     dis_responded file out result e did still =
         let asked = Dis file out in
         responded_as asked result e (did_gave words given s r f asked e (OnFile (IsFound s) file (Disassembles out)) (λ a gives. (refl, gives)) still result did) still (λ asks end. absurd asks)
 
-    pub judge_responded : (file : List ℕ) (memory : ℕ) (result : Status) → asked_of words ≡ Some (Judge file memory) → Tells (Judges (IsFound s) file memory) s r result → IsQuiet f → Responded result
+    pub judge_responded : (file : List ℕ) (memory : ℕ) (result : Status) → asked_of words ≡ Some (Judge file memory) → Tells (Judges (IsFound s) file memory) s r result → IsQuiet f → Responded words s r f result
     judge_responded file memory result e done still =
         let asked = Judge file memory in
         responded_as asked result e (tells_gave words given s r f asked e (Judges (IsFound s) file memory) (λ a gives. (refl, gives)) still result done) still (λ asks end. absurd asks)
 
-    pub usage_responded : (result : Status) → is_taken words ≡ false → SameCounts s.reads_old s.reads_new → KeepsFiles s → Reports statuses.Usage usage_lines r result → IsQuiet f → Responded result
+    pub usage_responded : (result : Status) → is_taken words ≡ false → SameCounts s.reads_old s.reads_new → KeepsFiles s → Reports statuses.Usage usage_lines r result → IsQuiet f → Responded words s r f result
     usage_responded result refused same kept reports still =
         (given, may, usage_gave words given s r f result refused same kept reports still, flows_as s given f words None result (asked_none words refused) still, λ asks. absurd (subst AsksRun (asked_none words refused) asks))
 
-    pub nothing_responded : SameCounts s.reads_old s.reads_new → KeepsFiles s → IsKept r → IsQuiet f → Responded statuses.OutOfMemory
+    pub nothing_responded : SameCounts s.reads_old s.reads_new → KeepsFiles s → IsKept r → IsQuiet f → Responded words s r f statuses.OutOfMemory
     nothing_responded same files kept still = (given, may, nothing same files kept, quiet_for s given f (asked_of words) still, λ asks end. absurd end)
+
+-- ---- the contract
+
+pub keeps : (words : List (List ℕ)) (before after : Outside) (status : Status)
+    → Responded words (shelf_of before after) (report_of before after) (flow_of before after) status → Keeps words before after status
+keeps words before after status h = let given = h.0 in record {
+  answer = answer_clause words given before after status h.1 h.2 h.3;
+  usage = usage_clause words given before after status h.2;
+  refused = refused_clause words given before after status h.2;
+  write_fault = write_fault_clause words given before after status h.1 h.2;
+  memory = memory_clause words given before after status h.1 h.2;
+  complete = λ known ran answer is gives. complete_clause words given before after known (ran given) answer status h.2 is (gives given h.1);
+  safe = h.4;
+  reads = λ name lt. reads_clause words given before after status h.2 name lt;
+  writes = λ lt. writes_clause words given before after status h.2 lt;
+  puts = λ lt. puts_clause words given before after status h.2 lt;
+  takes = λ lt. takes_both words given (shelf_of before after) (report_of before after) (flow_of before after) status h.2 h.3 lt;
+  outs = λ lt. outs_both words given (shelf_of before after) (report_of before after) (flow_of before after) status h.2 h.3 lt;
+  files = λ name not. files_clause words given before after status h.2 name not;
+  flows = (given, h.1, h.3);
+}

@@ -1,3 +1,3 @@
+pub mod Outside
 pub mod Top
-pub mod Responding
-pub mod Ending
+pub mod refinement

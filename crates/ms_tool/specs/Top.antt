@@ -1,11 +1,12 @@
--- What the program answers: what the words ask for (`Asked` of `ms_words`), and of each command the table of its
--- answers (`Answers` and `Jobs` of `ms_run`).
-use Rattle.std.specs.Prelude.{◌≡◌, ◌⊎◌, ℕ, List, Option, Some, None, MatchOption, IsSomeAnd, Ok}
+-- What the program answers, and what it does to the objects outside: `Keeps`, at the end, is the whole contract of `tool`. It stands
+-- on what the words ask for (`Asked` of `ms_command_line`) and on each command's table of answers (`Answers` and `Jobs` of `ms_run`).
+use Rattle.std.specs.Prelude.{◌≡◌, ◌⊎◌, ◌<◌, ℕ, List, Option, Some, None, MatchOption, IsSomeAnd, Ok, false}
 use Rattle.std.specs.FinMap.{get}
 use Rattle.ms_outside.specs.Faults.{Rose}
+use Rattle.ms_outside.specs.Files.{Files}
 use Rattle.ms_outside.specs.Sink.{IsFront}
-use Rattle.ms_words.specs.Asked.{Asked, Asm, Check, Dis, Exec, Judge, Run, asked_of}
-use Rattle.ms_words.specs.Commands.{usage_lines}
+use Rattle.ms_command_line.specs.Asked.{Asked, Asm, Check, Dis, Exec, Judge, Run, asked_of, is_taken}
+use Rattle.ms_command_line.specs.Commands.{usage_lines}
 use Rattle.ms_event.specs.Monitor.{Accepts}
 use Rattle.ms_job.specs.Jobs.{job_in}
 use Rattle.ms_job.specs.declared.job.Job.{Job}
@@ -15,11 +16,13 @@ use Rattle.ms_machine.specs.Running.{MayGive}
 use Rattle.ms_run.specs.Flows.{Flows, FlowsAs, IsQuiet}
 use Rattle.ms_run.specs.Jobs.{RunOfFile, RunOfJob, RunsFile, RunsJob, exec_job}
 use Rattle.ms_run.specs.Lines.{input_fault_line}
-use Rattle.ms_run.specs.Observed.{Flow, Report, Shelved}
+use Rattle.ms_run.specs.Observed.{Flow}
 use Rattle.ms_run.specs.Reporting.{Grows, HasFailed, HasWritten, Holds, IsFound, KeepsFiles}
+use Rattle.ms_run.specs.SafeRuns.{IsEnd, RanSafely}
 use Rattle.ms_run.specs.declared.gathering.Naming.TheVariants.{Only}
 use Rattle.ms_run.specs.declared.status.Status.{Status}
 use Rattle.ms_run.specs.declared.status.Status.TheVariants.{OutOfMemory, ReadFault, Usage, WriteFault}
+use Rattle.ms_tool.specs.Outside.{Outside, flow_of, report_of, shelf_of}
 
 -- ---- the table
 
@@ -57,66 +60,70 @@ AsksJob Has (Some (Run name)) job = (bytes : List ℕ) × HasBytes Has name byte
 AsksJob Has _ job = ⊥
 
 -- A run whose input failed has an answer of its own, only where the count of the input rose.
-abbrev pub IsInputFault : List (List ℕ) → Flow → Answer → Type 0
-IsInputFault words f answer =
-    AsksRun (asked_of words) × (answer ≡ says ReadFault input_fault_line) × Rose f.takes_old f.takes_new
+abbrev pub IsInputFault : List (List ℕ) → (before after : Outside) → Answer → Type 0
+IsInputFault words before after answer =
+    AsksRun (asked_of words) × (answer ≡ says ReadFault input_fault_line) × Rose before.take_faults after.take_faults
 
 -- The table's answer, the input and the output being as the run leaves them of which it tells, or as before; or that of
 -- an input that failed.
-abbrev pub GivesOver : List (List ℕ) → Shelved → (given : Input) → Flow → Answer → Type 0
-GivesOver words s given f answer =
-    ((ran : Option MachineRun) × Gives words (IsFound s) given ran answer × FlowsAs given f ran)
-    ⊎ IsInputFault words f answer
+abbrev pub GivesOver : List (List ℕ) → (before after : Outside) → (given : Input) → Answer → Type 0
+GivesOver words before after given answer =
+    ((ran : Option MachineRun) × Gives words (IsFound (shelf_of before after)) given ran answer × FlowsAs given (flow_of before after) ran)
+    ⊎ IsInputFault words before after answer
 
 -- ---- the input and the output of a program
 
--- A run leaves them so, of which each event may come next by the colour monitor; where the words don't ask for one,
--- they are as before.
-abbrev pub FlowsFor : Shelved → Option Asked → (given : Input) → Flow → Status → Type 0
-FlowsFor s (Some (Exec name budget memory)) given f result =
+-- A run of these files leaves them so, of which each event may come next by the colour monitor; where the words don't ask
+-- for one, they are as before.
+abbrev pub FlowsFor : Option Files → Option Asked → (given : Input) → Flow → Status → Type 0
+FlowsFor files (Some (Exec name budget memory)) given f status =
     Flows given
-    (λ run. RunOfJob (Holds s.old) given (exec_job name budget memory) run × Accepts memory (events_of run.deeds))
-    f result
-FlowsFor s (Some (Run name)) given f result =
+    (λ run. RunOfJob (Holds files) given (exec_job name budget memory) run × Accepts memory (events_of run.deeds))
+    f status
+FlowsFor files (Some (Run name)) given f status =
     Flows given
-    (λ run. (runs : RunOfFile (Holds s.old) given name run) × Accepts runs.job.memory (events_of run.deeds))
-    f result
-FlowsFor s _ given f result = IsQuiet f
+    (λ run. (runs : RunOfFile (Holds files) given name run) × Accepts runs.job.memory (events_of run.deeds))
+    f status
+FlowsFor files _ given f status = IsQuiet f
 
 -- ---- the answer
 
 -- This status is that of the answer: the report has grown by exactly its lines, exactly its file was written, and the
 -- input and the output are as it leaves them.
-abbrev pub IsAnswer : Shelved → List (List ℕ) → Report → Flow → Status → Type 0
-IsAnswer s words r f status =
+abbrev pub IsAnswer : List (List ℕ) → (before after : Outside) → Status → Type 0
+IsAnswer words before after status =
     (given : Input) × (answer : Answer)
-    × MayGive f.left_old given × GivesOver words s given f answer
-    × (status ≡ answer.status) × Grows r answer.report × HasWritten s answer.file
-    × FlowsFor s (asked_of words) given f status
+    × MayGive before.left given × GivesOver words before after given answer
+    × (status ≡ answer.status) × Grows (report_of before after) answer.report × HasWritten (shelf_of before after) answer.file
+    × FlowsFor before.files (asked_of words) given (flow_of before after) status
 
 -- The report could not be put: it has grown by a first part of an answer's lines, of which the file was written.
-abbrev pub IsCutOff : Shelved → List (List ℕ) → Report → Flow → Type 0
-IsCutOff s words r f =
+abbrev pub IsCutOff : List (List ℕ) → (before after : Outside) → Type 0
+IsCutOff words before after =
     (given : Input) × (answer : Answer) × (front : List ℕ)
-    × MayGive f.left_old given × GivesOver words s given f answer
-    × IsFront front answer.report × Grows r front × HasWritten s answer.file × Rose r.puts_old r.puts_new
+    × MayGive before.left given × GivesOver words before after given answer
+    × IsFront front answer.report × Grows (report_of before after) front × HasWritten (shelf_of before after) answer.file
+    × Rose before.report_faults after.report_faults
 
--- The file of an answer could not be written, and nothing was put.
-abbrev pub IsUnwritten : Shelved → List (List ℕ) → Report → Flow → Type 0
-IsUnwritten s words r f =
+-- The file of an answer could not be written, and nothing was put to the report.
+abbrev pub IsUnwritten : List (List ℕ) → (before after : Outside) → Type 0
+IsUnwritten words before after =
     (given : Input) × (answer : Answer)
-    × MayGive f.left_old given × GivesOver words s given f answer × HasFailed s answer.file × (r.new ≡ r.old)
+    × MayGive before.left given × GivesOver words before after given answer
+    × HasFailed (shelf_of before after) answer.file × (after.report ≡ before.report)
 
 -- The output of a run could not be put, and nothing was put to the report.
-abbrev pub IsOutFault : Shelved → List (List ℕ) → Report → Flow → Type 0
-IsOutFault s words r f = AsksRun (asked_of words) × Rose f.puts_old f.puts_new × (r.new ≡ r.old) × KeepsFiles s
+abbrev pub IsOutFault : List (List ℕ) → (before after : Outside) → Type 0
+IsOutFault words before after =
+    AsksRun (asked_of words) × Rose before.put_faults after.put_faults
+    × (after.report ≡ before.report) × KeepsFiles (shelf_of before after)
 
--- Memory ran out: nothing was put, and no file was written but that of an answer.
-abbrev pub IsStarved : Shelved → List (List ℕ) → Report → Flow → Type 0
-IsStarved s words r f =
-    (r.new ≡ r.old)
-    × (KeepsFiles s ⊎ ((given : Input) × (answer : Answer)
-    × MayGive f.left_old given × GivesOver words s given f answer × HasWritten s answer.file))
+-- Memory ran out: nothing was put to the report, and no file was written but that of an answer.
+abbrev pub IsStarved : List (List ℕ) → (before after : Outside) → Type 0
+IsStarved words before after =
+    (after.report ≡ before.report)
+    × (KeepsFiles (shelf_of before after) ⊎ ((given : Input) × (answer : Answer)
+    × MayGive before.left given × GivesOver words before after given answer × HasWritten (shelf_of before after) answer.file))
 
 -- The status is a fault of writing, or want of memory.
 abbrev pub IsPutFault : Status → Type 0
@@ -136,6 +143,44 @@ IsTarget Has (Some (Dis file out)) name = name ≡ out
 IsTarget Has _ name = ⊥
 
 -- the file of this name is as before, where the shelf tells its files
-abbrev pub Stays : Shelved → List ℕ → Type 0
-Stays s name =
-    MatchOption s.old (s.new ≡ None) (λ known. IsSomeAnd s.new (λ after. get after name ≡ get known name))
+abbrev pub Stays : (before after : Option Files) → List ℕ → Type 0
+Stays before after name =
+    MatchOption before (after ≡ None) (λ known. IsSomeAnd after (λ now. get now name ≡ get known name))
+
+-- ---- the contract of `tool`
+
+-- For these words, what was seen of the outside before and after the call, and the status with which it ended.
+pub record Keeps (words : List (List ℕ)) (before after : Outside) (status : Status) : Type 0 where
+  -- The answer is the one that the table gives for the words, the files and what the input gives, or a fault of writing or want of
+  -- memory stands in its place.
+  pub answer : IsPutFault status ⊎ IsAnswer words before after status
+  -- Usage is told exactly where the definition of the commands refuses the words, unless that can't be put.
+  pub usage : status ≡ Usage → is_taken words ≡ false
+  pub refused : is_taken words ≡ false → (status ≡ Usage) ⊎ IsPutFault status
+  -- A write fault has its cause: the report broke off, or the answer's file, or the output of the run.
+  pub write_fault : status ≡ WriteFault
+      → IsCutOff words before after ⊎ (IsUnwritten words before after ⊎ IsOutFault words before after)
+  -- Where memory ran out the report is as before, and no file was written but that of an answer.
+  pub memory : status ≡ OutOfMemory → IsStarved words before after
+  -- What the table gives for known files, whatever the input may give, is the answer, unless a fault is met or memory runs out.
+  pub complete : (known : Files) (ran : Input → Option MachineRun) (answer : Answer) → before.files ≡ Some known
+      → ((given : Input) → MayGive before.left given → Gives words (Holds (Some known)) given (ran given) answer)
+      → ((status ≡ answer.status) × Grows (report_of before after) answer.report × HasWritten (shelf_of before after) answer.file)
+      ⊎ IsFaulty status
+  -- Where the words ask for a run and it has come to an end, this is a run of all modules that link, by the job's tasks, schedule and
+  -- budget: status, report, the trace's file, input and output are its own; and its allocations, slices, reads, writes and frees
+  -- are a trace that the colour monitor accepts.
+  pub safe : AsksRun (asked_of words) → IsEnd status
+      → (job : Job) × AsksJob (Holds before.files) (asked_of words) job
+      × RanSafely (shelf_of before after) (report_of before after) (flow_of before after) job status
+  -- A fault that was counted is never passed over.
+  pub reads : (name : List ℕ) → before.read_faults name < after.read_faults name → IsFaulty status
+  pub writes : before.write_faults < after.write_faults → IsPutFault status
+  pub puts : before.report_faults < after.report_faults → IsPutFault status
+  pub takes : before.take_faults < after.take_faults → IsFaulty status
+  pub outs : before.put_faults < after.put_faults → IsPutFault status
+  -- All files stay but the one that the words name to be written, or the job for its trace.
+  pub files : (name : List ℕ) → ¬ IsTarget (Holds before.files) (asked_of words) name → Stays before.files after.files name
+  -- The input and the output are as before, but for a run: after its end the output has grown by exactly its bytes, and the input has
+  -- lost exactly those that it takes; after a fault the output has got a front of them, and the input has lost no others.
+  pub flows : (given : Input) × MayGive before.left given × FlowsFor before.files (asked_of words) given (flow_of before after) status

@@ -8,7 +8,7 @@ use std::marker::Model;
 use std::rc::Rc;
 
 /// A function type that several functions and entries of tables share. Contracts see the type.
-#[derive(Debug, Drop)]
+#[derive(Drop)]
 pub struct SharedType {
     ty: Rc<FuncType>,
 }

@@ -3,7 +3,7 @@
 use crate::vector::Vector;
 
 /// A value type (WebAssembly 1.0, 2.3.1), the type of handles among them.
-#[derive(Clone, Copy, Debug, PartialEq, Eq)]
+#[derive(Clone, Copy, PartialEq, Eq)]
 pub enum ValType {
     /// Integers of 32 bits.
     I32,
@@ -14,7 +14,7 @@ pub enum ValType {
 }
 
 /// A function type (WebAssembly 1.0, 2.3.3).
-#[derive(Debug, Drop)]
+#[derive(Drop)]
 pub struct FuncType {
     /// The types of the parameters.
     pub params: Vector<ValType>,
@@ -26,7 +26,7 @@ pub struct FuncType {
 pub const PAGE: usize = 65_536;
 
 /// The size of a memory or a table, in pages or entries (WebAssembly 1.0, 2.3.4).
-#[derive(Clone, Copy, Debug, PartialEq, Eq)]
+#[derive(Clone, Copy, PartialEq, Eq)]
 pub struct Limits {
     /// The size at the beginning.
     pub min: u32,
@@ -35,7 +35,7 @@ pub struct Limits {
 }
 
 /// The type of a global (WebAssembly 1.0, 2.3.6).
-#[derive(Clone, Copy, Debug, PartialEq, Eq)]
+#[derive(Clone, Copy, PartialEq, Eq)]
 pub struct GlobalType {
     /// The type of its value.
     pub ty: ValType,

@@ -9,7 +9,7 @@ use Rattle.ms_module.specs.declared.module.Export.{Export}
 use Rattle.ms_module.specs.declared.module.Module.{Module}
 use Rattle.ms_rules.specs.Context.{Context, context_of, sigs_of_funcs}
 use Rattle.ms_rules.specs.Modules.{AreDistinct, ElementTyped, ExportTyped, Head, StartTyped}
-use Rattle.ms_valid.specs.Heads.{DeclarationsTyped, ElementIn, ExportIn, ExpressionsTyped, FillIn, GlobalIn, IndicesTyped, PartsTyped, StartIn}
+use Rattle.ms_valid.specs.refinement.Heads.{DeclarationsTyped, ElementIn, ExportIn, ExpressionsTyped, FillIn, GlobalIn, IndicesTyped, PartsTyped, StartIn}
 
 -- as many functions as types of them
 length-funcs : (m : Module) → length (context_of m).funcs ≡ length (sigs_of_funcs m)

@@ -11,8 +11,8 @@ use Rattle.ms_rules.specs.Context.{Context, inside}
 use Rattle.ms_rules.specs.Modules.{FuncTyped}
 use Rattle.ms_rules.specs.Typing.{InstrTyped, Known, OtherTyped, SequenceTyped, Typed, types}
 use Rattle.ms_rules.proofs.Bodies.{typed_is}
-use Rattle.ms_valid.specs.Scope.{Scope, scope}
-use Rattle.ms_valid.specs.Shape.{Shape, shape, Becomes, Finishes, Gives, Stuck, Takes}
+use Rattle.ms_valid.specs.refinement.Scope.{Scope, scope}
+use Rattle.ms_valid.specs.refinement.Shape.{Shape, shape, Becomes, Finishes, Gives, Stuck, Takes}
 use Rattle.ms_valid.proofs.Parts.{one_result}
 use Rattle.ms_valid.proofs.Shapes.{becomes_as, becomes_then}
 

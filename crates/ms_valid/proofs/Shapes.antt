@@ -5,8 +5,8 @@ use Rattle.std.proofs.lemmas.List.{reverse-append, take-append-drop}
 use Rattle.std.proofs.Math.Seq.{drop-cons}
 use Rattle.ms_types.specs.declared.types.ValType.{ValType}
 use Rattle.ms_types.specs.declared.types.ValType.TheVariants.{I32}
-use Rattle.ms_rules.specs.Typing.{Drops, Leads, LeadsIf, Rel, Selects, types}
-use Rattle.ms_valid.specs.Shape.{Shape, shape, Admits, Allows, Answers, Becomes, Fits, Gives, Jumps, Merges, Stuck, Takes, Then, front, behind}
+use Rattle.ms_rules.specs.Typing.{DropTyped, BrTyped, BrIfTyped, Rel, SelectTyped, types}
+use Rattle.ms_valid.specs.refinement.Shape.{Shape, shape, Admits, Allows, DecidesOn, Becomes, HasTypes, Gives, Jumps, Merges, Stuck, Takes, Then, front, behind}
 
 -- ---- relations and their parts
 
@@ -33,7 +33,7 @@ stuck_as e p = record { none = λ t1 t2 m s. p.none t1 t2 m ((e t1 t2).1 s) }
 
 -- ---- the topmost slots
 
-pub splits : (us : List (Option ValType)) (d : Bool) (u : Option ValType) → front us d ≡ Some u → (t : ValType) (ts : List ValType) → Fits us d (t ∷ ts) ↔ (Allows u t × Fits (behind us) d ts)
+pub splits : (us : List (Option ValType)) (d : Bool) (u : Option ValType) → front us d ≡ Some u → (t : ValType) (ts : List ValType) → HasTypes us d (t ∷ ts) ↔ (Allows u t × HasTypes (behind us) d ts)
 splits [] false u e t ts = cc
 splits [] true u e t ts = let n : None ≡ u = cc in ((λ m. (subst (λ v. Allows v t) n tt, tt)), (λ m. tt))
 splits (None ∷ us) d u e t ts = let n : None ≡ u = cc in ((λ m. (subst (λ v. Allows v t) n tt, m)), (λ m. m.1))
@@ -43,13 +43,13 @@ some_type : (u : Option ValType) → (t : ValType) × Allows u t
 some_type None = (I32, tt)
 some_type (Some x) = (x, refl)
 
-pub drops : (p q : Shape) (u : Option ValType) → Some u ≡ front p.slots p.dead → q ≡ shape (behind p.slots) p.dead → Becomes p Drops q
-drops p q u e s = subst (λ z. Becomes p Drops z) (sym s) record {
+pub drops : (p q : Shape) (u : Option ValType) → Some u ≡ front p.slots p.dead → q ≡ shape (behind p.slots) p.dead → Becomes p DropTyped q
+drops p q u e s = subst (λ z. Becomes p DropTyped z) (sym s) record {
   reached = λ t1 t2 m h. ((splits p.slots p.dead u (sym e) h.0 t2).0 (subst (Admits p) h.1 m)).1;
   from = λ t2 m. let x = some_type u in (x.0 ∷ t2, (splits p.slots p.dead u (sym e) x.0 t2).1 (x.1, m), (x.0, refl));
 }
 
-some_types : (us : List (Option ValType)) (d : Bool) → (ts : List ValType) × Fits us d ts
+some_types : (us : List (Option ValType)) (d : Bool) → (ts : List ValType) × HasTypes us d ts
 some_types [] false = ([], refl)
 some_types [] true = ([], tt)
 some_types (None ∷ us) d = let r = some_types us d in (I32 ∷ r.0, r.1)
@@ -62,13 +62,13 @@ jumps us d = record { reached = λ t1 t2 m h. tt; from = λ t2 m. let s = some_t
 
 merges : (us : List (Option ValType)) (d : Bool) (a b u : Option ValType) → front us d ≡ Some a → front (behind us) d ≡ Some b → ((t : ValType) → Allows u t ↔ (Allows a t × Allows b t)) → Becomes (shape us d) Merges (shape (u ∷ behind (behind us)) d)
 merges us d a b u ea eb meet = record { reached = reached; from = from } where
-  reached : (t1 t2 : List ValType) → Fits us d t1 → Merges t1 t2 → Fits (u ∷ behind (behind us)) d t2
+  reached : (t1 t2 : List ValType) → HasTypes us d t1 → Merges t1 t2 → HasTypes (u ∷ behind (behind us)) d t2
   reached t1 t2 m (t, r, e1, e2) =
-      let x = (splits us d a ea t (t ∷ r)).0 (subst (Fits us d) e1 m) in
+      let x = (splits us d a ea t (t ∷ r)).0 (subst (HasTypes us d) e1 m) in
       let y = (splits (behind us) d b eb t r).0 x.1 in
-      subst (Fits (u ∷ behind (behind us)) d) (sym e2) ((splits (u ∷ behind (behind us)) d u refl t r).1 ((meet t).1 (x.0, y.0), y.1))
+      subst (HasTypes (u ∷ behind (behind us)) d) (sym e2) ((splits (u ∷ behind (behind us)) d u refl t r).1 ((meet t).1 (x.0, y.0), y.1))
 
-  from : (t2 : List ValType) → Fits (u ∷ behind (behind us)) d t2 → (t1 : List ValType) × Fits us d t1 × Merges t1 t2
+  from : (t2 : List ValType) → HasTypes (u ∷ behind (behind us)) d t2 → (t1 : List ValType) × HasTypes us d t1 × Merges t1 t2
   from [] m = absurd m
   from (t ∷ r) m =
       let z = (splits (u ∷ behind (behind us)) d u refl t r).0 m in
@@ -91,20 +91,20 @@ merges_apart p q a b ea eq eb apart = record { none = none } where
       let y = (splits (behind p.slots) p.dead b below t r).0 x.1 in
       apart t x.0 y.0
 
-selects_are : (t1 t2 : List ValType) → Then (Takes (I32 ∷ [])) Merges t1 t2 ↔ Selects t1 t2
+selects_are : (t1 t2 : List ValType) → Then (Takes (I32 ∷ [])) Merges t1 t2 ↔ SelectTyped t1 t2
 selects_are t1 t2 =
     ((λ x. (x.2.0, x.2.1, x.1 ∙ ap (λ l. I32 ∷ l) x.2.2, x.2.3)), (λ x. (x.0 ∷ x.0 ∷ x.1, x.2, (x.0, x.1, refl, x.3))))
 
-pub selects_nothing : {a : Shape} → Stuck a (Takes (I32 ∷ [])) → Stuck a Selects
+pub selects_nothing : {a : Shape} → Stuck a (Takes (I32 ∷ [])) → Stuck a SelectTyped
 selects_nothing x = stuck_as selects_are (stuck_first x)
 
-pub selects : {a b : Shape} (c : Shape) (r : Bool) → Becomes a (Takes (I32 ∷ [])) b → Answers r b Merges c → Answers r a Selects c
+pub selects : {a b : Shape} (c : Shape) (r : Bool) → Becomes a (Takes (I32 ∷ [])) b → DecidesOn r b Merges c → DecidesOn r a SelectTyped c
 selects c true x y = becomes_as selects_are (becomes_then x y)
 selects c false x y = stuck_as selects_are (stuck_then x y)
 
 -- ---- the end of a block
 
-none_left : (us : List (Option ValType)) (d : Bool) → Fits us d [] ↔ (length us ≡ 0)
+none_left : (us : List (Option ValType)) (d : Bool) → HasTypes us d [] ↔ (length us ≡ 0)
 none_left [] false = ((λ m. refl), (λ e. refl))
 none_left [] true = ((λ m. refl), (λ e. tt))
 none_left (u ∷ us) d = ((λ m. absurd m), (λ e. absurd (omega (arith, e))))
@@ -114,7 +114,7 @@ ended a us d n k e l none =
     let s = none_left us d in
     subst (λ j. IsTrue (nat_eq n 0) ↔ Admits a (types j)) (sym none) (subst (λ z. IsTrue (nat_eq n 0) ↔ Admits z []) e ((λ z. s.1 (sym l ∙ eqb-true n 0 z)), (λ m. eq-eqb n 0 (l ∙ s.0 m))))
 
-one_left : (us : List (Option ValType)) (d : Bool) (u : Option ValType) (t : ValType) → length us ≡ 1 → slice_get us 0 ≡ Some u → Fits us d (t ∷ []) ↔ Allows u t
+one_left : (us : List (Option ValType)) (d : Bool) (u : Option ValType) (t : ValType) → length us ≡ 1 → slice_get us 0 ≡ Some u → HasTypes us d (t ∷ []) ↔ Allows u t
 one_left [] d u t l e = absurd (omega (arith, l))
 one_left (w ∷ us) d u t l e =
     let s = splits (w ∷ us) d u e t [] in
@@ -126,7 +126,7 @@ ended_one a us d u t b e l at h =
     let s = one_left us d u t l at in
     subst (λ z. IsTrue b ↔ Admits z (t ∷ [])) e ((λ z. s.1 (h.0 z)), (λ m. h.1 (s.0 m)))
 
-too_many : (us : List (Option ValType)) (d : Bool) (t : ValType) → 2 ≤ length us → Fits us d (t ∷ []) → ⊥
+too_many : (us : List (Option ValType)) (d : Bool) (t : ValType) → 2 ≤ length us → HasTypes us d (t ∷ []) → ⊥
 too_many [] d t l m = omega (arith, l)
 too_many (None ∷ us) d t l m = let n = (none_left us d).0 m in omega (arith, l, n)
 too_many (Some x ∷ us) d t l m = let n = (none_left us d).0 m.1 in omega (arith, l, n)
@@ -137,26 +137,26 @@ not_ended a us d t e l =
 
 -- ---- branches
 
-leads_are : (k : Option ValType) (t1 t2 : List ValType) → Then (Takes (types k)) Jumps t1 t2 ↔ Leads (Some k) t1 t2
+leads_are : (k : Option ValType) (t1 t2 : List ValType) → Then (Takes (types k)) Jumps t1 t2 ↔ BrTyped (Some k) t1 t2
 leads_are k t1 t2 =
     ((λ x. (k, x.0, refl, x.1)), (λ x. let e : x.0 ≡ k = (let h = x.2 in cc) in (x.1, x.3 ∙ ap (λ j. types j ++ x.1) e, tt)))
 
-pub leads : {a b c : Shape} (k : Option ValType) → Becomes a (Takes (types k)) b → Becomes b Jumps c → Becomes a (Leads (Some k)) c
+pub leads : {a b c : Shape} (k : Option ValType) → Becomes a (Takes (types k)) b → Becomes b Jumps c → Becomes a (BrTyped (Some k)) c
 leads k x y = becomes_as (leads_are k) (becomes_then x y)
 
-leads_if_are : (k : Option ValType) (t1 t2 : List ValType) → Then (Takes (I32 ∷ [])) (Then (Takes (types k)) (Gives (types k))) t1 t2 ↔ LeadsIf (Some k) t1 t2
+leads_if_are : (k : Option ValType) (t1 t2 : List ValType) → Then (Takes (I32 ∷ [])) (Then (Takes (types k)) (Gives (types k))) t1 t2 ↔ BrIfTyped (Some k) t1 t2
 leads_if_are k t1 t2 = (
   (λ x. (k, x.2.0, refl, x.1 ∙ ap (λ l. I32 ∷ l) x.2.1, x.2.2)),
   (λ x. let e : x.0 ≡ k = (let h = x.2 in cc) in (types k ++ x.1, x.3 ∙ ap (λ j. I32 ∷ (types j ++ x.1)) e, (x.1, refl, x.4 ∙ ap (λ j. types j ++ x.1) e))),
 )
 
-pub leads_if : {a b c d : Shape} (k : Option ValType) → Becomes a (Takes (I32 ∷ [])) b → Becomes b (Takes (types k)) c → Becomes c (Gives (types k)) d → Becomes a (LeadsIf (Some k)) d
+pub leads_if : {a b c d : Shape} (k : Option ValType) → Becomes a (Takes (I32 ∷ [])) b → Becomes b (Takes (types k)) c → Becomes c (Gives (types k)) d → Becomes a (BrIfTyped (Some k)) d
 leads_if k x y z = becomes_as (leads_if_are k) (becomes_then x (becomes_then y z))
 
-pub leads_if_other : {a b : Shape} (k : Option ValType) → Becomes a (Takes (I32 ∷ [])) b → Stuck b (Takes (types k)) → Stuck a (LeadsIf (Some k))
+pub leads_if_other : {a b : Shape} (k : Option ValType) → Becomes a (Takes (I32 ∷ [])) b → Stuck b (Takes (types k)) → Stuck a (BrIfTyped (Some k))
 leads_if_other k x y = stuck_as (leads_if_are k) (stuck_then x (stuck_first y))
 
-pub leads_if_nothing : {a : Shape} (k : Option ValType) → Stuck a (Takes (I32 ∷ [])) → Stuck a (LeadsIf (Some k))
+pub leads_if_nothing : {a : Shape} (k : Option ValType) → Stuck a (Takes (I32 ∷ [])) → Stuck a (BrIfTyped (Some k))
 leads_if_nothing k x = stuck_as (leads_if_are k) (stuck_first x)
 
 -- ---- parameters, the last one first

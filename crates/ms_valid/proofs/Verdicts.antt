@@ -10,7 +10,7 @@ use Rattle.ms_module.specs.declared.module.Module.{Module}
 use Rattle.ms_rules.specs.Context.{Context, context_of, imported_funcs, sigs_of_funcs}
 use Rattle.ms_rules.specs.Modules.{FuncTyped, Head, IsFirstUntyped, WellTyped}
 use Rattle.ms_valid.specs.Refusals.{DoesRefuse}
-use Rattle.ms_valid.specs.Untyped.{AreTypedBelow, IsFirstAt, IsFirstUntypedOf}
+use Rattle.ms_valid.specs.refinement.Untyped.{AreTypedBelow, IsFirstAt, IsFirstUntypedOf}
 use Rattle.ms_valid.specs.declared.refusal.Part.TheVariants as parts
 use Rattle.ms_valid.specs.declared.refusal.Refusal.{Refusal}
 use Rattle.ms_valid.specs.declared.refusal.Refusal.TheVariants.{Invalid, Memory}

@@ -1,5 +1,2 @@
 pub mod Refusals
-pub mod Scope
-pub mod Shape
-pub mod Heads
-pub mod Untyped
+pub mod refinement

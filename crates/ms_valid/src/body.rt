@@ -4,7 +4,7 @@ ghost use Rattle.std.specs.Prelude.{◌≡◌, ◌∷◌, ◌<◌, [], false, tr
 ghost use Rattle.ms_module.specs.Numbered.{ElseWithin, NamesWithin};
 ghost use Rattle.ms_rules.specs.Modules.{FuncTyped};
 ghost use Rattle.ms_rules.specs.Typing.{InstrTyped, OtherTyped, Typed};
-ghost use Rattle.ms_valid.specs.Shape.{shape, Answers};
+ghost use Rattle.ms_valid.specs.refinement.Shape.{shape, DecidesOn};
 
 use crate::calls::result_of;
 use crate::control::simple;
@@ -105,7 +105,7 @@ impl Checker {
     ) -> Result<bool, AllocError>
         requires within { number < length scope.now.code }
         requires later { NamesWithin (length scope.now.code) number instr.now }
-        ensures typed { IfOk result (λ b. Answers b operands.old (InstrTyped (Typed scope.now.context scope.now.code) scope.now.context self.old.labels instr.now) operands.new) }
+        ensures typed { IfOk result (λ b. DecidesOn b operands.old (InstrTyped (Typed scope.now.context scope.now.code) scope.now.context self.old.labels instr.now) operands.new) }
         ensures labels { result ≡ Ok true → self.new.labels ≡ self.old.labels }
     {
         match instr {

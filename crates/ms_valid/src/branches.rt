@@ -1,8 +1,8 @@
 //! Branches (WebAssembly 1.0, 3.3.5), by what the label takes.
 
 ghost use Rattle.std.specs.Prelude.{◌≡◌, slice_get, Some, IfOk, IsTrue, ◌↔◌};
-ghost use Rattle.ms_rules.specs.Typing.{AllTake, Leads, LeadsByTable, LeadsIf};
-ghost use Rattle.ms_valid.specs.Shape.{Answers};
+ghost use Rattle.ms_rules.specs.Typing.{AllTake, BrTyped, BrTableTyped, BrIfTyped};
+ghost use Rattle.ms_valid.specs.refinement.Shape.{DecidesOn};
 
 use crate::operands::Operands;
 use ms_module::BrTable;
@@ -21,7 +21,7 @@ pub fn label_at(labels: &Stack<Option<ValType>>, index: u32) -> Option<Option<Va
 
 /// Takes the operand of a label, to which control then goes.
 pub fn leave(operands: &mut Operands, label: Option<ValType>) -> bool
-    ensures { Answers result operands.old (Leads (Some label)) operands.new }
+    ensures { DecidesOn result operands.old (BrTyped (Some label)) operands.new }
 {
     if !operands.take_result(label) {
         return false;
@@ -32,7 +32,7 @@ pub fn leave(operands: &mut Operands, label: Option<ValType>) -> bool
 
 /// The same under a condition.
 fn leave_if(operands: &mut Operands, label: Option<ValType>) -> Result<bool, AllocError>
-    ensures { IfOk result (λ b. Answers b operands.old (LeadsIf (Some label)) operands.new) }
+    ensures { IfOk result (λ b. DecidesOn b operands.old (BrIfTyped (Some label)) operands.new) }
 {
     if !operands.take(ValType::I32) {
         return Ok(false);
@@ -46,7 +46,7 @@ fn leave_if(operands: &mut Operands, label: Option<ValType>) -> Result<bool, All
 
 /// `br`.
 pub fn branch(operands: &mut Operands, label: Option<Option<ValType>>) -> bool
-    ensures { Answers result operands.old (Leads label) operands.new }
+    ensures { DecidesOn result operands.old (BrTyped label) operands.new }
 {
     match label {
         None => false,
@@ -59,7 +59,7 @@ pub fn branch_if(
     operands: &mut Operands,
     label: Option<Option<ValType>>,
 ) -> Result<bool, AllocError>
-    ensures { IfOk result (λ b. Answers b operands.old (LeadsIf label) operands.new) }
+    ensures { IfOk result (λ b. DecidesOn b operands.old (BrIfTyped label) operands.new) }
 {
     match label {
         None => Ok(false),
@@ -92,7 +92,7 @@ pub fn branch_table(
     labels: &Stack<Option<ValType>>,
     table: &BrTable,
 ) -> bool
-    ensures { Answers result operands.old (LeadsByTable labels.now table.now.labels table.now.default) operands.new }
+    ensures { DecidesOn result operands.old (BrTableTyped labels.now table.now.labels table.now.default) operands.new }
 {
     let Some(ty) = label_at(labels, table.default()) else {
         return false;

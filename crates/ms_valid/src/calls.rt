@@ -2,8 +2,8 @@
 
 ghost use Rattle.std.specs.Prelude.{◌≡◌, ◌≤◌, ◌<◌, ℕ, List, [], ◌∷◌, length, IfOk, IsTrue, ◌↔◌, slice_get, MatchOption, Option, Some};
 ghost use Rattle.ms_types.specs.declared.types.ValType.{ValType};
-ghost use Rattle.ms_rules.specs.Typing.{Calls, CallsByTable, Invokes, types};
-ghost use Rattle.ms_valid.specs.Shape.{Answers};
+ghost use Rattle.ms_rules.specs.Typing.{CallTyped, CallIndirectTyped, Invokes, types};
+ghost use Rattle.ms_valid.specs.refinement.Shape.{DecidesOn};
 
 use crate::operands::Operands;
 use crate::scope::Scope;
@@ -23,7 +23,7 @@ pub fn result_of(results: &[ValType]) -> Option<Option<ValType>>
 
 /// Takes the parameters of a function and gives its result. More results than one can't be given.
 pub fn invoke(operands: &mut Operands, func: &FuncType) -> Result<bool, AllocError>
-    ensures { IfOk result (λ b. Answers b operands.old (Invokes func.now) operands.new) }
+    ensures { IfOk result (λ b. DecidesOn b operands.old (Invokes func.now) operands.new) }
 {
     let Some(ty) = result_of(func.results.as_slice()) else {
         return Ok(false);
@@ -37,7 +37,7 @@ pub fn invoke(operands: &mut Operands, func: &FuncType) -> Result<bool, AllocErr
 
 /// `call`.
 pub fn call(operands: &mut Operands, scope: &Scope, index: u32) -> Result<bool, AllocError>
-    ensures { IfOk result (λ b. Answers b operands.old (Calls (slice_get scope.now.context.funcs index)) operands.new) }
+    ensures { IfOk result (λ b. DecidesOn b operands.old (CallTyped (slice_get scope.now.context.funcs index)) operands.new) }
 {
     let Some(func) = scope.func(index) else {
         return Ok(false);
@@ -47,7 +47,7 @@ pub fn call(operands: &mut Operands, scope: &Scope, index: u32) -> Result<bool, 
 
 /// `call_indirect`, by the index of the function type.
 pub fn call_indirect(operands: &mut Operands, scope: &Scope, index: u32) -> Result<bool, AllocError>
-    ensures { IfOk result (λ b. Answers b operands.old (CallsByTable (length scope.now.context.tables) (slice_get scope.now.context.sigs index)) operands.new) }
+    ensures { IfOk result (λ b. DecidesOn b operands.old (CallIndirectTyped (length scope.now.context.tables) (slice_get scope.now.context.sigs index)) operands.new) }
 {
     if scope.tables() == 0 {
         return Ok(false);

@@ -2,7 +2,7 @@
 
 ghost use Rattle.std.specs.Prelude.{IfOk};
 ghost use Rattle.ms_rules.specs.Typing.{InstrTyped, Typed};
-ghost use Rattle.ms_valid.specs.Shape.{Answers, IsSimple};
+ghost use Rattle.ms_valid.specs.refinement.Shape.{DecidesOn, IsSimple};
 
 use crate::branches::{branch, branch_if, branch_table, label_at, leave};
 use crate::calls::{call, call_indirect};
@@ -23,7 +23,7 @@ pub fn simple(
     instr: &Instr,
 ) -> Result<bool, AllocError>
     requires { IsSimple instr.now }
-    ensures { IfOk result (λ b. Answers b operands.old (InstrTyped (Typed scope.now.context scope.now.code) scope.now.context labels.now instr.now) operands.new) }
+    ensures { IfOk result (λ b. DecidesOn b operands.old (InstrTyped (Typed scope.now.context scope.now.code) scope.now.context labels.now instr.now) operands.new) }
 {
     match instr {
         Instr::Unreachable => {

@@ -2,7 +2,7 @@
 
 ghost use Rattle.std.specs.Prelude.{◌≡◌, ◌↔◌, IfOk, IsTrue, map};
 ghost use Rattle.ms_rules.specs.Modules.{AreDistinct};
-ghost use Rattle.ms_valid.specs.Heads.{ExportIn};
+ghost use Rattle.ms_valid.specs.refinement.Heads.{ExportIn};
 
 use ms_module::{Export, ExportDesc};
 use ms_rules::Context;

@@ -2,7 +2,7 @@
 
 ghost use Rattle.std.specs.Prelude.{◌≡◌, ◌↔◌, ◌<◌, All, IsTrue};
 ghost use Rattle.ms_rules.specs.Context.{context_of, imported_globals};
-ghost use Rattle.ms_valid.specs.Heads.{ElementIn, ExpressionsTyped, FillIn, GlobalIn};
+ghost use Rattle.ms_valid.specs.refinement.Heads.{ElementIn, ExpressionsTyped, FillIn, GlobalIn};
 
 use crate::constants::is_constant;
 use ms_module::{Element, Fill, Global, Module};
@@ -10,7 +10,7 @@ use ms_rules::Context;
 use ms_types::{GlobalType, ValType};
 
 /// Whether the expressions of globals, elements and fills are.
-#[tactic(auto, unfolding(crate::specs::Heads::ExpressionsTyped))]
+#[tactic(auto, unfolding(crate::specs::refinement::Heads::ExpressionsTyped))]
 pub fn are_expressions_typed(module: &Module, context: &Context) -> bool
     requires { context.now ≡ context_of «module».now }
     ensures { IsTrue result ↔ ExpressionsTyped context.now «module».now }
@@ -26,7 +26,7 @@ fn are_globals_typed(imported: &[GlobalType], globals: &[Global]) -> bool
     globals.iter().all(|g| is_global_typed(imported, g))
 }
 
-#[tactic(auto, unfolding(crate::specs::Heads::GlobalIn))]
+#[tactic(auto, unfolding(crate::specs::refinement::Heads::GlobalIn))]
 fn is_global_typed(imported: &[GlobalType], global: &Global) -> bool
     ensures { IsTrue result ↔ GlobalIn imported.now global.now }
 {
@@ -54,7 +54,7 @@ fn imported_globals<'a>(module: &Module, context: &'a Context) -> &'a [GlobalTyp
     &globals[..globals.len() - module.globals.len()]
 }
 
-#[tactic(auto, unfolding(crate::specs::Heads::ElementIn))]
+#[tactic(auto, unfolding(crate::specs::refinement::Heads::ElementIn))]
 fn is_element_typed(context: &Context, element: &Element) -> bool
     ensures { IsTrue result ↔ ElementIn context.now element.now }
 {
@@ -70,7 +70,7 @@ fn are_within(count: usize, indices: &[u32]) -> bool
     indices.iter().all(|i| (*i as usize) < count)
 }
 
-#[tactic(auto, unfolding(crate::specs::Heads::FillIn))]
+#[tactic(auto, unfolding(crate::specs::refinement::Heads::FillIn))]
 fn is_fill_typed(context: &Context, fill: &Fill) -> bool
     ensures { IsTrue result ↔ FillIn context.now fill.now }
 {

@@ -3,7 +3,7 @@
 ghost use Rattle.std.specs.Prelude.{◌≡◌, ◌↔◌, ◌<◌, All, IfOk, IsTrue};
 ghost use Rattle.ms_rules.specs.Context.{context_of};
 ghost use Rattle.ms_rules.specs.Modules.{Head, ImportTyped, MemoryTyped, SigTyped, TableTyped};
-ghost use Rattle.ms_valid.specs.Heads.{DeclarationsTyped, IndicesTyped, PartsTyped, StartIn};
+ghost use Rattle.ms_valid.specs.refinement.Heads.{DeclarationsTyped, IndicesTyped, PartsTyped, StartIn};
 
 use crate::exports::{are_names_distinct, is_export_typed};
 use crate::expressions::are_expressions_typed;
@@ -35,7 +35,7 @@ fn are_parts_typed(module: &Module, context: &Context) -> bool
 }
 
 /// Whether the types, the imports, and the types of the functions, tables and memories are.
-#[tactic(auto, unfolding(crate::specs::Heads::DeclarationsTyped))]
+#[tactic(auto, unfolding(crate::specs::refinement::Heads::DeclarationsTyped))]
 fn are_declarations_typed(module: &Module) -> bool
     ensures { IsTrue result ↔ DeclarationsTyped «module».now }
 {
@@ -89,7 +89,7 @@ fn is_import_typed(module: &Module, desc: ImportDesc) -> bool
 }
 
 /// Whether the start function and what is exported are, and there is one table and one memory at most.
-#[tactic(auto, unfolding(crate::specs::Heads::IndicesTyped))]
+#[tactic(auto, unfolding(crate::specs::refinement::Heads::IndicesTyped))]
 fn are_indices_typed(module: &Module, context: &Context) -> bool
     ensures { IsTrue result ↔ IndicesTyped context.now «module».now }
 {

@@ -1,22 +1,22 @@
 //! The operands that an algorithm of typing keeps (WebAssembly 1.0, appendix A.3).
 
 ghost use Rattle.std.specs.Prelude.{◌≡◌, [], ◌∷◌, reverse, OnOk, IsTrue, ◌↔◌, false};
-ghost use Rattle.ms_rules.specs.Typing.{Drops, types};
-ghost use Rattle.ms_valid.specs.Shape.{shape, Admits, Allows, Answers, Becomes, Gives, Jumps, Takes, front, behind};
+ghost use Rattle.ms_rules.specs.Typing.{DropTyped, types};
+ghost use Rattle.ms_valid.specs.refinement.Shape.{shape, Admits, Allows, DecidesOn, Becomes, Gives, Jumps, Takes, front, behind};
 
 use ms_types::{Stack, ValType};
 use std::alloc::{AllocError, Global};
 use std::marker::Model;
 
 /// The types of the operands since the start of a block, None being any type. In dead code any further ones lie below.
-#[derive(Debug, Drop)]
+#[derive(Drop)]
 pub struct Operands {
     slots: Stack<Option<ValType>>,
     dead: bool,
 }
 
 impl Model for Operands {
-    ghost use Rattle.ms_valid.specs.Shape.{Shape, shape};
+    ghost use Rattle.ms_valid.specs.refinement.Shape.{Shape, shape};
 
     ghost Value = { Shape };
 
@@ -80,7 +80,7 @@ impl Operands {
 
     /// Takes an operand of this type, if one may be there.
     pub fn take(&mut self, ty: ValType) -> bool
-        ensures { Answers result self.old (Takes (ty ∷ [])) self.new }
+        ensures { DecidesOn result self.old (Takes (ty ∷ [])) self.new }
     {
         match self.pop() {
             None => false,
@@ -90,7 +90,7 @@ impl Operands {
 
     /// Takes an operand of any type.
     pub fn take_any(&mut self) -> bool
-        ensures { Answers result self.old Drops self.new }
+        ensures { DecidesOn result self.old DropTyped self.new }
     {
         match self.pop() {
             None => false,
@@ -110,7 +110,7 @@ impl Operands {
 
     /// Takes the operand of a result type, if it has one.
     pub fn take_result(&mut self, ty: Option<ValType>) -> bool
-        ensures { Answers result self.old (Takes (types ty)) self.new }
+        ensures { DecidesOn result self.old (Takes (types ty)) self.new }
     {
         match ty {
             None => true,
@@ -120,7 +120,7 @@ impl Operands {
 
     /// Takes operands of these types, the last one topmost.
     pub fn take_params(&mut self, params: &[ValType]) -> bool
-        ensures { Answers result self.old (Takes (reverse params.now)) self.new }
+        ensures { DecidesOn result self.old (Takes (reverse params.now)) self.new }
     {
         let mut i = params.len();
         while i > 0 {

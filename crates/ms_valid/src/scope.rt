@@ -4,7 +4,7 @@ ghost use Rattle.std.specs.Prelude.{◌≡◌, ◌≢◌, ◌++◌, ◌<◌, len
 ghost use Rattle.ms_types.specs.declared.types.FuncType.{FuncType};
 ghost use Rattle.ms_module.specs.Numbered.{AllNameWithin, sequence_at};
 ghost use Rattle.ms_rules.specs.Context.{inside};
-ghost use Rattle.ms_valid.specs.Scope.{scope};
+ghost use Rattle.ms_valid.specs.refinement.Scope.{scope};
 
 use ms_module::{Code, Instr, Locals};
 use ms_rules::Context;
@@ -24,7 +24,7 @@ pub struct Scope<'a> {
 impl<'a> Model for Scope<'a> {
     ghost use Rattle.std.specs.Prelude.{◌++◌};
     ghost use Rattle.ms_rules.specs.Context.{inside};
-    ghost use Rattle.ms_valid.specs.Scope.{Scope as Surroundings, scope};
+    ghost use Rattle.ms_valid.specs.refinement.Scope.{Scope as Surroundings, scope};
 
     ghost Value = { Surroundings };
 

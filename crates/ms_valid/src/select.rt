@@ -2,8 +2,8 @@
 
 ghost use Rattle.std.specs.Prelude.{IfOk, MatchOption, ◌↔◌};
 ghost use Rattle.ms_types.specs.declared.types.ValType.{ValType};
-ghost use Rattle.ms_rules.specs.Typing.{Selects};
-ghost use Rattle.ms_valid.specs.Shape.{Allows, Answers, Merges};
+ghost use Rattle.ms_rules.specs.Typing.{SelectTyped};
+ghost use Rattle.ms_valid.specs.refinement.Shape.{Allows, DecidesOn, Merges};
 
 use crate::operands::Operands;
 use ms_types::ValType;
@@ -11,7 +11,7 @@ use std::alloc::AllocError;
 
 /// `select`.
 pub fn select(operands: &mut Operands) -> Result<bool, AllocError>
-    ensures { IfOk result (λ b. Answers b operands.old Selects operands.new) }
+    ensures { IfOk result (λ b. DecidesOn b operands.old SelectTyped operands.new) }
 {
     if !operands.take(ValType::I32) {
         return Ok(false);
@@ -21,7 +21,7 @@ pub fn select(operands: &mut Operands) -> Result<bool, AllocError>
 
 /// Takes two operands of one type and gives one of them.
 fn merge(operands: &mut Operands) -> Result<bool, AllocError>
-    ensures { IfOk result (λ b. Answers b operands.old Merges operands.new) }
+    ensures { IfOk result (λ b. DecidesOn b operands.old Merges operands.new) }
 {
     let Some(a) = operands.pop() else {
         return Ok(false);

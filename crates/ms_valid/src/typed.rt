@@ -1,9 +1,9 @@
 //! Instructions that have one type each, and linear accesses (WebAssembly 1.0, 3.3.1 and 3.3.4).
 
 ghost use Rattle.std.specs.Prelude.{◌≡◌, ◌≤◌, ◌^◌, IfOk, IsTrue, ◌↔◌};
-ghost use Rattle.ms_rules.specs.Instructions.{arrow, numeric_arrow, segment_arrow};
-ghost use Rattle.ms_rules.specs.Typing.{Accesses, IsAligned, Turns};
-ghost use Rattle.ms_valid.specs.Shape.{Answers};
+ghost use Rattle.ms_rules.specs.Instructions.{instr_type, numeric_type, segment_type};
+ghost use Rattle.ms_rules.specs.Typing.{LinearTyped, IsAligned, HasType};
+ghost use Rattle.ms_valid.specs.refinement.Shape.{DecidesOn};
 
 use crate::operands::Operands;
 use ms_module::{Linear, Numeric, Segment};
@@ -14,12 +14,12 @@ use ms_types::ValType;
 use std::alloc::AllocError;
 
 /// Takes these parameters and gives this result.
-fn turn(
+fn apply(
     operands: &mut Operands,
     params: &[ValType],
     ty: Option<ValType>,
 ) -> Result<bool, AllocError>
-    ensures { IfOk result (λ b. Answers b operands.old (Turns (arrow params.now ty)) operands.new) }
+    ensures { IfOk result (λ b. DecidesOn b operands.old (HasType (instr_type params.now ty)) operands.new) }
 {
     if !operands.take_params(params) {
         return Ok(false);
@@ -30,16 +30,16 @@ fn turn(
 
 /// A numeric instruction.
 pub fn numeric(operands: &mut Operands, instr: Numeric) -> Result<bool, AllocError>
-    ensures { IfOk result (λ b. Answers b operands.old (Turns (numeric_arrow instr)) operands.new) }
+    ensures { IfOk result (λ b. DecidesOn b operands.old (HasType (numeric_type instr)) operands.new) }
 {
-    Ok(turn(operands, numeric_params(instr), numeric_result(instr))?)
+    Ok(apply(operands, numeric_params(instr), numeric_result(instr))?)
 }
 
 /// An instruction on handles and segments.
 pub fn segment(operands: &mut Operands, instr: Segment) -> Result<bool, AllocError>
-    ensures { IfOk result (λ b. Answers b operands.old (Turns (segment_arrow instr)) operands.new) }
+    ensures { IfOk result (λ b. DecidesOn b operands.old (HasType (segment_type instr)) operands.new) }
 {
-    Ok(turn(operands, segment_params(instr), segment_result(instr))?)
+    Ok(apply(operands, segment_params(instr), segment_result(instr))?)
 }
 
 /// Whether 2 to this power is at most so many bytes.
@@ -62,7 +62,7 @@ fn is_aligned(instr: Linear) -> bool
 
 /// An instruction on the linear memory, where there are so many memories.
 pub fn linear(operands: &mut Operands, memories: usize, instr: Linear) -> Result<bool, AllocError>
-    ensures { IfOk result (λ b. Answers b operands.old (Accesses memories instr) operands.new) }
+    ensures { IfOk result (λ b. DecidesOn b operands.old (LinearTyped memories instr) operands.new) }
 {
     if memories == 0 {
         return Ok(false);
@@ -70,5 +70,5 @@ pub fn linear(operands: &mut Operands, memories: usize, instr: Linear) -> Result
     if !is_aligned(instr) {
         return Ok(false);
     }
-    Ok(turn(operands, linear_params(instr), linear_result(instr))?)
+    Ok(apply(operands, linear_params(instr), linear_result(instr))?)
 }

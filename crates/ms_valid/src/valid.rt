@@ -4,7 +4,7 @@ ghost use Rattle.std.specs.Prelude.{◌≡◌, ◌≤◌, ◌<◌, ◌^◌, IfEr
 ghost use Rattle.ms_rules.specs.Context.{context_of};
 ghost use Rattle.ms_rules.specs.Modules.{WellTyped};
 ghost use Rattle.ms_valid.specs.Refusals.{DoesRefuse};
-ghost use Rattle.ms_valid.specs.Untyped.{IsFirstUntypedOf};
+ghost use Rattle.ms_valid.specs.refinement.Untyped.{IsFirstUntypedOf};
 ghost use Rattle.ms_valid.specs.declared.refusal.Part.TheVariants.{Function};
 ghost use Rattle.ms_valid.specs.declared.refusal.Refusal.TheVariants.{Invalid, Memory};
 
@@ -17,7 +17,7 @@ use std::alloc::{AllocError, Global};
 use std::marker::Model;
 
 /// A module that is well typed. Contracts see the module.
-#[derive(Debug, Drop)]
+#[derive(Drop)]
 pub struct Valid {
     module: Module,
 }

@@ -1,8 +1,8 @@
 //! Variable instructions (WebAssembly 1.0, 3.3.3), by what the index names.
 
 ghost use Rattle.std.specs.Prelude.{IfOk};
-ghost use Rattle.ms_rules.specs.Typing.{Gets, GetsGlobal, Sets, SetsGlobal, Tees};
-ghost use Rattle.ms_valid.specs.Shape.{Answers};
+ghost use Rattle.ms_rules.specs.Typing.{LocalGetTyped, GlobalGetTyped, LocalSetTyped, GlobalSetTyped, LocalTeeTyped};
+ghost use Rattle.ms_valid.specs.refinement.Shape.{DecidesOn};
 
 use crate::operands::Operands;
 use ms_types::{GlobalType, ValType};
@@ -10,7 +10,7 @@ use std::alloc::AllocError;
 
 /// `local.get`.
 pub fn get(operands: &mut Operands, local: Option<ValType>) -> Result<bool, AllocError>
-    ensures { IfOk result (λ b. Answers b operands.old (Gets local) operands.new) }
+    ensures { IfOk result (λ b. DecidesOn b operands.old (LocalGetTyped local) operands.new) }
 {
     match local {
         None => Ok(false),
@@ -23,7 +23,7 @@ pub fn get(operands: &mut Operands, local: Option<ValType>) -> Result<bool, Allo
 
 /// `local.set`.
 pub fn set(operands: &mut Operands, local: Option<ValType>) -> bool
-    ensures { Answers result operands.old (Sets local) operands.new }
+    ensures { DecidesOn result operands.old (LocalSetTyped local) operands.new }
 {
     match local {
         None => false,
@@ -33,7 +33,7 @@ pub fn set(operands: &mut Operands, local: Option<ValType>) -> bool
 
 /// `local.tee`.
 pub fn tee(operands: &mut Operands, local: Option<ValType>) -> Result<bool, AllocError>
-    ensures { IfOk result (λ b. Answers b operands.old (Tees local) operands.new) }
+    ensures { IfOk result (λ b. DecidesOn b operands.old (LocalTeeTyped local) operands.new) }
 {
     match local {
         None => Ok(false),
@@ -49,7 +49,7 @@ pub fn tee(operands: &mut Operands, local: Option<ValType>) -> Result<bool, Allo
 
 /// `global.get`.
 pub fn get_global(operands: &mut Operands, global: Option<GlobalType>) -> Result<bool, AllocError>
-    ensures { IfOk result (λ b. Answers b operands.old (GetsGlobal global) operands.new) }
+    ensures { IfOk result (λ b. DecidesOn b operands.old (GlobalGetTyped global) operands.new) }
 {
     match global {
         None => Ok(false),
@@ -62,7 +62,7 @@ pub fn get_global(operands: &mut Operands, global: Option<GlobalType>) -> Result
 
 /// `global.set`.
 pub fn set_global(operands: &mut Operands, global: Option<GlobalType>) -> bool
-    ensures { Answers result operands.old (SetsGlobal global) operands.new }
+    ensures { DecidesOn result operands.old (GlobalSetTyped global) operands.new }
 {
     match global {
         None => false,

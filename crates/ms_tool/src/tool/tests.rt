@@ -163,14 +163,17 @@ fn expect<R: Abort + AllocGlobal>(
 ) -> Result<(), Fail> {
     let (output, next) = flow;
     let given = answer_to_line(rt.alloc(), line, &mut world)?;
-    assert_eq!(rt; given, status, "{line}");
+    assert!(rt; given == status, "the status of {line}");
     assert_eq!(rt;
         world.report.held(),
         report.as_bytes(),
         "the report of {line}"
     );
     assert_eq!(rt; world.out.held(), output.as_bytes(), "the output of {line}");
-    assert_eq!(rt; world.input.take(), Got::Byte(next), "the input of {line}");
+    assert!(rt;
+        world.input.take() == Got::Byte(next),
+        "the input of {line}"
+    );
     assert!(rt;
         world.shelf.get("o") == written,
         "the file that {line} writes"

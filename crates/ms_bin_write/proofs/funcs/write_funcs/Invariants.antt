@@ -1,6 +1,7 @@
 use Rattle.std.proofs.Common.{◌≡◌, ◌++◌, drop}
 use Rattle.std.specs.List.{flat_map}
-use Rattle.ms_bin_write.specs.Ranges.{AllFit, FuncFits}
+use Rattle.ms_flat.specs.refinement.Ranges.{AllFit}
+use Rattle.ms_bin_write.specs.refinement.Ranges.{FuncFits}
 use Rattle.ms_bin_write.specs.Written.{func_bytes}
 use Rattle.ms_bin_write.proofs.funcs.write_funcs.Given as goal
 

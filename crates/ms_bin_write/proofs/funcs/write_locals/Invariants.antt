@@ -1,6 +1,6 @@
 use Rattle.std.proofs.Common.{◌≡◌, ◌++◌, drop}
 use Rattle.std.specs.List.{flat_map}
-use Rattle.ms_module.specs.Locals.{Rise}
+use Rattle.ms_module.specs.refinement.Locals.{Rise}
 use Rattle.ms_bin_write.specs.Written.{group_bytes}
 use Rattle.ms_bin_write.proofs.Groups.{counted}
 use Rattle.ms_bin_write.proofs.funcs.write_locals.Given as goal

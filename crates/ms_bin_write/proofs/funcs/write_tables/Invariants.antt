@@ -1,6 +1,6 @@
 use Rattle.std.proofs.Common.{◌≡◌, ◌++◌, drop}
 use Rattle.std.specs.List.{flat_map}
-use Rattle.ms_bin_write.specs.Ranges.{AllFit, LimitsFit}
+use Rattle.ms_flat.specs.refinement.Ranges.{AllFit, LimitsFit}
 use Rattle.ms_bin_write.specs.Types.{table_bytes}
 use Rattle.ms_bin_write.proofs.funcs.write_tables.Given as goal
 

@@ -1,6 +1,6 @@
 use Rattle.std.proofs.Common.{◌≡◌, ◌++◌, drop}
 use Rattle.std.specs.List.{flat_map}
-use Rattle.ms_bin_write.specs.Ranges.{AllFit}
+use Rattle.ms_flat.specs.refinement.Ranges.{AllFit}
 use Rattle.ms_bin_write.proofs.items.write_vec.Given as goal
 
 -- what is written and what is left are all of it

@@ -1,6 +1,6 @@
 use Rattle.std.proofs.Common.{length, ◌-◌, arith, subst}
 use Rattle.std.proofs.lemmas.Nat.{pow_pos}
-use Rattle.ms_gap_tree.specs.Tree.{IsWithin}
+use Rattle.ms_gap_tree.specs.refinement.Tree.{IsWithinArena}
 use Rattle.ms_gap_tree.proofs.Levels.{tree_link, halves}
 use Rattle.ms_gap_tree.proofs.nearest.+last.Goals as goal
 
@@ -10,4 +10,4 @@ overflow_add-middle t c = let h = halves c.args.level (omega arith) in omega (ar
 pub last-upper-requires : goal.last-upper-requires
 last-upper-requires t c =
     let h = halves c.args.level (omega arith) in
-    (omega arith, (omega arith, (omega (arith, c.half.ensures), (subst (IsWithin (length c.args.nodes.now)) (tree_link c.args.nodes.now c.args.level c.in_ok-root.root c.args.link c.in_ok-root.was (omega arith)) c.requires.within).2)))
+    (omega arith, (omega arith, (omega (arith, c.half.ensures), (subst (IsWithinArena (length c.args.nodes.now)) (tree_link c.args.nodes.now c.args.level c.in_ok-root.root c.args.link c.in_ok-root.was (omega arith)) c.requires.within).2)))

@@ -1,7 +1,7 @@
 use Rattle.std.proofs.Common.{◌+◌, ◌-◌, ℕ, Option, arith, ap, sym, ◌∙◌}
 use Rattle.std.proofs.lemmas.Nat.{pow_pos}
-use Rattle.ms_gap_tree.specs.Arena.{at, tree_of}
-use Rattle.ms_gap_tree.specs.Tree.{has, remove}
+use Rattle.ms_gap_tree.specs.refinement.Arena.{at, tree_of}
+use Rattle.ms_gap_tree.specs.refinement.Tree.{has, remove}
 use Rattle.ms_gap_tree.specs.declared.node.Link.{Link}
 use Rattle.ms_gap_tree.proofs.Levels.{halves}
 use Rattle.ms_gap_tree.proofs.PopSteps.{popped_others}

@@ -1,11 +1,11 @@
 use Rattle.std.proofs.Common.{length, ◌-◌, arith, subst}
 use Rattle.std.proofs.lemmas.Nat.{pow_pos}
-use Rattle.ms_gap_tree.specs.Tree.{IsWithin}
+use Rattle.ms_gap_tree.specs.refinement.Tree.{IsWithinArena}
 use Rattle.ms_gap_tree.proofs.Levels.{tree_link, halves}
 use Rattle.ms_gap_tree.proofs.tree.+find.Goals as goal
 
 pub bounds-nodes-root : goal.bounds-nodes-root
-bounds-nodes-root t c = (subst (IsWithin (length c.args.nodes.now)) (tree_link c.args.nodes.now c.args.level c.in_ok-root.root c.args.link c.in_ok-root.was (omega arith)) c.requires.within).0
+bounds-nodes-root t c = (subst (IsWithinArena (length c.args.nodes.now)) (tree_link c.args.nodes.now c.args.level c.in_ok-root.root c.args.link c.in_ok-root.was (omega arith)) c.requires.within).0
 
 pub overflow_add-middle : goal.overflow_add-middle
 overflow_add-middle t c = let h = halves c.args.level (omega arith) in omega (arith, c.half.ensures, pow_pos (c.args.level - 1))
@@ -13,9 +13,9 @@ overflow_add-middle t c = let h = halves c.args.level (omega arith) in omega (ar
 pub find-requires : goal.find-requires
 find-requires t c =
     let h = halves c.args.level (omega arith) in
-    (omega arith, (omega arith, (omega arith, (subst (IsWithin (length c.args.nodes.now)) (tree_link c.args.nodes.now c.args.level c.in_ok-root.root c.args.link c.in_ok-root.was (omega arith)) c.requires.within).1)))
+    (omega arith, (omega arith, (omega arith, (subst (IsWithinArena (length c.args.nodes.now)) (tree_link c.args.nodes.now c.args.level c.in_ok-root.root c.args.link c.in_ok-root.was (omega arith)) c.requires.within).1)))
 
 pub find-requires-else-key-middle : goal.find-requires-else-key-middle
 find-requires-else-key-middle t c =
     let h = halves c.args.level (omega arith) in
-    (omega arith, (omega arith, (omega (arith, c.half.ensures), (subst (IsWithin (length c.args.nodes.now)) (tree_link c.args.nodes.now c.args.level c.in_ok-root.root c.args.link c.in_ok-root.was (omega arith)) c.requires.within).2)))
+    (omega arith, (omega arith, (omega (arith, c.half.ensures), (subst (IsWithinArena (length c.args.nodes.now)) (tree_link c.args.nodes.now c.args.level c.in_ok-root.root c.args.link c.in_ok-root.was (omega arith)) c.requires.within).2)))

@@ -1,7 +1,7 @@
 use Rattle.std.proofs.Common.{◌+◌, ℕ, ◌-◌, arith, ◌∙◌, ap}
 use Rattle.std.proofs.lemmas.Nat.{pow_pos}
-use Rattle.ms_gap_tree.specs.Arena.{at, tree_of}
-use Rattle.ms_gap_tree.specs.Tree.{insert}
+use Rattle.ms_gap_tree.specs.refinement.Arena.{at, tree_of}
+use Rattle.ms_gap_tree.specs.refinement.Tree.{insert}
 use Rattle.ms_gap_tree.proofs.Inserted.{parts, inserted_left, inserted_right, inserted_first, others_left, others_right}
 use Rattle.ms_gap_tree.proofs.Levels.{halves}
 use Rattle.ms_gap_tree.proofs.tree.+insert.Goals as goal

@@ -1,6 +1,6 @@
 use Rattle.std.proofs.Common.{◌≡◌, ◌-◌, true, false, arith}
-use Rattle.ms_gap_tree.specs.Arena.{at}
-use Rattle.ms_gap_tree.specs.Tree.{link_below}
+use Rattle.ms_gap_tree.specs.refinement.Arena.{at}
+use Rattle.ms_gap_tree.specs.refinement.Tree.{link_below}
 use Rattle.ms_gap_tree.proofs.Exchanged.{does_yield, exchanged_is, left_above, right_above}
 use Rattle.ms_gap_tree.proofs.tree.exchange.Goals as goal
 

@@ -10,7 +10,7 @@ returns-in-Err c =
     let m = c.args.module in
     let es = c.args.externs.now in
     let e = c.in-Err.fault in
-    inside_answers made name m es (Err e) c.requires.given c.requires.small (fit_is_refused made name m es c.in_ok-begun.begun c.in_ok-begun.ensures e c.in-Err.ensures)
+    inside_answers made name m es (Err e) c.requires.given c.requires.small (fit_is_refused made c.begin.new.made name m es c.in_ok-begun.begun c.in_ok-begun.ensures e c.in-Err.ensures)
 
 pub returns : goal.returns
 returns c =
@@ -19,4 +19,4 @@ returns c =
     let m = c.args.module in
     let es = c.args.externs.now in
     let last = c.in_ok-ended.field-0 in
-    inside_answers made name m es (Ok last) c.requires.given c.requires.small (ended_is made name m es c.in_ok-begun.begun c.in_ok-begun.ensures last c.in_default-test_fit.ensures c.in_ok-ended.ensures)
+    inside_answers made name m es (Ok last) c.requires.given c.requires.small (ended_is made c.begin.new.made name m es c.in_ok-begun.begun c.in_ok-begun.ensures last c.in_default.ensures c.in_ok-ended.ensures)

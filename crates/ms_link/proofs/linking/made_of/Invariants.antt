@@ -3,7 +3,7 @@ use Rattle.std.specs.Vec.Iter.{into_iter_items, into_iter_len}
 use Rattle.ms_module.specs.declared.module.Module.{Module}
 use Rattle.ms_rules.specs.Modules.{AreDistinct}
 use Rattle.ms_machine.specs.Linked.{all_more, nothing_made}
-use Rattle.ms_link.specs.Fitting.{MadeTyped}
+use Rattle.ms_link.specs.refinement.Fitting.{MadeTyped}
 use Rattle.ms_link.proofs.linking.made_of.Given as goal
 
 abbrev pub invariant-loop-name : goal.invariant-loop-name

@@ -2,7 +2,7 @@ use Rattle.std.proofs.Common.{◌≡◌, ◌<◌, All, length, map, get_or, sym,
 use Rattle.ms_machine.specs.declared.store.Instance.{Instance}
 use Rattle.ms_machine.specs.Linked.{values_at}
 use Rattle.ms_link.proofs.Puts.{elements_more, zip_length, zip_read}
-use Rattle.ms_link.specs.Fitting.{ElementFits, ElementsThere, entry_count}
+use Rattle.ms_link.specs.refinement.Fitting.{ElementFits, ElementsThere, entry_count}
 use Rattle.ms_link.proofs.putting.put_all_elements.Goals as goal
 
 pub bounds-elements-k : goal.bounds-elements-k

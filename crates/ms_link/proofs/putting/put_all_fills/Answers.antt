@@ -2,7 +2,7 @@ use Rattle.std.proofs.Common.{◌≡◌, All, map, get_or, sym, subst, arith}
 use Rattle.ms_machine.specs.declared.store.Instance.{Instance}
 use Rattle.ms_machine.specs.Linked.{values_at}
 use Rattle.ms_link.proofs.Puts.{fills_more, zip_length, zip_read}
-use Rattle.ms_link.specs.Fitting.{FillFits, FillsThere, byte_count}
+use Rattle.ms_link.specs.refinement.Fitting.{FillFits, FillsThere, byte_count}
 use Rattle.ms_link.proofs.putting.put_all_fills.Goals as goal
 
 pub bounds-fills-k : goal.bounds-fills-k

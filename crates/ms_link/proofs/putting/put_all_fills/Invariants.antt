@@ -1,6 +1,6 @@
 use Rattle.std.proofs.Common.{◌≡◌, drop, map}
 use Rattle.ms_machine.specs.Linked.{put_all_fills}
-use Rattle.ms_link.specs.Fitting.{byte_count}
+use Rattle.ms_link.specs.refinement.Fitting.{byte_count}
 use Rattle.ms_link.proofs.putting.put_all_fills.Given as goal
 
 abbrev pub invariant-loop-k : goal.invariant-loop-k

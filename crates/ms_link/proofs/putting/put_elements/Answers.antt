@@ -1,6 +1,6 @@
 use Rattle.std.proofs.Common.{map}
 use Rattle.ms_link.proofs.Puts.{element_more}
-use Rattle.ms_link.specs.Fitting.{entry_count}
+use Rattle.ms_link.specs.refinement.Fitting.{entry_count}
 use Rattle.ms_link.proofs.putting.put_elements.Goals as goal
 
 pub loop-e-preserved : goal.loop-e-preserved

@@ -1,6 +1,6 @@
 use Rattle.std.proofs.Common.{◌≡◌, drop, map}
 use Rattle.ms_machine.specs.Linked.{put_elements}
-use Rattle.ms_link.specs.Fitting.{entry_count}
+use Rattle.ms_link.specs.refinement.Fitting.{entry_count}
 use Rattle.ms_link.proofs.putting.put_elements.Given as goal
 
 abbrev pub invariant-loop-e : goal.invariant-loop-e

@@ -1,6 +1,6 @@
 use Rattle.std.proofs.Common.{map}
 use Rattle.ms_link.proofs.Puts.{fill_more}
-use Rattle.ms_link.specs.Fitting.{byte_count}
+use Rattle.ms_link.specs.refinement.Fitting.{byte_count}
 use Rattle.ms_link.proofs.putting.put_fills.Goals as goal
 
 pub loop-f-preserved : goal.loop-f-preserved

@@ -1,5 +1,5 @@
 use Rattle.std.proofs.Common.{◌+◌, ◌-◌, ℕ, arith, ap, sym, ◌∙◌, subst}
-use Rattle.ms_live.specs.Ordered.{at, has, push, tree_of, IsInOrder}
+use Rattle.ms_live.specs.refinement.Ordered.{at, has, push, tree_of, IsInOrder}
 use Rattle.ms_live.proofs.OrderedSteps.{linked, middle_is, other_slot, parts, pushed_first, pushed_lower, pushed_others, pushed_upper}
 use Rattle.ms_live.proofs.OrderedLaws.{few_halves}
 use Rattle.ms_live.proofs.order.+push.Goals as goal

@@ -1,5 +1,5 @@
 use Rattle.std.proofs.Common.{◌+◌, ◌-◌, ℕ, arith, ap, ◌∙◌}
-use Rattle.ms_live.specs.Ordered.{at, remove, tree_of}
+use Rattle.ms_live.specs.refinement.Ordered.{at, remove, tree_of}
 use Rattle.ms_live.proofs.OrderedSteps.{middle_is, others_kept, parts, removed_lower, removed_upper}
 use Rattle.ms_live.proofs.order.+remove.Goals as goal
 use Rattle.ms_live.proofs.Found.{other_id}

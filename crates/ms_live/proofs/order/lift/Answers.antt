@@ -1,5 +1,5 @@
 use Rattle.std.proofs.Common.{◌+◌, ℕ, Some, length, arith, ap, ◌∙◌}
-use Rattle.ms_live.specs.Ordered.{freed, has, pop, tree_of}
+use Rattle.ms_live.specs.refinement.Ordered.{freed, has, pop, tree_of}
 use Rattle.ms_live.proofs.OrderedSlots.{freed_gone, freed_of, has_within}
 use Rattle.ms_live.proofs.OrderedSteps.{lifted_is}
 use Rattle.ms_live.proofs.order.lift.Goals as goal

@@ -1,7 +1,7 @@
 use Rattle.std.proofs.Common.{subst}
-use Rattle.ms_machine.specs.Doing.{DoesOutcome}
+use Rattle.ms_machine.specs.refinement.Doing.{DoesOutcome}
 use Rattle.ms_machine.specs.Step.{Outcome}
-use Rattle.ms_task.specs.View.{at_next, thread_of}
+use Rattle.ms_task.specs.refinement.View.{at_next, thread_of}
 use Rattle.ms_machine.proofs.Asking.{call_asks}
 use Rattle.ms_machine.proofs.control.call.Goals as goal
 

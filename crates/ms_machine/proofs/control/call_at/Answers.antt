@@ -1,8 +1,8 @@
 use Rattle.std.proofs.Common.{Option, subst}
 use Rattle.ms_host.specs.declared.host.Host.{Host}
-use Rattle.ms_machine.specs.Doing.{DoesOutcome}
+use Rattle.ms_machine.specs.refinement.Doing.{DoesOutcome}
 use Rattle.ms_machine.specs.Step.{called, popped}
-use Rattle.ms_task.specs.View.{at_next, thread_of}
+use Rattle.ms_task.specs.refinement.View.{at_next, thread_of}
 use Rattle.ms_machine.proofs.control.call_at.Goals as goal
 
 pub returns-in-Some : goal.returns-in-Some

@@ -4,7 +4,7 @@ use Rattle.ms_host.specs.declared.host.Host.TheVariants as hosts
 use Rattle.ms_machine.specs.Hosting.{host_on}
 use Rattle.ms_machine.specs.Moves.{hosted}
 use Rattle.ms_task.specs.Thread.{thread}
-use Rattle.ms_task.specs.View.{thread_of}
+use Rattle.ms_task.specs.refinement.View.{thread_of}
 use Rattle.ms_machine.proofs.Moving.{exit_does_step, put_gives}
 use Rattle.ms_machine.proofs.hosting.put_byte.Goals as goal
 

@@ -1,10 +1,10 @@
 use Rattle.std.proofs.Common.{None, true, refl, subst}
 use Rattle.ms_host.specs.declared.host.Host.TheVariants as hosts
-use Rattle.ms_outside.specs.Source.{Takes}
+use Rattle.ms_outside.specs.refinement.Source.{Takes}
 use Rattle.ms_machine.specs.Hosting.{host_on}
 use Rattle.ms_machine.specs.Moves.{hosted}
 use Rattle.ms_task.specs.Thread.{thread}
-use Rattle.ms_task.specs.View.{thread_of}
+use Rattle.ms_task.specs.refinement.View.{thread_of}
 use Rattle.ms_machine.proofs.Moving.{exit_does_step, take_gives, taken}
 use Rattle.ms_machine.proofs.hosting.take_byte.Goals as goal
 

@@ -2,7 +2,7 @@ use Rattle.std.proofs.Common.{None}
 use Rattle.ms_machine.proofs.Counting.{does_step_counts}
 use Rattle.ms_machine.proofs.Moving.{does_step_fits, does_step_typed, move_unstuck}
 use Rattle.ms_machine.proofs.SafeMoves.{does_step_sound}
-use Rattle.ms_task.specs.View.{thread_of}
+use Rattle.ms_task.specs.refinement.View.{thread_of}
 use Rattle.ms_machine.proofs.machine.step.Goals as goal
 
 pub advance-requires-clause-can : goal.advance-requires-clause-can

@@ -1,6 +1,6 @@
 use Rattle.std.proofs.Common.{ap}
 use Rattle.ms_task.specs.Thread.{thread}
-use Rattle.ms_task.specs.View.{at_next, frame_of, thread_of}
+use Rattle.ms_task.specs.refinement.View.{at_next, frame_of, thread_of}
 use Rattle.ms_machine.proofs.Memories.{linear_does, linear_fails}
 use Rattle.ms_machine.proofs.memory.linear.Goals as goal
 

@@ -2,7 +2,7 @@ use Rattle.std.proofs.Common.{◌≡◌, ◌-◌, ◌+◌, ◌*◌, ◌^◌, ◌
 use Rattle.std.proofs.lemmas.Bool.{ltb-true}
 use Rattle.ms_module.specs.declared.instr.Instr.{Instr}
 use Rattle.ms_task.specs.Thread.{sequence}
-use Rattle.ms_task.specs.View.{thread_of}
+use Rattle.ms_task.specs.refinement.View.{thread_of}
 use Rattle.ms_machine.proofs.StraightLine.{before_next, going_at, is_next, met_here, quietly_on, quietly_trans, quietly_typed}
 use Rattle.ms_machine.proofs.straight.go.Goals as goal
 use Rattle.ms_machine.proofs.straight.go.Goals.{in-On, in-Elsewhere, in-Again}
@@ -13,14 +13,14 @@ overflow_add-next g c = let v = c.loop-left.invariant in omega (arith, v.within,
 pub offset_bounds-code-place : goal.offset_bounds-code-place
 offset_bounds-code-place g c = let v = c.loop-left.invariant in omega (arith, v.within, v.far)
 
-pub turn-requires-clause-before : goal.turn-requires-clause-before
-turn-requires-clause-before g c =
+pub quietly-requires-clause-before : goal.quietly-requires-clause-before
+quietly-requires-clause-before g c =
     let l = c.loop-left in
     let v = l.invariant in
     before_next c.args.store.now l.code.now l.task l.place c.index-code-place.result v.code v.place v.within c.index-code-place.is
 
-pub turn-requires-clause-next : goal.turn-requires-clause-next
-turn-requires-clause-next g c =
+pub quietly-requires-clause-next : goal.quietly-requires-clause-next
+quietly-requires-clause-next g c =
     let s = c.args.store.now in
     let l = c.loop-left in
     let v = l.invariant in
@@ -35,7 +35,7 @@ returns-in-Linear-clause-met g c =
     let typed = quietly_typed s s (thread_of s.funcs c.args.task.now) (thread_of s.funcs l.task) (c.args.most - l.left) v.steps c.requires.store c.requires.task in
     let here = is_next s l.code.now l.task l.place c.index-code-place.result v.code v.place v.within c.index-code-place.is c.requires.store typed.1 v.going in
     let behind : IsTrue (nat_lt (l.place + 1) (length l.code.now)) → l.place + 1 < length (sequence s.funcs l.task.function l.task.sequence) = λ yes. subst (λ (is : List Instr). l.place + 1 < length is) v.code (ltb-true (l.place + 1) (length l.code.now) yes) in
-    met_here s (thread_of s.funcs c.args.task.now) (c.args.most - l.left) l.left (l.place + 1) (nat_lt (l.place + 1) (length l.code.now)) l.task c.turn.new.task c.index-code-place.result _ v.steps c.loop-left-test.true (v.going, here, behind) c.in-Linear.ensures.turned.0 c.in-Linear.ensures.turned.1
+    met_here s (thread_of s.funcs c.args.task.now) (c.args.most - l.left) l.left (l.place + 1) (nat_lt (l.place + 1) (length l.code.now)) l.task c.quietly.new.task c.index-code-place.result _ v.steps c.loop-left-test.true (v.going, here, behind) c.in-Linear.ensures.done.0 c.in-Linear.ensures.done.1
 
 pub returns-in-Global-clause-met : goal.returns-in-Global-clause-met
 returns-in-Global-clause-met g c =
@@ -45,62 +45,62 @@ returns-in-Global-clause-met g c =
     let typed = quietly_typed s s (thread_of s.funcs c.args.task.now) (thread_of s.funcs l.task) (c.args.most - l.left) v.steps c.requires.store c.requires.task in
     let here = is_next s l.code.now l.task l.place c.index-code-place.result v.code v.place v.within c.index-code-place.is c.requires.store typed.1 v.going in
     let behind : IsTrue (nat_lt (l.place + 1) (length l.code.now)) → l.place + 1 < length (sequence s.funcs l.task.function l.task.sequence) = λ yes. subst (λ (is : List Instr). l.place + 1 < length is) v.code (ltb-true (l.place + 1) (length l.code.now) yes) in
-    met_here s (thread_of s.funcs c.args.task.now) (c.args.most - l.left) l.left (l.place + 1) (nat_lt (l.place + 1) (length l.code.now)) l.task c.turn.new.task c.index-code-place.result _ v.steps c.loop-left-test.true (v.going, here, behind) c.in-Global.ensures.turned.0 c.in-Global.ensures.turned.1
+    met_here s (thread_of s.funcs c.args.task.now) (c.args.most - l.left) l.left (l.place + 1) (nat_lt (l.place + 1) (length l.code.now)) l.task c.quietly.new.task c.index-code-place.result _ v.steps c.loop-left-test.true (v.going, here, behind) c.in-Global.ensures.done.0 c.in-Global.ensures.done.1
 
 pub loop-left-preserved : goal.loop-left-preserved
 loop-left-preserved g c =
     let s = c.args.store.now in
     let l = c.loop-left in
     let v = l.invariant in
-    let t' = c.turn.new.task in
+    let t' = c.quietly.new.task in
     let n = c.args.most - l.left in
     let t0 = thread_of s.funcs c.args.task.now in
     let some = c.loop-left-test.true in
     let room = v.left in
-    elim c.match-turn.branch [
+    elim c.match-quietly.branch [
       | in-On w ↦
-          let at = w.in-On.ensures.turned.1 in
-          let codes : c.match-turn.code.now ≡ l.code.now = ap (λ (b : Bor (List Instr)). b.now) w.code-is in
+          let at = w.in-On.ensures.done.1 in
+          let codes : c.match-quietly.code.now ≡ l.code.now = ap (λ (b : Bor (List Instr)). b.now) w.code-is in
           let same : l.code.now ≡ sequence s.funcs t'.function t'.sequence = rw (at.0, at.1) v.code in
           let within = ltb-true (l.place + 1) (length l.code.now) (w.in-On.ensures.on refl) in
           let inside = subst (λ n. n < length l.code.now) (sym at.2) within in
           record {
-            steps = quietly_on s s s n (c.args.most - (c.match-turn.left - 1)) t0 (thread_of s.funcs l.task) (thread_of s.funcs t') v.steps v.going w.in-On.ensures.turned.0 (omega (arith, some, room, w.left-is));
+            steps = quietly_on s s s n (c.args.most - (c.match-quietly.left - 1)) t0 (thread_of s.funcs l.task) (thread_of s.funcs t') v.steps v.going w.in-On.ensures.done.0 (omega (arith, some, room, w.left-is));
             left = omega (arith, some, room, w.left-is);
             going = going_at s t' (subst (λ (is : List Instr). t'.place < length is) same inside);
             code = codes ∙ same;
             place = w.place-is ∙ sym at.2;
-            within = subst (λ n. n < length c.match-turn.code.now) (sym w.place-is) (subst (λ (is : List Instr). l.place + 1 < length is) (sym codes) within);
+            within = subst (λ n. n < length c.match-quietly.code.now) (sym w.place-is) (subst (λ (is : List Instr). l.place + 1 < length is) (sym codes) within);
             far = subst (λ (is : List Instr). length is * 16 < 2 ^ 63) (sym codes) v.far;
           }
       | in-Elsewhere w ↦
-          let there = w.in-Elsewhere.ensures.turned.1 in
+          let there = w.in-Elsewhere.ensures.done.1 in
           let code = w.in-Elsewhere.there.now in
-          let codes : c.match-turn.code.now ≡ code = ap (λ (b : Bor (List Instr)). b.now) w.code-is in
+          let codes : c.match-quietly.code.now ≡ code = ap (λ (b : Bor (List Instr)). b.now) w.code-is in
           let places = w.place-is ∙ w.place-place-in-Elsewhere.ensures in
           let far : length code * 16 < 2 ^ 63 = there.3 in
           record {
-            steps = quietly_on s s s n (c.args.most - (c.match-turn.left - 1)) t0 (thread_of s.funcs l.task) (thread_of s.funcs t') v.steps v.going w.in-Elsewhere.ensures.turned.0 (omega (arith, some, room, w.left-is));
+            steps = quietly_on s s s n (c.args.most - (c.match-quietly.left - 1)) t0 (thread_of s.funcs l.task) (thread_of s.funcs t') v.steps v.going w.in-Elsewhere.ensures.done.0 (omega (arith, some, room, w.left-is));
             left = omega (arith, some, room, w.left-is);
             going = there.2;
             code = codes ∙ there.0;
             place = places;
-            within = subst (λ n. n < length c.match-turn.code.now) (sym places) (subst (λ (is : List Instr). t'.place < length is) (sym codes) there.1);
+            within = subst (λ n. n < length c.match-quietly.code.now) (sym places) (subst (λ (is : List Instr). t'.place < length is) (sym codes) there.1);
             far = subst (λ (is : List Instr). length is * 16 < 2 ^ 63) (sym codes) far;
           }
       | in-Again w ↦
-          let there = w.in-Again.ensures.turned.1 in
+          let there = w.in-Again.ensures.done.1 in
           let code = w.in-Again.there.now in
-          let codes : c.match-turn.code.now ≡ code = ap (λ (b : Bor (List Instr)). b.now) w.code-is in
+          let codes : c.match-quietly.code.now ≡ code = ap (λ (b : Bor (List Instr)). b.now) w.code-is in
           let places = w.place-is ∙ w.place-place-in-Again.ensures in
           let two = ltb-true 1 l.left (w.in-Again.ensures.again (tt {0})) in
           record {
-            steps = quietly_trans s s s n 2 (c.args.most - (c.match-turn.left - 1)) t0 (thread_of s.funcs l.task) (thread_of s.funcs t') v.steps w.in-Again.ensures.turned.0 (omega (arith, room, two, w.left-is));
+            steps = quietly_trans s s s n 2 (c.args.most - (c.match-quietly.left - 1)) t0 (thread_of s.funcs l.task) (thread_of s.funcs t') v.steps w.in-Again.ensures.done.0 (omega (arith, room, two, w.left-is));
             left = omega (arith, room, two, w.left-is);
             going = there.2;
             code = codes ∙ there.0;
             place = places;
-            within = subst (λ n. n < length c.match-turn.code.now) (sym places) (subst (λ (is : List Instr). t'.place < length is) (sym codes) there.1);
+            within = subst (λ n. n < length c.match-quietly.code.now) (sym places) (subst (λ (is : List Instr). t'.place < length is) (sym codes) there.1);
             far = subst (λ (is : List Instr). length is * 16 < 2 ^ 63) (sym codes) there.3;
           }
     ]

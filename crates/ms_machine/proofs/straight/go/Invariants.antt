@@ -1,7 +1,7 @@
 use Rattle.std.proofs.Common.{◌≡◌, ◌≢◌, ◌-◌, ◌*◌, ◌^◌, ◌<◌, ◌≤◌, [], length}
-use Rattle.ms_machine.specs.StraightLine.{GoesQuietly}
+use Rattle.ms_machine.specs.refinement.StraightLine.{GoesQuietly}
 use Rattle.ms_task.specs.Thread.{sequence}
-use Rattle.ms_task.specs.View.{thread_of}
+use Rattle.ms_task.specs.refinement.View.{thread_of}
 use Rattle.ms_machine.proofs.straight.go.Given as goal
 
 abbrev pub invariant-loop-left : goal.invariant-loop-left

@@ -1,7 +1,7 @@
 use Rattle.std.proofs.Common.{◌≡◌, ◌≢◌, ◌-◌, ◌∙◌, List, [], sym, subst, arith}
 use Rattle.ms_task.specs.Thread.{Item}
-use Rattle.ms_task.specs.View.{thread_of}
-use Rattle.ms_machine.specs.StraightLine.{DoesMeet, DoesWork}
+use Rattle.ms_task.specs.refinement.View.{thread_of}
+use Rattle.ms_machine.specs.refinement.StraightLine.{DoesMeet, DoesWork}
 use Rattle.ms_machine.specs.Typing.{StoreTyped}
 use Rattle.ms_machine.specs.declared.straight.Met.{Met}
 use Rattle.ms_machine.specs.declared.straight.Worked.{Worked}

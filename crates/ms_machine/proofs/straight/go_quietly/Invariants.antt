@@ -1,6 +1,6 @@
 use Rattle.std.proofs.Common.{◌≢◌, ◌-◌, ◌≤◌, []}
-use Rattle.ms_machine.specs.StraightLine.{GoesQuietly}
-use Rattle.ms_task.specs.View.{thread_of}
+use Rattle.ms_machine.specs.refinement.StraightLine.{GoesQuietly}
+use Rattle.ms_task.specs.refinement.View.{thread_of}
 use Rattle.ms_machine.proofs.straight.go_quietly.Given as goal
 
 abbrev pub invariant-loop-left : goal.invariant-loop-left

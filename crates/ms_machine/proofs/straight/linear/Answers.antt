@@ -1,6 +1,6 @@
 use Rattle.std.proofs.Common.{◌≡◌, ◌∙◌, None, ap}
 use Rattle.ms_module.specs.declared.instr.Instr.TheVariants as instr
-use Rattle.ms_task.specs.View.{at_next, thread_of}
+use Rattle.ms_task.specs.refinement.View.{at_next, thread_of}
 use Rattle.ms_machine.specs.Step.{Next, act}
 use Rattle.ms_machine.proofs.StraightLine.{linear_behind, worked_behind}
 use Rattle.ms_machine.proofs.straight.linear.Goals as goal

@@ -2,10 +2,10 @@ use Rattle.std.proofs.Common.{◌≢◌, List, ap, refl, subst, sym, ◌∙◌}
 use Rattle.ms_module.specs.declared.instr.Instr.{Instr}
 use Rattle.ms_task.specs.Control as control
 use Rattle.ms_task.specs.Control.{br_if_on, branch}
-use Rattle.ms_task.specs.View.{at_next, frame_of, outer_of}
+use Rattle.ms_task.specs.refinement.View.{at_next, frame_of, outer_of}
 use Rattle.ms_task.specs.declared.func.FuncInst.{FuncInst}
 use Rattle.ms_machine.specs.Step.{moved}
-use Rattle.ms_machine.specs.StraightLine.{IsNext}
+use Rattle.ms_machine.specs.refinement.StraightLine.{IsNext}
 use Rattle.ms_machine.specs.Store.{Store}
 use Rattle.ms_machine.proofs.Branches.{br_can, branch_from}
 use Rattle.ms_machine.proofs.StraightLine.{repeated}

@@ -1,4 +1,4 @@
-use Rattle.ms_gap_tree.specs.Rooms.{room_at}
+use Rattle.ms_gap_tree.specs.refinement.Rooms.{room_at}
 use Rattle.ms_monitor.proofs.Rooming.{room_found}
 use Rattle.ms_monitor.proofs.gaps.has_room_counted.Goals as goal
 

@@ -1,9 +1,9 @@
 use Rattle.std.proofs.Common.{refl, subst}
 use Rattle.std.specs.Prelude.{Err, length}
 use Rattle.ms_machine.specs.Externs.{Fault}
-use Rattle.ms_link.specs.Answers.{DoesLink}
+use Rattle.ms_link.specs.refinement.Answers.{DoesLink}
 use Rattle.ms_link.specs.declared.fault.LinkFault.{LinkFault}
-use Rattle.ms_tasks.specs.Schedules.{entries_of}
+use Rattle.ms_tasks.specs.refinement.Schedules.{entries_of}
 use Rattle.ms_run.specs.Flows.{nothing_printed}
 use Rattle.ms_run.specs.Lines.{link_line}
 use Rattle.ms_run.proofs.Executed.{linked_printed, unlinked_printed}

@@ -1,7 +1,7 @@
 use Rattle.std.proofs.Common.{◌∙◌, ap, length, refl, sym}
 use Rattle.ms_machine.specs.Crews.{results}
-use Rattle.ms_tasks.specs.Logs.{Log}
-use Rattle.ms_tasks.specs.Schedules.{entries_of}
+use Rattle.ms_tasks.specs.refinement.Logs.{Log}
+use Rattle.ms_tasks.specs.refinement.Schedules.{entries_of}
 use Rattle.ms_run.specs.Lines.{budget_line, result_lines, trap_line}
 use Rattle.ms_run.specs.declared.status.Status.TheVariants.{OutOfMemory, WriteFault}
 use Rattle.ms_run.proofs.Ending.{budget_printed, memory_printed, read_fault_printed, results_printed, tasks_stay, trap_printed, write_fault_printed}

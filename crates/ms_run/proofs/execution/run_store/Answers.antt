@@ -1,6 +1,6 @@
 use Rattle.std.proofs.Common.{◌∙◌, ◌<◌, ℕ, ap, refl, subst, sym}
-use Rattle.ms_tasks.specs.Making.{Refuses}
-use Rattle.ms_tasks.specs.Schedules.{entries_of}
+use Rattle.ms_tasks.specs.refinement.Making.{Refuses}
+use Rattle.ms_tasks.specs.refinement.Schedules.{entries_of}
 use Rattle.std.specs.Prelude.{length}
 use Rattle.ms_run.specs.Flows.{nothing_printed}
 use Rattle.ms_run.specs.Lines.{task_line}

@@ -1,6 +1,6 @@
 use Rattle.std.proofs.Common.{ap, sym, subst, ◌∙◌}
 use Rattle.std.specs.Prelude.{Err}
-use Rattle.ms_job.specs.Reading.{ReadsSchedule}
+use Rattle.ms_job.specs.refinement.Reading.{ReadsSchedule}
 use Rattle.ms_job.specs.Schedules.{schedule_in}
 use Rattle.ms_job.specs.declared.fault.SchedFault.{SchedFault}
 use Rattle.ms_run.specs.Answers.{Unfound}

@@ -1,7 +1,7 @@
 use Rattle.std.proofs.Common.{List, refl, subst, sym}
 use Rattle.std.specs.Prelude.{Err, length}
 use Rattle.ms_event.specs.declared.event.Event.{Event}
-use Rattle.ms_monitor.specs.Answers.{JudgesTrace, ReadsTrace}
+use Rattle.ms_monitor.specs.refinement.Answers.{JudgesTrace, ReadsTrace}
 use Rattle.ms_monitor.specs.Traces.{IsTrace}
 use Rattle.ms_monitor.specs.declared.judgement.JudgeFault.{JudgeFault}
 use Rattle.ms_monitor.specs.declared.trace.TraceFault.{TraceFault}

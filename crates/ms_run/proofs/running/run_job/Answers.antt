@@ -1,28 +1,26 @@
-use Rattle.std.proofs.Common.{List, ℕ, refl, subst}
-use Rattle.ms_run.specs.Jobs.{AllLoaded}
-use Rattle.ms_run.specs.Reporting.{Holds}
-use Rattle.ms_run.proofs.Jobs.{names_apart, schedule_answered, tasks_answered, unloaded_answered}
+use Rattle.std.proofs.Common.{◌∙◌, List, ℕ, ap, refl, subst, sym}
+use Rattle.std.specs.Prelude.{Err}
+use Rattle.ms_job.specs.Jobs.{job_in}
+use Rattle.ms_job.specs.refinement.Reading.{ReadsJob}
+use Rattle.ms_run.specs.Observed.{Report}
+use Rattle.ms_run.specs.Reporting.{ReportsJobFault}
+use Rattle.ms_run.proofs.Jobs.{fault_answered, job_answered, unfound_answered}
+use Rattle.ms_run.proofs.Later.{over_report}
 use Rattle.ms_run.proofs.running.run_job.Goals as goal
 
 pub returns-in-Err : goal.returns-in-Err
-returns-in-Err g c = unloaded_answered c.args.naming c.args.job _ _ _ c.as_slice.result.now c.as_slice.ensures (refl, refl, refl, refl) c.in-Err.status c.in-Err.ensures.printed
+returns-in-Err g c = unfound_answered c.args.job.now _ _ _ (refl, refl, refl, refl) c.in-Err.status c.in-Err.ensures.printed
 
-pub returns-in-Err-schedule_of : goal.returns-in-Err-schedule_of
-returns-in-Err-schedule_of g c =
-    let modules = c.in-Ok.modules.items in
-    let all = subst (λ (fs : List (List ℕ × List ℕ)). AllLoaded (Holds (g.F.Shelf.files c.args.shelf.now)) fs modules) c.as_slice.ensures c.in-Ok.ensures.modules in
-    schedule_answered _ _ _ _ _ _ _ _ _ _ _ _ _ _ _ c.args.naming c.args.job _ modules all c.in-Ok.ensures.untouched (refl, refl, refl, refl) c.in-Err-schedule_of.status c.in-Err-schedule_of.ensures.printed
-
-pub execute-requires-clause-names : goal.execute-requires-clause-names
-execute-requires-clause-names g c =
-    let files = Holds (g.F.Shelf.files c.args.shelf.now) in
-    let modules = c.in-Ok.modules.items in
-    let all = subst (λ (fs : List (List ℕ × List ℕ)). AllLoaded files fs modules) c.as_slice.ensures c.in-Ok.ensures.modules in
-    names_apart files c.args.job modules all c.requires.bounds
+pub returns-in-Ok-parse : goal.returns-in-Ok-parse
+returns-in-Ok-parse g c =
+    let is = ap job_in (sym c.as_slice.ensures.value) ∙ c.in-Ok-parse.ensures.job in
+    job_answered _ _ _ _ _ _ _ _ _ _ _ _ _ _ _ c.args.job.now c.in-Ok.bytes.items _ c.run_parsed.result c.in-Ok.ensures.untouched c.in-Ok.ensures.bytes c.in-Ok-parse.parsed is c.run_parsed.ensures
 
 pub returns : goal.returns
 returns g c =
-    let modules = c.in-Ok.modules.items in
-    let all = subst (λ (fs : List (List ℕ × List ℕ)). AllLoaded (Holds (g.F.Shelf.files c.args.shelf.now)) fs modules) c.as_slice.ensures c.in-Ok.ensures.modules in
-    let e = c.in-Ok-schedule_of.ensures in
-    tasks_answered _ _ _ _ _ _ _ _ _ _ _ _ _ _ _ c.args.naming c.args.job _ modules all c.in-Ok.ensures.untouched _ _ _ _ _ c.in-Ok-schedule_of.schedule c.into_vec-tasks.result.items c.into_vec-tasks.ensures e.entries e.untouched c.execute.result c.execute.ensures.reads c.execute.ensures.printed
+    let before = c.in-Ok.ensures.untouched in
+    let bytes = c.in-Ok.bytes.items in
+    let fault = c.in-Err-parse.fault in
+    let is = subst (λ (text : List ℕ). ReadsJob (job_in text) (Err fault)) c.as_slice.ensures.value c.in-Err-parse.ensures.job in
+    fault_answered c.args.job.now _ _ _ bytes fault c.in-Ok.ensures.bytes is before.counts before.files (refl, refl, refl, refl) c.answer_job_fault.result
+    (over_report (λ (r : Report). ReportsJobFault fault r c.answer_job_fault.result) _ _ _ _ _ _ before.report c.answer_job_fault.ensures)

@@ -1,5 +1,5 @@
 use Rattle.std.proofs.Common.{◌||◌, ◌-◌, take, drop, ap, sym, ◌∙◌}
-use Rattle.ms_tagged.specs.Lanes.{has_piece}
+use Rattle.ms_tagged.specs.refinement.Lanes.{has_piece}
 use Rattle.ms_tagged.proofs.Blocks.{has_piece-blocks}
 use Rattle.ms_tagged.proofs.lanes.any_piece.Goals as goal
 

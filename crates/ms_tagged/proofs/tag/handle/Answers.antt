@@ -1,7 +1,7 @@
 use Rattle.std.proofs.Common.{lit<, ◌∙◌, ap, sym}
 use Rattle.std.proofs.lemmas.Bool.{false≢true}
 use Rattle.ms_tagged.specs.Bytes.{whole, cleared}
-use Rattle.ms_tagged.specs.Tags.{byte_of}
+use Rattle.ms_tagged.specs.refinement.Tags.{byte_of}
 use Rattle.ms_tagged.proofs.Tags.{first_byte}
 use Rattle.ms_tagged.proofs.Handles.{torn-after_piece, torn-with_data}
 use Rattle.ms_tagged.proofs.tag.handle.Goals as goal

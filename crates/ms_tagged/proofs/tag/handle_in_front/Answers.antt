@@ -2,7 +2,7 @@ use Rattle.std.proofs.Common.{ap, sym, ◌∙◌, replicate, arith}
 use Rattle.std.proofs.lemmas.Bool.{false≢true}
 use Rattle.std.proofs.lemmas.List.{length-map}
 use Rattle.ms_tagged.specs.Bytes.{Data, cleared}
-use Rattle.ms_tagged.specs.Tags.{byte_of, bytes_of}
+use Rattle.ms_tagged.specs.refinement.Tags.{byte_of, bytes_of}
 use Rattle.ms_tagged.proofs.Filled.{filled-zeros, torn-filled}
 use Rattle.ms_tagged.proofs.tag.handle_in_front.Goals as goal
 

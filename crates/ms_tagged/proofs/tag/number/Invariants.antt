@@ -1,6 +1,6 @@
 use Rattle.std.proofs.Common.{◌≡◌, ◌<◌, ◌-◌, ◌^◌, Some, drop, length}
 use Rattle.ms_tagged.specs.Bytes.{number_at}
-use Rattle.ms_tagged.specs.Tags.{bytes_of}
+use Rattle.ms_tagged.specs.refinement.Tags.{bytes_of}
 use Rattle.ms_tagged.proofs.tag.number.Given as goal
 
 abbrev pub invariant-loop-index : goal.invariant-loop-index

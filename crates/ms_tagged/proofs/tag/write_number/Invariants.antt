@@ -1,6 +1,6 @@
 use Rattle.std.proofs.Common.{◌≡◌, ◌++◌, ◌-◌, take}
 use Rattle.ms_tagged.specs.Bytes.{data_of}
-use Rattle.ms_tagged.specs.Tags.{bytes_of}
+use Rattle.ms_tagged.specs.refinement.Tags.{bytes_of}
 use Rattle.ms_tagged.proofs.tag.write_number.Given as goal
 
 abbrev pub invariant-loop-tag : goal.invariant-loop-tag

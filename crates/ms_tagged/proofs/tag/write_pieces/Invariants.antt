@@ -1,5 +1,5 @@
 use Rattle.std.proofs.Common.{◌≡◌, take}
-use Rattle.ms_tagged.specs.Tags.{bytes_of, pieces_from}
+use Rattle.ms_tagged.specs.refinement.Tags.{bytes_of, pieces_from}
 use Rattle.ms_tagged.proofs.tag.write_pieces.Given as goal
 
 abbrev pub invariant-loop-number : goal.invariant-loop-number

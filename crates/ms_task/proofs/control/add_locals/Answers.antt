@@ -1,7 +1,7 @@
 use Rattle.std.proofs.Common.{◌++◌, ◌+◌, List, drop, get_or, map, refl, ap, ◌∙◌, arith}
 use Rattle.ms_linear.specs.declared.value.Value.{Value}
 use Rattle.ms_linear.specs.Values.{default_of}
-use Rattle.ms_module.specs.Locals.{types_of}
+use Rattle.ms_module.specs.refinement.Locals.{types_of}
 use Rattle.ms_types.specs.declared.types.ValType.TheVariants.{I32}
 use Rattle.ms_module.specs.declared.locals.Run.{Run}
 use Rattle.ms_task.proofs.Calls.{locals_all, locals_more, rises_on}

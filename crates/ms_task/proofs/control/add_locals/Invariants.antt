@@ -1,6 +1,6 @@
 use Rattle.std.proofs.Common.{◌≡◌, ◌++◌, drop, map}
 use Rattle.ms_linear.specs.Values.{default_of}
-use Rattle.ms_module.specs.Locals.{Rise, types_of}
+use Rattle.ms_module.specs.refinement.Locals.{Rise, types_of}
 use Rattle.ms_task.proofs.control.add_locals.Given as goal
 
 -- what was added, and what is left, are all of them

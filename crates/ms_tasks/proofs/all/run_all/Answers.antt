@@ -1,10 +1,10 @@
 use Rattle.std.proofs.Common.{◌≡◌, ◌+◌, ◌-◌, List, [], drop, length, refl, sym, ap, subst, ◌∙◌, arith}
 use Rattle.ms_machine.specs.Crews.{Crew, OutOfBudget, Results, ahead, begun, ends, results, run_entries}
 use Rattle.ms_task.specs.Thread.{Thread}
-use Rattle.ms_tasks.specs.Parts.{Answers, ComesTo, CountsInput, CountsOut, IsWell}
-use Rattle.ms_tasks.specs.Ready.{IsReady}
-use Rattle.ms_tasks.specs.Rows.{all_in, begun_with, crew_in, threads_in}
-use Rattle.ms_tasks.specs.Schedules.{entries_of, part_of}
+use Rattle.ms_tasks.specs.refinement.Parts.{HaltsBy, ComesTo, CountsInput, CountsOut, IsWell}
+use Rattle.ms_tasks.specs.refinement.Ready.{IsReady}
+use Rattle.ms_tasks.specs.refinement.Rows.{all_in, begun_with, crew_in, threads_in}
+use Rattle.ms_tasks.specs.refinement.Schedules.{entries_of, part_of}
 use Rattle.ms_tasks.specs.declared.burst.Halt.{Halt}
 use Rattle.ms_tasks.proofs.Coming.{answers_as, answers_on, not_ended}
 use Rattle.ms_tasks.proofs.Outs.{chain_stays_ready, has_entries, only_tasks, part_is, tasks_stay_ready, threads_stay}
@@ -60,7 +60,7 @@ returns-then-all_ended-clause-run g c =
     let chain' = threads_in s' r.new.chain in
     let c1 = begun_with s' chain' ts in
     let well = subst IsWell (sym c.in-Ended.is) tt in
-    let first = subst (λ (h : Halt). Answers h run (run_entries rest (begun_with s' [] ts)) (ends OutOfBudget c1) c1 (left c.args.input.now) (left r.new.input) (held c.args.out.now) (held r.new.out) c.args.log.now r.new.log) c.in-Ended.is
+    let first = subst (λ (h : Halt). HaltsBy h run (run_entries rest (begun_with s' [] ts)) (ends OutOfBudget c1) c1 (left c.args.input.now) (left r.new.input) (held c.args.out.now) (held r.new.out) c.args.log.now r.new.log) c.in-Ended.is
     (e.run ks ts (c.most-most.ensures.entries (length tasks))) in
     let here = subst (λ (l : List Thread). ComesTo (left c.args.input.now) (left r.new.input) (held c.args.out.now) (held r.new.out) c.args.log.now r.new.log run (run_entries rest (begun_with s' [] l))) (threads_stay s s' tasks (e.outline well)) first in
     subst (λ (l : List Thread). ComesTo (left c.args.input.now) (left r.new.input) (held c.args.out.now) (held r.new.out) c.args.log.now r.new.log run (ends (Results (results (threads_in s' tasks))) (record { store = s'; chain = l; tasks = threads_in s' tasks }))) (sym (e.ended c.in-Ended.is))
@@ -119,7 +119,7 @@ returns g c =
     let well = subst IsWell (sym c.in-Ended.is) tt in
     let within = e.left in
     let many = c.most-most.ensures.entries n in
-    let first = subst (λ (h : Halt). Answers h run (run_entries rest (begun_with s' [] ts)) (ends OutOfBudget c1) c1 (left c.args.input.now) (left r.new.input) (held c.args.out.now) (held r.new.out) c.args.log.now r.new.log) c.in-Ended.is
+    let first = subst (λ (h : Halt). HaltsBy h run (run_entries rest (begun_with s' [] ts)) (ends OutOfBudget c1) c1 (left c.args.input.now) (left r.new.input) (held c.args.out.now) (held r.new.out) c.args.log.now r.new.log) c.in-Ended.is
     (e.run ks ts many) in
     let here = subst (λ (l : List Thread). ComesTo (left c.args.input.now) (left r.new.input) (held c.args.out.now) (held r.new.out) c.args.log.now r.new.log run (run_entries rest (begun_with s' [] l))) (threads_stay s s' tasks (e.outline well)) first in
     let part = part_is schedule n c.args.budget from r.result.1 (omega (arith, within, many)) in

@@ -1,11 +1,11 @@
 use Rattle.std.proofs.Common.{rules, ◌≡◌, ◌+◌, ◌-◌, ◌≤◌, [], Option, refl, ap, subst, sym, ◌∙◌, arith}
 use Rattle.ms_event.specs.declared.event.Event.{Event}
 use Rattle.ms_machine.specs.Running.{with_event}
-use Rattle.ms_tasks.specs.Logs.{all_seen}
+use Rattle.ms_tasks.specs.refinement.Logs.{all_seen}
 use Rattle.ms_machine.proofs.Outsides.{none_taken}
-use Rattle.ms_task.specs.View.{thread_of}
+use Rattle.ms_task.specs.refinement.View.{thread_of}
 use Rattle.ms_machine.specs.Crews.{run_entries}
-use Rattle.ms_machine.specs.StraightLine.{IsCalm, IsHalted}
+use Rattle.ms_machine.specs.refinement.StraightLine.{IsCalm, IsHalted}
 use Rattle.ms_machine.specs.declared.straight.Stretch.{Stretch}
 use Rattle.ms_tasks.proofs.Deeds.{within_after}
 use Rattle.ms_segment.specs.Memory.{Memory}

@@ -2,13 +2,13 @@ use Rattle.std.proofs.Common.{◌≡◌, ◌≢◌, ◌+◌, ◌-◌, ◌≤◌,
 use Rattle.ms_handle.specs.declared.handle.Handle.{Handle}
 use Rattle.ms_segment.specs.Memory.{IsFit}
 use Rattle.ms_machine.specs.Crews.{Crew, Whose}
-use Rattle.ms_machine.specs.Holding.{StoreFits, ThreadFits}
+use Rattle.ms_machine.specs.refinement.Holding.{StoreFits, ThreadFits}
 use Rattle.ms_machine.specs.Store.{Store}
 use Rattle.ms_machine.specs.Typing.{TaskTyped, outline_of}
 use Rattle.ms_task.specs.Thread.{Thread}
-use Rattle.ms_task.specs.View.{thread_of}
-use Rattle.ms_tasks.specs.Logs.{IsWithin}
-use Rattle.ms_tasks.specs.Parts.{IsRow}
+use Rattle.ms_task.specs.refinement.View.{thread_of}
+use Rattle.ms_tasks.specs.refinement.Logs.{CountsUpTo}
+use Rattle.ms_tasks.specs.refinement.Parts.{IsRow}
 use Rattle.ms_tasks.proofs.Stepping.{IsUnderWay}
 use Rattle.ms_tasks.proofs.burst.burst.Given as goal
 
@@ -24,7 +24,7 @@ invariant-loop-left g l = record {
   made : l.store.segments.made + l.left ≤ l.fn.store.segments.made + l.most;
   left : l.left ≤ l.most;
   entries : l.log.entries ≡ l.fn.log.entries;
-  within : IsWithin (l.fn.log.entries + (l.most - l.left)) l.log.trace;
+  within : CountsUpTo (l.fn.log.entries + (l.most - l.left)) l.log.trace;
   input : g.I.Source.faults l.input ≡ g.I.Source.faults l.fn.input;
   out : g.O.Sink.faults l.out ≡ g.O.Sink.faults l.fn.out;
 }

@@ -2,8 +2,8 @@ use Rattle.std.proofs.Common.{◌≡◌, ◌≤◌, ◌+◌, ◌++◌, drop, len
 use Rattle.std.proofs.lemmas.List.{length-drop}
 use Rattle.std.proofs.lemmas.Option.{slice_get-get_or}
 use Rattle.ms_machine.specs.Crews.{OutOfBudget, Results, ends, results, run_entries}
-use Rattle.ms_tasks.specs.Parts.{Answers, ComesTo, CountsInput, CountsOut, IsWell}
-use Rattle.ms_tasks.specs.Rows.{crew_in, threads_in}
+use Rattle.ms_tasks.specs.refinement.Parts.{HaltsBy, ComesTo, CountsInput, CountsOut, IsWell}
+use Rattle.ms_tasks.specs.refinement.Rows.{crew_in, threads_in}
 use Rattle.ms_tasks.specs.declared.burst.Halt.{Halt}
 use Rattle.ms_tasks.proofs.Chaining.{drop_end}
 use Rattle.ms_tasks.proofs.Coming.{answers_on, not_paused, to_same, to_trans}
@@ -87,7 +87,7 @@ loop-at-preserved g c =
     let d = length-drop (l.at + 1) xs in
     record {
       runs = to_trans (left c.args.input.now) (left l.input) (left r.new.input) (held c.args.out.now) (held l.out) (held r.new.out) c.args.log.now l.log r.new.log all mid (run_entries rest after) first
-          (subst (λ (h : Halt). Answers h mid ended (run_entries rest after) after (left l.input) (left r.new.input) (held l.out) (held r.new.out) l.log r.new.log) c.in-Paused.is (e.run rest));
+          (subst (λ (h : Halt). HaltsBy h mid ended (run_entries rest after) after (left l.input) (left r.new.input) (held l.out) (held r.new.out) l.log r.new.log) c.in-Paused.is (e.run rest));
       at = omega (arith, within, d, some);
       ready = e.ready well;
       outline = e.outline well ∙ v.outline;

@@ -3,10 +3,10 @@ use Rattle.ms_handle.specs.declared.handle.Handle.{Handle}
 use Rattle.ms_segment.specs.Memory.{IsFit}
 use Rattle.ms_machine.specs.Crews.{are_ended, run_entries}
 use Rattle.ms_machine.specs.Typing.{outline_of}
-use Rattle.ms_tasks.specs.Logs.{IsWithin}
-use Rattle.ms_tasks.specs.Parts.{ComesTo}
-use Rattle.ms_tasks.specs.Ready.{IsReady}
-use Rattle.ms_tasks.specs.Rows.{crew_in, threads_in}
+use Rattle.ms_tasks.specs.refinement.Logs.{CountsUpTo}
+use Rattle.ms_tasks.specs.refinement.Parts.{ComesTo}
+use Rattle.ms_tasks.specs.refinement.Ready.{IsReady}
+use Rattle.ms_tasks.specs.refinement.Rows.{crew_in, threads_in}
 use Rattle.ms_tasks.proofs.by_list.run_listed.Given as goal
 
 abbrev pub invariant-loop-at : goal.invariant-loop-at
@@ -19,7 +19,7 @@ invariant-loop-at g l = record {
   going : are_ended (threads_in l.store l.tasks) ≡ false;
   made : l.store.segments.made + (length l.entries - l.at) ≤ l.fn.store.segments.made + length l.entries;
   log : l.log.entries + (length l.entries - l.at) ≡ l.fn.log.entries + length l.entries;
-  within : IsWithin l.log.entries l.log.trace;
+  within : CountsUpTo l.log.entries l.log.trace;
   input : g.I.Source.faults l.input ≡ g.I.Source.faults l.fn.input;
   out : g.O.Sink.faults l.out ≡ g.O.Sink.faults l.fn.out;
 }

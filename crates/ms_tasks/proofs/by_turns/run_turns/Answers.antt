@@ -1,7 +1,7 @@
 use Rattle.std.proofs.Common.{◌≡◌, ◌/◌, ◌%◌, ◌+◌, ◌-◌, ◌++◌, length, replicate, refl, sym, ap, subst, ◌∙◌, arith}
 use Rattle.ms_machine.specs.Crews.{OutOfBudget, Results, ends, results, run_entries, turns_from}
-use Rattle.ms_tasks.specs.Parts.{Answers, ComesTo, CountsInput, CountsOut, IsWell}
-use Rattle.ms_tasks.specs.Rows.{IsInTurn, crew_in, threads_in}
+use Rattle.ms_tasks.specs.refinement.Parts.{HaltsBy, ComesTo, CountsInput, CountsOut, IsWell}
+use Rattle.ms_tasks.specs.refinement.Rows.{IsInTurn, crew_in, threads_in}
 use Rattle.ms_tasks.specs.declared.burst.Halt.{Halt}
 use Rattle.ms_tasks.proofs.Coming.{answers_on, not_paused, to_same, to_trans}
 use Rattle.ms_tasks.proofs.Rowing.{none_comes}
@@ -97,7 +97,7 @@ loop-left-preserved g c =
           let rest = turns_from c.args.q n (i + row) left' in
           let mid = run_entries (replicate row l.k ++ rest) before in
           let first = subst (λ ks. ComesTo (left c.args.input.now) (left l.input) (held c.args.out.now) (held l.out) c.args.log.now l.log all (run_entries ks before)) (row_first c.args.q n i l.k l.room row l.left under within (v.place c.loop-left-test.true)) v.runs in
-          let turned = subst (λ (h : Halt). Answers h mid (ends (Results (results (threads_in r.new.store r.new.tasks))) after) (run_entries rest after) after (left l.input) (left r.new.input) (held l.out) (held r.new.out) l.log r.new.log) c.in-Paused.is (e.run rest) in
+          let turned = subst (λ (h : Halt). HaltsBy h mid (ends (Results (results (threads_in r.new.store r.new.tasks))) after) (run_entries rest after) after (left l.input) (left r.new.input) (held l.out) (held r.new.out) l.log r.new.log) c.in-Paused.is (e.run rest) in
           subst (λ x. ComesTo (left c.args.input.now) (left r.new.input) (held c.args.out.now) (held r.new.out) c.args.log.now r.new.log all (run_entries (turns_from c.args.q n x left') after)) there
           (to_trans (left c.args.input.now) (left l.input) (left r.new.input) (held c.args.out.now) (held l.out) (held r.new.out) c.args.log.now l.log r.new.log all mid (run_entries rest after) first turned);
       place = λ more.

@@ -3,10 +3,10 @@ use Rattle.ms_handle.specs.declared.handle.Handle.{Handle}
 use Rattle.ms_segment.specs.Memory.{IsFit}
 use Rattle.ms_machine.specs.Crews.{are_ended, run_entries, turns_from}
 use Rattle.ms_machine.specs.Typing.{outline_of}
-use Rattle.ms_tasks.specs.Logs.{IsWithin}
-use Rattle.ms_tasks.specs.Parts.{ComesTo}
-use Rattle.ms_tasks.specs.Ready.{IsReady}
-use Rattle.ms_tasks.specs.Rows.{IsInTurn, crew_in, threads_in}
+use Rattle.ms_tasks.specs.refinement.Logs.{CountsUpTo}
+use Rattle.ms_tasks.specs.refinement.Parts.{ComesTo}
+use Rattle.ms_tasks.specs.refinement.Ready.{IsReady}
+use Rattle.ms_tasks.specs.refinement.Rows.{IsInTurn, crew_in, threads_in}
 use Rattle.ms_tasks.proofs.by_turns.run_turns.Given as goal
 
 abbrev pub invariant-loop-left : goal.invariant-loop-left
@@ -21,7 +21,7 @@ invariant-loop-left g l = record {
   going : are_ended (threads_in l.store l.tasks) ≡ false;
   made : l.store.segments.made + l.left ≤ l.fn.store.segments.made + l.most;
   entries : l.log.entries + l.left ≡ l.fn.log.entries + l.most;
-  within : IsWithin l.log.entries l.log.trace;
+  within : CountsUpTo l.log.entries l.log.trace;
   input : g.I.Source.faults l.input ≡ g.I.Source.faults l.fn.input;
   out : g.O.Sink.faults l.out ≡ g.O.Sink.faults l.fn.out;
 }

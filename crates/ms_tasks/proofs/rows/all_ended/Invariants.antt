@@ -1,6 +1,6 @@
 use Rattle.std.proofs.Common.{◌≡◌, drop}
 use Rattle.ms_machine.specs.Crews.{are_ended}
-use Rattle.ms_tasks.specs.Rows.{threads_in}
+use Rattle.ms_tasks.specs.refinement.Rows.{threads_in}
 use Rattle.ms_tasks.proofs.rows.all_ended.Given as goal
 
 abbrev pub invariant-loop-task : goal.invariant-loop-task

@@ -2,12 +2,12 @@ use Rattle.std.proofs.Common.{◌++◌, get_or, replicate, slice_set, ap, subst,
 use Rattle.std.proofs.lemmas.List.{length-map}
 use Rattle.std.proofs.lemmas.Option.{slice_get-get_or}
 use Rattle.ms_machine.specs.Crews.{Task}
-use Rattle.ms_machine.specs.Holding.{ThreadFits}
+use Rattle.ms_machine.specs.refinement.Holding.{ThreadFits}
 use Rattle.ms_machine.specs.Typing.{Outline, TaskTyped, outline_of}
-use Rattle.ms_task.specs.View.{thread_of}
-use Rattle.ms_tasks.specs.Parts.{IsWell}
-use Rattle.ms_tasks.specs.Ready.{IsReady}
-use Rattle.ms_tasks.specs.Rows.{threads_in}
+use Rattle.ms_task.specs.refinement.View.{thread_of}
+use Rattle.ms_tasks.specs.refinement.Parts.{IsWell}
+use Rattle.ms_tasks.specs.refinement.Ready.{IsReady}
+use Rattle.ms_tasks.specs.refinement.Rows.{threads_in}
 use Rattle.ms_tasks.proofs.Entries.{get_set, task_row, with_only}
 use Rattle.ms_tasks.proofs.Keeping.{all_get}
 use Rattle.ms_tasks.proofs.Rowing.{idle_ended, map_get, row_answers, still_going, turn_end, turn_ready}

@@ -1,7 +1,7 @@
 use Rattle.std.proofs.Common.{◌++◌, replicate, subst, sym, ◌∙◌}
 use Rattle.ms_machine.specs.Crews.{Results, ends, results, run_entries}
-use Rattle.ms_tasks.specs.Parts.{Answers}
-use Rattle.ms_tasks.specs.Rows.{crew_in, threads_in}
+use Rattle.ms_tasks.specs.refinement.Parts.{HaltsBy}
+use Rattle.ms_tasks.specs.refinement.Rows.{crew_in, threads_in}
 use Rattle.ms_tasks.specs.declared.burst.Halt.{Halt}
 use Rattle.ms_tasks.proofs.Coming.{not_ended, to_trans}
 use Rattle.ms_tasks.proofs.Rowing.{idle_comes, over_comes}
@@ -40,7 +40,7 @@ returns-then-all_ended-clause-run g c = λ rest.
     let run = run_entries (replicate c.args.most c.args.k ++ rest) (crew_in c.args.store.now c.args.tasks.now) in
     let after = crew_in r.new.store r.new.tasks in
     over_comes r.new.store r.new.tasks (replicate r.result.1 c.args.k ++ rest) (left c.args.input.now) (left r.new.input) (held c.args.out.now) (held r.new.out) c.args.log.now r.new.log run (sym c.all_ended.ensures ∙ c.if-all_ended.true)
-    (subst (λ (h : Halt). Answers h run (run_entries (replicate r.result.1 c.args.k ++ rest) after) (run_entries rest after) after (left c.args.input.now) (left r.new.input) (held c.args.out.now) (held r.new.out) c.args.log.now r.new.log) c.in-Ended.is (r.ensures.run rest))
+    (subst (λ (h : Halt). HaltsBy h run (run_entries (replicate r.result.1 c.args.k ++ rest) after) (run_entries rest after) after (left c.args.input.now) (left r.new.input) (held c.args.out.now) (held r.new.out) c.args.log.now r.new.log) c.in-Ended.is (r.ensures.run rest))
 
 pub returns-clause-run : goal.returns-clause-run
 returns-clause-run g c = λ rest.
@@ -50,6 +50,6 @@ returns-clause-run g c = λ rest.
     let run = run_entries (replicate c.args.most c.args.k ++ rest) (crew_in c.args.store.now c.args.tasks.now) in
     let after = crew_in r.new.store r.new.tasks in
     let mid = run_entries (replicate r.result.1 c.args.k ++ rest) after in
-    let first = subst (λ (h : Halt). Answers h run mid (run_entries rest after) after (left c.args.input.now) (left r.new.input) (held c.args.out.now) (held r.new.out) c.args.log.now r.new.log) c.in-Ended.is (r.ensures.run rest) in
+    let first = subst (λ (h : Halt). HaltsBy h run mid (run_entries rest after) after (left c.args.input.now) (left r.new.input) (held c.args.out.now) (held r.new.out) c.args.log.now r.new.log) c.in-Ended.is (r.ensures.run rest) in
     to_trans (left c.args.input.now) (left r.new.input) (left r.new.input) (held c.args.out.now) (held r.new.out) (held r.new.out) c.args.log.now r.new.log c.count-2.new.self run mid (run_entries rest after) first
     (idle_comes r.new.store r.new.tasks c.args.k r.result.1 rest (left r.new.input) (held r.new.out) r.new.log c.count-2.new.self (r.ensures.ended c.in-Ended.is) (sym c.all_ended.ensures ∙ c.if-all_ended.false) c.count-2.ensures)

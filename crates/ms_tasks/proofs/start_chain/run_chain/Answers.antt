@@ -2,13 +2,13 @@ use Rattle.std.proofs.Common.{◌≡◌, ◌<◌, ◌≤◌, ◌+◌, ◌-◌, s
 use Rattle.std.proofs.lemmas.List.{length-map, length-set}
 use Rattle.std.proofs.lemmas.Option.{slice_get-get_or}
 use Rattle.ms_machine.specs.Crews.{Crew, Start, ahead, run_entries, with_start}
-use Rattle.ms_machine.specs.Holding.{ThreadFits}
+use Rattle.ms_machine.specs.refinement.Holding.{ThreadFits}
 use Rattle.ms_machine.specs.Typing.{Outline, TaskTyped, outline_of}
 use Rattle.ms_task.specs.Thread.{Thread}
-use Rattle.ms_task.specs.View.{thread_of}
-use Rattle.ms_tasks.specs.Parts.{Answers, ComesTo, CountsInput, CountsOut, IsWell}
-use Rattle.ms_tasks.specs.Ready.{IsReady}
-use Rattle.ms_tasks.specs.Rows.{begun_with, threads_in}
+use Rattle.ms_task.specs.refinement.View.{thread_of}
+use Rattle.ms_tasks.specs.refinement.Parts.{HaltsBy, ComesTo, CountsInput, CountsOut, IsWell}
+use Rattle.ms_tasks.specs.refinement.Ready.{IsReady}
+use Rattle.ms_tasks.specs.refinement.Rows.{begun_with, threads_in}
 use Rattle.ms_tasks.specs.declared.burst.Halt.{Halt}
 use Rattle.ms_tasks.proofs.Chaining.{IsOver, ahead_over, chain_after, chain_ends, chain_ready, chain_stops, drop_at, drop_end, drop_set, left_entries, over_more, over_set}
 use Rattle.ms_tasks.proofs.Coming.{to_same}
@@ -88,7 +88,7 @@ loop-i-preserved g c =
           let k : Crew = record { store = s; chain = []; tasks = tasks } in
           let ks = drop (c.args.most - l.left) entries in
           let room : l.left ≤ length ks = let n = left_entries entries c.args.most l.left all v.left in omega (arith, n) in
-          let burst = subst (λ (h : Halt). Answers h (run_entries ks (begun_with s (t ∷ drop (suc i) ts) tasks)) (run_entries (drop (l.left - b.result.1) ks) (begun_with s' (t' ∷ drop (suc i) ts) tasks)) (run_entries (drop l.left ks) (begun_with s' (t' ∷ drop (suc i) ts) tasks)) (begun_with s' (t' ∷ drop (suc i) ts) tasks) (left l.input) (left b.new.input) (held l.out) (held b.new.out) l.log b.new.log) c.in-Ended.is
+          let burst = subst (λ (h : Halt). HaltsBy h (run_entries ks (begun_with s (t ∷ drop (suc i) ts) tasks)) (run_entries (drop (l.left - b.result.1) ks) (begun_with s' (t' ∷ drop (suc i) ts) tasks)) (run_entries (drop l.left ks) (begun_with s' (t' ∷ drop (suc i) ts) tasks)) (begun_with s' (t' ∷ drop (suc i) ts) tasks) (left l.input) (left b.new.input) (held l.out) (held b.new.out) l.log b.new.log) c.in-Ended.is
           (e.run Start (with_start k (drop (suc i) ts)) ks (start_row k (drop (suc i) ts) l.left ks room)) in
           chain_ends (left c.args.input.now) (left l.input) (left b.new.input) (held c.args.out.now) (held l.out) (held b.new.out) c.args.log.now l.log b.new.log whole entries c.args.most l.left b.result.1 s s' t t' (drop i ts) (drop (suc i) ts) (drop (i + 1) (threads_in s' (slice_set l.chain i task'))) tasks
           v.left e.left (drop_at ts i t found) (e.ended c.in-Ended.is) more (v.runs entries tasks all) burst;

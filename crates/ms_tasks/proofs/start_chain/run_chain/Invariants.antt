@@ -4,10 +4,10 @@ use Rattle.ms_segment.specs.Memory.{IsFit}
 use Rattle.ms_machine.specs.Crews.{run_entries}
 use Rattle.ms_machine.specs.Typing.{outline_of}
 use Rattle.ms_task.specs.Thread.{Thread}
-use Rattle.ms_tasks.specs.Logs.{IsWithin}
-use Rattle.ms_tasks.specs.Parts.{ComesTo}
-use Rattle.ms_tasks.specs.Ready.{IsReady}
-use Rattle.ms_tasks.specs.Rows.{begun_with, chain_in, threads_in}
+use Rattle.ms_tasks.specs.refinement.Logs.{CountsUpTo}
+use Rattle.ms_tasks.specs.refinement.Parts.{ComesTo}
+use Rattle.ms_tasks.specs.refinement.Ready.{IsReady}
+use Rattle.ms_tasks.specs.refinement.Rows.{begun_with, chain_in, threads_in}
 use Rattle.ms_tasks.proofs.Chaining.{IsOver}
 use Rattle.ms_tasks.proofs.start_chain.run_chain.Given as goal
 
@@ -22,7 +22,7 @@ invariant-loop-i g l = record {
   others : (h : Handle) → IsFit l.fn.store.segments h → IsFit l.store.segments h;
   made : l.store.segments.made + l.left ≤ l.fn.store.segments.made + l.most;
   entries : l.log.entries + l.left ≡ l.fn.log.entries + l.most;
-  within : IsWithin l.log.entries l.log.trace;
+  within : CountsUpTo l.log.entries l.log.trace;
   input : g.I.Source.faults l.input ≡ g.I.Source.faults l.fn.input;
   out : g.O.Sink.faults l.out ≡ g.O.Sink.faults l.fn.out;
 }

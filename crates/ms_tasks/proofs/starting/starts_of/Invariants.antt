@@ -1,7 +1,7 @@
 use Rattle.std.proofs.Common.{◌≡◌, ◌++◌, drop, map}
 use Rattle.ms_machine.specs.Linked.{start_chain}
 use Rattle.ms_machine.specs.Running.{func_thread}
-use Rattle.ms_tasks.specs.Rows.{threads_in}
+use Rattle.ms_tasks.specs.refinement.Rows.{threads_in}
 use Rattle.ms_tasks.proofs.starting.starts_of.Given as goal
 
 abbrev pub invariant-loop-instance : goal.invariant-loop-instance

@@ -2,8 +2,8 @@ use Rattle.std.proofs.Common.{◌≡◌, ◌+◌, ◌∷◌, ◌++◌, [], List,
 use Rattle.std.proofs.lemmas.List.{map_push}
 use Rattle.std.proofs.lemmas.Option.{slice_get-get_or}
 use Rattle.ms_task.specs.Thread.{Thread}
-use Rattle.ms_task.specs.View.{thread_of}
-use Rattle.ms_tasks.specs.Rows.{threads_in}
+use Rattle.ms_task.specs.refinement.View.{thread_of}
+use Rattle.ms_tasks.specs.refinement.Rows.{threads_in}
 use Rattle.ms_tasks.specs.Tasks.{task_address, threads_from}
 use Rattle.ms_tasks.proofs.Making.{begun_thread, joined, task_found, tasks_grow}
 use Rattle.ms_tasks.proofs.starting.tasks_of.Goals as goal

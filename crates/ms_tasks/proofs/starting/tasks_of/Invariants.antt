@@ -1,5 +1,5 @@
 use Rattle.std.proofs.Common.{◌≡◌, drop}
-use Rattle.ms_tasks.specs.Rows.{threads_in}
+use Rattle.ms_tasks.specs.refinement.Rows.{threads_in}
 use Rattle.ms_tasks.specs.Tasks.{threads_from}
 use Rattle.ms_tasks.proofs.Making.{joined}
 use Rattle.ms_tasks.proofs.starting.tasks_of.Given as goal

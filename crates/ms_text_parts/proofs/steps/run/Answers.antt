@@ -1,6 +1,6 @@
 use Rattle.std.proofs.Common.{◌≡◌, ◌∙◌}
 use Rattle.std.proofs.lemmas.Result.{err_from_is_err_and}
-use Rattle.ms_text_parts.specs.Readers.{FailsBy, fault_of}
+use Rattle.ms_text_parts.specs.refinement.Readers.{FailsBy, fault_of}
 use Rattle.ms_text_parts.proofs.StepLoop.{ends, fails, on, over}
 use Rattle.ms_text_parts.proofs.steps.run.Goals as goal
 

@@ -1,5 +1,5 @@
 use Rattle.std.proofs.Common.{◌≡◌, ◌∙◌, sym, None, length, arith}
-use Rattle.ms_text_parts.specs.Readers.{FailsBy, fault_of}
+use Rattle.ms_text_parts.specs.refinement.Readers.{FailsBy, fault_of}
 use Rattle.ms_text_grammar.specs.Fields.{file}
 use Rattle.ms_text_grammar.specs.Bounds.{usual}
 use Rattle.ms_text_grammar.specs.Scans.{mismatch, too_deep}

@@ -1,5 +1,5 @@
 use Rattle.std.proofs.Common.{◌≡◌, ◌∙◌, sym, ap, None, is_some, false}
-use Rattle.ms_text_read.specs.Names.{look}
+use Rattle.ms_text_read.specs.refinement.Names.{look}
 use Rattle.ms_text_read.proofs.Named.{is_none, noted}
 use Rattle.ms_text_read.proofs.names.note.Goals as goal
 

@@ -1,5 +1,6 @@
 use Rattle.std.proofs.Common.{◌≡◌, ◌++◌, drop}
-use Rattle.ms_text_grammar.specs.Elaborating.{each, use_index}
+use Rattle.ms_text_grammar.specs.Identifiers.{each}
+use Rattle.ms_text_grammar.specs.TypeUses.{use_index}
 use Rattle.ms_text_resolve.proofs.body.use_indices.Given as goal
 
 abbrev pub invariant-loop-sig : goal.invariant-loop-sig

@@ -1,5 +1,5 @@
 use Rattle.std.proofs.Common.{◌≡◌, ◌++◌, drop}
-use Rattle.ms_text_grammar.specs.Elaborating.{inline_exports}
+use Rattle.ms_text_grammar.specs.ResolvedParts.{inline_exports}
 use Rattle.ms_text_resolve.proofs.exports.add_inline.Given as goal
 
 abbrev pub invariant-loop-name : goal.invariant-loop-name

@@ -1,5 +1,5 @@
 use Rattle.std.proofs.Common.{◌≡◌, ◌++◌, drop}
-use Rattle.ms_text_grammar.specs.Elaborating.{starts_in}
+use Rattle.ms_text_grammar.specs.ResolvedParts.{starts_in}
 use Rattle.ms_text_resolve.proofs.exports.start_of.Given as goal
 
 abbrev pub invariant-loop-field : goal.invariant-loop-field

@@ -1,5 +1,6 @@
 use Rattle.std.proofs.Common.{◌≡◌, ◌++◌, drop}
-use Rattle.ms_text_grammar.specs.Elaborating.{defined, entries_in, of_kind, sizes_of}
+use Rattle.ms_text_grammar.specs.FieldKinds.{entries_in, of_kind}
+use Rattle.ms_text_grammar.specs.ResolvedParts.{defined, sizes_of}
 use Rattle.ms_text_resolve.proofs.imports.sizes_of.Given as goal
 
 abbrev pub invariant-loop-field : goal.invariant-loop-field

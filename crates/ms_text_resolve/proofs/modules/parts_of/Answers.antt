@@ -1,7 +1,8 @@
 use Rattle.std.proofs.Common.{ℕ, List, ap, ◌∙◌}
 use Rattle.ms_text_grammar.specs.declared.surface.ExternKind.TheVariants as kind
-use Rattle.ms_text_grammar.specs.Elaborating.{defined, entries_in, of_kind, sizes_of}
-use Rattle.ms_text_resolve.specs.Assembled.{parts_of}
+use Rattle.ms_text_grammar.specs.FieldKinds.{entries_in, of_kind}
+use Rattle.ms_text_grammar.specs.ResolvedParts.{defined, sizes_of}
+use Rattle.ms_text_resolve.specs.refinement.Assembled.{parts_of}
 use Rattle.ms_text_resolve.proofs.Parts.{parts_made}
 use Rattle.ms_text_resolve.proofs.modules.parts_of.Goals as goal
 

@@ -1,5 +1,5 @@
 use Rattle.std.proofs.Common.{◌≡◌, ◌++◌, drop}
-use Rattle.ms_text_grammar.specs.Elaborating.{text_values}
+use Rattle.ms_text_grammar.specs.ResolvedParts.{text_values}
 use Rattle.ms_text_resolve.proofs.texts.text_values.Given as goal
 
 abbrev pub invariant-loop-string : goal.invariant-loop-string

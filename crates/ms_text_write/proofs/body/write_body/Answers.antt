@@ -1,7 +1,7 @@
 use Rattle.std.proofs.Common.{refl, sym, subst, List}
 use Rattle.ms_flat.specs.Flat.{Item}
 use Rattle.ms_text_write.specs.Instrs.{AllPlain}
-use Rattle.ms_text_write.specs.Ranges.{AllFit, ItemFits}
+use Rattle.ms_flat.specs.refinement.Ranges.{AllFit, ItemFits}
 use Rattle.ms_text_write.proofs.Plain.{flat_plain}
 use Rattle.ms_text_write.proofs.body.write_body.Goals as goal
 

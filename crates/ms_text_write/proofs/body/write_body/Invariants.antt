@@ -2,7 +2,7 @@ use Rattle.std.proofs.Common.{◌≡◌, ◌++◌, length}
 use Rattle.ms_flat.specs.Flat.{flat}
 use Rattle.ms_text_write.specs.Parts.{behind}
 use Rattle.ms_text_write.specs.Instrs.{AllPlain, item_text}
-use Rattle.ms_text_write.specs.Ranges.{AllFit, ItemFits}
+use Rattle.ms_flat.specs.refinement.Ranges.{AllFit, ItemFits}
 use Rattle.ms_text_write.proofs.body.write_body.Given as goal
 
 -- what is written and what is left are all of it

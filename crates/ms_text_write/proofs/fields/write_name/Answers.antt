@@ -2,7 +2,8 @@ use Rattle.std.specs.Prelude.{◌≡◌, List, ℕ, true, OnOk, Result, Ok, Err}
 use Rattle.std.specs.Str.{is_utf8}
 use Rattle.std.proofs.Common.{subst}
 use Rattle.std.proofs.lemmas.Str.{is_utf8-from_IsUtf8}
-use Rattle.ms_text_write.specs.Ranges.{AllFit, ByteFits, NameFits}
+use Rattle.ms_flat.specs.refinement.Ranges.{AllFit}
+use Rattle.ms_text_write.specs.refinement.Ranges.{ByteFits, NameFits}
 use Rattle.ms_text_write.proofs.fields.write_name.Goals as goal
 
 on_ok_too : {A E : Type 0} (r : Result A E) (P Q : Type 0) → OnOk r P → (P → Q) → OnOk r Q

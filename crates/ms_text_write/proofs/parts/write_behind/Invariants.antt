@@ -1,6 +1,6 @@
 use Rattle.std.proofs.Common.{◌≡◌, ◌++◌, drop}
 use Rattle.ms_text_write.specs.Parts.{behind}
-use Rattle.ms_text_write.specs.Ranges.{AllFit}
+use Rattle.ms_flat.specs.refinement.Ranges.{AllFit}
 use Rattle.ms_text_write.proofs.parts.write_behind.Given as goal
 
 -- what is written and what is left are all of it

@@ -1,7 +1,8 @@
 use Rattle.std.proofs.Common.{◌≡◌, ◌++◌, drop}
 use Rattle.std.specs.List.{flat_map}
 use Rattle.ms_text_write.specs.Parts.{byte_text}
-use Rattle.ms_text_write.specs.Ranges.{AllFit, ByteFits}
+use Rattle.ms_flat.specs.refinement.Ranges.{AllFit}
+use Rattle.ms_text_write.specs.refinement.Ranges.{ByteFits}
 use Rattle.ms_text_write.proofs.parts.write_string.Given as goal
 
 -- what is written and what is left are all of it

@@ -2,7 +2,7 @@ use Rattle.std.proofs.Common.{◌≡◌, ◌++◌, drop}
 use Rattle.ms_text_write.specs.Types.{memory_text}
 use Rattle.ms_text_write.specs.Shown.{lead}
 use Rattle.ms_text_write.specs.Parts.{behind}
-use Rattle.ms_text_write.specs.Ranges.{AllFit, LimitsFit}
+use Rattle.ms_flat.specs.refinement.Ranges.{AllFit, LimitsFit}
 use Rattle.ms_text_write.proofs.writer.write_memories.Given as goal
 
 -- what is written and what is left are all of it

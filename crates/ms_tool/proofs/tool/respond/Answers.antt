@@ -1,9 +1,9 @@
 use Rattle.std.proofs.Common.{◌∙◌, ap, refl, subst}
 use Rattle.std.specs.Prelude.{Err, Some, map}
 use Rattle.ms_machine.proofs.Outsides.{some_input}
-use Rattle.ms_words.specs.Asked.{Answers, IsInRange, view}
-use Rattle.ms_words.specs.declared.request.Request.{Request}
-use Rattle.ms_words.specs.declared.request.WordsFault.{WordsFault}
+use Rattle.ms_command_line.specs.Asked.{IsRequest, IsInRange, view}
+use Rattle.ms_command_line.specs.declared.request.Request.{Request}
+use Rattle.ms_command_line.specs.declared.request.WordsFault.{WordsFault}
 use Rattle.ms_tool.proofs.Complete.{asm_responded, check_responded, dis_responded, exec_responded, judge_responded, nothing_responded, run_responded, usage_responded}
 use Rattle.ms_tool.proofs.tool.respond.Goals as goal
 
@@ -21,8 +21,8 @@ returns-in-Ok-Run g c =
     let it = c.in-Ok-Run in
     let words = map (λ w. w.now) c.args.words.now in
     let asked = it.ensures.answers ∙ ap (λ (r : Request). Some (view r)) it.field-0-is in
-    let e = c.run.ensures in
-    run_responded words _ _ _ e.0 e.1 it.job.now c.run.result asked e.2 e.3
+    let e = c.run_job.ensures in
+    run_responded words _ _ _ e.0 e.1 it.job.now c.run_job.result asked e.2 e.3
 
 pub returns-in-Ok-Check : goal.returns-in-Ok-Check
 returns-in-Ok-Check g c =
@@ -63,7 +63,7 @@ returns-in-Ok-Judge g c =
 pub returns-in-Err-Refused : goal.returns-in-Err-Refused
 returns-in-Err-Refused g c =
     let words = map (λ w. w.now) c.args.words.now in
-    let refused = subst (λ (e : WordsFault). Answers words (Err e)) c.in-Err-Refused.field-0-is c.in-Err-Refused.ensures.answers in
+    let refused = subst (λ (e : WordsFault). IsRequest words (Err e)) c.in-Err-Refused.field-0-is c.in-Err-Refused.ensures.answers in
     let input = some_input (g.I.Source.left c.args.input.now) in
     usage_responded words _ _ _ input.0 input.1 c.answer.result refused (λ n. refl) (refl, refl) (rw (c.as_bytes.ensures.value, c.usage.ensures) at c.answer.ensures) (refl, refl, refl, refl)
 

@@ -4,7 +4,7 @@
 use super::*;
 use ms_job::parse;
 use ms_live::{Gaps, ListGaps, TreeGaps};
-use ms_run::{Naming, run_job};
+use ms_run::{Naming, run_parsed};
 use ms_tagged::{ByteTags, Granules, Tagged};
 
 /// The instructions of a `main`, and what is wanted of a job that runs them and dumps the live segments: the status, and the report.
@@ -74,7 +74,7 @@ fn printed<G: Gaps, T: Tagged>(alloc: Global, code: &str) -> Result<(Status, Mem
         mut out,
         report: mut printed,
     } = world;
-    let given = run_job::<G, T, MemShelf, MemSource, MemSink, MemSink>(
+    let given = run_parsed::<G, T, MemShelf, MemSource, MemSink, MemSink>(
         alloc,
         Naming::Numbered,
         job,
@@ -94,7 +94,7 @@ fn expect_printed<G: Gaps, T: Tagged>(
 ) -> Result<(), Fail> {
     for (code, status, report) in rows {
         let (given, printed) = printed::<G, T>(alloc, code)?;
-        assert_eq!(rt; given, *status, "{code}");
+        assert!(rt; given == *status, "the status of {code}");
         assert_eq!(rt; printed.held(), report.as_bytes(), "the report of {code}");
     }
     Ok(())

@@ -1,7 +1,7 @@
 use Rattle.std.proofs.Common.{◌≡◌, ◌++◌, length}
 use Rattle.std.specs.List.{flat_map}
 use Rattle.ms_flat.specs.Flat.{flat}
-use Rattle.ms_bin_write.specs.Ranges.{AllFit, ItemFits}
+use Rattle.ms_flat.specs.refinement.Ranges.{AllFit, ItemFits}
 use Rattle.ms_bin_write.specs.Instrs.{item_bytes}
 use Rattle.ms_bin_write.proofs.body.CodeItem.write.Given as goal
 

@@ -2,7 +2,7 @@ use Rattle.std.specs.Prelude.{◌≡◌, List, ℕ, true}
 use Rattle.std.specs.Str.{is_utf8}
 use Rattle.std.proofs.Common.{subst}
 use Rattle.std.proofs.lemmas.Str.{is_utf8-from_IsUtf8}
-use Rattle.ms_bin_write.specs.Ranges.{NameFits}
+use Rattle.ms_bin_write.specs.refinement.Ranges.{NameFits}
 use Rattle.ms_bin_write.proofs.Counts.{on_ok}
 use Rattle.ms_bin_write.proofs.parts.NameItem.write.Goals as goal
 

@@ -5,7 +5,7 @@ use Rattle.ms_module.specs.declared.instr.Instr.{Instr}
 use Rattle.ms_module.specs.Numbered.{sequence_at}
 use Rattle.ms_flat.specs.declared.walk.Place.{Place}
 use Rattle.ms_flat.specs.Flat.{Else}
-use Rattle.ms_flat.specs.Places.{AllWithin, Within, left}
+use Rattle.ms_flat.specs.refinement.Places.{AllWithin, Within, left}
 use Rattle.ms_flat.proofs.Going.{block_within, left_block, left_else}
 use Rattle.ms_flat.proofs.walk.Walk.next.Goals as goal
 

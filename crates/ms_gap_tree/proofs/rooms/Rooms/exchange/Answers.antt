@@ -1,7 +1,7 @@
 use Rattle.std.proofs.Common.{◌≡◌, ◌<◌, List, Some, None, IsSome, true, ap, ◌∙◌, subst, sym, cond, nat_eq, ℕ, Option}
-use Rattle.ms_gap_tree.specs.Arena.{tree_of}
-use Rattle.ms_gap_tree.specs.Rooms.{Arena, room_at, size_of}
-use Rattle.ms_gap_tree.specs.Tree.{exchange, half, yields}
+use Rattle.ms_gap_tree.specs.refinement.Arena.{tree_of}
+use Rattle.ms_gap_tree.specs.refinement.Rooms.{Arena, room_at, size_of}
+use Rattle.ms_gap_tree.specs.refinement.Tree.{exchange, half, yields}
 use Rattle.ms_gap_tree.specs.declared.node.Item.{Item}
 use Rattle.ms_gap_tree.specs.declared.node.Link.{Link}
 use Rattle.ms_gap_tree.specs.declared.node.Node.{Node}

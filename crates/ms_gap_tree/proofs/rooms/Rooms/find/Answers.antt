@@ -1,7 +1,7 @@
 use Rattle.std.proofs.Common.{List, ap, ◌∙◌}
-use Rattle.ms_gap_tree.specs.Arena.{tree_of}
-use Rattle.ms_gap_tree.specs.Rooms.{Arena, room_at}
-use Rattle.ms_gap_tree.specs.Tree.{look}
+use Rattle.ms_gap_tree.specs.refinement.Arena.{tree_of}
+use Rattle.ms_gap_tree.specs.refinement.Rooms.{Arena, room_at}
+use Rattle.ms_gap_tree.specs.refinement.Tree.{look}
 use Rattle.ms_gap_tree.specs.declared.node.Node.{Node}
 use Rattle.ms_gap_tree.proofs.rooms.Rooms.find.Goals as goal
 

@@ -1,7 +1,7 @@
 use Rattle.std.proofs.Common.{◌<◌, ◌+◌, Some, arith, sym, ap, ◌∙◌, subst, cond, nat_eq, length, inl, inr}
 use Rattle.std.proofs.lemmas.Bool.{cases_lt}
-use Rattle.ms_gap_tree.specs.Rooms.{Arena, room_at, size_of}
-use Rattle.ms_gap_tree.specs.Tree.{half, has, IsApart, IsWithin}
+use Rattle.ms_gap_tree.specs.refinement.Rooms.{Arena, room_at, size_of}
+use Rattle.ms_gap_tree.specs.refinement.Tree.{half, has, IsApart, IsWithinArena}
 use Rattle.ms_gap_tree.specs.declared.rooms.Rooms.TheInside.{Inside}
 use Rattle.ms_gap_tree.proofs.Pool.{absent_before, few_before, held_put, room_put, size_put, spare_is}
 use Rattle.ms_gap_tree.proofs.rooms.Rooms.insert.Goals as goal
@@ -23,7 +23,7 @@ pub put-self-inside-requires-clause-within : goal.put-self-inside-requires-claus
 put-self-inside-requires-clause-within c =
     let a = arena c.self.inside in
     let spare = spare_is a c.self.inside.free.items c.spare-slot.new.nodes.items c.spare-slot.new.free.items c.spare-slot.result c.self.invariant.0 (few_before a c.args.self.now c.self.view_is c.requires.few) c.spare-slot.ensures.slot in
-    subst (IsWithin (length c.spare-slot.new.nodes.items)) (sym spare.same) spare.within
+    subst (IsWithinArena (length c.spare-slot.new.nodes.items)) (sym spare.same) spare.within
 
 pub put-self-inside-requires-clause-apart : goal.put-self-inside-requires-clause-apart
 put-self-inside-requires-clause-apart c =

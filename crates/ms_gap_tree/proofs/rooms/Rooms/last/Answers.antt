@@ -1,7 +1,7 @@
 use Rattle.std.proofs.Common.{List, sym, ap, ◌∙◌, subst}
-use Rattle.ms_gap_tree.specs.Arena.{tree_of}
-use Rattle.ms_gap_tree.specs.Rooms.{Arena, IsLast, room_at}
-use Rattle.ms_gap_tree.specs.Tree.{last}
+use Rattle.ms_gap_tree.specs.refinement.Arena.{tree_of}
+use Rattle.ms_gap_tree.specs.refinement.Rooms.{Arena, IsLast, room_at}
+use Rattle.ms_gap_tree.specs.refinement.Tree.{last}
 use Rattle.ms_gap_tree.specs.declared.node.Node.{Node}
 use Rattle.ms_gap_tree.proofs.LastLaw.{last_law}
 use Rattle.ms_gap_tree.proofs.rooms.Rooms.last.Goals as goal

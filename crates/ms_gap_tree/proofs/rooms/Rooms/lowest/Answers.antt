@@ -1,7 +1,7 @@
 use Rattle.std.proofs.Common.{◌+◌, ◌≤◌, ℕ, List, arith, sym, ap, ◌∙◌, subst}
-use Rattle.ms_gap_tree.specs.Arena.{tree_of}
-use Rattle.ms_gap_tree.specs.Rooms.{Arena, IsLowest, nodes_looked_at, room_at}
-use Rattle.ms_gap_tree.specs.Tree.{looked, lowest}
+use Rattle.ms_gap_tree.specs.refinement.Arena.{tree_of}
+use Rattle.ms_gap_tree.specs.refinement.Rooms.{Arena, IsLowest, nodes_looked_at, room_at}
+use Rattle.ms_gap_tree.specs.refinement.Tree.{looked, lowest}
 use Rattle.ms_gap_tree.specs.declared.node.Node.{Node}
 use Rattle.ms_gap_tree.proofs.LowestLaw.{lowest_law}
 use Rattle.ms_gap_tree.proofs.rooms.Rooms.lowest.Goals as goal

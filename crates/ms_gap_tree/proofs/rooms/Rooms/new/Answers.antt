@@ -1,6 +1,6 @@
 use Rattle.std.proofs.Common.{ap, ◌∙◌}
-use Rattle.ms_gap_tree.specs.Rooms.{room_at, size_of}
-use Rattle.ms_gap_tree.specs.Tree.{look, size}
+use Rattle.ms_gap_tree.specs.refinement.Rooms.{room_at, size_of}
+use Rattle.ms_gap_tree.specs.refinement.Tree.{look, size}
 use Rattle.ms_gap_tree.proofs.Levels.{look_empty, tree_none}
 use Rattle.ms_gap_tree.proofs.rooms.Rooms.new.Goals as goal
 

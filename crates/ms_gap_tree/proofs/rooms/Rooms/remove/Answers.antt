@@ -1,5 +1,5 @@
 use Rattle.std.proofs.Common.{◌≡◌, ℕ, Option, Some, None, IsSome, refl, arith, sym, ap, ◌∙◌, subst, cond, nat_eq}
-use Rattle.ms_gap_tree.specs.Rooms.{Arena, IsHeld, room_at, size_of, tree}
+use Rattle.ms_gap_tree.specs.refinement.Rooms.{Arena, IsHeld, room_at, size_of, tree}
 use Rattle.ms_gap_tree.specs.declared.rooms.Rooms.TheInside.{Inside}
 use Rattle.ms_gap_tree.proofs.Pool.{few_taken, held_taken, looked_at, room_taken, size_taken, there_before}
 use Rattle.ms_gap_tree.proofs.RemoveSlots.{freed_slot, IsFreed}

@@ -1,5 +1,5 @@
 use Rattle.std.proofs.Common.{◌==◌, List, length, find, arith, sym, ap, ◌∙◌, subst}
-use Rattle.ms_live.specs.Ordered.{seek, tree_of, IsWithin}
+use Rattle.ms_live.specs.refinement.Ordered.{seek, tree_of, IsWithinArena}
 use Rattle.ms_live.specs.declared.branch.Halves.{Halves}
 use Rattle.ms_live.specs.declared.gaps.Live.{Live}
 use Rattle.ms_live.proofs.OrderedLaws.{seek_law}
@@ -13,7 +13,7 @@ pub seek-requires-clause-range : goal.seek-requires-clause-range
 seek-requires-clause-range c = let h = half_upto c.self.inside.levels c.self.invariant.0.levels in omega arith
 
 pub seek-requires-clause-within : goal.seek-requires-clause-within
-seek-requires-clause-within c = subst (λ (nodes : List Halves). IsWithin (length nodes) (tree_of nodes c.self.inside.levels c.self.inside.root)) (sym c.as_slice.ensures.value) c.self.invariant.0.within
+seek-requires-clause-within c = subst (λ (nodes : List Halves). IsWithinArena (length nodes) (tree_of nodes c.self.inside.levels c.self.inside.root)) (sym c.as_slice.ensures.value) c.self.invariant.0.within
 
 pub returns : goal.returns
 returns c =

@@ -1,6 +1,6 @@
 use Rattle.std.proofs.Common.{List, length, sym, ap, ◌∙◌, subst}
 use Rattle.std.specs.Prelude.{slice_get}
-use Rattle.ms_live.specs.Ordered.{pick, tree_of, IsWithin}
+use Rattle.ms_live.specs.refinement.Ordered.{pick, tree_of, IsWithinArena}
 use Rattle.ms_live.specs.declared.branch.Halves.{Halves}
 use Rattle.ms_live.specs.declared.gaps.Live.{Live}
 use Rattle.ms_live.proofs.OrderedLaws.{pick_law}
@@ -8,7 +8,7 @@ use Rattle.ms_live.proofs.Storing.{get_some}
 use Rattle.ms_live.proofs.ids.Ids.nth.Goals as goal
 
 pub pick-requires : goal.pick-requires
-pick-requires c = record { within = subst (λ (nodes : List Halves). IsWithin (length nodes) (tree_of nodes c.self.inside.levels c.self.inside.root)) (sym c.as_slice.ensures.value) c.self.invariant.0.within }
+pick-requires c = record { within = subst (λ (nodes : List Halves). IsWithinArena (length nodes) (tree_of nodes c.self.inside.levels c.self.inside.root)) (sym c.as_slice.ensures.value) c.self.invariant.0.within }
 
 pub unreachable-requires : goal.unreachable-requires
 unreachable-requires c =

@@ -1,6 +1,6 @@
 use Rattle.std.proofs.Common.{◌<◌, ◌++◌, ◌∷◌, [], List, length, arith, sym, ap, ◌∙◌, subst}
 use Rattle.std.proofs.lemmas.List.Elements.{All-same}
-use Rattle.ms_live.specs.Ordered.{has, segments, tree_of, IsWithin}
+use Rattle.ms_live.specs.refinement.Ordered.{has, segments, tree_of, IsWithinArena}
 use Rattle.ms_live.specs.declared.gaps.Live.{Live}
 use Rattle.ms_live.specs.declared.gaps.TheConstants.{MOST_LIVE}
 use Rattle.ms_live.proofs.Storing.{half_upto, segments_put, spare_is, stored_grown, stored_put}
@@ -17,7 +17,7 @@ put-self-inside-requires-clause-within c =
     let grown = stored_grown s.nodes.items w.new.nodes.items s.levels w.result.levels s.root w.result.root s.free.items c.self.invariant.0 w.ensures.same w.ensures.within w.ensures.apart w.ensures.in_order w.ensures.slots w.ensures.levels w.ensures.length in
     let few : length (segments now) < MOST_LIVE = let e = ap length (w.ensures.same ∙ c.self.view_is) in let f = c.requires.few in omega arith in
     let spare = spare_is w.new.nodes.items c.spare-slot.new.nodes.items w.result.levels w.result.root s.free.items c.spare-slot.new.free.items c.spare-slot.result grown few c.spare-slot.ensures.slot in
-    subst (IsWithin (length c.spare-slot.new.nodes.items)) (sym spare.same) spare.within
+    subst (IsWithinArena (length c.spare-slot.new.nodes.items)) (sym spare.same) spare.within
 
 pub put-self-inside-requires-clause-fresh : goal.put-self-inside-requires-clause-fresh
 put-self-inside-requires-clause-fresh c =

@@ -1,5 +1,5 @@
 use Rattle.std.proofs.Common.{◌≡◌, ℕ, List, Some, IsSome, true, refl, arith, sym, ap, ◌∙◌, subst}
-use Rattle.ms_live.specs.Ordered.{seek, segments, tree_of, IsStored}
+use Rattle.ms_live.specs.refinement.Ordered.{seek, segments, tree_of, IsStored}
 use Rattle.ms_live.specs.Place.{contains_id, without}
 use Rattle.ms_live.specs.declared.gaps.Live.{Live}
 use Rattle.ms_live.specs.declared.ids.Ids.TheInside.{Inside}

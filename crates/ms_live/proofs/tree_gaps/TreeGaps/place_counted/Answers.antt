@@ -1,6 +1,6 @@
 use Rattle.std.proofs.Common.{◌≡◌, ◌*◌, ℕ, Some, None, arith, subst, sym}
-use Rattle.ms_gap_tree.specs.Rooms.{IsLowest, room_at}
-use Rattle.ms_live.specs.Kept.{Kept}
+use Rattle.ms_gap_tree.specs.refinement.Rooms.{IsLowest, room_at}
+use Rattle.ms_live.specs.refinement.Kept.{Kept}
 use Rattle.ms_live.specs.Place.{IsPlace}
 use Rattle.ms_live.proofs.Keeping.{place_fits, place_found, place_none}
 use Rattle.ms_live.proofs.tree_gaps.TreeGaps.place_counted.Goals as goal

@@ -1,6 +1,6 @@
 use Rattle.std.proofs.Common.{◌<◌, List, Some, All, length, subst, sym}
-use Rattle.ms_gap_tree.specs.Rooms.{room_at}
-use Rattle.ms_live.specs.Kept.{IsKept, Kept}
+use Rattle.ms_gap_tree.specs.refinement.Rooms.{room_at}
+use Rattle.ms_live.specs.refinement.Kept.{IsKept, Kept}
 use Rattle.ms_live.specs.Place.{IsPlace}
 use Rattle.ms_live.specs.declared.gaps.Live.{Live}
 use Rattle.ms_live.specs.declared.gaps.TheConstants.{MOST_LIVE}

@@ -1,5 +1,5 @@
 use Rattle.std.proofs.Common.{List, subst, sym, ap, ◌∙◌}
-use Rattle.ms_live.specs.Kept.{IsKept, Kept}
+use Rattle.ms_live.specs.refinement.Kept.{IsKept, Kept}
 use Rattle.ms_live.specs.Place.{contains_id}
 use Rattle.ms_live.specs.declared.gaps.Live.{Live}
 use Rattle.ms_live.specs.declared.tree_gaps.TreeGaps.TheInside.{Inside}

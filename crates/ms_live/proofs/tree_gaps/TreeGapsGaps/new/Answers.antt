@@ -1,6 +1,6 @@
 use Rattle.std.proofs.Common.{◌≡◌, ℕ, List, Some, None, cond, nat_eq, [], arith, subst, sym, ap, ◌∙◌}
-use Rattle.ms_gap_tree.specs.Rooms.{room_at, size_of}
-use Rattle.ms_live.specs.Kept.{IsKept}
+use Rattle.ms_gap_tree.specs.refinement.Rooms.{room_at, size_of}
+use Rattle.ms_live.specs.refinement.Kept.{IsKept}
 use Rattle.ms_live.specs.declared.gaps.Live.{Live}
 use Rattle.ms_live.proofs.Keeping.{kept_new, key_below}
 use Rattle.ms_live.proofs.tree_gaps.TreeGapsGaps.new.Goals as goal

@@ -1,5 +1,5 @@
 use Rattle.std.proofs.Common.{◌∙◌, List, ℕ, arith, true, ap, subst}
-use Rattle.ms_monitor.specs.Colours.{Adds, colour_of}
+use Rattle.ms_monitor.specs.refinement.Colours.{Adds, colour_of}
 use Rattle.ms_monitor.specs.declared.colours.Colour.{Colour}
 use Rattle.ms_monitor.proofs.Colouring.{added}
 use Rattle.ms_monitor.proofs.colours.Colours.add.Goals as goal

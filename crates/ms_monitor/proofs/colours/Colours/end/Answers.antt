@@ -1,5 +1,5 @@
 use Rattle.std.proofs.Common.{◌∙◌, List, ℕ, arith, ap, subst}
-use Rattle.ms_monitor.specs.Colours.{Ends, colour_of}
+use Rattle.ms_monitor.specs.refinement.Colours.{Ends, colour_of}
 use Rattle.ms_monitor.specs.declared.colours.Colour.{Colour}
 use Rattle.ms_monitor.proofs.Colouring.{live_one, put_out_ends}
 use Rattle.ms_monitor.proofs.colours.Colours.end.Goals as goal

@@ -1,8 +1,8 @@
 use Rattle.std.proofs.Common.{refl, subst, Err, Ok}
 use Rattle.ms_event.specs.declared.event.Event.TheVariants.{Read, Write}
-use Rattle.ms_monitor.specs.Judging.{Judges}
-use Rattle.ms_monitor.specs.Kept.{Kept}
-use Rattle.ms_monitor.specs.Shades.{shade_of}
+use Rattle.ms_monitor.specs.refinement.Judging.{Judges}
+use Rattle.ms_monitor.specs.refinement.Kept.{Kept}
+use Rattle.ms_monitor.specs.refinement.Shades.{shade_of}
 use Rattle.ms_monitor.specs.declared.monitor.Verdict.TheVariants.{Reject}
 use Rattle.ms_monitor.proofs.Accessed.{access_may, covered_from_inside}
 use Rattle.ms_monitor.proofs.Fields.{kept}

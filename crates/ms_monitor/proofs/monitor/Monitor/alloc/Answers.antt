@@ -1,7 +1,7 @@
 use Rattle.std.proofs.Common.{ℕ, List, ap, refl, subst, Err, Ok}
 use Rattle.ms_event.specs.declared.event.Event.TheVariants.{Alloc}
-use Rattle.ms_monitor.specs.Judging.{Judges}
-use Rattle.ms_monitor.specs.Kept.{Kept}
+use Rattle.ms_monitor.specs.refinement.Judging.{Judges}
+use Rattle.ms_monitor.specs.refinement.Kept.{Kept}
 use Rattle.ms_monitor.specs.declared.colours.Colour.{Colour}
 use Rattle.ms_monitor.specs.declared.monitor.Verdict.TheVariants.{Memory, Reject}
 use Rattle.ms_monitor.proofs.Allocated.{absent_is, alloc_kept, alloc_may, alloc_shows, few_is, may_begin, may_fit, near_is}

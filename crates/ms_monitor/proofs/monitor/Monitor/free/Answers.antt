@@ -1,7 +1,7 @@
 use Rattle.std.proofs.Common.{◌∙◌, refl, subst, sym, Err, Ok}
 use Rattle.ms_event.specs.declared.event.Event.TheVariants.{Free}
-use Rattle.ms_monitor.specs.Judging.{Judges}
-use Rattle.ms_monitor.specs.Kept.{Kept}
+use Rattle.ms_monitor.specs.refinement.Judging.{Judges}
+use Rattle.ms_monitor.specs.refinement.Kept.{Kept}
 use Rattle.ms_monitor.specs.declared.monitor.Verdict.TheVariants.{Reject}
 use Rattle.ms_monitor.proofs.Allocated.{near_is}
 use Rattle.ms_monitor.proofs.Freed.{back_is, first_is, free_kept, free_shows, not_live, not_used, true_from, within_is}

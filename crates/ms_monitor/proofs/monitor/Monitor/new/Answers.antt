@@ -1,5 +1,5 @@
 use Rattle.std.proofs.Common.{◌≡◌, ◌∙◌, ℕ, Some, None, cond, nat_eq, ap, arith}
-use Rattle.ms_gap_tree.specs.Rooms.{room_at, size_of}
+use Rattle.ms_gap_tree.specs.refinement.Rooms.{room_at, size_of}
 use Rattle.ms_live.proofs.Keeping.{key_below}
 use Rattle.ms_monitor.proofs.Begun.{begun_kept}
 use Rattle.ms_monitor.proofs.monitor.Monitor.new.Goals as goal

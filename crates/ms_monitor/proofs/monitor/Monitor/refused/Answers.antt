@@ -1,9 +1,9 @@
 use Rattle.std.proofs.Common.{◌<◌, arith, refl, subst, Err, Ok}
 use Rattle.ms_event.specs.declared.event.Event.TheVariants.{Refused}
 use Rattle.ms_event.specs.Monitor.{most_live}
-use Rattle.ms_monitor.specs.Colours.{live_in}
-use Rattle.ms_monitor.specs.Judging.{Judges}
-use Rattle.ms_monitor.specs.Kept.{Kept}
+use Rattle.ms_monitor.specs.refinement.Colours.{live_in}
+use Rattle.ms_monitor.specs.refinement.Judging.{Judges}
+use Rattle.ms_monitor.specs.refinement.Kept.{Kept}
 use Rattle.ms_monitor.specs.declared.monitor.Verdict.TheVariants.{Reject}
 use Rattle.ms_monitor.proofs.Refusing.{full_refuses, no_room_refuses, not_refused}
 use Rattle.ms_monitor.proofs.Fields.{kept}

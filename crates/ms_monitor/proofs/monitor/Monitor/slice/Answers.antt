@@ -1,9 +1,9 @@
 use Rattle.std.proofs.Common.{List, ap, refl, subst, Err, Ok}
 use Rattle.ms_event.specs.Monitor.{Shade}
 use Rattle.ms_event.specs.declared.event.Event.TheVariants.{Slice}
-use Rattle.ms_monitor.specs.Judging.{Judges}
-use Rattle.ms_monitor.specs.Kept.{Kept}
-use Rattle.ms_monitor.specs.Shades.{shade_of}
+use Rattle.ms_monitor.specs.refinement.Judging.{Judges}
+use Rattle.ms_monitor.specs.refinement.Kept.{Kept}
+use Rattle.ms_monitor.specs.refinement.Shades.{shade_of}
 use Rattle.ms_monitor.specs.declared.monitor.Verdict.TheVariants.{Memory, Reject}
 use Rattle.ms_monitor.proofs.Accessed.{slice_shows}
 use Rattle.ms_monitor.proofs.Fields.{kept}

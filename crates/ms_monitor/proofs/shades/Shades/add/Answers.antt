@@ -1,6 +1,6 @@
 use Rattle.std.proofs.Common.{List, map, subst}
 use Rattle.ms_event.specs.Monitor.{Shade}
-use Rattle.ms_monitor.specs.Shades.{Learns, shade_of}
+use Rattle.ms_monitor.specs.refinement.Shades.{Learns, shade_of}
 use Rattle.ms_monitor.proofs.Slicing.{learnt}
 use Rattle.ms_monitor.proofs.shades.Shades.add.Goals as goal
 

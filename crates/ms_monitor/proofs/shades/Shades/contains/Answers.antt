@@ -1,7 +1,7 @@
 use Rattle.std.proofs.Common.{◌↔◌, IsTrue, List, subst}
 use Rattle.std.specs.List.{Contains}
 use Rattle.ms_event.specs.Monitor.{Shade}
-use Rattle.ms_monitor.specs.Shades.{shade_of}
+use Rattle.ms_monitor.specs.refinement.Shades.{shade_of}
 use Rattle.ms_monitor.proofs.Slicing.{known}
 use Rattle.ms_monitor.proofs.shades.Shades.contains.Goals as goal
 

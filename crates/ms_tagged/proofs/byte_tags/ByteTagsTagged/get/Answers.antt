@@ -1,6 +1,6 @@
 use Rattle.std.proofs.Common.{sym, ap, ◌∙◌, arith}
 use Rattle.ms_tagged.specs.Bytes.{number_at}
-use Rattle.ms_tagged.specs.Tags.{bytes_of}
+use Rattle.ms_tagged.specs.refinement.Tags.{bytes_of}
 use Rattle.ms_tagged.proofs.Filled.{number_at-filled, range-part}
 use Rattle.ms_tagged.proofs.byte_tags.ByteTagsTagged.get.Goals as goal
 

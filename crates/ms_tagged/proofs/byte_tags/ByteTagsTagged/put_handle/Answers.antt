@@ -1,6 +1,6 @@
 use Rattle.std.proofs.Common.{◌≡◌, ◌+◌, ◌-◌, ◌∙◌, ap, refl, arith}
 use Rattle.ms_tagged.specs.Bytes.{pieces}
-use Rattle.ms_tagged.specs.Tags.{pieces_from}
+use Rattle.ms_tagged.specs.refinement.Tags.{pieces_from}
 use Rattle.ms_tagged.proofs.Filled.{held-part, written-filled}
 use Rattle.ms_tagged.proofs.byte_tags.ByteTagsTagged.put_handle.Goals as goal
 

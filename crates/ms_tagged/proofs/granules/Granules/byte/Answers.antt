@@ -2,7 +2,7 @@ use Rattle.std.proofs.Common.{◌≡◌, [], ◌∷◌, Some, get_or, sym, ap, �
 use Rattle.std.proofs.lemmas.Bool.{false≢true}
 use Rattle.std.proofs.lemmas.List.{get_or_read}
 use Rattle.ms_tagged.specs.Bytes.{shown_at}
-use Rattle.ms_tagged.specs.Granules.{piece_bit}
+use Rattle.ms_tagged.specs.refinement.Granules.{piece_bit}
 use Rattle.ms_tagged.proofs.GranuleBytes.{byte_at-past, shown-data, shown-piece, shown-read}
 use Rattle.ms_tagged.proofs.granules.Granules.byte.Goals as goal
 

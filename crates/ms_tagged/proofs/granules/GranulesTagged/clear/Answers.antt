@@ -1,7 +1,7 @@
 use Rattle.std.proofs.Common.{◌≡◌, ◌+◌, ◌-◌, ◌∙◌, ap, length, replicate, arith}
 use Rattle.ms_tagged.specs.Bytes.{Data}
 use Rattle.std.proofs.lemmas.List.{length-replicate}
-use Rattle.ms_tagged.specs.Granules.{byte_at, data_bytes}
+use Rattle.ms_tagged.specs.refinement.Granules.{byte_at, data_bytes}
 use Rattle.ms_tagged.proofs.BytesFrom.{length-bytes_from}
 use Rattle.ms_tagged.proofs.GranuleWrites.{length-held, data-written, zeros-data}
 use Rattle.ms_tagged.proofs.granules.GranulesTagged.clear.Goals as goal

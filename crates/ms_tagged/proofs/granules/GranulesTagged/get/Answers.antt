@@ -1,5 +1,5 @@
 use Rattle.std.proofs.Common.{◌≡◌, ◌≤◌, ◌<◌, ℕ, ◌+◌, ◌-◌, Some, take, drop, sym, ap, ◌∙◌, arith}
-use Rattle.ms_tagged.specs.Granules.{number_of, piece_bit}
+use Rattle.ms_tagged.specs.refinement.Granules.{number_of, piece_bit}
 use Rattle.ms_tagged.proofs.GranuleBytes.{number-read, width-few}
 use Rattle.ms_tagged.proofs.granules.GranulesTagged.get.Goals as goal
 

@@ -2,7 +2,7 @@ use Rattle.std.proofs.Common.{◌≡◌, ◌+◌, ◌*◌, ◌/◌, get_or, sym,
 use Rattle.std.proofs.lemmas.Bool.{false≢true}
 use Rattle.std.proofs.lemmas.List.{get_or_past, get_or_read}
 use Rattle.ms_tagged.specs.Bytes.{IsHandleAt, cleared}
-use Rattle.ms_tagged.specs.Granules.{byte_at, bytes_from, unset}
+use Rattle.ms_tagged.specs.refinement.Granules.{byte_at, bytes_from, unset}
 use Rattle.ms_tagged.specs.declared.granules.StoredHandle.{StoredHandle}
 use Rattle.ms_tagged.proofs.GranuleBytes.{cleared-read, data-read, handle-read, mixed-read, whole-read, zeros-held}
 use Rattle.ms_tagged.proofs.granules.GranulesTagged.get_handle.Goals as goal

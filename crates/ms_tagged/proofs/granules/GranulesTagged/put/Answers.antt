@@ -1,7 +1,7 @@
 use Rattle.std.proofs.Common.{◌≡◌, ◌+◌, ◌-◌, ◌∙◌, ap, length, arith}
 use Rattle.ms_tagged.specs.Bytes.{data_of}
 use Rattle.ms_tagged.proofs.Numbers.{length-data_of}
-use Rattle.ms_tagged.specs.Granules.{byte_at}
+use Rattle.ms_tagged.specs.refinement.Granules.{byte_at}
 use Rattle.ms_tagged.proofs.BytesFrom.{length-bytes_from}
 use Rattle.ms_tagged.proofs.GranuleWrites.{length-held, data-written}
 use Rattle.ms_tagged.proofs.granules.GranulesTagged.put.Goals as goal

@@ -1,6 +1,6 @@
 use Rattle.std.proofs.Common.{◌≡◌, ◌*◌, ◌/◌, ◌∙◌, ap, length, arith}
 use Rattle.ms_tagged.specs.Bytes.{overwritten, pieces}
-use Rattle.ms_tagged.specs.Granules.{byte_at, bytes_from}
+use Rattle.ms_tagged.specs.refinement.Granules.{byte_at, bytes_from}
 use Rattle.ms_tagged.proofs.BytesFrom.{length-bytes_from}
 use Rattle.ms_tagged.proofs.GranuleWrites.{handle-overwritten}
 use Rattle.ms_tagged.proofs.granules.GranulesTagged.put_handle.Goals as goal

@@ -1,5 +1,5 @@
 use Rattle.std.proofs.Common.{arith, ◌∙◌, sym, ◌≤◌}
-use Rattle.ms_task.specs.Marks.{labels_in}
+use Rattle.ms_task.specs.refinement.Marks.{labels_in}
 use Rattle.ms_task.proofs.Counted.{labels_and_floor, IsFloored-drop, calls_in-drop}
 use Rattle.ms_task.proofs.marks.Marks.cut.Goals as goal
 

@@ -1,5 +1,5 @@
 use Rattle.std.proofs.Common.{◌-◌, ap, drop, ◌∙◌}
-use Rattle.ms_task.specs.View.{frame_of}
+use Rattle.ms_task.specs.refinement.View.{frame_of}
 use Rattle.ms_task.proofs.Branches.{branch_within}
 use Rattle.ms_task.proofs.Repeats.{enough, repeats}
 use Rattle.ms_task.proofs.task.Task.begin_again.Goals as goal

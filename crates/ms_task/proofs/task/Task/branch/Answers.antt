@@ -1,5 +1,5 @@
 use Rattle.std.proofs.Common.{length, arith, length-drop, ap}
-use Rattle.ms_task.specs.View.{frame_of}
+use Rattle.ms_task.specs.refinement.View.{frame_of}
 use Rattle.ms_task.proofs.Branches.{branch_within, branch_to_label, label_keeps, branch_to_call, call_keeps}
 use Rattle.ms_task.proofs.task.Task.branch.Goals as goal
 

@@ -1,5 +1,5 @@
 use Rattle.std.proofs.Common.{◌++◌, sym, ◌∙◌}
-use Rattle.ms_task.specs.View.{frame_of, outer_of, rest_at}
+use Rattle.ms_task.specs.refinement.View.{frame_of, outer_of, rest_at}
 use Rattle.ms_task.proofs.Branches.{br_if_taken, branch_rest}
 use Rattle.ms_task.proofs.task.Task.branch_if.Goals as goal
 

@@ -1,9 +1,9 @@
 use Rattle.std.proofs.Common.{◌<◌, ◌≤◌, ap, sym, refl, length}
 use Rattle.std.proofs.lemmas.Option.{slice_get_read}
 use Rattle.ms_task.specs.Control.{deepest}
-use Rattle.ms_task.specs.Marks.{calls_in}
+use Rattle.ms_task.specs.refinement.Marks.{calls_in}
 use Rattle.ms_task.specs.Thread.{depth_of}
-use Rattle.ms_task.specs.View.{at_next}
+use Rattle.ms_task.specs.refinement.View.{at_next}
 use Rattle.ms_task.proofs.Calls.{call_deep, call_enters, call_found, call_room, depth_of_rest}
 use Rattle.ms_task.proofs.task.Task.call.Goals as goal
 

@@ -2,7 +2,7 @@ use Rattle.std.proofs.Common.{◌<◌, ◌+◌, ◌-◌, drop, length, get_or, a
 use Rattle.std.proofs.lemmas.Option.{slice_get-get_or}
 use Rattle.std.proofs.lemmas.Bool.{ltb-true}
 use Rattle.ms_task.specs.Thread.{sequence}
-use Rattle.ms_task.specs.View.{frame_of, outer_of}
+use Rattle.ms_task.specs.refinement.View.{frame_of, outer_of}
 use Rattle.ms_task.proofs.Places.{begins_behind, begins_here, fetched, fetched_before, function_there, place_there, sequence_there}
 use Rattle.ms_task.proofs.task.Task.fetch.Goals as goal
 

@@ -1,6 +1,6 @@
 use Rattle.std.proofs.Common.{drop}
 use Rattle.ms_task.specs.Thread.{sequence}
-use Rattle.ms_task.specs.View.{outer_of}
+use Rattle.ms_task.specs.refinement.View.{outer_of}
 use Rattle.ms_task.proofs.Items.{dos_are_nil}
 use Rattle.ms_task.proofs.Places.{marks_are_nil, nothing_left}
 use Rattle.ms_task.proofs.task.Task.has_ended.Goals as goal

@@ -1,4 +1,4 @@
-use Rattle.ms_task.specs.View.{frame_of}
+use Rattle.ms_task.specs.refinement.View.{frame_of}
 use Rattle.ms_task.proofs.Branches.{branch_within}
 use Rattle.ms_task.proofs.task.Task.repeat.Goals as goal
 

@@ -1,7 +1,7 @@
 use Rattle.std.proofs.Common.{◌≡◌, ◌≢◌, ◌++◌, ◌∷◌, ap, drop, subst, sym, ◌∙◌}
 use Rattle.ms_linear.specs.declared.value.Value.TheVariants.{I32}
 use Rattle.ms_task.specs.Control.{Repeats, Stuck, br_if_on, branch}
-use Rattle.ms_task.specs.View.{at_next, frame_of, outer_of, rest_at, thread_of}
+use Rattle.ms_task.specs.refinement.View.{at_next, frame_of, outer_of, rest_at, thread_of}
 use Rattle.ms_task.proofs.Branches.{br_if_taken, branch_rest, branch_within}
 use Rattle.ms_task.proofs.Repeats.{first_of}
 use Rattle.ms_task.proofs.task.Task.repeat_if.Goals as goal

@@ -1,6 +1,6 @@
 use Rattle.std.proofs.Common.{◌≢◌, [], ap, drop, sym, ◌∙◌, ◌++◌, arith}
 use Rattle.ms_task.specs.Thread.{dos, sequence}
-use Rattle.ms_task.specs.View.{frame_of, outer_of}
+use Rattle.ms_task.specs.refinement.View.{frame_of, outer_of}
 use Rattle.ms_task.proofs.Items.{begins_past, dos_are_nil, exit_begins}
 use Rattle.ms_task.proofs.Places.{drop_is_nil}
 use Rattle.ms_task.proofs.task.Task.resume.Goals as goal

@@ -1,7 +1,7 @@
 use Rattle.std.proofs.Common.{◌≡◌, ◌*◌, ◌^◌, ◌<◌, length}
 use Rattle.ms_task.specs.Control.{exited}
 use Rattle.ms_task.specs.Thread.{sequence}
-use Rattle.ms_task.specs.View.{thread_of}
+use Rattle.ms_task.specs.refinement.View.{thread_of}
 use Rattle.ms_task.proofs.task.Task.resume.Given as goal
 
 abbrev pub invariant-loop-code : goal.invariant-loop-code

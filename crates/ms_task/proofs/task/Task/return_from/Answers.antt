@@ -1,6 +1,6 @@
 use Rattle.std.proofs.Common.{ap, sym, ◌∙◌}
 use Rattle.ms_task.specs.Control.{branch}
-use Rattle.ms_task.specs.View.{frame_of, outer_of}
+use Rattle.ms_task.specs.refinement.View.{frame_of, outer_of}
 use Rattle.ms_task.proofs.Branches.{return_on-branch}
 use Rattle.ms_task.proofs.task.Task.return_from.Goals as goal
 

@@ -1,9 +1,9 @@
 use Rattle.std.proofs.Common.{◌≡◌, List, Ok, sym, ap, subst}
 use Rattle.ms_task.specs.Thread.{Thread}
 use Rattle.ms_machine.specs.Crews.{Crew}
-use Rattle.ms_machine.specs.Safety.{Sound}
-use Rattle.ms_tasks.specs.Ready.{IsReady, threads_of}
-use Rattle.ms_tasks.specs.Rows.{threads_in}
+use Rattle.ms_machine.specs.refinement.Safety.{Sound}
+use Rattle.ms_tasks.specs.refinement.Ready.{IsReady, threads_of}
+use Rattle.ms_tasks.specs.refinement.Rows.{threads_in}
 use Rattle.ms_tasks.specs.Tasks.{crew_of, threads_from}
 use Rattle.ms_tasks.proofs.Making.{crew_ready, crew_sound}
 use Rattle.ms_tasks.proofs.crew.Crew.new.Goals as goal

@@ -2,12 +2,12 @@ use Rattle.std.proofs.Common.{◌≡◌, ◌≤◌, ◌+◌, ℕ, List, length, 
 use Rattle.std.proofs.lemmas.List.{length-map, with_items_is}
 use Rattle.std.specs.Vec.{with_items}
 use Rattle.ms_machine.specs.Crews.{Crew, Input, run_of}
-use Rattle.ms_task.specs.View.{thread_of}
+use Rattle.ms_task.specs.refinement.View.{thread_of}
 use Rattle.ms_task.specs.declared.task.Task.{Task as CodeTask}
-use Rattle.ms_tasks.specs.Ready.{IsReady}
-use Rattle.ms_tasks.specs.Rows.{all_in}
-use Rattle.ms_tasks.specs.Runs.{CountsInput, CountsOut, DoesRun, IsOver}
-use Rattle.ms_tasks.specs.Schedules.{entries_of}
+use Rattle.ms_tasks.specs.refinement.Ready.{IsReady}
+use Rattle.ms_tasks.specs.refinement.Rows.{all_in}
+use Rattle.ms_tasks.specs.refinement.Runs.{CountsInput, CountsOut, DoesRun, IsOver}
+use Rattle.ms_tasks.specs.refinement.Schedules.{entries_of}
 use Rattle.ms_tasks.specs.declared.ran.Ran.{Ran}
 use Rattle.ms_tasks.proofs.Counting.{run_counts}
 use Rattle.ms_tasks.proofs.Safe.{run_accepted, run_ready}

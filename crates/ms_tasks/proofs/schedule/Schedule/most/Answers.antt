@@ -1,5 +1,5 @@
 use Rattle.std.proofs.Common.{◌≡◌, length, sym, subst}
-use Rattle.ms_tasks.specs.Schedules.{entries_of}
+use Rattle.ms_tasks.specs.refinement.Schedules.{entries_of}
 use Rattle.ms_tasks.specs.declared.schedule.Schedule.{Schedule}
 use Rattle.ms_tasks.proofs.Outs.{length_turns}
 use Rattle.ms_tasks.proofs.schedule.Schedule.most.Goals as goal

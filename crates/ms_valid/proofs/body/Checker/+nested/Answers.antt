@@ -1,6 +1,6 @@
 use Rattle.std.proofs.Common.{Ok, ◌∷◌, ◌≡◌, ◌∙◌, ap, sym, subst}
 use Rattle.ms_rules.specs.Typing.{InstrTyped, OtherTyped, Typed}
-use Rattle.ms_valid.specs.Shape.{Becomes, Stuck}
+use Rattle.ms_valid.specs.refinement.Shape.{Becomes, Stuck}
 use Rattle.ms_valid.proofs.Sequences.{begins, if_nothing, if_typed}
 use Rattle.ms_valid.proofs.body.Checker.+nested.Goals as goal
 

@@ -1,7 +1,7 @@
 use Rattle.std.proofs.Common.{◌≡◌, ◌+◌, ◌-◌, ◌*◌, ◌∷◌, length, drop, ◌↔◌}
 use Rattle.ms_module.specs.Numbered.{AllNameWithin}
 use Rattle.ms_rules.specs.Typing.{Typed, types}
-use Rattle.ms_valid.specs.Shape.{Finishes}
+use Rattle.ms_valid.specs.refinement.Shape.{Finishes}
 use Rattle.ms_valid.proofs.body.Checker.+nested.Given as goal
 
 abbrev pub decreases-instr : goal.decreases-instr

@@ -1,5 +1,5 @@
 use Rattle.std.proofs.Common.{◌≤◌, length, drop, reverse}
-use Rattle.ms_valid.specs.Shape.{Becomes, Takes}
+use Rattle.ms_valid.specs.refinement.Shape.{Becomes, Takes}
 use Rattle.ms_valid.proofs.operands.Operands.take_params.Given as goal
 
 abbrev pub invariant-loop-i : goal.invariant-loop-i

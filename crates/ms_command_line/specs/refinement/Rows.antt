@@ -1,0 +1,11 @@
+-- What the rows of the code say.
+use Rattle.std.specs.Prelude.{map}
+use Rattle.ms_command_line.specs.Commands as said
+use Rattle.ms_command_line.specs.declared.definition.NumberOption.{NumberOption}
+use Rattle.ms_command_line.specs.declared.definition.CommandRow.{CommandRow}
+
+abbrev pub option_said : NumberOption → said.NumberOption
+option_said o = record { name = o.name.now; least = o.least; most = o.most; default = o.default.now }
+
+abbrev pub command_said : CommandRow → said.CommandRow
+command_said c = record { name = c.name.now; places = map (λ place. place.now) c.places.now; options = map option_said c.options.now }

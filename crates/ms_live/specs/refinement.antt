@@ -1,0 +1,4 @@
+-- What only the proofs need: how the code keeps and does what the definitions beside this folder say.
+pub mod Kept
+pub mod Layout
+pub mod Ordered

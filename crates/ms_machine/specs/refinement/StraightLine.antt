@@ -1,0 +1,100 @@
+-- Steps in a row of which the outside and the segment memory see nothing.
+use Rattle.std.specs.Prelude.{◌≡◌, ◌≢◌, ◌<◌, ◌-◌, ◌*◌, ◌^◌, ℕ, zero, suc, Bool, List, [], length, IsTrue, None}
+use Rattle.ms_module.specs.declared.instr.Instr.{Instr}
+use Rattle.ms_module.specs.declared.instr.Instr.TheVariants as instr
+use Rattle.ms_task.specs.Control.{exited}
+use Rattle.ms_task.specs.Thread.{Thread, sequence, with_first}
+use Rattle.ms_task.specs.refinement.View.{IsAt, at_next, thread_of}
+use Rattle.ms_task.specs.declared.func.FuncInst.{FuncInst}
+use Rattle.ms_task.specs.declared.task.Task.{Task}
+use Rattle.ms_machine.specs.refinement.Doing.{Can}
+use Rattle.ms_machine.specs.Step.{Next, act, step_of}
+use Rattle.ms_machine.specs.Store.{Store}
+use Rattle.ms_machine.specs.declared.straight.Called.{Called}
+use Rattle.ms_machine.specs.declared.straight.Called.TheVariants as calls
+use Rattle.ms_machine.specs.declared.straight.Met.{Met}
+use Rattle.ms_machine.specs.declared.straight.Met.TheVariants as mets
+use Rattle.ms_machine.specs.declared.straight.Stretch.{Stretch}
+use Rattle.ms_machine.specs.declared.straight.Stretch.TheVariants as stretches
+use Rattle.ms_machine.specs.declared.straight.CarriedOut.{CarriedOut}
+use Rattle.ms_machine.specs.declared.straight.CarriedOut.TheVariants as carried
+use Rattle.ms_machine.specs.declared.straight.Worked.{Worked}
+use Rattle.ms_machine.specs.declared.straight.Worked.TheVariants as works
+
+-- one of them
+abbrev pub StepsQuietly : Store → Thread → Store → Thread → Type 0
+StepsQuietly s t s' t' = (step_of s t ≡ Next s' t' None) × (s'.segments ≡ s.segments)
+
+-- so many
+abbrev pub GoesQuietly : Store → Thread → ℕ → Store → Thread → Type 0
+GoesQuietly s t zero s' t' = (s' ≡ s) × (t' ≡ t)
+GoesQuietly s t (suc n) s' t' = (s1 : Store) × (t1 : Thread) × GoesQuietly s t n s1 t1 × (t1.work ≢ []) × StepsQuietly s1 t1 s' t'
+
+-- so many, with what they came to
+abbrev pub IsHalted : Stretch → ℕ → Store → Thread → Store → Thread → Type 0
+IsHalted stretches.Paused n s t s' t' = GoesQuietly s t n s' t' × (t'.work ≢ [])
+IsHalted stretches.Ended n s t s' t' = GoesQuietly s t n s' t' × (t'.work ≡ [])
+IsHalted stretches.Memory n s t s' t' = Unit {0}
+
+-- memory has not run out
+abbrev pub IsCalm : Stretch → Type 0
+IsCalm stretches.Memory = ⊥
+IsCalm _ = Unit {0}
+
+-- ---- an instruction on the store as it is, behind which a task goes on at a place
+
+abbrev pub DoesCall : Called → Instr → ℕ → Store → Task → Task → Type 0
+DoesCall calls.Made i next s t t' = act s i (at_next s.funcs t next) ≡ Next s (thread_of s.funcs t') None
+DoesCall calls.Not i next s t t' = t' ≡ t
+DoesCall calls.Memory i next s t t' = Unit {0}
+
+-- the instruction is the task's next one, and it finds what it takes
+abbrev pub IsNext : Instr → ℕ → Store → Task → Type 0
+IsNext i next s t = (thread_of s.funcs t ≡ with_first i (at_next s.funcs t next)) × Can i next s t
+
+-- a task goes on in this sequence, which is a slice of memory
+abbrev pub IsIn : List Instr → List FuncInst → Task → Type 0
+IsIn code funcs t = (code ≡ sequence funcs t.function t.sequence) × (t.place < length code) × ((thread_of funcs t).work ≢ []) × (length code * 16 < 2 ^ 63)
+
+abbrev pub DoesLeave : CarriedOut → List FuncInst → Thread → Task → Type 0
+DoesLeave (carried.Elsewhere code) funcs t t' = (thread_of funcs t' ≡ exited t) × IsIn code.now funcs t'
+DoesLeave carried.Ended funcs t t' = (thread_of funcs t' ≡ exited t) × ((thread_of funcs t').work ≡ [])
+DoesLeave _ funcs t t' = ⊥
+
+-- two steps, behind which a task goes on in this sequence
+abbrev pub DoesAgain : List Instr → Store → Thread → Task → Type 0
+DoesAgain code s t t' = GoesQuietly s t 2 s (thread_of s.funcs t') × IsIn code s.funcs t'
+
+abbrev pub IsAgain : CarriedOut → Type 0
+IsAgain (carried.Again code) = Unit {0}
+IsAgain _ = ⊥
+
+abbrev pub DoesQuietly : CarriedOut → Instr → ℕ → Store → Task → Task → Type 0
+DoesQuietly carried.On i next s t t' = StepsQuietly s (thread_of s.funcs t) s (thread_of s.funcs t') × IsAt t next t'
+DoesQuietly (carried.Elsewhere code) i next s t t' = StepsQuietly s (thread_of s.funcs t) s (thread_of s.funcs t') × IsIn code.now s.funcs t'
+DoesQuietly (carried.Again code) i next s t t' = DoesAgain code.now s (thread_of s.funcs t) t'
+DoesQuietly carried.Ended i next s t t' = StepsQuietly s (thread_of s.funcs t) s (thread_of s.funcs t') × ((thread_of s.funcs t').work ≡ [])
+DoesQuietly (carried.Linear j) i next s t t' = (i ≡ instr.Linear j) × (t' ≡ t)
+DoesQuietly (carried.Global x) i next s t t' = (i ≡ instr.GlobalSet x) × (t' ≡ t)
+DoesQuietly carried.Not i next s t t' = t' ≡ t
+DoesQuietly carried.Memory i next s t t' = Unit {0}
+
+-- the next instruction is this one, behind which another may be known to stand
+abbrev pub IsMet : Instr → ℕ → Bool → Store → Task → Type 0
+IsMet i next more s t = ((thread_of s.funcs t).work ≢ []) × IsNext i next s t × (IsTrue more → next < length (sequence s.funcs t.function t.sequence))
+
+-- several of them, of which so many are left of so many
+abbrev pub DoesMeet : Met → (left most : ℕ) → Store → Thread → Task → Type 0
+DoesMeet mets.Paused left most s t t' = GoesQuietly s t (most - left) s (thread_of s.funcs t') × ((thread_of s.funcs t').work ≢ [])
+DoesMeet mets.Ended left most s t t' = GoesQuietly s t (most - left) s (thread_of s.funcs t') × ((thread_of s.funcs t').work ≡ [])
+DoesMeet (mets.Linear i next more) left most s t t' = GoesQuietly s t (most - left) s (thread_of s.funcs t') × (0 < left) × IsMet (instr.Linear i) next more s t'
+DoesMeet (mets.Global x next more) left most s t t' = GoesQuietly s t (most - left) s (thread_of s.funcs t') × (0 < left) × IsMet (instr.GlobalSet x) next more s t'
+DoesMeet mets.Memory left most s t t' = Unit {0}
+
+-- ---- an instruction that changes the store
+
+abbrev pub DoesWork : Worked → Store → Thread → Store → Thread → Type 0
+DoesWork works.On s t s' t' = StepsQuietly s t s' t' × (t'.work ≢ [])
+DoesWork works.Ended s t s' t' = StepsQuietly s t s' t' × (t'.work ≡ [])
+DoesWork works.Not s t s' t' = (s' ≡ s) × (t' ≡ t)
+DoesWork works.Memory s t s' t' = Unit {0}

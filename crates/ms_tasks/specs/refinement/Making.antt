@@ -1,0 +1,26 @@
+-- What the making of a crew answers.
+use Rattle.std.specs.Prelude.{◌≡◌, ℕ, List, Option, Some, None, Ok, Err}
+use Rattle.ms_task.specs.Thread.{Thread}
+use Rattle.ms_task.specs.refinement.View.{thread_of}
+use Rattle.ms_task.specs.declared.task.Task.{Task as CodeTask}
+use Rattle.ms_machine.specs.Crews.{Crew}
+use Rattle.ms_machine.specs.Running.{func_thread}
+use Rattle.ms_machine.specs.Store.{Store}
+use Rattle.ms_tasks.specs.Tasks.{crew_of, threads_from}
+use Rattle.ms_tasks.specs.declared.refusal.Refusal.{Refusal}
+use Rattle.ms_tasks.specs.declared.refusal.Refusal.TheVariants as refusals
+
+-- the crew of a store and of these tasks
+abbrev pub IsCrewOf : Store → (tasks : List (ℕ × List ℕ)) → Crew → Type 0
+IsCrewOf s tasks c = (ts : List Thread) × (threads_from s tasks 0 ≡ Ok ts) × (c ≡ crew_of s ts)
+
+-- the first of them that has no function; where memory ran out nothing is said
+abbrev pub Refuses : Store → (tasks : List (ℕ × List ℕ)) → Refusal → Type 0
+Refuses s tasks (refusals.Task n) = threads_from s tasks 0 ≡ Err n
+Refuses s tasks refusals.Memory = Unit {0}
+
+-- the thread of a start function, if there is one
+abbrev pub IsStartOf : Store → (address : Option ℕ) → Option CodeTask → Type 0
+IsStartOf s None None = Unit {0}
+IsStartOf s (Some address) (Some task) = thread_of s.funcs task ≡ func_thread s address
+IsStartOf s _ _ = ⊥

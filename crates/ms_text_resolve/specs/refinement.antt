@@ -1,0 +1,5 @@
+-- What only the proofs need: how the code keeps and does what the definitions beside this folder say.
+pub mod Answers
+pub mod Assembled
+pub mod Gathered
+pub mod Steps

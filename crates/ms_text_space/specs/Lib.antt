@@ -1,4 +1,0 @@
-pub mod Answers
-pub mod Keys
-pub mod Settings
-pub mod Spaces
