@@ -13,6 +13,7 @@ use Rattle.c_tree.specs.declared.external.OuterSpecifier.TheVariants as outers
 use Rattle.c_tree.specs.Tree.{Expr, name, named, pointer, function_void}
 use Rattle.c_tree.specs.Tree as tree
 use Rattle.c_tree.specs.Statements.{Statement, no_items, statement_and, return_none, return_value}
+use Rattle.c_typed.specs.declared.unit.Subject.TheVariants as subjects
 use Rattle.c_typed.specs.Tree as to
 use Rattle.c_check.specs.Units.{typing_of}
 
@@ -37,7 +38,17 @@ a_missing_value = refl
 
 -- int main(void){return 7;}
 pub a_result : typing_of (main_of (return_value (tree.integer 7 constants.Int)) ∷ [])
-    ≡ Ok (record { structs = []; globals = []; made = []; values = []; functions = record { name = main_name; ty = function (integer Int) no_types; slots = []; body = Some (to.scope [] (to.seq (to.return (to.number Int 7)) to.done)) } ∷ [] })
+    ≡ Ok (record {
+      tags = [];
+      structs = [];
+      members = [];
+      enumerations = [];
+      names = [];
+      globals = [];
+      made = [];
+      functions = record { name = main_name; ty = function (integer Int) no_types; slots = []; body = Some (to.scope [] (to.seq (to.return (to.number Int 7)) to.done)) } ∷ [];
+      additions = record { at = 0; subject = subjects.Function 0 } ∷ record { at = 0; subject = subjects.Body 0 } ∷ [];
+    })
 a_result = refl
 
 -- a function that is defined twice: the second definition begins at 30

@@ -27,6 +27,7 @@ use Rattle.c_typed.specs.declared.ops.BinaryOp.TheVariants as ops
 use Rattle.c_typed.specs.declared.ops.RelOp.TheVariants as relations
 use Rattle.c_typed.specs.declared.ops.UnaryOp.TheVariants as signs
 use Rattle.c_typed.specs.declared.ops.Variable.TheVariants.{Local, Global}
+use Rattle.c_typed.specs.declared.unit.Subject.TheVariants as subjects
 use Rattle.c_typed.specs.Tree as to
 use Rattle.c_typed.specs.Tree.{Stmt}
 use Rattle.c_check.specs.Units.{typing_of}
@@ -75,7 +76,18 @@ returning e = statement_and (return_value e) no_items
 
 abbrev gives : Items → (slots : List Ty) → Stmt → Type 0
 gives is slots body =
-    typing_of (main_of is ∷ []) ≡ Ok (record { structs = []; globals = []; made = []; values = []; functions = record { name = main_name; ty = types.function (integer Int) types.no_types; slots = slots; body = Some body } ∷ [] })
+    typing_of (main_of is ∷ [])
+    ≡ Ok (record {
+      tags = [];
+      structs = [];
+      members = [];
+      enumerations = [];
+      names = [];
+      globals = [];
+      made = [];
+      functions = record { name = main_name; ty = types.function (integer Int) types.no_types; slots = slots; body = Some body } ∷ [];
+      additions = record { at = 0; subject = subjects.Function 0 } ∷ record { at = 0; subject = subjects.Body 0 } ∷ [];
+    })
 
 -- return e;
 abbrev returns : Expr → to.Expr → Type 0
@@ -159,7 +171,7 @@ pub a_loop : gives (statement_and (while_loop (int 1) (jump jumps.Break)) (retur
 a_loop = refl
 
 -- char a[3]="ab"; return a[0];
-pub a_string : gives (declaration_and a_char (with_value (tree.sized (named a) (int 3)) (tree.string (97 ∷ 98 ∷ [])) ∷ []) (returning (tree.index (tree.name a) (int 0)))) (types.array (integer Char) 3 ∷ []) (to.scope (0 ∷ []) (to.seq (to.fill (slot 0) (97 ∷ 98 ∷ [])) (to.seq (to.return (to.convert Char Int (to.read (scalars.Int Char) (to.deref (to.move (integer Char) false (to.decay (integer Char) 3 (slot 0)) (to.convert Int LongLong (number 0))))))) to.done)))
+pub a_string : gives (declaration_and a_char (with_value (tree.sized (named a) (int 3)) (tree.string (97 ∷ 98 ∷ [])) ∷ []) (returning (tree.index (tree.name a) (int 0)))) (types.array (integer Char) 3 ∷ []) (to.scope (0 ∷ []) (to.seq (to.fill (slot 0) 3 (97 ∷ 98 ∷ [])) (to.seq (to.return (to.convert Char Int (to.read (scalars.Int Char) (to.deref (to.move (integer Char) false (to.decay (integer Char) 3 (slot 0)) (to.convert Int LongLong (number 0))))))) to.done)))
 a_string = refl
 
 -- if(1)return 2; else return 3;
@@ -170,5 +182,15 @@ an_else = refl
 
 -- int a=3;
 pub a_global : typing_of (record { at = 0; specifier = outers.Plain an_int; form = forms.Declaration (with_value (named a) (int 3) ∷ []) } ∷ [])
-    ≡ Ok (record { structs = []; globals = integer Int ∷ []; made = to.global 0 ∷ []; values = to.perform (to.assign (scalars.Int Int) (to.of (Global 0)) (number 3)) ∷ []; functions = [] })
+    ≡ Ok (record {
+      tags = [];
+      structs = [];
+      members = [];
+      enumerations = [];
+      names = a ∷ [];
+      globals = integer Int ∷ [];
+      made = to.global 0 (to.perform (to.assign (scalars.Int Int) (to.of (Global 0)) (number 3)) ∷ []) ∷ [];
+      functions = [];
+      additions = record { at = 0; subject = subjects.Variable 0 } ∷ [];
+    })
 a_global = refl

@@ -1,42 +1,46 @@
 -- A unit that the rules type is well typed.
-use Rattle.std.proofs.Common.{◌≡◌, subst, refl, ℕ, false, List, [], ◌∷◌, Option, Some, None, Result, Ok, Err}
+use Rattle.std.proofs.Common.{◌≡◌, subst, refl, ℕ, List, [], ◌∷◌, Option, Some, None, Result, Ok, Err, arith}
 use Rattle.std.proofs.lemmas.List.Elements.{All-nil}
-use Rattle.std.specs.List.{All}
 use Rattle.c_types.specs.Layout.{Layout, layout_at}
-use Rattle.c_types.specs.Types.{void}
 use Rattle.c_tree.specs.declared.external.External.{External}
 use Rattle.c_typed.specs.Tree.{Typed}
 use Rattle.c_check_types.specs.State.{State}
 use Rattle.c_well_typed.specs.Types.{IsObject}
-use Rattle.c_well_typed.specs.Statements.{IsStatement}
-use Rattle.c_well_typed.specs.Units.{IsFunction, IsMade, IsWellTyped}
-use Rattle.c_laws.proofs.States.{Good, IsDeclared}
+use Rattle.c_well_typed.specs.Units.{AreMembers, HasIdentifier, IsFunction, IsMade, IsWellTyped}
+use Rattle.c_check.proofs.States.{IsBelow, IsKnown, Good, IsDeclared}
 use Rattle.c_check.specs.Declarations.{external}
 use Rattle.c_check.specs.Units.{start, typed_state, going_on, externals, typing_of}
 use Rattle.c_check.proofs.Held.{so_far, Held, well-typed}
 use Rattle.c_check.proofs.FileScope.{external-does}
 
-nothing-defined : (n : ℕ) (l : Layout) → layout_at [] n ≡ Some l → All (IsObject []) l.members
+nothing-defined : (n : ℕ) (l : Layout) → layout_at [] n ≡ Some l → AreMembers [] l.members
 nothing-defined n l e = let q : None ≡ Some l = e in absurd (cc)
 
 start-good : Good start
 start-good =
     record {
       tags = refl;
+      laid_out = record { sized = λ n l e. let q : None ≡ Some l = e in absurd (cc); is = λ n l e. let q : None ≡ Some l = e in absurd (cc) };
       structs = nothing-defined;
+      names = refl;
       globals = All-nil (IsObject []);
       functions = All-nil (IsDeclared []);
+      named = (refl, All-nil HasIdentifier, tt);
       slots = All-nil (IsObject []);
+      scoped = omega arith;
+      known = (All-nil (IsKnown []), tt);
+      opened = All-nil (IsBelow []);
     }
 
 start-held : Held start
-start-held =
-    record {
-      literals = refl;
-      made = All-nil (IsMade []);
-      values = All-nil (IsStatement (so_far start []) void false);
-      functions = All-nil (IsFunction (typed_state start));
-    }
+start-held = (
+  record {
+    literals = refl;
+    made = All-nil (IsMade (so_far start [] 0));
+    functions = All-nil (IsFunction (typed_state start));
+  },
+  refl,
+)
 
 -- behind one declaration
 behind-one : (x : External) (s : State) (next : State → Result Typed ℕ) (u : Typed) → Good s → Held s → s.slots ≡ []

@@ -1,3 +1,4 @@
+pub mod Initialisers
 pub mod Statements
 pub mod Declarations
 pub mod Units

@@ -1,6 +1,9 @@
 -- Declarations in functions (C11, 6.7), statements (6.8) and the bodies of functions (6.9.1).
-use Rattle.std.specs.Prelude.{ℕ, Bool, true, false, List, [], ◌∷◌, ◌++◌, Option, Some, None, if◌then◌else◌}
+use Rattle.std.specs.Prelude.{ℕ, Bool, true, false, not, List, [], ◌∷◌, ◌++◌, length, nat_eq, Option, Some, None, if◌then◌else◌}
+use Rattle.std.specs.List.{list_any}
+use Rattle.c_types.specs.declared.integers.IntType.{IntType}
 use Rattle.c_types.specs.declared.integers.IntType.TheVariants.{Int}
+use Rattle.c_types.specs.Integers.{promoted}
 use Rattle.c_types.specs.Types.{Ty, void, is_function}
 use Rattle.c_tree.specs.declared.first.ForFirstNode.{ForFirstNode}
 use Rattle.c_tree.specs.declared.first.ForFirstNode.TheVariants as firsts
@@ -12,26 +15,36 @@ use Rattle.c_tree.specs.Statements as tree
 use Rattle.c_tree.specs.Statements.{Statement, Items}
 use Rattle.c_tree.specs.Tree.{Expr, Declarator, Initialiser}
 use Rattle.c_typed.specs.declared.ops.Variable.TheVariants as variables
+use Rattle.c_typed.specs.declared.tree.Case.{Case}
+use Rattle.c_typed.specs.Forms.{Form, promoted_value}
 use Rattle.c_typed.specs.Tree as to
 use Rattle.c_typed.specs.Tree.{Stmt}
-use Rattle.c_check_types.specs.State.{Rule, ◌>>=◌, ◌>>◌, pure, given, only_if}
+use Rattle.c_check_types.specs.State.{Rule, ◌>>=◌, ◌>>◌, pure, none, given, only_if}
 use Rattle.c_check_types.specs.Scopes.{opened, closed, enters_local, declares_function}
-use Rattle.c_check_types.specs.Types.{Derived, whole, lengthless, specified, declared}
+use Rattle.c_check_types.specs.Constants.{value_at}
+use Rattle.c_check_types.specs.Types.{Derived, whole, lengthless, specified, declared, constant}
 use Rattle.c_typed.specs.Parts.{sequence}
 use Rattle.c_declare.specs.Initials.{variable_type}
-use Rattle.c_check_exprs.specs.Expressions.{a_condition, as_assigned, performed, typing}
-use Rattle.c_initialisers.specs.Initialisers.{initialised}
+use Rattle.c_check_exprs.specs.Expressions.{a_condition, an_integer, as_assigned, performed, typing}
+use Rattle.c_well_typed.specs.declared.jumps.Jumps.{Jumps}
+use Rattle.c_well_typed.specs.Statements.{in_loop, in_switch}
+use Rattle.c_check.specs.Initialisers.{initialised}
 
--- what is declared, and what is done there
+-- What is declared in a block, and what is done there; in a switch behind its last label. There the numbers of its labels,
+-- whether one is `default`, its labels, and the groups of statements in front of the last one.
 pub record Declaring : Type 0 where
   pub slots : List ℕ
   pub done : List Stmt
+  pub labels : List ℕ
+  pub has_default : Bool
+  pub cases : List Case
+  pub groups : List Stmt
 
 abbrev pub nothing_done : Declaring
-nothing_done = record { slots = []; done = [] }
+nothing_done = record { slots = []; done = []; labels = []; has_default = false; cases = []; groups = [] }
 
 abbrev pub and_done : Declaring → Stmt → Declaring
-and_done d s = record { slots = d.slots; done = d.done ++ s ∷ [] }
+and_done d s = record d { done = d.done ++ s ∷ [] }
 
 abbrev pub scope_of : Declaring → Stmt
 scope_of d = to.scope d.slots (sequence d.done)
@@ -48,7 +61,7 @@ declares_variable name d v so_far = do
   t ← variable_type d v
   n ← enters_local name t
   done ← local_value n t v so_far.done
-  pure (record { slots = so_far.slots ++ n ∷ []; done = done })
+  pure (record so_far { slots = so_far.slots ++ n ∷ []; done = done })
 
 abbrev pub is_missing : Option Initialiser → Bool
 is_missing None = true
@@ -128,10 +141,15 @@ abbrev pub jump_of : Jump → Stmt
 jump_of jumps.Break = to.break
 jump_of jumps.Continue = to.continue
 
-abbrev pub jumped : Jump → (in_loop : Bool) → Rule Stmt
-jumped j in_loop = do
-  only_if in_loop
-  pure (jump_of j)
+-- `break` leaves a loop or a switch, `continue` belongs to a loop (6.8.6.2, 6.8.6.3)
+abbrev pub may_jump : Jump → Jumps → Bool
+may_jump jumps.Break j = j.breaks
+may_jump jumps.Continue j = j.continues
+
+abbrev pub jumped : Jump → Jumps → Rule Stmt
+jumped x j = do
+  only_if (may_jump x j)
+  pure (jump_of x)
 
 -- behind what is done so far
 abbrev pub doing : Rule Stmt → Declaring → Rule Declaring
@@ -139,51 +157,128 @@ doing rule so_far = do
   s ← rule
   pure (and_done so_far s)
 
--- ---- statements: of a function with this result, inside a loop or not
+-- ---- the labels of a switch (6.8.1, 6.8.4.2)
+
+-- the statements behind the last label, if there are any, are a group of their own
+abbrev pub is_nothing : List Stmt → Bool
+is_nothing [] = true
+is_nothing (s ∷ ss) = false
+
+abbrev pub with_group : List Stmt → List Stmt → List Stmt
+with_group groups ss = if is_nothing ss then groups else groups ++ to.scope [] (sequence ss) ∷ []
+
+abbrev pub with_case : Declaring → Option ℕ → Declaring
+with_case d label =
+    record d { done = []; cases = d.cases ++ record { label = label; group = length (with_group d.groups d.done) } ∷ []; groups = with_group d.groups d.done }
+
+abbrev pub is_among : List ℕ → ℕ → Bool
+is_among ns n = list_any (nat_eq n) ns
+
+-- labels are distinct
+abbrev pub with_label : Declaring → ℕ → Declaring
+with_label d n = record d { labels = d.labels ++ n ∷ [] }
+
+abbrev pub labelled : ℕ → Declaring → Rule Declaring
+labelled n d = do
+  only_if (not (is_among d.labels n))
+  pure (with_case (with_label d n) (Some n))
+
+abbrev pub with_default : Declaring → Declaring
+with_default d = record d { has_default = true }
+
+abbrev pub defaulted : Declaring → Rule Declaring
+defaulted d = do
+  only_if (not d.has_default)
+  pure (with_case (with_default d) None)
+
+-- A label is a constant that is converted to the type of the switch. Only in its braces labels stand.
+abbrev pub case_label : Option IntType → Expr → Declaring → Rule Declaring
+case_label None e d = none
+case_label (Some t) e d = do
+  c ← constant e
+  n ← given (value_at t c)
+  labelled n d
+
+abbrev pub default_label : Option IntType → Declaring → Rule Declaring
+default_label None d = none
+default_label (Some t) d = defaulted d
+
+-- the operand, promoted
+abbrev pub switched_on : Rule Form → Rule (to.Expr × IntType)
+switched_on rule = do
+  v ← an_integer rule
+  pure (promoted_value v, promoted v.1)
+
+abbrev pub switch_of : to.Expr × IntType → Declaring → Stmt
+switch_of v d = to.switch v.1 v.0 d.slots d.cases (sequence (with_group d.groups d.done))
+
+-- a loop, behind what comes first, by the rule of its body
+abbrev pub for_parts : ForFirstNode → Option Expr → Option Expr → Rule Stmt → Rule Stmt
+for_parts a c b body = do
+  d ← first_of a nothing_done
+  test ← test_of c
+  step ← step_of b
+  s ← body
+  pure (in_front_of_loop a d (to.loop test step s))
+
+-- ---- statements: of a function with this result, by the jumps that may stand there
 
 abbrev mutual
-  pub statement : Statement → (result : Ty) → (in_loop : Bool) → Rule Stmt
-  statement (tree.block is) r l = do
+  pub statement : Statement → (result : Ty) → Jumps → Rule Stmt
+  statement (tree.block is) r j = do
     opened
-    d ← items is r l nothing_done
+    d ← items is r j None nothing_done
     closed
     pure (scope_of d)
-  statement (tree.plain e) r l = do
+  statement (tree.plain e) r j = do
     v ← performed (typing e)
     pure (to.perform v)
-  statement tree.empty r l = pure to.nothing
-  statement (tree.if_then c a) r l = do
+  statement tree.empty r j = pure to.nothing
+  statement (tree.if_then c a) r j = do
     test ← a_condition (typing c)
-    s ← statement a r l
+    s ← statement a r j
     pure (to.if_else test s to.nothing)
-  statement (tree.if_else c a b) r l = do
+  statement (tree.if_else c a b) r j = do
     test ← a_condition (typing c)
-    s ← statement a r l
-    t ← statement b r l
+    s ← statement a r j
+    t ← statement b r j
     pure (to.if_else test s t)
-  statement (tree.while_loop c a) r l = do
+  statement (tree.while_loop c a) r j = do
     test ← a_condition (typing c)
-    s ← statement a r true
+    s ← statement a r in_loop
     pure (to.loop test None s)
+  statement (tree.do_while a c) r j = do
+    s ← statement a r in_loop
+    test ← a_condition (typing c)
+    pure (to.do_while s test)
   -- a `for` is a block of its own
-  statement (tree.for_loop a c b body) r l = do
+  statement (tree.for_loop a c b body) r j = do
     opened
-    d ← first_of a nothing_done
-    test ← test_of c
-    step ← step_of b
-    s ← statement body r true
+    s ← for_parts a c b (statement body r in_loop)
     closed
-    pure (in_front_of_loop a d (to.loop test step s))
-  statement tree.return_none r l = returned_nothing r
-  statement (tree.return_value e) r l = returned r e
-  statement (tree.jump j) r l = jumped j l
+    pure s
+  statement (tree.switch e is) r j = do
+    v ← switched_on (typing e)
+    opened
+    d ← items is r (in_switch j) (Some v.1) nothing_done
+    closed
+    pure (switch_of v d)
+  statement tree.return_none r j = returned_nothing r
+  statement (tree.return_value e) r j = returned r e
+  statement (tree.jump x) r j = jumped x j
 
-  -- what stands in a block, behind what is done so far
-  pub items : Items → (result : Ty) → (in_loop : Bool) → Declaring → Rule Declaring
-  items tree.no_items r l so_far = pure so_far
-  items (tree.statement_and s is) r l so_far = do
-    d ← doing (statement s r l) so_far
-    items is r l d
-  items (tree.declaration_and s xs is) r l so_far = do
+  -- what stands in a block, or in the braces of a switch on this type, behind what is done so far
+  pub items : Items → (result : Ty) → Jumps → (labels : Option IntType) → Declaring → Rule Declaring
+  items tree.no_items r j l so_far = pure so_far
+  items (tree.statement_and s is) r j l so_far = do
+    d ← doing (statement s r j) so_far
+    items is r j l d
+  items (tree.declaration_and s xs is) r j l so_far = do
     d ← declaration_of s xs so_far
-    items is r l d
+    items is r j l d
+  items (tree.case_and e is) r j l so_far = do
+    d ← case_label l e so_far
+    items is r j l d
+  items (tree.default_and is) r j l so_far = do
+    d ← default_label l so_far
+    items is r j l d

@@ -9,11 +9,37 @@ use Rattle.c_check.specs.Declarations.{external}
 -- before the unit: the file scope is empty
 abbrev pub start : State
 start =
-    record { tags = []; structs = []; members = []; function_names = []; functions = []; globals = []; made = []; literals = 0; values = []; scopes = no_names ∷ []; slots = [] }
+    record {
+      tags = [];
+      structs = [];
+      members = [];
+      enum_tags = [];
+      enumerations = [];
+      function_names = [];
+      functions = [];
+      global_names = [];
+      globals = [];
+      made = [];
+      literals = 0;
+      scopes = no_names ∷ [];
+      slots = [];
+      at = 0;
+      additions = [];
+    }
 
 abbrev pub typed_state : State → Typed
 typed_state s =
-    record { structs = s.structs; globals = s.globals; made = s.made; values = s.values; functions = s.functions }
+    record {
+      tags = s.tags;
+      structs = s.structs;
+      members = s.members;
+      enumerations = s.enumerations;
+      names = s.global_names;
+      globals = s.globals;
+      made = s.made;
+      functions = s.functions;
+      additions = s.additions;
+    }
 
 -- behind one declaration, which begins there
 abbrev pub going_on : (at : ℕ) → Option (Unit {0} × State) → (State → Result Typed ℕ) → Result Typed ℕ

@@ -4,23 +4,29 @@ ghost use Rattle.std.specs.Prelude.{◌≡◌, ◌++◌, ◌∷◌, [], IfOk, On
 ghost use Rattle.c_types.specs.Types.{type_of};
 ghost use Rattle.c_typed.specs.Views.{list_of, stmt_of};
 ghost use Rattle.c_check_types.specs.Types.{whole};
-ghost use Rattle.c_check_types.specs.Views.{Answers, Gives, derived_of, name_of, state_of};
+ghost use Rattle.c_check_types.specs.Views.{Obeys, Gives, derived_of, name_of, state_of};
 ghost use Rattle.c_check.specs.Statements as words;
 ghost use Rattle.c_check.specs.Views.{declaring_of};
 
+use crate::initialiser::initialised;
+use crate::labels::Labels;
 use c_check_types::{Checker, Derived, Stop};
 use c_declare::{declares_function, enters_local, variable_type};
-use c_initialisers::initialised;
 use c_tree::{Init, Initialiser, Inits, SpecifierNode};
-use c_typed::{Path, Stmt, Variable, add, scope};
+use c_typed::{Case, Path, Stmt, Variable, add, scope};
 use c_types::CType;
 use std::alloc::{AllocError, Global};
 
-/// What is declared in a scope, by slot, and what is done there.
+/// What is declared in a block, by slot, and what is done there; in a switch behind its last label. There the numbers of its
+/// labels, whether one is `default`, its labels, and the groups of statements in front of the last one.
 #[derive(Drop)]
 pub struct Declaring {
     pub slots: Vec<u32>,
     pub done: Vec<Stmt>,
+    pub labels: Labels,
+    pub has_default: bool,
+    pub cases: Vec<Case>,
+    pub groups: Vec<Stmt>,
 }
 
 /// Nothing declared, and nothing done. Takes no memory.
@@ -30,6 +36,10 @@ pub fn nothing_done(alloc: Global) -> Declaring
     Declaring {
         slots: Vec::new(alloc),
         done: Vec::new(alloc),
+        labels: Labels::new(alloc),
+        has_default: false,
+        cases: Vec::new(alloc),
+        groups: Vec::new(alloc),
     }
 }
 
@@ -55,7 +65,7 @@ fn local_value<'a>(
     v: &'a Option<Initialiser>,
     done: &mut Vec<Stmt>,
 ) -> Result<(), Stop>
-    ensures { Answers (λ _. list_of done.new.items) (words.local_value n (type_of t.now) v.now (list_of done.old.items)) (state_of checker.old) (state_of checker.new) result }
+    ensures { Obeys (λ _. list_of done.new.items) (words.local_value n (type_of t.now) v.now (list_of done.old.items)) (state_of checker.old) (state_of checker.new) result }
 {
     match v {
         None => Ok(()),
@@ -78,7 +88,7 @@ fn declares_variable<'a>(
     v: &'a Option<Initialiser>,
     so_far: &mut Declaring,
 ) -> Result<(), Stop>
-    ensures { Answers (λ _. declaring_of so_far.new) (words.declares_variable name.now (derived_of d) v.now (declaring_of so_far.old)) (state_of checker.old) (state_of checker.new) result }
+    ensures { Obeys (λ _. declaring_of so_far.new) (words.declares_variable name.now (derived_of d) v.now (declaring_of so_far.old)) (state_of checker.old) (state_of checker.new) result }
 {
     let t = variable_type(checker, d, v)?;
     let n = enters_local(checker, name, t.share()?)?;
@@ -105,7 +115,7 @@ fn declares_function_there<'a>(
     v: &'a Option<Initialiser>,
     so_far: &mut Declaring,
 ) -> Result<(), Stop>
-    ensures { Answers (λ _. declaring_of so_far.new) (words.declares_function_there name.now (type_of t) v.now (declaring_of so_far.old)) (state_of checker.old) (state_of checker.new) result }
+    ensures { Obeys (λ _. declaring_of so_far.new) (words.declares_function_there name.now (type_of t) v.now (declaring_of so_far.old)) (state_of checker.old) (state_of checker.new) result }
 {
     let _so_far = &so_far;
     if !is_missing(v) {
@@ -123,7 +133,7 @@ fn declares_whole<'a>(
     v: &'a Option<Initialiser>,
     so_far: &mut Declaring,
 ) -> Result<(), Stop>
-    ensures { Answers (λ _. declaring_of so_far.new) (words.declares name.now (whole (type_of t)) v.now (declaring_of so_far.old)) (state_of checker.old) (state_of checker.new) result }
+    ensures { Obeys (λ _. declaring_of so_far.new) (words.declares name.now (whole (type_of t)) v.now (declaring_of so_far.old)) (state_of checker.old) (state_of checker.new) result }
 {
     if t.is_function() {
         declares_function_there(checker, name, t, v, so_far)
@@ -140,7 +150,7 @@ fn declares<'a>(
     v: &'a Option<Initialiser>,
     so_far: &mut Declaring,
 ) -> Result<(), Stop>
-    ensures { Answers (λ _. declaring_of so_far.new) (words.declares name.now (derived_of d) v.now (declaring_of so_far.old)) (state_of checker.old) (state_of checker.new) result }
+    ensures { Obeys (λ _. declaring_of so_far.new) (words.declares name.now (derived_of d) v.now (declaring_of so_far.old)) (state_of checker.old) (state_of checker.new) result }
 {
     match d {
         Derived::Whole(t) => declares_whole(checker, name, t, v, so_far),
@@ -157,7 +167,7 @@ fn declares_one<'a>(
     x: &'a Init,
     so_far: &mut Declaring,
 ) -> Result<(), Stop>
-    ensures { Answers (λ _. declaring_of so_far.new) (words.declares_one (type_of b.now) x.now.declarator x.now.value (declaring_of so_far.old)) (state_of checker.old) (state_of checker.new) result }
+    ensures { Obeys (λ _. declaring_of so_far.new) (words.declares_one (type_of b.now) x.now.declarator x.now.value (declaring_of so_far.old)) (state_of checker.old) (state_of checker.new) result }
 {
     let declared = checker.declared(
         &x.declarator,
@@ -177,7 +187,7 @@ fn declaration<'a>(
     xs: &'a [Init],
     so_far: &mut Declaring,
 ) -> Result<(), Stop>
-    ensures { Answers (λ _. declaring_of so_far.new) (words.declaration (type_of b.now) xs.now (declaring_of so_far.old)) (state_of checker.old) (state_of checker.new) result }
+    ensures { Obeys (λ _. declaring_of so_far.new) (words.declaration (type_of b.now) xs.now (declaring_of so_far.old)) (state_of checker.old) (state_of checker.new) result }
 {
     for x in xs {
         match declares_one(checker, b, x, so_far) {
@@ -195,7 +205,7 @@ pub fn declaration_of<'a>(
     xs: &'a Inits,
     so_far: &mut Declaring,
 ) -> Result<(), Stop>
-    ensures { Answers (λ _. declaring_of so_far.new) (words.declaration_of s.now xs.now (declaring_of so_far.old)) (state_of checker.old) (state_of checker.new) result }
+    ensures { Obeys (λ _. declaring_of so_far.new) (words.declaration_of s.now xs.now (declaring_of so_far.old)) (state_of checker.old) (state_of checker.new) result }
 {
     let b = checker.specified(s)?;
     declaration(checker, &b, xs.items(), so_far)

@@ -2,11 +2,11 @@
 
 ghost use Rattle.std.specs.Prelude.{◌≡◌};
 ghost use Rattle.c_types.specs.Types.{type_of};
-ghost use Rattle.c_check_types.specs.Views.{Answers, parameters_in, state_of};
+ghost use Rattle.c_check_types.specs.Views.{Obeys, parameters_in, state_of};
 ghost use Rattle.c_check.specs.Declarations as words;
 
 use crate::declaring::{nothing_done, scope_of};
-use crate::statement::items;
+use crate::statement::{items, no_jumps};
 use c_check_types::{Checker, Derived, Parameter, Stop, whole_type};
 use c_declare::{
     closed, declares_function, enters_parameters, is_declared_alone, opened, result_in, with_body,
@@ -22,12 +22,12 @@ fn defines_function<'a>(
     result_type: &CType,
     is: &'a Block,
 ) -> Result<(), Stop>
-    ensures { Answers (λ _. tt) (words.defines_function n (parameters_in params.now) (type_of result_type.now) is.now) (state_of checker.old) (state_of checker.new) result }
+    ensures { Obeys (λ _. tt) (words.defines_function n (parameters_in params.now) (type_of result_type.now) is.now) (state_of checker.old) (state_of checker.new) result }
 {
     opened(checker)?;
     enters_parameters(checker, params)?;
     let mut d = nothing_done(checker.alloc);
-    items(checker, is, result_type, false, &mut d)?;
+    items(checker, is, result_type, no_jumps(), None, &mut d)?;
     closed(checker)?;
     let body = scope_of(checker.alloc, d)?;
     with_body(checker, n, body)
@@ -40,7 +40,7 @@ pub fn definition<'a>(
     d: &'a Declarator,
     is: &'a Block,
 ) -> Result<(), Stop>
-    ensures { Answers (λ _. tt) (words.definition (type_of b) d.now is.now) (state_of checker.old) (state_of checker.new) result }
+    ensures { Obeys (λ _. tt) (words.definition (type_of b) d.now is.now) (state_of checker.old) (state_of checker.new) result }
 {
     let x = checker.declared(d, Derived::Whole(b), Vec::new(checker.alloc))?;
     let Some(name) = x.name else {

@@ -1,28 +1,31 @@
 //! Statements (C11, 6.8) and the bodies of functions (6.9.1).
 
-ghost use Rattle.std.specs.Prelude.{◌≡◌, true, IfOk};
+ghost use Rattle.std.specs.Prelude.{◌≡◌, IfOk};
 ghost use Rattle.c_types.specs.Types.{type_of};
 ghost use Rattle.c_typed.specs.Views.{boxed_step, stmt_of};
 ghost use Rattle.c_tree.specs.Statements as tree;
-ghost use Rattle.c_check_types.specs.Views.{Answers, state_of};
+ghost use Rattle.c_check_types.specs.Views.{Obeys, state_of};
 ghost use Rattle.c_typed.specs.FormViews.{boxed_expr};
+ghost use Rattle.c_well_typed.specs.Statements.{in_loop, in_switch, no_jumps};
 ghost use Rattle.c_check.specs.Statements as words;
 ghost use Rattle.c_check.specs.Views.{boxed_stmt, declaring_of, item_rule};
 
 use crate::declaring::{Declaring, and_done, declaration_of, nothing_done, scope_of};
+use crate::switch::{case_label, default_label, switch_of, switched_on};
 use c_check_exprs::{performed, typed_as, typed_condition};
 use c_check_types::{Checker, Stop};
 use c_declare::{closed, opened};
 use c_tree::{
     Block, Expr as Written, ForFirst, ForFirstNode, Item, Jump, Statement, StatementNode,
 };
-use c_typed::{Expr, Stmt, boxed, if_else, loop_of, perform, return_value, while_loop};
+use c_typed::{Expr, Stmt, boxed, do_while, if_else, loop_of, perform, return_value, while_loop};
 use c_types::{CType, IntType};
+use c_well_typed::Jumps;
 use std::alloc::{AllocError, Global};
 
 /// The test of a `for`; a missing one holds (C11, 6.8.5.3).
 fn test_of<'a>(checker: &mut Checker<'a>, e: &'a Option<Written>) -> Result<Box<Expr>, Stop>
-    ensures { Answers boxed_expr (words.test_of e.now) (state_of checker.old) (state_of checker.new) result }
+    ensures { Obeys boxed_expr (words.test_of e.now) (state_of checker.old) (state_of checker.new) result }
 {
     match e {
         None => Ok(boxed(checker.alloc, Expr::Number(IntType::Int, 1))?),
@@ -32,7 +35,7 @@ fn test_of<'a>(checker: &mut Checker<'a>, e: &'a Option<Written>) -> Result<Box<
 
 /// The step of a `for`, if it has one.
 fn step_of<'a>(checker: &mut Checker<'a>, e: &'a Option<Written>) -> Result<Option<Box<Expr>>, Stop>
-    ensures { Answers boxed_step (words.step_of e.now) (state_of checker.old) (state_of checker.new) result }
+    ensures { Obeys boxed_step (words.step_of e.now) (state_of checker.old) (state_of checker.new) result }
 {
     match e {
         None => Ok(None),
@@ -49,7 +52,7 @@ fn first_of<'a>(
     first: &'a ForFirst,
     d: &mut Declaring,
 ) -> Result<(), Stop>
-    ensures { Answers (λ _. declaring_of d.new) (words.first_of first.now (declaring_of d.old)) (state_of checker.old) (state_of checker.new) result }
+    ensures { Obeys (λ _. declaring_of d.new) (words.first_of first.now (declaring_of d.old)) (state_of checker.old) (state_of checker.new) result }
 {
     match first.node() {
         ForFirstNode::Nothing => Ok(()),
@@ -90,7 +93,7 @@ fn scope_with(alloc: Global, d: Declaring, s: Box<Stmt>) -> Result<Box<Stmt>, Al
 
 /// A result that is returned, converted as if by assignment (C11, 6.8.6.4).
 fn returned<'a>(checker: &mut Checker<'a>, t: &CType, e: &'a Written) -> Result<Box<Stmt>, Stop>
-    ensures { Answers boxed_stmt (words.returned (type_of t.now) e.now) (state_of checker.old) (state_of checker.new) result }
+    ensures { Obeys boxed_stmt (words.returned (type_of t.now) e.now) (state_of checker.old) (state_of checker.new) result }
 {
     let v = typed_as(checker, e, t)?;
     Ok(return_value(checker.alloc, v)?)
@@ -112,7 +115,7 @@ fn is_void(t: &CType) -> bool
 
 /// A return without a value, in a function with this result.
 fn returned_nothing<'a>(checker: &Checker<'a>, t: &CType) -> Result<Box<Stmt>, Stop>
-    ensures { Answers boxed_stmt (words.returned_nothing (type_of t.now)) (state_of checker.now) (state_of checker.now) result }
+    ensures { Obeys boxed_stmt (words.returned_nothing (type_of t.now)) (state_of checker.now) (state_of checker.now) result }
 {
     if !is_void(t) {
         return Err(Stop::NoTyping);
@@ -130,28 +133,68 @@ fn jump_of(j: Jump) -> Stmt
     }
 }
 
-/// A jump, inside a loop or not.
-fn jumped<'a>(checker: &Checker<'a>, j: Jump, in_loop: bool) -> Result<Box<Stmt>, Stop>
-    ensures { Answers boxed_stmt (words.jumped j in_loop) (state_of checker.now) (state_of checker.now) result }
+/// Whether a jump may stand there.
+fn may_jump(x: Jump, j: Jumps) -> bool
+    ensures { result ≡ words.may_jump x j }
 {
-    if !in_loop {
-        return Err(Stop::NoTyping);
+    match x {
+        Jump::Break => j.breaks,
+        Jump::Continue => j.continues,
     }
-    Ok(boxed(checker.alloc, jump_of(j))?)
 }
 
-/// A statement of a function with this result, inside a loop or not.
+/// A jump, where it may stand.
+fn jumped<'a>(checker: &Checker<'a>, x: Jump, j: Jumps) -> Result<Box<Stmt>, Stop>
+    ensures { Obeys boxed_stmt (words.jumped x j) (state_of checker.now) (state_of checker.now) result }
+{
+    if !may_jump(x, j) {
+        return Err(Stop::NoTyping);
+    }
+    Ok(boxed(checker.alloc, jump_of(x))?)
+}
+
+/// The jumps that may stand in the body of a function.
+pub fn no_jumps() -> Jumps
+    ensures { result ≡ no_jumps }
+{
+    Jumps {
+        breaks: false,
+        continues: false,
+    }
+}
+
+/// The jumps that may stand in a loop.
+fn in_loop() -> Jumps
+    ensures { result ≡ in_loop }
+{
+    Jumps {
+        breaks: true,
+        continues: true,
+    }
+}
+
+/// The jumps that may stand in a switch.
+fn in_switch(j: Jumps) -> Jumps
+    ensures { result ≡ in_switch j }
+{
+    Jumps {
+        breaks: true,
+        continues: j.continues,
+    }
+}
+
+/// A statement of a function with this result, by the jumps that may stand there.
 #[cycle(statement)]
 fn statement<'a>(
     checker: &mut Checker<'a>,
     s: &'a Statement,
     result_type: &CType,
-    in_loop: bool,
+    j: Jumps,
 ) -> Result<Box<Stmt>, Stop>
-    ensures { Answers boxed_stmt (words.statement s.now (type_of result_type.now) in_loop) (state_of checker.old) (state_of checker.new) result }
+    ensures { Obeys boxed_stmt (words.statement s.now (type_of result_type.now) j) (state_of checker.old) (state_of checker.new) result }
 {
     match s.node() {
-        StatementNode::Block(is) => block(checker, is, result_type, in_loop),
+        StatementNode::Block(is) => block(checker, is, result_type, j),
         StatementNode::Plain(e) => {
             let v = performed(checker, e)?;
             Ok(perform(checker.alloc, v)?)
@@ -159,25 +202,31 @@ fn statement<'a>(
         StatementNode::Empty => Ok(boxed(checker.alloc, Stmt::Nothing)?),
         StatementNode::IfThen(c, a) => {
             let test = typed_condition(checker, c)?;
-            let s = statement(checker, a, result_type, in_loop)?;
+            let s = statement(checker, a, result_type, j)?;
             let nothing = boxed(checker.alloc, Stmt::Nothing)?;
             Ok(if_else(checker.alloc, test, s, nothing)?)
         }
         StatementNode::IfElse(c, a, b) => {
             let test = typed_condition(checker, c)?;
-            let s = statement(checker, a, result_type, in_loop)?;
-            let t = statement(checker, b, result_type, in_loop)?;
+            let s = statement(checker, a, result_type, j)?;
+            let t = statement(checker, b, result_type, j)?;
             Ok(if_else(checker.alloc, test, s, t)?)
         }
         StatementNode::While(c, a) => {
             let test = typed_condition(checker, c)?;
-            let s = statement(checker, a, result_type, true)?;
+            let s = statement(checker, a, result_type, in_loop())?;
             Ok(while_loop(checker.alloc, test, s)?)
         }
-        StatementNode::For(a, c, b, body) => for_loop(checker, a, c, b, body, result_type),
+        StatementNode::DoWhile(a, c) => {
+            let s = statement(checker, a, result_type, in_loop())?;
+            let test = typed_condition(checker, c)?;
+            Ok(do_while(checker.alloc, s, test)?)
+        }
+        StatementNode::For(a, c, b, body) => for_loop(checker, a, c, b, body, result_type, j),
+        StatementNode::Switch(e, is) => switch(checker, e, is, result_type, j),
         StatementNode::ReturnNone => returned_nothing(checker, result_type),
         StatementNode::ReturnValue(e) => returned(checker, result_type, e),
-        StatementNode::Jump(j) => jumped(checker, *j, in_loop),
+        StatementNode::Jump(x) => jumped(checker, *x, j),
     }
 }
 
@@ -187,15 +236,34 @@ fn block<'a>(
     checker: &mut Checker<'a>,
     is: &'a Block,
     result_type: &CType,
-    in_loop: bool,
+    j: Jumps,
 ) -> Result<Box<Stmt>, Stop>
-    ensures { Answers boxed_stmt (words.statement (tree.block is.now) (type_of result_type.now) in_loop) (state_of checker.old) (state_of checker.new) result }
+    ensures { Obeys boxed_stmt (words.statement (tree.block is.now) (type_of result_type.now) j) (state_of checker.old) (state_of checker.new) result }
 {
     opened(checker)?;
     let mut d = nothing_done(checker.alloc);
-    items(checker, is, result_type, in_loop, &mut d)?;
+    items(checker, is, result_type, j, None, &mut d)?;
     closed(checker)?;
     Ok(scope_of(checker.alloc, d)?)
+}
+
+/// A `switch` (C11, 6.8.4.2).
+#[cycle(statement)]
+fn switch<'a>(
+    checker: &mut Checker<'a>,
+    e: &'a Written,
+    is: &'a Block,
+    result_type: &CType,
+    j: Jumps,
+) -> Result<Box<Stmt>, Stop>
+    ensures { Obeys boxed_stmt (words.statement (tree.switch e.now is.now) (type_of result_type.now) j) (state_of checker.old) (state_of checker.new) result }
+{
+    let v = switched_on(checker, e)?;
+    opened(checker)?;
+    let mut d = nothing_done(checker.alloc);
+    items(checker, is, result_type, in_switch(j), Some(v.1), &mut d)?;
+    closed(checker)?;
+    Ok(switch_of(checker.alloc, v, d)?)
 }
 
 /// A `for`, which is a block of its own (C11, 6.8.5.3).
@@ -207,16 +275,33 @@ fn for_loop<'a>(
     b: &'a Option<Written>,
     body: &'a Statement,
     result_type: &CType,
+    j: Jumps,
 ) -> Result<Box<Stmt>, Stop>
-    ensures { Answers boxed_stmt (words.statement (tree.for_loop a.now c.now b.now body.now) (type_of result_type.now) true) (state_of checker.old) (state_of checker.new) result }
+    ensures { Obeys boxed_stmt (words.statement (tree.for_loop a.now c.now b.now body.now) (type_of result_type.now) j) (state_of checker.old) (state_of checker.new) result }
 {
     opened(checker)?;
+    let s = for_parts(checker, a, c, b, body, result_type)?;
+    closed(checker)?;
+    Ok(s)
+}
+
+/// A loop, behind what comes first.
+#[cycle(statement)]
+fn for_parts<'a>(
+    checker: &mut Checker<'a>,
+    a: &'a ForFirst,
+    c: &'a Option<Written>,
+    b: &'a Option<Written>,
+    body: &'a Statement,
+    result_type: &CType,
+) -> Result<Box<Stmt>, Stop>
+    ensures { Obeys boxed_stmt (words.for_parts a.now c.now b.now (words.statement body.now (type_of result_type.now) in_loop)) (state_of checker.old) (state_of checker.new) result }
+{
     let mut d = nothing_done(checker.alloc);
     first_of(checker, a, &mut d)?;
     let test = test_of(checker, c)?;
     let step = step_of(checker, b)?;
-    let s = statement(checker, body, result_type, true)?;
-    closed(checker)?;
+    let s = statement(checker, body, result_type, in_loop())?;
     let s = loop_of(checker.alloc, test, step, s)?;
     Ok(in_front_of_loop(checker.alloc, a, d, s)?)
 }
@@ -227,13 +312,14 @@ pub fn items<'a>(
     checker: &mut Checker<'a>,
     is: &'a Block,
     result_type: &CType,
-    in_loop: bool,
+    j: Jumps,
+    labels: Option<IntType>,
     so_far: &mut Declaring,
 ) -> Result<(), Stop>
-    ensures { Answers (λ _. declaring_of so_far.new) (words.items is.now (type_of result_type.now) in_loop (declaring_of so_far.old)) (state_of checker.old) (state_of checker.new) result }
+    ensures { Obeys (λ _. declaring_of so_far.new) (words.items is.now (type_of result_type.now) j labels (declaring_of so_far.old)) (state_of checker.old) (state_of checker.new) result }
 {
     for i in is.items() {
-        match item(checker, i, result_type, in_loop, so_far) {
+        match item(checker, i, result_type, j, labels, so_far) {
             Ok(()) => (),
             Err(e) => return Err(e),
         }
@@ -241,23 +327,26 @@ pub fn items<'a>(
     Ok(())
 }
 
-/// A statement or a declaration in a block.
+/// A statement, a declaration or a label in a block or a switch.
 #[cycle(statement)]
 fn item<'a>(
     checker: &mut Checker<'a>,
     i: &'a Item,
     result_type: &CType,
-    in_loop: bool,
+    j: Jumps,
+    labels: Option<IntType>,
     so_far: &mut Declaring,
 ) -> Result<(), Stop>
-    ensures { Answers (λ _. declaring_of so_far.new) (item_rule i.now (type_of result_type.now) in_loop (declaring_of so_far.old)) (state_of checker.old) (state_of checker.new) result }
+    ensures { Obeys (λ _. declaring_of so_far.new) (item_rule i.now (type_of result_type.now) j labels (declaring_of so_far.old)) (state_of checker.old) (state_of checker.new) result }
 {
     match i {
         Item::Statement(s) => {
-            let t = statement(checker, s, result_type, in_loop)?;
+            let t = statement(checker, s, result_type, j)?;
             and_done(so_far, t)?;
             Ok(())
         }
         Item::Declaration(s, xs) => declaration_of(checker, s.node(), xs, so_far),
+        Item::Case(e) => case_label(checker, labels, e, so_far),
+        Item::Default => default_label(checker, labels, so_far),
     }
 }

@@ -9,7 +9,7 @@ use Rattle.c_tree.specs.Views.{exprs_of, exprs_nodes, expr_nodes}
 use Rattle.c_typed.specs.Tree as to
 use Rattle.c_check_types.specs.State.{State, Rule, followed}
 use Rattle.c_check_types.specs.TypeEquality.{tys_of}
-use Rattle.c_check_exprs.specs.Expressions.{arguments, as_assigned, sole, typing}
+use Rattle.c_check_exprs.specs.Expressions.{arguments, as_assigned, factors, multiplying, sole, typing}
 
 -- what goes on behind an argument
 abbrev pub going_on : List Expr → List CType → List to.Expr → to.Expr → Rule (List to.Expr)
@@ -40,6 +40,28 @@ pub sole_isnt : (es : List Expr) → (length es ≡ 1 → ⊥) → (s : State) �
 sole_isnt [] d s = refl
 sole_isnt (x ∷ []) d s = absurd (d refl)
 sole_isnt (x ∷ y ∷ es) d s = refl
+
+pub factors_are : (es : List Expr) (a b : Expr) → length es ≡ 2 → a ≡ get_or es 0 a → b ≡ get_or es 1 b → (s : State) → factors (exprs_of es) s ≡ multiplying (typing a) (typing b) s
+factors_are [] a b l p q s = absurd (omega arith)
+factors_are (x ∷ []) a b l p q s = absurd (omega arith)
+factors_are (x ∷ y ∷ []) a b l p q s =
+    ap (λ (e : Expr). multiplying (typing e) (typing y) s) (sym p) ∙ ap (λ (e : Expr). multiplying (typing a) (typing e) s) (sym q)
+factors_are (x ∷ y ∷ z ∷ es) a b l p q s = absurd (omega arith)
+
+pub factors_arent : (es : List Expr) → (length es ≡ 2 → ⊥) → (s : State) → factors (exprs_of es) s ≡ None
+factors_arent [] d s = refl
+factors_arent (x ∷ []) d s = refl
+factors_arent (x ∷ y ∷ []) d s = absurd (d refl)
+factors_arent (x ∷ y ∷ z ∷ es) d s = refl
+
+pub two_fall : (es : List Expr) (a b : Expr) → length es ≡ 2 → a ≡ get_or es 0 a → b ≡ get_or es 1 b → expr_nodes a + expr_nodes b < exprs_nodes (exprs_of es)
+two_fall [] a b l p q = absurd (omega arith)
+two_fall (x ∷ []) a b l p q = absurd (omega arith)
+two_fall (x ∷ y ∷ []) a b l p q =
+    let m : expr_nodes a ≡ expr_nodes x = ap (λ e. expr_nodes e) p in
+    let n : expr_nodes b ≡ expr_nodes y = ap (λ e. expr_nodes e) q in
+    omega (arith, m, n)
+two_fall (x ∷ y ∷ z ∷ es) a b l p q = absurd (omega arith)
 
 -- each argument is smaller than all of them
 pub one_falls : (es : List Expr) (i : ℕ) (e : Expr) → i < length es → e ≡ get_or es i e → expr_nodes e < exprs_nodes (exprs_of es)

@@ -35,10 +35,10 @@ use Rattle.c_check_types.specs.TypeEquality.{same_type}
 use Rattle.c_check_types.specs.Operators.{operator_of}
 use Rattle.c_check_types.specs.Constants.{constant_type, constant_bits, character_bits}
 use Rattle.c_check_types.specs.Types.{size_of, type_name}
-use Rattle.c_forms.specs.Forms as form
+use Rattle.c_conversions.specs.Conversions as form
 use Rattle.c_typed.specs.Forms.{promoted_value, arithmetic, shift}
 use Rattle.c_operators.specs.Operations.{sum, minus, order, equality, choice}
-use Rattle.c_forms.specs.Forms.{Form, place, value, designator, text, zero, allocation, operand, value_of, integer_of, pointer_of, place_of, at_type, condition_of, assigned_to, thrown_away}
+use Rattle.c_conversions.specs.Conversions.{Form, place, value, designator, text, zero, bytes, product, allocation, operand, value_of, integer_of, pointer_of, place_of, at_type, condition_of, assigned_to, thrown_away}
 
 -- ---- names (6.5.1)
 
@@ -68,6 +68,8 @@ entity_form (entities.Global n) = do
 entity_form (entities.Function n) = do
   t ← function_type n
   pure (designator (to.function n) t)
+-- an enumerator, which is no null constant where it is 0 (6.3.2.3, paragraph 3)
+entity_form (entities.Constant n) = pure (value (to.number Int n) (integer Int))
 
 -- EOF is -1; the functions of the library stand where they are called alone
 abbrev pub name_form : List ℕ → Option LibraryName → Rule Form
@@ -198,7 +200,7 @@ size (place p t) = do
 size (value e t) = do
   n ← size_of t
   pure (value (to.size_of_value n e) (integer UnsignedInt))
-size (text bytes) = pure (value (to.size_of_type (length bytes + 1)) (integer UnsignedInt))
+size (text s) = pure (value (to.size_of_type (length s + 1)) (integer UnsignedInt))
 size (zero t) = do
   n ← size_of (integer t)
   pure (value (to.size_of_value n (to.number t 0)) (integer UnsignedInt))
@@ -365,36 +367,44 @@ putting f = do
 abbrev pub allocating : Form → Rule Form
 allocating f = do
   e ← assigned_to (integer UnsignedInt) f
-  pure (allocation e)
+  pure (allocation (bytes e))
+
+-- calloc, by the rules of its arguments, in order
+abbrev pub multiplying : (count size : Rule Form) → Rule Form
+multiplying count size = do
+  n ← as_assigned (integer UnsignedInt) count
+  e ← as_assigned (integer UnsignedInt) size
+  pure (allocation (product n e))
 
 abbrev pub no_arguments : Exprs → Bool
 no_arguments tree.no_exprs = true
 no_arguments (tree.expr_and e es) = false
 
--- a call of the library: of which function, with which arguments, the form of the sole one
-abbrev pub library_call : LibraryName → Exprs → Rule Form → Rule Form
-library_call prelude.Putchar es only = do
+-- a call of the library: of which function, with which arguments, the form of the sole one, and calloc's of two
+abbrev pub library_call : LibraryName → Exprs → (only two : Rule Form) → Rule Form
+library_call prelude.Putchar es only two = do
   x ← only
   putting x
-library_call prelude.Getchar es only = do
+library_call prelude.Getchar es only two = do
   only_if (no_arguments es)
   pure (value to.getchar (integer Int))
-library_call prelude.Abort es only = do
+library_call prelude.Abort es only two = do
   only_if (no_arguments es)
   pure (value to.abort void)
-library_call prelude.Malloc es only = do
+library_call prelude.Malloc es only two = do
   x ← only
   allocating x
-library_call prelude.Free es only = do
+library_call prelude.Calloc es only two = two
+library_call prelude.Free es only two = do
   x ← only
   freeing x
-library_call prelude.Null es only = none
-library_call prelude.Eof es only = none
+library_call prelude.Null es only two = none
+library_call prelude.Eof es only two = none
 
 -- a call: of the library, or of a function or a pointer to one
-abbrev pub calling : Option LibraryName → Rule Form → Exprs → Rule Form → (Tys → Rule (List to.Expr)) → Rule Form
-calling (Some l) callee es only arguments = library_call l es only
-calling None callee es only arguments = do
+abbrev pub calling : Option LibraryName → Rule Form → Exprs → (only two : Rule Form) → (Tys → Rule (List to.Expr)) → Rule Form
+calling (Some l) callee es only two arguments = library_call l es only two
+calling None callee es only two arguments = do
   p ← a_pointer callee
   called p arguments
 
@@ -426,13 +436,13 @@ abbrev mutual
   typing (tree.integer n t) =
       pure (constant_form (constant_bits (constant_type t) n) (constant_type t))
   typing (tree.character c) = pure (value (to.number Int (character_bits c)) (integer Int))
-  typing (tree.string bytes) = pure (text bytes)
+  typing (tree.string s) = pure (text s)
   typing (tree.paren e) = typing e
   typing (tree.index a i) = do
     p ← a_pointer (typing a)
     j ← an_integer (typing i)
     element p j
-  typing (tree.call f es) = calling (called_library f) (typing f) es (sole es) (λ ts. arguments es ts [])
+  typing (tree.call f es) = calling (called_library f) (typing f) es (sole es) (factors es) (λ ts. arguments es ts [])
   typing (tree.member op e n) = do
     x ← typing e
     member op x n
@@ -488,6 +498,11 @@ abbrev mutual
   pub sole : Exprs → Rule Form
   sole (tree.expr_and e tree.no_exprs) = typing e
   sole _ = none
+
+  -- calloc's two arguments
+  pub factors : Exprs → Rule Form
+  factors (tree.expr_and a (tree.expr_and b tree.no_exprs)) = multiplying (typing a) (typing b)
+  factors _ = none
 
   -- arguments, converted to the types of parameters, as many as there are, behind those so far
   pub arguments : Exprs → Tys → List to.Expr → Rule (List to.Expr)

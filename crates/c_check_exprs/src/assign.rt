@@ -3,12 +3,12 @@
 ghost use Rattle.std.specs.Prelude.{◌≡◌};
 ghost use Rattle.c_types.specs.Types.{integer, pointer, type_of};
 ghost use Rattle.c_typed.specs.Views.{expr_of, place_of};
-ghost use Rattle.c_check_types.specs.Views.{Answers, state_of};
+ghost use Rattle.c_check_types.specs.Views.{Obeys, state_of};
 ghost use Rattle.c_check_exprs.specs.Expressions as words;
 ghost use Rattle.c_typed.specs.FormViews.{form_of, integer_pair, place_pair};
 
 use c_check_types::{Checker, Operator, Stop, same_type};
-use c_forms::{as_place, assigned_to, integer_of};
+use c_conversions::{as_place, assigned_to, integer_of};
 use c_tree::{AssignOp, StepOp};
 use c_typed::{BinaryOp, Expr, Form, Place, at_type, boxed};
 use c_types::{CType, IntType};
@@ -21,7 +21,7 @@ fn copied<'a>(
     p: Box<Place>,
     q: (Box<Place>, CType),
 ) -> Result<Form<'a>, Stop>
-    ensures { Answers form_of (words.copied n (place_of p.value) (place_pair q)) (state_of checker.old) (state_of checker.new) result }
+    ensures { Obeys form_of (words.copied n (place_of p.value) (place_pair q)) (state_of checker.old) (state_of checker.new) result }
 {
     let (q, t) = q;
     if !same_type(&CType::Struct(n), &t) {
@@ -39,7 +39,7 @@ fn stored<'a>(
     t: CType,
     f: Form<'a>,
 ) -> Result<Form<'a>, Stop>
-    ensures { Answers form_of (words.stored (place_of p.value) (type_of t) (form_of f.entry)) (state_of checker.old) (state_of checker.new) result }
+    ensures { Obeys form_of (words.stored (place_of p.value) (type_of t) (form_of f.entry)) (state_of checker.old) (state_of checker.new) result }
 {
     let Some(scalar) = t.scalar() else {
         return Err(Stop::NoTyping);
@@ -55,7 +55,7 @@ fn assigned<'a>(
     p: (Box<Place>, CType),
     f: Form<'a>,
 ) -> Result<Form<'a>, Stop>
-    ensures { Answers form_of (words.assigned (place_pair p) (form_of f.entry)) (state_of checker.old) (state_of checker.new) result }
+    ensures { Obeys form_of (words.assigned (place_pair p) (form_of f.entry)) (state_of checker.old) (state_of checker.new) result }
 {
     let (p, t) = p;
     match t {
@@ -111,7 +111,7 @@ fn updated<'a>(
     p: (Box<Place>, CType),
     v: (Box<Expr>, IntType),
 ) -> Result<Form<'a>, Stop>
-    ensures { Answers form_of (words.updated old op (place_pair p) (integer_pair v)) (state_of checker.old) (state_of checker.new) result }
+    ensures { Obeys form_of (words.updated old op (place_pair p) (integer_pair v)) (state_of checker.old) (state_of checker.new) result }
 {
     let (p, t) = p;
     match t {
@@ -132,7 +132,7 @@ fn integer_updated<'a>(
     p: (Box<Place>, IntType),
     v: (Box<Expr>, IntType),
 ) -> Result<Form<'a>, Stop>
-    ensures { Answers form_of (words.updated old op (place_of p.0.value, integer p.1) (integer_pair v)) (state_of checker.now) (state_of checker.now) result }
+    ensures { Obeys form_of (words.updated old op (place_of p.0.value, integer p.1) (integer_pair v)) (state_of checker.now) (state_of checker.now) result }
 {
     let (p, t) = p;
     let (e, u) = v;
@@ -152,7 +152,7 @@ fn pointer_updated<'a>(
     p: (Box<Place>, Rc<CType>),
     v: (Box<Expr>, IntType),
 ) -> Result<Form<'a>, Stop>
-    ensures { Answers form_of (words.updated old op (place_of p.0.value, pointer (type_of p.1.value)) (integer_pair v)) (state_of checker.old) (state_of checker.new) result }
+    ensures { Obeys form_of (words.updated old op (place_of p.0.value, pointer (type_of p.1.value)) (integer_pair v)) (state_of checker.old) (state_of checker.new) result }
 {
     let (p, t) = p;
     let (e, u) = v;
@@ -172,7 +172,7 @@ pub fn assigning<'a>(
     p: (Box<Place>, CType),
     f: Form<'a>,
 ) -> Result<Form<'a>, Stop>
-    ensures { Answers form_of (words.assigning op (place_pair p) (form_of f.entry)) (state_of checker.old) (state_of checker.new) result }
+    ensures { Obeys form_of (words.assigning op (place_pair p) (form_of f.entry)) (state_of checker.old) (state_of checker.new) result }
 {
     match op {
         None => assigned(checker, p, f),
@@ -190,7 +190,7 @@ pub fn stepped<'a>(
     op: Operator,
     f: Form<'a>,
 ) -> Result<Form<'a>, Stop>
-    ensures { Answers form_of (words.stepped old op (form_of f.entry)) (state_of checker.old) (state_of checker.new) result }
+    ensures { Obeys form_of (words.stepped old op (form_of f.entry)) (state_of checker.old) (state_of checker.new) result }
 {
     let p = as_place(f)?;
     let one = boxed(checker.alloc, Expr::Number(IntType::Int, 1))?;

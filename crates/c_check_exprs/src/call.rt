@@ -6,15 +6,15 @@ ghost use Rattle.c_types.specs.Views.{types_in};
 ghost use Rattle.c_check_types.specs.TypeEquality.{tys_of};
 ghost use Rattle.c_typed.specs.Tree as to;
 ghost use Rattle.c_typed.specs.Views.{expr_of};
-ghost use Rattle.c_check_types.specs.Views.{Answers, Gives, state_of};
+ghost use Rattle.c_check_types.specs.Views.{Obeys, Gives, state_of};
 ghost use Rattle.c_check_exprs.specs.Expressions as words;
 ghost use Rattle.c_typed.specs.Forms as forms;
 ghost use Rattle.c_typed.specs.FormViews.{boxed_expr, form_of};
 ghost use Rattle.c_check_exprs.specs.Views.{exprs_in};
 
 use c_check_types::{Checker, Stop};
-use c_forms::{assigned_to, integer_of, operand, thrown_away};
-use c_typed::{Expr, Form, at_type, boxed};
+use c_conversions::{assigned_to, integer_of, operand, thrown_away};
+use c_typed::{Amount, Expr, Form, at_type, boxed};
 use c_types::{CType, IntType, Scalar, Signature};
 use std::alloc::{AllocError, Global};
 use std::rc::Rc;
@@ -119,7 +119,7 @@ fn value_freed(alloc: Global, e: Box<Expr>, t: CType) -> Result<Box<Expr>, Stop>
 
 /// `free(e)`.
 pub fn freeing<'a>(checker: &mut Checker<'a>, f: Form<'a>) -> Result<Form<'a>, Stop>
-    ensures { Answers form_of (words.freeing (form_of f.entry)) (state_of checker.old) (state_of checker.new) result }
+    ensures { Obeys form_of (words.freeing (form_of f.entry)) (state_of checker.old) (state_of checker.new) result }
 {
     let v = operand(checker, f)?;
     let e = freed(checker.alloc, v)?;
@@ -128,7 +128,7 @@ pub fn freeing<'a>(checker: &mut Checker<'a>, f: Form<'a>) -> Result<Form<'a>, S
 
 /// `putchar(e)`.
 pub fn putting<'a>(checker: &mut Checker<'a>, f: Form<'a>) -> Result<Form<'a>, Stop>
-    ensures { Answers form_of (words.putting (form_of f.entry)) (state_of checker.old) (state_of checker.new) result }
+    ensures { Obeys form_of (words.putting (form_of f.entry)) (state_of checker.old) (state_of checker.new) result }
 {
     let e = assigned_to(checker, &CType::Int(IntType::Int), f)?;
     let e = boxed(checker.alloc, Expr::Putchar(e))?;
@@ -137,15 +137,15 @@ pub fn putting<'a>(checker: &mut Checker<'a>, f: Form<'a>) -> Result<Form<'a>, S
 
 /// `malloc(e)`, whose type is to come.
 pub fn allocating<'a>(checker: &mut Checker<'a>, f: Form<'a>) -> Result<Form<'a>, Stop>
-    ensures { Answers form_of (words.allocating (form_of f.entry)) (state_of checker.old) (state_of checker.new) result }
+    ensures { Obeys form_of (words.allocating (form_of f.entry)) (state_of checker.old) (state_of checker.new) result }
 {
     let e = assigned_to(checker, &CType::Int(IntType::UnsignedInt), f)?;
-    Ok(Form::Allocation(e))
+    Ok(Form::Allocation(Amount::Bytes(e)))
 }
 
 /// A cast (C11, 6.5.4).
 pub fn cast<'a>(checker: &mut Checker<'a>, t: CType, f: Form<'a>) -> Result<Form<'a>, Stop>
-    ensures { Answers form_of (words.cast (type_of t) (form_of f.entry)) (state_of checker.old) (state_of checker.new) result }
+    ensures { Obeys form_of (words.cast (type_of t) (form_of f.entry)) (state_of checker.old) (state_of checker.new) result }
 {
     match t {
         CType::Void => {

@@ -7,7 +7,7 @@ ghost use Rattle.c_typed.specs.Views.{expr_of};
 ghost use Rattle.c_tree.specs.Tree as tree;
 ghost use Rattle.c_check_types.specs.TypeEquality.{tys_of};
 ghost use Rattle.c_check_types.specs.declared.operators.Operator.TheVariants.{And, Equality, Or};
-ghost use Rattle.c_check_types.specs.Views.{Answers, state_of};
+ghost use Rattle.c_check_types.specs.Views.{Obeys, state_of};
 ghost use Rattle.c_typed.specs.FormViews.{boxed_expr, form_of, integer_pair, place_pair, value_pair};
 ghost use Rattle.c_check_exprs.specs.Expressions as words;
 ghost use Rattle.c_check_exprs.specs.Views.{exprs_in};
@@ -21,12 +21,12 @@ use c_check_types::{
     Checker, LibraryName, Operator, Stop, character_bits, constant_bits, constant_type, library,
     operator_of,
 };
-use c_forms::{
+use c_conversions::{
     as_place, assigned_to, condition_of, integer_of, operand, pointer_of, thrown_away, value_of,
 };
 use c_operators::{choice, equality, minus, order, sum};
 use c_tree::{Args, Expr as Written, ExprNode, Infix};
-use c_typed::{Expr, Form, Made, Place, RelOp, Sized, UnaryOp, arithmetic, boxed, shift};
+use c_typed::{Amount, Expr, Form, Made, Place, RelOp, Sized, UnaryOp, arithmetic, boxed, shift};
 use c_types::{CType, IntType, Signature};
 use std::alloc::{AllocError, Global};
 use std::mem;
@@ -35,7 +35,7 @@ use std::rc::Rc;
 /// What an expression is (C11, 6.5). Its conversions, decays, readings and tests are nodes.
 #[cycle(typing)]
 pub fn typing<'a>(checker: &mut Checker<'a>, e: &'a Written) -> Result<Form<'a>, Stop>
-    ensures { Answers form_of (words.typing e.now) (state_of checker.old) (state_of checker.new) result }
+    ensures { Obeys form_of (words.typing e.now) (state_of checker.old) (state_of checker.new) result }
 {
     match e.node() {
         ExprNode::Name(n) => name_form(checker, n.as_slice()),
@@ -87,7 +87,7 @@ fn constant_form<'a>(alloc: Global, n: u64, t: IntType) -> Result<Form<'a>, Allo
 /// An expression as an operand: a value, the constant 0 or NULL.
 #[cycle(typing)]
 fn typed_operand<'a>(checker: &mut Checker<'a>, e: &'a Written) -> Result<Form<'a>, Stop>
-    ensures { Answers form_of (words.an_operand (words.typing e.now)) (state_of checker.old) (state_of checker.new) result }
+    ensures { Obeys form_of (words.an_operand (words.typing e.now)) (state_of checker.old) (state_of checker.new) result }
 {
     let x = typing(checker, e)?;
     operand(checker, x)
@@ -96,7 +96,7 @@ fn typed_operand<'a>(checker: &mut Checker<'a>, e: &'a Written) -> Result<Form<'
 /// An expression as a value, with its type.
 #[cycle(typing)]
 fn typed_value<'a>(checker: &mut Checker<'a>, e: &'a Written) -> Result<(Box<Expr>, CType), Stop>
-    ensures { Answers value_pair (words.a_value (words.typing e.now)) (state_of checker.old) (state_of checker.new) result }
+    ensures { Obeys value_pair (words.a_value (words.typing e.now)) (state_of checker.old) (state_of checker.new) result }
 {
     let x = typing(checker, e)?;
     value_of(checker, x)
@@ -104,11 +104,11 @@ fn typed_value<'a>(checker: &mut Checker<'a>, e: &'a Written) -> Result<(Box<Exp
 
 /// An expression as an integer, with its type.
 #[cycle(typing)]
-fn typed_integer<'a>(
+pub fn typed_integer<'a>(
     checker: &mut Checker<'a>,
     e: &'a Written,
 ) -> Result<(Box<Expr>, IntType), Stop>
-    ensures { Answers integer_pair (words.an_integer (words.typing e.now)) (state_of checker.old) (state_of checker.new) result }
+    ensures { Obeys integer_pair (words.an_integer (words.typing e.now)) (state_of checker.old) (state_of checker.new) result }
 {
     let x = typing(checker, e)?;
     integer_of(checker, x)
@@ -117,7 +117,7 @@ fn typed_integer<'a>(
 /// An expression as a pointer, with what it leads to.
 #[cycle(typing)]
 fn typed_pointer<'a>(checker: &mut Checker<'a>, e: &'a Written) -> Result<(Box<Expr>, CType), Stop>
-    ensures { Answers value_pair (words.a_pointer (words.typing e.now)) (state_of checker.old) (state_of checker.new) result }
+    ensures { Obeys value_pair (words.a_pointer (words.typing e.now)) (state_of checker.old) (state_of checker.new) result }
 {
     let x = typing(checker, e)?;
     pointer_of(checker, x)
@@ -129,7 +129,7 @@ pub fn typed_place<'a>(
     checker: &mut Checker<'a>,
     e: &'a Written,
 ) -> Result<(Box<Place>, CType), Stop>
-    ensures { Answers place_pair (words.a_place (words.typing e.now)) (state_of checker.old) (state_of checker.new) result }
+    ensures { Obeys place_pair (words.a_place (words.typing e.now)) (state_of checker.old) (state_of checker.new) result }
 {
     let x = typing(checker, e)?;
     as_place(x)
@@ -138,7 +138,7 @@ pub fn typed_place<'a>(
 /// An expression as a condition (C11, 6.8.4.1).
 #[cycle(typing)]
 pub fn typed_condition<'a>(checker: &mut Checker<'a>, e: &'a Written) -> Result<Box<Expr>, Stop>
-    ensures { Answers boxed_expr (words.a_condition (words.typing e.now)) (state_of checker.old) (state_of checker.new) result }
+    ensures { Obeys boxed_expr (words.a_condition (words.typing e.now)) (state_of checker.old) (state_of checker.new) result }
 {
     let x = typing(checker, e)?;
     condition_of(checker, x)
@@ -147,7 +147,7 @@ pub fn typed_condition<'a>(checker: &mut Checker<'a>, e: &'a Written) -> Result<
 /// An expression whose value is thrown away (C11, 6.3.2.2).
 #[cycle(typing)]
 pub fn performed<'a>(checker: &mut Checker<'a>, e: &'a Written) -> Result<Box<Expr>, Stop>
-    ensures { Answers boxed_expr (words.performed (words.typing e.now)) (state_of checker.old) (state_of checker.new) result }
+    ensures { Obeys boxed_expr (words.performed (words.typing e.now)) (state_of checker.old) (state_of checker.new) result }
 {
     let x = typing(checker, e)?;
     thrown_away(checker, x)
@@ -156,7 +156,7 @@ pub fn performed<'a>(checker: &mut Checker<'a>, e: &'a Written) -> Result<Box<Ex
 /// An expression as a type, as if by assignment (C11, 6.5.16.1).
 #[cycle(typing)]
 pub fn typed_as<'a>(checker: &mut Checker<'a>, e: &'a Written, t: &CType) -> Result<Box<Expr>, Stop>
-    ensures { Answers boxed_expr (words.as_assigned (type_of t.now) (words.typing e.now)) (state_of checker.old) (state_of checker.new) result }
+    ensures { Obeys boxed_expr (words.as_assigned (type_of t.now) (words.typing e.now)) (state_of checker.old) (state_of checker.new) result }
 {
     let x = typing(checker, e)?;
     assigned_to(checker, t, x)
@@ -170,7 +170,7 @@ fn step<'a>(
     op: Operator,
     e: &'a Written,
 ) -> Result<Form<'a>, Stop>
-    ensures { Answers form_of (words.a_step old op (words.typing e.now)) (state_of checker.old) (state_of checker.new) result }
+    ensures { Obeys form_of (words.a_step old op (words.typing e.now)) (state_of checker.old) (state_of checker.new) result }
 {
     let x = typing(checker, e)?;
     stepped(checker, old, op, x)
@@ -184,7 +184,7 @@ fn between<'a>(
     a: &'a Written,
     b: &'a Written,
 ) -> Result<Form<'a>, Stop>
-    ensures { Answers form_of (words.typing (tree.between op a.now b.now)) (state_of checker.old) (state_of checker.new) result }
+    ensures { Obeys form_of (words.typing (tree.between op a.now b.now)) (state_of checker.old) (state_of checker.new) result }
 {
     match op {
         Infix::Comma => {
@@ -213,7 +213,7 @@ fn choosing<'a>(
     a: &'a Written,
     b: &'a Written,
 ) -> Result<Form<'a>, Stop>
-    ensures { Answers form_of (words.typing (tree.choice c.now a.now b.now)) (state_of checker.old) (state_of checker.new) result }
+    ensures { Obeys form_of (words.typing (tree.choice c.now a.now b.now)) (state_of checker.old) (state_of checker.new) result }
 {
     let test = typed_condition(checker, c)?;
     let u = typed_operand(checker, a)?;
@@ -228,7 +228,7 @@ fn unary<'a>(
     op: c_tree::UnaryOp,
     e: &'a Written,
 ) -> Result<Form<'a>, Stop>
-    ensures { Answers form_of (words.typing (tree.unary op e.now)) (state_of checker.old) (state_of checker.new) result }
+    ensures { Obeys form_of (words.typing (tree.unary op e.now)) (state_of checker.old) (state_of checker.new) result }
 {
     match op {
         c_tree::UnaryOp::AddressOf => {
@@ -264,7 +264,7 @@ fn unary<'a>(
 /// `sizeof e`: what is made in it is forgotten (C11, 6.5.3.4).
 #[cycle(typing)]
 fn size_of<'a>(checker: &mut Checker<'a>, e: &'a Written) -> Result<Form<'a>, Stop>
-    ensures { Answers form_of (words.unevaluated (words.size_of_value (words.typing e.now))) (state_of checker.old) (state_of checker.new) result }
+    ensures { Obeys form_of (words.unevaluated (words.size_of_value (words.typing e.now))) (state_of checker.old) (state_of checker.new) result }
 {
     let literals = checker.literals;
     let made = mem::replace(&mut checker.made, Vec::new(checker.alloc));
@@ -284,7 +284,7 @@ fn operating<'a>(
     x: Form<'a>,
     b: &'a Written,
 ) -> Result<Form<'a>, Stop>
-    ensures { Answers form_of (words.operating op (form_of x.entry) (words.typing b.now)) (state_of checker.old) (state_of checker.new) result }
+    ensures { Obeys form_of (words.operating op (form_of x.entry) (words.typing b.now)) (state_of checker.old) (state_of checker.new) result }
 {
     match op {
         Operator::And => both(checker, x, b),
@@ -321,7 +321,7 @@ fn operating<'a>(
 /// `x && b` (C11, 6.5.13).
 #[cycle(typing)]
 fn both<'a>(checker: &mut Checker<'a>, x: Form<'a>, b: &'a Written) -> Result<Form<'a>, Stop>
-    ensures { Answers form_of (words.operating And (form_of x.entry) (words.typing b.now)) (state_of checker.old) (state_of checker.new) result }
+    ensures { Obeys form_of (words.operating And (form_of x.entry) (words.typing b.now)) (state_of checker.old) (state_of checker.new) result }
 {
     let c = condition_of(checker, x)?;
     let d = typed_condition(checker, b)?;
@@ -332,7 +332,7 @@ fn both<'a>(checker: &mut Checker<'a>, x: Form<'a>, b: &'a Written) -> Result<Fo
 /// `x || b` (C11, 6.5.14).
 #[cycle(typing)]
 fn either<'a>(checker: &mut Checker<'a>, x: Form<'a>, b: &'a Written) -> Result<Form<'a>, Stop>
-    ensures { Answers form_of (words.operating Or (form_of x.entry) (words.typing b.now)) (state_of checker.old) (state_of checker.new) result }
+    ensures { Obeys form_of (words.operating Or (form_of x.entry) (words.typing b.now)) (state_of checker.old) (state_of checker.new) result }
 {
     let c = condition_of(checker, x)?;
     let d = typed_condition(checker, b)?;
@@ -348,7 +348,7 @@ fn equal<'a>(
     x: Form<'a>,
     b: &'a Written,
 ) -> Result<Form<'a>, Stop>
-    ensures { Answers form_of (words.operating (Equality op) (form_of x.entry) (words.typing b.now)) (state_of checker.old) (state_of checker.new) result }
+    ensures { Obeys form_of (words.operating (Equality op) (form_of x.entry) (words.typing b.now)) (state_of checker.old) (state_of checker.new) result }
 {
     let u = operand(checker, x)?;
     let v = typed_operand(checker, b)?;
@@ -380,7 +380,7 @@ fn called_library(f: &Written) -> Option<LibraryName>
 /// A call: of the library, or of a function or a pointer to one (C11, 6.5.2.2).
 #[cycle(typing)]
 fn call<'a>(checker: &mut Checker<'a>, f: &'a Written, es: &'a Args) -> Result<Form<'a>, Stop>
-    ensures { Answers form_of (words.typing (tree.call f.now es.now)) (state_of checker.old) (state_of checker.new) result }
+    ensures { Obeys form_of (words.typing (tree.call f.now es.now)) (state_of checker.old) (state_of checker.new) result }
 {
     match called_library(f) {
         Some(l) => library_call(checker, l, es),
@@ -406,7 +406,7 @@ fn library_call<'a>(
     l: LibraryName,
     es: &'a Args,
 ) -> Result<Form<'a>, Stop>
-    ensures { Answers form_of (words.library_call l es.now (words.sole es.now)) (state_of checker.old) (state_of checker.new) result }
+    ensures { Obeys form_of (words.library_call l es.now (words.sole es.now) (words.factors es.now)) (state_of checker.old) (state_of checker.new) result }
 {
     match l {
         LibraryName::Putchar => {
@@ -433,6 +433,7 @@ fn library_call<'a>(
             let x = sole(checker, es)?;
             allocating(checker, x)
         }
+        LibraryName::Calloc => factors(checker, es),
         LibraryName::Free => {
             let x = sole(checker, es)?;
             freeing(checker, x)
@@ -445,7 +446,7 @@ fn library_call<'a>(
 /// The sole argument.
 #[cycle(typing)]
 fn sole<'a>(checker: &mut Checker<'a>, es: &'a Args) -> Result<Form<'a>, Stop>
-    ensures { Answers form_of (words.sole es.now) (state_of checker.old) (state_of checker.new) result }
+    ensures { Obeys form_of (words.sole es.now) (state_of checker.old) (state_of checker.new) result }
 {
     let items = es.items();
     if items.len() != 1 {
@@ -453,6 +454,35 @@ fn sole<'a>(checker: &mut Checker<'a>, es: &'a Args) -> Result<Form<'a>, Stop>
     }
     let e = &items[0];
     typing(checker, e)
+}
+
+/// The two arguments of calloc.
+#[cycle(typing)]
+fn factors<'a>(checker: &mut Checker<'a>, es: &'a Args) -> Result<Form<'a>, Stop>
+    ensures { Obeys form_of (words.factors es.now) (state_of checker.old) (state_of checker.new) result }
+{
+    let items = es.items();
+    if items.len() != 2 {
+        return Err(Stop::NoTyping);
+    }
+    let a = &items[0];
+    let b = &items[1];
+    multiplying(checker, a, b)
+}
+
+/// `calloc(a, b)`, whose type is to come.
+#[cycle(typing)]
+fn multiplying<'a>(
+    checker: &mut Checker<'a>,
+    a: &'a Written,
+    b: &'a Written,
+) -> Result<Form<'a>, Stop>
+    ensures { Obeys form_of (words.multiplying (words.typing a.now) (words.typing b.now)) (state_of checker.old) (state_of checker.new) result }
+{
+    let t = CType::Int(IntType::UnsignedInt);
+    let n = typed_as(checker, a, &t)?;
+    let e = typed_as(checker, b, &t)?;
+    Ok(Form::Allocation(Amount::Product(n, e)))
 }
 
 /// A call of what a pointer leads to.
@@ -463,7 +493,7 @@ fn called<'a>(
     t: CType,
     es: &'a Args,
 ) -> Result<Form<'a>, Stop>
-    ensures { Answers form_of (words.called (expr_of e.value, type_of t) (λ ts. words.arguments es.now ts [])) (state_of checker.old) (state_of checker.new) result }
+    ensures { Obeys form_of (words.called (expr_of e.value, type_of t) (λ ts. words.arguments es.now ts [])) (state_of checker.old) (state_of checker.new) result }
 {
     match t {
         CType::Function(s) => called_function(checker, e, s, es),
@@ -483,7 +513,7 @@ fn called_function<'a>(
     s: Rc<Signature>,
     es: &'a Args,
 ) -> Result<Form<'a>, Stop>
-    ensures { Answers form_of (words.called (expr_of e.value, function (type_of s.value.result) (tys_of (types_in s.value.params.items))) (λ ts. words.arguments es.now ts [])) (state_of checker.old) (state_of checker.new) result }
+    ensures { Obeys form_of (words.called (expr_of e.value, function (type_of s.value.result) (tys_of (types_in s.value.params.items))) (λ ts. words.arguments es.now ts [])) (state_of checker.old) (state_of checker.new) result }
 {
     let vs = arguments(checker, es, s.params.as_slice())?;
     let scalar = s.result.scalar();
@@ -499,7 +529,7 @@ fn arguments<'a>(
     es: &'a Args,
     types: &[CType],
 ) -> Result<Vec<Expr>, Stop>
-    ensures { Answers (λ v. exprs_in v.items) (words.arguments es.now (tys_of (types_in types.now)) []) (state_of checker.old) (state_of checker.new) result }
+    ensures { Obeys (λ v. exprs_in v.items) (words.arguments es.now (tys_of (types_in types.now)) []) (state_of checker.old) (state_of checker.new) result }
 {
     let items = es.items();
     let mut values = Vec::new(checker.alloc);

@@ -4,7 +4,7 @@ ghost use Rattle.std.specs.Prelude.{◌≡◌, slice_get};
 ghost use Rattle.c_types.specs.Layout.{members_of};
 ghost use Rattle.c_types.specs.Types.{struct, type_of};
 ghost use Rattle.c_typed.specs.Views.{place_of};
-ghost use Rattle.c_check_types.specs.Views.{Answers, Gives, state_of};
+ghost use Rattle.c_check_types.specs.Views.{Obeys, Gives, state_of};
 ghost use Rattle.c_check_exprs.specs.Expressions as words;
 ghost use Rattle.c_typed.specs.FormViews.{form_of, integer_pair, value_pair};
 ghost use Rattle.c_check_exprs.specs.Views.{numbered_type};
@@ -12,7 +12,7 @@ ghost use Rattle.c_check_exprs.specs.Views.{numbered_type};
 use crate::name::type_at;
 use crate::unary::place_at;
 use c_check_types::{Checker, Stop};
-use c_forms::{as_place, pointer_of};
+use c_conversions::{as_place, pointer_of};
 use c_tree::Access;
 use c_typed::{Expr, Form, Place, at_type, boxed};
 use c_types::{CType, IntType, Structs};
@@ -30,7 +30,7 @@ pub fn member_type(structs: &Structs, n: u32, m: u32) -> Result<CType, Stop>
 
 /// The number and the type of a struct's member.
 fn member_named(checker: &Checker, n: u32, name: &[u8]) -> Result<(u32, CType), Stop>
-    ensures { Answers numbered_type (words.member_named n name.now) (state_of checker.now) (state_of checker.now) result }
+    ensures { Obeys numbered_type (words.member_named n name.now) (state_of checker.now) (state_of checker.now) result }
 {
     let Some(names) = checker.members.get(n as usize) else {
         return Err(Stop::NoTyping);
@@ -52,7 +52,7 @@ fn member_in<'a>(
     t: CType,
     name: &[u8],
 ) -> Result<Form<'a>, Stop>
-    ensures { Answers form_of (words.member_in (place_of p.value) (type_of t) name.now) (state_of checker.now) (state_of checker.now) result }
+    ensures { Obeys form_of (words.member_in (place_of p.value) (type_of t) name.now) (state_of checker.now) (state_of checker.now) result }
 {
     match t {
         CType::Struct(n) => {
@@ -75,7 +75,7 @@ pub fn member<'a>(
     f: Form<'a>,
     name: &[u8],
 ) -> Result<Form<'a>, Stop>
-    ensures { Answers form_of (words.member op (form_of f.entry) name.now) (state_of checker.old) (state_of checker.new) result }
+    ensures { Obeys form_of (words.member op (form_of f.entry) name.now) (state_of checker.old) (state_of checker.new) result }
 {
     match op {
         Access::Dot => {
@@ -96,7 +96,7 @@ pub fn element<'a>(
     p: (Box<Expr>, CType),
     i: (Box<Expr>, IntType),
 ) -> Result<Form<'a>, Stop>
-    ensures { Answers form_of (words.element (value_pair p) (integer_pair i)) (state_of checker.old) (state_of checker.new) result }
+    ensures { Obeys form_of (words.element (value_pair p) (integer_pair i)) (state_of checker.old) (state_of checker.new) result }
 {
     let (p, t) = p;
     let (i, u) = i;

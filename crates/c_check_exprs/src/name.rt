@@ -5,28 +5,15 @@ ghost use Rattle.c_types.specs.Types.{integer, type_of};
 ghost use Rattle.c_typed.specs.Tree as to;
 ghost use Rattle.c_types.specs.Views.{types_in};
 ghost use Rattle.c_check_types.specs.Scopes as scopes;
-ghost use Rattle.c_check_types.specs.Views.{Answers, Gives, scopes_of, state_of};
+ghost use Rattle.c_check_types.specs.Views.{Obeys, Gives, state_of};
 ghost use Rattle.c_check_exprs.specs.Expressions as words;
 ghost use Rattle.c_typed.specs.FormViews.{form_of};
 ghost use Rattle.c_typed.specs.Forms as forms;
 
-use c_check_types::{Checker, Entity, LibraryName, Scope, Stop, entity_in, library};
+use c_check_types::{Checker, Entity, LibraryName, Stop, entity_of, library};
 use c_typed::{Expr, Form, Place, Variable, boxed};
 use c_types::{CType, IntType};
 use std::alloc::{AllocError, Global};
-use std::collections::LinkedList;
-
-/// What a name stands for: an inner name hides outer ones (C11, 6.2.1, paragraph 4).
-fn entity_of(all: &LinkedList<Scope>, name: &[u8]) -> Option<Entity>
-    ensures { result ≡ scopes.entity_of (scopes_of all.now) name.now }
-{
-    for scope in all.iter() {
-        if let Some(e) = entity_in(scope, name) {
-            return Some(e);
-        }
-    }
-    None
-}
 
 /// A type by its number.
 pub fn type_at(types: &[CType], n: u32) -> Result<CType, Stop>
@@ -40,7 +27,7 @@ pub fn type_at(types: &[CType], n: u32) -> Result<CType, Stop>
 
 /// The type of a function.
 fn function_type(checker: &Checker, n: u32) -> Result<CType, Stop>
-    ensures { Answers type_of (words.function_type n) (state_of checker.now) (state_of checker.now) result }
+    ensures { Obeys type_of (words.function_type n) (state_of checker.now) (state_of checker.now) result }
 {
     match checker.functions.get(n as usize) {
         Some(f) => Ok(f.ty.share()?),
@@ -58,7 +45,7 @@ pub fn number<'a>(alloc: Global, n: u64, t: IntType) -> Result<Form<'a>, AllocEr
 
 /// The form of what a name stands for.
 fn entity_form<'a>(checker: &Checker<'a>, e: Entity) -> Result<Form<'a>, Stop>
-    ensures { Answers form_of (words.entity_form e) (state_of checker.now) (state_of checker.now) result }
+    ensures { Obeys form_of (words.entity_form e) (state_of checker.now) (state_of checker.now) result }
 {
     match e {
         Entity::Local(n) => {
@@ -76,12 +63,13 @@ fn entity_form<'a>(checker: &Checker<'a>, e: Entity) -> Result<Form<'a>, Stop>
             let e = boxed(checker.alloc, Expr::Function(n))?;
             Ok(Form::Designator(e, t))
         }
+        Entity::Constant(n) => Ok(number(checker.alloc, u64::from(n), IntType::Int)?),
     }
 }
 
 /// The form of a name. The library's functions stand where they are called alone.
 pub fn name_form<'a>(checker: &Checker<'a>, name: &[u8]) -> Result<Form<'a>, Stop>
-    ensures { Answers form_of (words.name_form name.now (scopes.library name.now)) (state_of checker.now) (state_of checker.now) result }
+    ensures { Obeys form_of (words.name_form name.now (scopes.library name.now)) (state_of checker.now) (state_of checker.now) result }
 {
     match library(name) {
         Some(LibraryName::Null) => Ok(Form::Null),
@@ -90,6 +78,7 @@ pub fn name_form<'a>(checker: &Checker<'a>, name: &[u8]) -> Result<Form<'a>, Sto
         Some(LibraryName::Getchar) => Err(Stop::NoTyping),
         Some(LibraryName::Abort) => Err(Stop::NoTyping),
         Some(LibraryName::Malloc) => Err(Stop::NoTyping),
+        Some(LibraryName::Calloc) => Err(Stop::NoTyping),
         Some(LibraryName::Free) => Err(Stop::NoTyping),
         None => declared_form(checker, name),
     }
@@ -97,7 +86,7 @@ pub fn name_form<'a>(checker: &Checker<'a>, name: &[u8]) -> Result<Form<'a>, Sto
 
 /// The form of a name that is declared.
 fn declared_form<'a>(checker: &Checker<'a>, name: &[u8]) -> Result<Form<'a>, Stop>
-    ensures { Answers form_of (words.name_form name.now None) (state_of checker.now) (state_of checker.now) result }
+    ensures { Obeys form_of (words.name_form name.now None) (state_of checker.now) (state_of checker.now) result }
 {
     match entity_of(&checker.scopes, name) {
         Some(e) => entity_form(checker, e),

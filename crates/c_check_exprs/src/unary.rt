@@ -4,13 +4,13 @@ ghost use Rattle.std.specs.Prelude.{◌≡◌, IfOk};
 ghost use Rattle.c_types.specs.Types.{integer, type_of};
 ghost use Rattle.c_typed.specs.Tree as to;
 ghost use Rattle.c_typed.specs.Views.{expr_of, sized_of};
-ghost use Rattle.c_check_types.specs.Views.{Answers, state_of};
+ghost use Rattle.c_check_types.specs.Views.{Obeys, state_of};
 ghost use Rattle.c_check_exprs.specs.Expressions as words;
 ghost use Rattle.c_typed.specs.Forms as forms;
 ghost use Rattle.c_typed.specs.FormViews.{form_of};
 
 use c_check_types::{Checker, Stop};
-use c_forms::{condition_of, integer_of, pointer_of};
+use c_conversions::{condition_of, integer_of, pointer_of};
 use c_typed::{Expr, Form, Place, Sized, UnaryOp, boxed, promoted_value, zero_of};
 use c_types::{CType, IntType};
 use std::alloc::{AllocError, Global};
@@ -39,7 +39,7 @@ pub fn place_at<'a>(alloc: Global, e: Box<Expr>, t: CType) -> Result<Form<'a>, A
 
 /// `*e` (C11, 6.5.3.2).
 pub fn deref<'a>(checker: &mut Checker<'a>, f: Form<'a>) -> Result<Form<'a>, Stop>
-    ensures { Answers form_of (words.deref (form_of f.entry)) (state_of checker.old) (state_of checker.new) result }
+    ensures { Obeys form_of (words.deref (form_of f.entry)) (state_of checker.old) (state_of checker.new) result }
 {
     let (e, t) = pointer_of(checker, f)?;
     Ok(led_to(checker.alloc, e, t)?)
@@ -47,7 +47,7 @@ pub fn deref<'a>(checker: &mut Checker<'a>, f: Form<'a>) -> Result<Form<'a>, Sto
 
 /// `&e` (C11, 6.5.3.2).
 pub fn address<'a>(checker: &Checker<'a>, f: Form<'a>) -> Result<Form<'a>, Stop>
-    ensures { Answers form_of (words.address (form_of f.entry)) (state_of checker.now) (state_of checker.now) result }
+    ensures { Obeys form_of (words.address (form_of f.entry)) (state_of checker.now) (state_of checker.now) result }
 {
     match f {
         Form::Place(p, t) => {
@@ -69,7 +69,7 @@ pub fn address<'a>(checker: &Checker<'a>, f: Form<'a>) -> Result<Form<'a>, Stop>
 
 /// `sizeof e` (C11, 6.5.3.4).
 pub fn size<'a>(checker: &mut Checker<'a>, f: Form<'a>) -> Result<Form<'a>, Stop>
-    ensures { Answers form_of (words.size (form_of f.entry)) (state_of checker.old) (state_of checker.new) result }
+    ensures { Obeys form_of (words.size (form_of f.entry)) (state_of checker.old) (state_of checker.new) result }
 {
     match f {
         Form::Place(p, t) => {
@@ -105,7 +105,7 @@ pub fn sized<'a>(alloc: Global, n: u32, of: Sized) -> Result<Form<'a>, AllocErro
 
 /// `+e`: the promoted value (C11, 6.5.3.3).
 pub fn plus<'a>(checker: &mut Checker<'a>, f: Form<'a>) -> Result<Form<'a>, Stop>
-    ensures { Answers form_of (words.plus (form_of f.entry)) (state_of checker.old) (state_of checker.new) result }
+    ensures { Obeys form_of (words.plus (form_of f.entry)) (state_of checker.old) (state_of checker.new) result }
 {
     let v = integer_of(checker, f)?;
     let t = v.1.promoted();
@@ -115,7 +115,7 @@ pub fn plus<'a>(checker: &mut Checker<'a>, f: Form<'a>) -> Result<Form<'a>, Stop
 
 /// `-e` and `~e`, at the promoted type (C11, 6.5.3.3).
 pub fn signed<'a>(checker: &mut Checker<'a>, op: UnaryOp, f: Form<'a>) -> Result<Form<'a>, Stop>
-    ensures { Answers form_of (words.signed op (form_of f.entry)) (state_of checker.old) (state_of checker.new) result }
+    ensures { Obeys form_of (words.signed op (form_of f.entry)) (state_of checker.old) (state_of checker.new) result }
 {
     let v = integer_of(checker, f)?;
     let t = v.1.promoted();
@@ -126,7 +126,7 @@ pub fn signed<'a>(checker: &mut Checker<'a>, op: UnaryOp, f: Form<'a>) -> Result
 
 /// `!e` (C11, 6.5.3.3).
 pub fn not<'a>(checker: &mut Checker<'a>, f: Form<'a>) -> Result<Form<'a>, Stop>
-    ensures { Answers form_of (words.negated (form_of f.entry)) (state_of checker.old) (state_of checker.new) result }
+    ensures { Obeys form_of (words.negated (form_of f.entry)) (state_of checker.old) (state_of checker.new) result }
 {
     let c = condition_of(checker, f)?;
     let e = boxed(checker.alloc, Expr::Not(c))?;

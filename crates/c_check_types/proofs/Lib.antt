@@ -1,4 +1,4 @@
 pub mod Wide
-pub mod Rows
+pub mod TypeLists
 pub mod Rules
 pub mod Parameters

@@ -1,6 +1,6 @@
 -- Integer constant expressions (C11, 6.6): the numbers that operators give at their types, by bits. Signed arithmetic
 -- wraps, the count of a shift goes modulo the width, and a division may trap.
-use Rattle.std.specs.Prelude.{ℕ, ◌==◌, ◌-◌, ◌%◌, ◌^◌, not, nat_lt, int_lt, int_le, bit_and, bit_or, bit_xor, ℤ, pos, Bool, true, false, Option, Some, None, Result, Ok, Err, if◌then◌else◌}
+use Rattle.std.specs.Prelude.{ℕ, ◌==◌, ◌-◌, ◌%◌, ◌^◌, not, nat_lt, int_lt, int_le, bit_and, bit_or, bit_xor, ℤ, pos, negsuc, ◌&&◌, Bool, true, false, Option, Some, None, Result, Ok, Err, if◌then◌else◌}
 use Rattle.ms_num.specs.declared.arith.Arith.{Arith}
 use Rattle.ms_num.specs.Integers as int
 use Rattle.ms_num.specs.Integers.{signed, wrapped, truth}
@@ -178,6 +178,14 @@ choice c x y =
 
 abbrev pub cast : IntType → Constant → Constant
 cast t x = record { ty = t; value = value_at t x }
+
+-- whether int holds a number
+abbrev pub is_int : ℤ → Bool
+is_int z = int_le (negsuc 2147483647) z && int_le z (pos 2147483647)
+
+-- an enumerator's number, an int, by its bits (6.7.2.2, paragraph 2)
+abbrev pub int_of : Constant → Option ℕ
+int_of c = and_then c.value (λ a. if is_int (meant c.ty a) then Some (converted c.ty Int a) else None)
 
 -- a length: a number that isn't negative
 abbrev pub natural : Constant → Option ℕ

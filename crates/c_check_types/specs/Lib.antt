@@ -3,6 +3,6 @@ pub mod TypeEquality
 pub mod Scopes
 pub mod Operators
 pub mod Constants
-pub mod Fits
+pub mod Ranges
 pub mod Types
 pub mod Views

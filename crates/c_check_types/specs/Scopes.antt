@@ -2,12 +2,14 @@
 use Rattle.std.specs.Prelude.{ℕ, ◌&&◌, Bool, true, false, not, List, [], ◌∷◌, ◌++◌, length, is_some, slice_get, nat_eq, Option, Some, None, if◌then◌else◌}
 use lib.Pointwise.{pointwise}
 use Rattle.c_types.specs.Types.{Ty}
+use Rattle.c_typed.specs.declared.unit.Subject.TheVariants as subjects
+use Rattle.c_typed.specs.Identifiers.{is_identifier}
 use Rattle.c_typed.specs.Tree.{Function}
 use Rattle.c_check_types.specs.declared.entity.Entity.{Entity}
 use Rattle.c_check_types.specs.declared.entity.Entity.TheVariants as entities
 use Rattle.c_check_types.specs.declared.prelude.LibraryName.{LibraryName}
 use Rattle.c_check_types.specs.declared.prelude.LibraryName.TheVariants as prelude
-use Rattle.c_check_types.specs.State.{Scope, number_of, Rule, ◌>>=◌, ◌>>◌, pure, given, only_if, state, change, and_then}
+use Rattle.c_check_types.specs.State.{Scope, number_of, Rule, ◌>>=◌, ◌>>◌, pure, given, only_if, state, change, added, and_then}
 use Rattle.c_check_types.specs.TypeEquality.{same_type}
 
 -- ---- the names that stand before the unit (7.19, 7.21, 7.22)
@@ -23,6 +25,9 @@ name_abort = 97 ∷ 98 ∷ 111 ∷ 114 ∷ 116 ∷ []
 
 abbrev name_malloc : List ℕ
 name_malloc = 109 ∷ 97 ∷ 108 ∷ 108 ∷ 111 ∷ 99 ∷ []
+
+abbrev name_calloc : List ℕ
+name_calloc = 99 ∷ 97 ∷ 108 ∷ 108 ∷ 111 ∷ 99 ∷ []
 
 abbrev name_free : List ℕ
 name_free = 102 ∷ 114 ∷ 101 ∷ 101 ∷ []
@@ -46,7 +51,7 @@ library name =
     then Some prelude.Abort
     else (if is name name_malloc
     then Some prelude.Malloc
-    else (if is name name_free then Some prelude.Free else (if is name name_null then Some prelude.Null else (if is name name_eof then Some prelude.Eof else None))))))
+    else (if is name name_calloc then Some prelude.Calloc else (if is name name_free then Some prelude.Free else (if is name name_null then Some prelude.Null else (if is name name_eof then Some prelude.Eof else None)))))))
 
 -- ---- looking up
 
@@ -71,7 +76,7 @@ named_entity name = do
 -- ---- scopes
 
 abbrev pub no_names : Scope
-no_names = record { names = []; entities = [] }
+no_names = record { names = []; entities = []; slots = [] }
 
 abbrev pub opened : Rule (Unit {0})
 opened = change (λ s. record s { scopes = no_names ∷ s.scopes })
@@ -84,7 +89,7 @@ abbrev pub closed : Rule (Unit {0})
 closed = change (λ s. record s { scopes = outer s.scopes })
 
 abbrev pub with_name : Scope → List ℕ → Entity → Scope
-with_name scope name e = record { names = scope.names ++ name ∷ []; entities = scope.entities ++ e ∷ [] }
+with_name scope name e = record { names = scope.names ++ name ∷ []; entities = scope.entities ++ e ∷ []; slots = scope.slots }
 
 abbrev pub in_front : List Scope → List ℕ → Entity → List Scope
 in_front [] name e = []
@@ -101,15 +106,32 @@ enters name e = do
   only_if (not (is_some (library name)) && not (is_known s.scopes name))
   change (λ s. record s { scopes = in_front s.scopes name e })
 
+-- ---- enumerators (6.7.2.2)
+
+abbrev pub enters_constant : List ℕ → (bits : ℕ) → Rule (Unit {0})
+enters_constant name n = enters name (entities.Constant n)
+
 -- ---- variables
 
--- a variable of a function gets the next slot
+abbrev pub with_slot : Scope → ℕ → Scope
+with_slot scope n = record { names = scope.names; entities = scope.entities; slots = scope.slots ++ n ∷ [] }
+
+abbrev pub opens : List Scope → ℕ → List Scope
+opens [] n = []
+opens (scope ∷ scopes) n = with_slot scope n ∷ scopes
+
+-- a parameter or a variable of a function gets the next slot
+abbrev pub new_slot : Ty → Rule ℕ
+new_slot t = do
+  s ← state
+  change (λ s. record s { scopes = opens s.scopes (length s.slots); slots = s.slots ++ t ∷ [] })
+  pure (length s.slots)
+
 abbrev pub enters_local : List ℕ → Ty → Rule ℕ
 enters_local name t = do
-  s ← state
-  enters name (entities.Local (length s.slots))
-  change (λ s. record s { slots = s.slots ++ t ∷ [] })
-  pure (length s.slots)
+  n ← new_slot t
+  enters name (entities.Local n)
+  pure n
 
 -- ---- functions (6.2.7, 6.7, paragraph 4)
 
@@ -146,8 +168,10 @@ a_function name t = record { name = name; ty = t; slots = []; body = None }
 abbrev pub new_function : List ℕ → Ty → Rule ℕ
 new_function name t = do
   s ← state
+  only_if (is_identifier name)
   only_if (not (names_variable s.scopes name))
   change (λ s. record s { function_names = s.function_names ++ name ∷ []; functions = s.functions ++ a_function name t ∷ [] })
+  added (subjects.Function (length s.functions))
   enters_function name (length s.functions)
   pure (length s.functions)
 
@@ -179,15 +203,18 @@ enters_global name t = do
   s ← state
   only_if (not (is_some (number_of s.function_names name)))
   enters name (entities.Global (length s.globals))
-  change (λ s. record s { globals = s.globals ++ t ∷ [] })
+  change (λ s. record s { global_names = s.global_names ++ name ∷ []; globals = s.globals ++ t ∷ [] })
+  added (subjects.Variable (length s.globals))
   pure (length s.globals)
 
--- ---- tags (6.7.2.3), which are global
+-- ---- tags (6.7.2.3), which are global, and of which those of structs and those of enumerated types differ
 
 abbrev pub new_tag : List ℕ → Rule ℕ
 new_tag tag = do
   s ← state
+  only_if (not (is_some (number_of s.enum_tags tag)))
   change (λ s. record s { tags = s.tags ++ tag ∷ []; structs = s.structs ++ None ∷ []; members = s.members ++ [] ∷ [] })
+  added (subjects.Tag (length s.structs))
   pure (length s.structs)
 
 abbrev pub old_or_new_tag : List ℕ → Option ℕ → Rule ℕ

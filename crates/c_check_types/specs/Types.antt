@@ -16,8 +16,10 @@ use Rattle.c_tree.specs.declared.specifier.Width.TheVariants as widths
 use Rattle.c_tree.specs.Operators.{combination}
 use Rattle.c_tree.specs.Tree as tree
 use Rattle.c_tree.specs.Tree.{Expr, Declarator, Parameters}
-use Rattle.c_check_types.specs.State.{Names, number_of, Rule, ◌>>=◌, ◌>>◌, pure, none, given, state, and_then}
-use Rattle.c_check_types.specs.Scopes.{library, tag_number}
+use Rattle.c_check_types.specs.declared.entity.Entity.{Entity}
+use Rattle.c_check_types.specs.declared.entity.Entity.TheVariants as entities
+use Rattle.c_check_types.specs.State.{Names, number_of, Rule, ◌>>=◌, ◌>>◌, pure, none, given, only_if, state, and_then}
+use Rattle.c_check_types.specs.Scopes.{library, named_entity, tag_number}
 use Rattle.c_check_types.specs.TypeEquality.{tys_of}
 use Rattle.c_check_types.specs.declared.constants.Constant.{Constant}
 use Rattle.c_check_types.specs.Constants.{a_number, constant_type, constant_bits, character_bits, binary, unary, choice, cast, natural}
@@ -73,6 +75,11 @@ specified specifiers.PtrdiffT = pure (integer LongLong)
 specified (specifiers.Struct tag) = do
   n ← tag_number tag
   pure (struct n)
+-- an enumerated type is int, and is defined before its tag stands alone (6.7.2.2, 6.7.2.3)
+specified (specifiers.Enum tag) = do
+  s ← state
+  only_if (is_some (number_of s.enum_tags tag))
+  pure (integer Int)
 
 -- ---- declarators (6.7.6)
 
@@ -162,6 +169,16 @@ a_parameter s declares names = do
   more ← given (with_name names x.name)
   pure (record { name = x.name; ty = t }, more)
 
+-- an enumerator (6.6, paragraph 6)
+abbrev pub constant_of : Entity → Option Constant
+constant_of (entities.Constant n) = Some (a_number Int n)
+constant_of _ = None
+
+abbrev pub named_constant : List ℕ → Rule Constant
+named_constant name = do
+  e ← named_entity name
+  given (constant_of e)
+
 -- A declarator is read from the outside in: in `*a[1]` the array is of what the pointer is declared to be.
 abbrev mutual
   pub declared : Declarator → Derived → List Parameter → Rule Declared
@@ -202,6 +219,7 @@ abbrev mutual
   pub constant : Expr → Rule Constant
   constant (tree.integer n t) = pure (a_number (constant_type t) (constant_bits (constant_type t) n))
   constant (tree.character c) = pure (a_number Int (character_bits c))
+  constant (tree.name n) = named_constant n
   constant (tree.paren e) = constant e
   constant (tree.unary op e) = do
     x ← constant e

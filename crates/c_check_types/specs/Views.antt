@@ -2,7 +2,7 @@
 use Rattle.std.specs.Prelude.{◌≡◌, ℕ, List, map, Option, Some, None, Result, Ok, Err}
 use Rattle.std.specs.Borrow.{Bor}
 use Rattle.c_types.specs.Types.{type_of}
-use Rattle.c_typed.specs.Views.{function_of, made_of, list_of}
+use Rattle.c_typed.specs.Views.{enumeration_of, function_of, made_of}
 use Rattle.c_check_types.specs.declared.checker.Checker.{Checker}
 use Rattle.c_check_types.specs.declared.checker.Scope.{Scope as ScopeCode}
 use Rattle.c_check_types.specs.declared.fault.Stop.{Stop}
@@ -15,20 +15,36 @@ use Rattle.c_check_types.specs.declared.declared.Declared.{Declared as DeclaredC
 use Rattle.c_check_types.specs.Types.{Derived, whole, lengthless, Parameter, Declared}
 
 abbrev pub scope_of : ScopeCode → Scope
-scope_of s = record { names = s.names; entities = s.entities.items }
+scope_of s = record { names = s.names; entities = s.entities.items; slots = s.slots.items }
 
 abbrev pub scopes_of : List ScopeCode → List Scope
 scopes_of ss = map scope_of ss
 
 abbrev pub state_of : Checker → State
 state_of c =
-    record { tags = c.tags; structs = c.structs; members = c.members.items; function_names = c.function_names; functions = map function_of c.functions.items; globals = map type_of c.globals.items; made = map made_of c.made.items; literals = c.literals; values = list_of c.values.items; scopes = scopes_of c.scopes; slots = map type_of c.slots.items }
+    record {
+      tags = c.tags;
+      structs = c.structs;
+      members = c.members.items;
+      enum_tags = c.enum_tags;
+      enumerations = map enumeration_of c.enumerations.items;
+      function_names = c.function_names;
+      functions = map function_of c.functions.items;
+      global_names = c.global_names.items;
+      globals = map type_of c.globals.items;
+      made = map made_of c.made.items;
+      literals = c.literals;
+      scopes = scopes_of c.scopes;
+      slots = map type_of c.slots.items;
+      at = c.at;
+      additions = c.additions.items;
+    }
 
 -- The answer is the rule's: its value, and the state behind it; or there is none. Want of memory says nothing.
-abbrev pub Answers : {A B : Type 0} → (B → A) → Rule A → State → State → Result B Stop → Type 0
-Answers view rule old new (Ok x) = rule old ≡ Some (view x, new)
-Answers view rule old new (Err stops.NoTyping) = rule old ≡ None
-Answers view rule old new (Err stops.Memory) = Unit {0}
+abbrev pub Obeys : {A B : Type 0} → (B → A) → Rule A → State → State → Result B Stop → Type 0
+Obeys view rule old new (Ok x) = rule old ≡ Some (view x, new)
+Obeys view rule old new (Err stops.NoTyping) = rule old ≡ None
+Obeys view rule old new (Err stops.Memory) = Unit {0}
 
 -- the same of an option
 abbrev pub Gives : {A B : Type 0} → (B → A) → Option A → Result B Stop → Type 0

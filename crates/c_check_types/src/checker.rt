@@ -6,15 +6,16 @@ ghost use Rattle.c_types.specs.Types.{type_of};
 ghost use Rattle.c_check_types.specs.Scopes as scopes;
 ghost use Rattle.c_check_types.specs.Scopes.{new_tag, tag_number};
 ghost use Rattle.c_check_types.specs.Types as words;
-ghost use Rattle.c_check_types.specs.State.{number_of};
-ghost use Rattle.c_check_types.specs.Views.{Answers, scope_of, state_of};
+ghost use Rattle.c_check_types.specs.State.{added, number_of};
+ghost use Rattle.c_check_types.specs.Views.{Obeys, scope_of, scopes_of, state_of};
 
 use crate::entity::Entity;
 use crate::fault::Stop;
 use crate::names::Names;
 use crate::types::measured;
+use c_token::Bytes;
 use c_tree::{Sign, SpecifierNode, Width};
-use c_typed::{Function, Made, Stmt};
+use c_typed::{Addition, Enumeration, Function, Made, Subject};
 use c_types::{CType, IntType, Structs};
 use std::alloc::Global;
 use std::collections::LinkedList;
@@ -24,6 +25,8 @@ use std::collections::LinkedList;
 pub struct Scope<'a> {
     pub names: Names<'a>,
     pub entities: Vec<Entity>,
+    /// The slots of the parameters and variables that are declared in it.
+    pub slots: Vec<u32>,
 }
 
 /// What a name stands for in a scope.
@@ -36,6 +39,18 @@ pub fn entity_in(scope: &Scope, name: &[u8]) -> Option<Entity>
     }
 }
 
+/// What a name stands for: an inner name hides outer ones (C11, 6.2.1, paragraph 4).
+pub fn entity_of(all: &LinkedList<Scope>, name: &[u8]) -> Option<Entity>
+    ensures { result ≡ scopes.entity_of (scopes_of all.now) name.now }
+{
+    for scope in all.iter() {
+        if let Some(e) = entity_in(scope, name) {
+            return Some(e);
+        }
+    }
+    None
+}
+
 /// What is known at a place in a unit. Contracts see it by `state_of`.
 #[derive(Drop)]
 pub struct Checker<'a> {
@@ -43,22 +58,29 @@ pub struct Checker<'a> {
     pub tags: Names<'a>,
     pub structs: Structs,
     pub members: Vec<Names<'a>>,
+    /// The tags of enumerated types.
+    pub enum_tags: Names<'a>,
+    pub enumerations: Vec<Enumeration>,
     pub function_names: Names<'a>,
     pub functions: Vec<Function>,
+    pub global_names: Vec<Bytes>,
     pub globals: Vec<CType>,
     pub made: Vec<Made>,
     /// How many of these are literals.
     pub literals: u32,
-    pub values: Vec<Stmt>,
     /// The innermost first.
     pub scopes: LinkedList<Scope<'a>>,
     pub slots: Vec<CType>,
+    /// Where the external declaration that is read begins.
+    pub at: usize,
+    /// What the external declarations so far add.
+    pub additions: Vec<Addition>,
 }
 
 impl<'a> Checker<'a> {
     /// The number of a tag, which is new where it is seen for the first time (C11, 6.7.2.3).
     pub fn tag_number(&mut self, tag: &'a [u8]) -> Result<u32, Stop>
-        ensures { Answers (λ n. n) (tag_number tag.now) (state_of self.old) (state_of self.new) result }
+        ensures { Obeys (λ n. n) (tag_number tag.now) (state_of self.old) (state_of self.new) result }
     {
         match self.tags.find(tag) {
             Some(n) => match u32::try_from(n) {
@@ -69,20 +91,35 @@ impl<'a> Checker<'a> {
         }
     }
 
+    /// The external declaration that is read adds this.
+    pub fn added(&mut self, subject: Subject) -> Result<(), Stop>
+        ensures { Obeys (λ _. tt) (added subject) (state_of self.old) (state_of self.new) result }
+    {
+        self.additions.push(Addition {
+            at: self.at,
+            subject,
+        })?;
+        Ok(())
+    }
+
     /// The number of a tag that is seen for the first time.
     fn new_tag(&mut self, tag: &'a [u8]) -> Result<u32, Stop>
         requires { number_of (state_of self.old).tags tag.now ≡ None }
-        ensures { Answers (λ n. n) (new_tag tag.now) (state_of self.old) (state_of self.new) result }
+        ensures { Obeys (λ n. n) (new_tag tag.now) (state_of self.old) (state_of self.new) result }
     {
+        if self.enum_tags.find(tag).is_some() {
+            return Err(Stop::NoTyping);
+        }
         let number = self.structs.add_tag()?;
         self.tags.add(tag)?;
         self.members.push(Names::new(self.alloc))?;
+        self.added(Subject::Tag(number))?;
         Ok(number)
     }
 
     /// The type of a specifier (C11, 6.7.2).
     pub fn specified(&mut self, s: &'a SpecifierNode) -> Result<CType, Stop>
-        ensures { Answers type_of (words.specified s.now) (state_of self.old) (state_of self.new) result }
+        ensures { Obeys type_of (words.specified s.now) (state_of self.old) (state_of self.new) result }
     {
         match s {
             SpecifierNode::Void => Ok(CType::Void),
@@ -96,12 +133,19 @@ impl<'a> Checker<'a> {
                 let n = self.tag_number(tag.as_slice())?;
                 Ok(CType::Struct(n))
             }
+            SpecifierNode::Enum(tag) => {
+                if self.enum_tags.find(tag.as_slice()).is_some() {
+                    Ok(CType::Int(IntType::Int))
+                } else {
+                    Err(Stop::NoTyping)
+                }
+            }
         }
     }
 
     /// The size of a type (C11, 6.5.3.4).
     pub fn size_of(&mut self, t: &CType) -> Result<u64, Stop>
-        ensures is { Answers (λ n. n) (words.size_of (type_of t.now)) (state_of self.old) (state_of self.new) result }
+        ensures is { Obeys (λ n. n) (words.size_of (type_of t.now)) (state_of self.old) (state_of self.new) result }
         ensures small { IfOk result (λ n. n ≤ most_bytes) }
     {
         match measured(&self.structs, t) {

@@ -6,7 +6,7 @@ ghost use Rattle.ms_num.specs.Integers.{IsWidth};
 ghost use Rattle.c_types.specs.Integers as types;
 ghost use Rattle.c_types.specs.Integers.{bits};
 ghost use Rattle.c_check_types.specs.Constants as words;
-ghost use Rattle.c_check_types.specs.Fits.{FitIn, Fits, IsBits};
+ghost use Rattle.c_check_types.specs.Ranges.{InRange, IsInRange, IsBits};
 
 use crate::operators::Operator;
 use c_token::IntegerType;
@@ -16,7 +16,7 @@ use c_types::IntType;
 use ms_num::{Arith, add, and, div_s, div_u, mul, or, rem_s, rem_u, shl, shr_s, shr_u, sub, xor};
 
 /// A constant expression's type and its bits; `None`: its evaluation traps (C11, 6.6).
-#[derive(Clone, Copy, Debug, PartialEq, Eq)]
+#[derive(Clone, Copy, PartialEq, Eq)]
 pub struct Constant {
     pub ty: IntType,
     pub value: Option<u64>,
@@ -40,7 +40,7 @@ pub fn constant_type(t: IntegerType) -> IntType
 pub fn a_number(ty: IntType, value: u64) -> Constant
     requires { value < 2 ^ bits ty }
     ensures is { result ≡ words.a_number ty value }
-    ensures fits { Fits result }
+    ensures in_range { IsInRange result }
 {
     Constant {
         ty,
@@ -142,9 +142,9 @@ pub fn converted(from: IntType, to: IntType, a: u64) -> u64
 
 /// The bits of a constant at another type.
 pub fn value_at(t: IntType, c: Constant) -> Option<u64>
-    requires { Fits c }
+    requires { IsInRange c }
     ensures is { result ≡ words.value_at t c }
-    ensures fits { FitIn (bits t) result }
+    ensures in_range { InRange (bits t) result }
 {
     match c.value {
         Some(a) => Some(converted(c.ty, t, a)),
@@ -152,11 +152,42 @@ pub fn value_at(t: IntType, c: Constant) -> Option<u64>
     }
 }
 
+/// Whether int holds a number.
+fn is_int(z: i64) -> bool
+    ensures { result ≡ words.is_int z }
+{
+    -0x8000_0000 <= z && z <= 0x7FFF_FFFF
+}
+
+/// Whether int holds the number that bits of a type mean.
+fn means_int(t: IntType, a: u64) -> bool
+    requires { a < 2 ^ bits t }
+    ensures { result ≡ words.is_int (words.meant t a) }
+{
+    if t.is_signed() {
+        is_int(signed_of(width(t), a))
+    } else {
+        a <= 0x7FFF_FFFF
+    }
+}
+
+/// An enumerator's number, by its bits, where int holds it (C11, 6.7.2.2, paragraph 2).
+pub fn int_of(c: Constant) -> Option<u32>
+    requires { IsInRange c }
+    ensures { result ≡ words.int_of c }
+{
+    let a = c.value?;
+    if !means_int(c.ty, a) {
+        return None;
+    }
+    Some(converted(c.ty, IntType::Int, a) as u32)
+}
+
 /// What a division gives, or nothing where it traps.
 fn or_trap(w: u32, outcome: Result<u64, Arith>) -> Option<u64>
     requires { IfOk outcome (λ n. n < 2 ^ w) }
     ensures is { result ≡ words.or_trap outcome }
-    ensures fits { FitIn w result }
+    ensures in_range { InRange w result }
 {
     match outcome {
         Ok(n) => Some(n),
@@ -170,7 +201,7 @@ fn computed(op: BinaryOp, t: IntType, a: u64, b: u64) -> Option<u64>
     requires a { a < 2 ^ bits t }
     requires b { b < 2 ^ bits t }
     ensures is { result ≡ words.computed op t a b }
-    ensures fits { FitIn (bits t) result }
+    ensures in_range { InRange (bits t) result }
 {
     let w = u32::from(t.bits());
     match op {
@@ -192,7 +223,7 @@ fn divided(t: IntType, a: u64, b: u64) -> Option<u64>
     requires a { a < 2 ^ bits t }
     requires b { b < 2 ^ bits t }
     ensures is { result ≡ words.computed BinaryOp.Div t a b }
-    ensures fits { FitIn (bits t) result }
+    ensures in_range { InRange (bits t) result }
 {
     let w = u32::from(t.bits());
     if t.is_signed() {
@@ -207,7 +238,7 @@ fn remainder(t: IntType, a: u64, b: u64) -> Option<u64>
     requires a { a < 2 ^ bits t }
     requires b { b < 2 ^ bits t }
     ensures is { result ≡ words.computed BinaryOp.Rem t a b }
-    ensures fits { FitIn (bits t) result }
+    ensures in_range { InRange (bits t) result }
 {
     let w = u32::from(t.bits());
     if t.is_signed() {
@@ -273,7 +304,7 @@ fn truth(holds: bool) -> u64
 /// A constant of type int that is 1 or 0.
 fn an_answer(value: Option<bool>) -> Constant
     ensures is { result ≡ words.an_answer value }
-    ensures fits { Fits result }
+    ensures in_range { IsInRange result }
 {
     match value {
         Some(holds) => a_number(IntType::Int, truth(holds)),
@@ -304,10 +335,10 @@ fn promoted(t: IntType) -> IntType
 /// An operation at a type.
 fn at_type(op: BinaryOp, t: IntType, x: Constant, y: Constant) -> Constant
     requires wide { IsWidth (bits t) }
-    requires x { Fits x }
-    requires y { Fits y }
+    requires x { IsInRange x }
+    requires y { IsInRange y }
     ensures is { result ≡ words.at_type op t x y }
-    ensures fits { Fits result }
+    ensures in_range { IsInRange result }
 {
     let value = match (value_at(t, x), value_at(t, y)) {
         (Some(a), Some(b)) => computed(op, t, a, b),
@@ -319,18 +350,18 @@ fn at_type(op: BinaryOp, t: IntType, x: Constant, y: Constant) -> Constant
 
 /// A comparison at the common type.
 fn relation(op: RelOp, x: Constant, y: Constant) -> Constant
-    requires x { Fits x }
-    requires y { Fits y }
+    requires x { IsInRange x }
+    requires y { IsInRange y }
     ensures is { result ≡ words.relation op x y }
-    ensures fits { Fits result }
+    ensures in_range { IsInRange result }
 {
     let t = common(x.ty, y.ty);
     an_answer(relation_at(op, t, value_at(t, x), value_at(t, y)))
 }
 
 fn relation_at(op: RelOp, t: IntType, x: Option<u64>, y: Option<u64>) -> Option<bool>
-    requires x { FitIn (bits t) x }
-    requires y { FitIn (bits t) y }
+    requires x { InRange (bits t) x }
+    requires y { InRange (bits t) y }
     ensures { result ≡ words.relation_at op t x y }
 {
     match (x, y) {
@@ -374,10 +405,10 @@ fn either(x: Option<bool>, y: Option<bool>) -> Option<bool>
 
 /// An operator between two operands (C11, 6.6).
 pub fn binary(op: Operator, x: Constant, y: Constant) -> Constant
-    requires x { Fits x }
-    requires y { Fits y }
+    requires x { IsInRange x }
+    requires y { IsInRange y }
     ensures is { result ≡ words.binary op x y }
-    ensures fits { Fits result }
+    ensures in_range { IsInRange result }
 {
     match op {
         Operator::And => an_answer(both(holds(x.value), holds(y.value))),
@@ -405,9 +436,9 @@ fn ones(t: IntType) -> u64
 
 /// The operand, promoted (C11, 6.5.3.3).
 fn plus(x: Constant) -> Constant
-    requires { Fits x }
+    requires { IsInRange x }
     ensures is { result ≡ words.promoted_by (λ t a. Some a) x }
-    ensures fits { Fits result }
+    ensures in_range { IsInRange result }
 {
     let t = promoted(x.ty);
     Constant {
@@ -418,9 +449,9 @@ fn plus(x: Constant) -> Constant
 
 /// The negative of the promoted operand.
 fn minus(x: Constant) -> Constant
-    requires { Fits x }
+    requires { IsInRange x }
     ensures is { result ≡ words.promoted_by words.negated x }
-    ensures fits { Fits result }
+    ensures in_range { IsInRange result }
 {
     let t = promoted(x.ty);
     let value = match value_at(t, x) {
@@ -432,9 +463,9 @@ fn minus(x: Constant) -> Constant
 
 /// The promoted operand with each bit turned.
 fn complement(x: Constant) -> Constant
-    requires { Fits x }
+    requires { IsInRange x }
     ensures is { result ≡ words.promoted_by words.complemented x }
-    ensures fits { Fits result }
+    ensures in_range { IsInRange result }
 {
     let t = promoted(x.ty);
     let value = match value_at(t, x) {
@@ -447,7 +478,7 @@ fn complement(x: Constant) -> Constant
 /// Whether the operand is 0.
 fn is_zero(x: Constant) -> Constant
     ensures is { result ≡ words.is_zero x }
-    ensures fits { Fits result }
+    ensures in_range { IsInRange result }
 {
     an_answer(match holds(x.value) {
         Some(holds) => Some(!holds),
@@ -457,9 +488,9 @@ fn is_zero(x: Constant) -> Constant
 
 /// An operator before its operand (C11, 6.6).
 pub fn unary(op: UnaryOp, x: Constant) -> Option<Constant>
-    requires { Fits x }
+    requires { IsInRange x }
     ensures is { result ≡ words.unary op x }
-    ensures fits { IfSome result Fits }
+    ensures in_range { IfSome result IsInRange }
 {
     match op {
         UnaryOp::Plus => Some(plus(x)),
@@ -476,10 +507,10 @@ pub fn unary(op: UnaryOp, x: Constant) -> Option<Constant>
 
 /// `c ? x : y` (C11, 6.5.15).
 pub fn choice(c: Constant, x: Constant, y: Constant) -> Constant
-    requires x { Fits x }
-    requires y { Fits y }
+    requires x { IsInRange x }
+    requires y { IsInRange y }
     ensures is { result ≡ words.choice c x y }
-    ensures fits { Fits result }
+    ensures in_range { IsInRange result }
 {
     let t = common(x.ty, y.ty);
     let value = match holds(c.value) {
@@ -492,9 +523,9 @@ pub fn choice(c: Constant, x: Constant, y: Constant) -> Constant
 
 /// A cast to an integer type (C11, 6.5.4).
 pub fn cast(t: IntType, x: Constant) -> Constant
-    requires { Fits x }
+    requires { IsInRange x }
     ensures is { result ≡ words.cast t x }
-    ensures fits { Fits result }
+    ensures in_range { IsInRange result }
 {
     Constant {
         ty: t,

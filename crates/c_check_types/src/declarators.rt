@@ -3,11 +3,11 @@
 ghost use Rattle.std.specs.Prelude.{◌≡◌, [], IfOk, map};
 ghost use Rattle.c_types.specs.Types.{type_of};
 ghost use Rattle.c_types.specs.Views.{types_in};
-ghost use Rattle.c_check_types.specs.Fits.{Fits};
+ghost use Rattle.c_check_types.specs.Ranges.{IsInRange};
 ghost use Rattle.c_check_types.specs.Types as words;
-ghost use Rattle.c_check_types.specs.Views.{Answers, Gives, declared_of, derived_of, name_of, parameter_of, parameters_in, state_of};
+ghost use Rattle.c_check_types.specs.Views.{Obeys, Gives, declared_of, derived_of, name_of, parameter_of, parameters_in, state_of};
 
-use crate::checker::Checker;
+use crate::checker::{Checker, entity_of};
 use crate::constants::{
     Constant, a_number, binary, cast, character_bits, choice, constant_bits, constant_type,
     natural, unary,
@@ -15,6 +15,7 @@ use crate::constants::{
 use crate::declared::{
     Declared, Derived, Parameter, adjusted, pointer_to, result_type, whole_type,
 };
+use crate::entity::Entity;
 use crate::fault::Stop;
 use crate::names::Names;
 use crate::operators::operator_of;
@@ -34,7 +35,7 @@ impl<'a> Checker<'a> {
         derived: Derived,
         params: Vec<Parameter<'a>>,
     ) -> Result<Declared<'a>, Stop>
-        ensures { Answers declared_of (words.declared d.now (derived_of derived) (parameters_in params.entry.items)) (state_of self.old) (state_of self.new) result }
+        ensures { Obeys declared_of (words.declared d.now (derived_of derived) (parameters_in params.entry.items)) (state_of self.old) (state_of self.new) result }
     {
         match d.node() {
             DeclaratorNode::Named(name) => Ok(Declared {
@@ -79,7 +80,7 @@ impl<'a> Checker<'a> {
     /// The parameters of a function (C11, 6.7.6.3).
     #[cycle(types)]
     fn parameters(&mut self, ps: &'a Parameters) -> Result<Vec<Parameter<'a>>, Stop>
-        ensures { Answers (λ v. parameters_in v.items) (words.parameters ps.now [] []) (state_of self.old) (state_of self.new) result }
+        ensures { Obeys (λ v. parameters_in v.items) (words.parameters ps.now [] []) (state_of self.old) (state_of self.new) result }
     {
         let mut names = Names::new(self.alloc);
         let mut params = Vec::new(self.alloc);
@@ -99,7 +100,7 @@ impl<'a> Checker<'a> {
         p: &'a c_tree::Parameter,
         names: &mut Names<'a>,
     ) -> Result<Parameter<'a>, Stop>
-        ensures { Answers (λ q. (parameter_of q, names.new)) (words.a_parameter p.now.specifier (λ b. words.declared p.now.declarator (words.whole b) []) names.old) (state_of self.old) (state_of self.new) result }
+        ensures { Obeys (λ q. (parameter_of q, names.new)) (words.a_parameter p.now.specifier (λ b. words.declared p.now.declarator (words.whole b) []) names.old) (state_of self.old) (state_of self.new) result }
     {
         let b = self.specified(p.specifier.node())?;
         let x = self.declared(&p.declarator, Derived::Whole(b), Vec::new(self.alloc))?;
@@ -111,8 +112,8 @@ impl<'a> Checker<'a> {
     /// An integer constant expression (C11, 6.6).
     #[cycle(types)]
     pub fn constant(&mut self, e: &'a Expr) -> Result<Constant, Stop>
-        ensures is { Answers (λ c. c) (words.constant e.now) (state_of self.old) (state_of self.new) result }
-        ensures fits { IfOk result Fits }
+        ensures is { Obeys (λ c. c) (words.constant e.now) (state_of self.old) (state_of self.new) result }
+        ensures in_range { IfOk result IsInRange }
     {
         match e.node() {
             ExprNode::Integer(n, t) => {
@@ -120,6 +121,7 @@ impl<'a> Checker<'a> {
                 Ok(a_number(t, constant_bits(t, *n)))
             }
             ExprNode::Character(c) => Ok(a_number(IntType::Int, character_bits(*c))),
+            ExprNode::Name(name) => self.named_constant(name.as_slice()),
             ExprNode::Paren(e) => self.constant(e),
             ExprNode::Unary(op, e) => {
                 let x = self.constant(e)?;
@@ -151,7 +153,6 @@ impl<'a> Checker<'a> {
                 let z = self.constant(b)?;
                 Ok(choice(x, y, z))
             }
-            ExprNode::Name(_) => Err(Stop::NoTyping),
             ExprNode::String(_) => Err(Stop::NoTyping),
             ExprNode::Index(_, _) => Err(Stop::NoTyping),
             ExprNode::Call(_, _) => Err(Stop::NoTyping),
@@ -162,9 +163,20 @@ impl<'a> Checker<'a> {
         }
     }
 
+    /// The number of an enumerator.
+    fn named_constant(&self, name: &[u8]) -> Result<Constant, Stop>
+        ensures is { Obeys (λ c. c) (words.named_constant name.now) (state_of self.now) (state_of self.now) result }
+        ensures in_range { IfOk result IsInRange }
+    {
+        match entity_of(&self.scopes, name) {
+            Some(e) => constant_of(e),
+            None => Err(Stop::NoTyping),
+        }
+    }
+
     /// The type that a specifier and a declarator without a name are (C11, 6.7.7).
     pub fn type_name(&mut self, s: &'a Specifier, d: &'a Declarator) -> Result<CType, Stop>
-        ensures { Answers type_of (words.type_name s.now d.now) (state_of self.old) (state_of self.new) result }
+        ensures { Obeys type_of (words.type_name s.now d.now) (state_of self.old) (state_of self.new) result }
     {
         let b = self.specified(s.node())?;
         let x = self.declared(d, Derived::Whole(b), Vec::new(self.alloc))?;
@@ -173,7 +185,7 @@ impl<'a> Checker<'a> {
 
     /// The type of an array's elements, which have a size (C11, 6.7.6.2).
     pub fn element(&mut self, d: Derived) -> Result<CType, Stop>
-        ensures { Answers type_of (words.element (derived_of d)) (state_of self.old) (state_of self.new) result }
+        ensures { Obeys type_of (words.element (derived_of d)) (state_of self.old) (state_of self.new) result }
     {
         let t = whole_type(d)?;
         self.size_of(&t)?;
@@ -182,7 +194,7 @@ impl<'a> Checker<'a> {
 
     /// The type of an array whose length is a constant expression.
     fn array_of(&mut self, t: CType, c: Constant) -> Result<CType, Stop>
-        ensures { Answers type_of (words.sized_array (type_of t) c) (state_of self.old) (state_of self.new) result }
+        ensures { Obeys type_of (words.sized_array (type_of t) c) (state_of self.old) (state_of self.new) result }
     {
         let n = natural(c).ok_or(Stop::NoTyping)?;
         self.array(t, n)
@@ -190,7 +202,7 @@ impl<'a> Checker<'a> {
 
     /// The type of an array.
     pub fn array(&mut self, t: CType, n: u64) -> Result<CType, Stop>
-        ensures { Answers type_of (words.array_of (type_of t) n) (state_of self.old) (state_of self.new) result }
+        ensures { Obeys type_of (words.array_of (type_of t) n) (state_of self.old) (state_of self.new) result }
     {
         let Ok(n) = u32::try_from(n) else {
             return Err(Stop::NoTyping);
@@ -202,7 +214,7 @@ impl<'a> Checker<'a> {
 
     /// The type of a function with these parameters.
     fn function_of(&mut self, r: CType, ps: &[Parameter<'a>]) -> Result<CType, Stop>
-        ensures { Answers type_of (words.function_of (type_of r) (parameters_in ps.now)) (state_of self.old) (state_of self.new) result }
+        ensures { Obeys type_of (words.function_of (type_of r) (parameters_in ps.now)) (state_of self.old) (state_of self.new) result }
     {
         let types = parameter_types(self.alloc, ps)?;
         Ok(function_type(self.alloc, r, types)?)
@@ -235,6 +247,19 @@ fn parameter_types(alloc: Global, ps: &[Parameter]) -> Result<Vec<CType>, AllocE
         types.push(p.ty.share()?)?;
     }
     Ok(types)
+}
+
+/// The number that an enumerator is.
+fn constant_of(e: Entity) -> Result<Constant, Stop>
+    ensures is { Gives (λ c. c) (words.constant_of e) result }
+    ensures in_range { IfOk result IsInRange }
+{
+    match e {
+        Entity::Constant(n) => Ok(a_number(IntType::Int, u64::from(n))),
+        Entity::Local(_) => Err(Stop::NoTyping),
+        Entity::Global(_) => Err(Stop::NoTyping),
+        Entity::Function(_) => Err(Stop::NoTyping),
+    }
 }
 
 /// The integer type that a type is.

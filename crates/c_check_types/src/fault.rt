@@ -3,11 +3,16 @@
 ghost use Rattle.std.specs.Prelude.{◌≡◌};
 
 use std::alloc::{AllocError, AllocFailed};
+use thiserror::Error;
 
 /// Why a rule has no answer, within a declaration.
-#[derive(Clone, Copy, Debug, PartialEq, Eq)]
+#[derive(Clone, Copy, Debug, PartialEq, Eq, Error)]
 pub enum Stop {
+    /// The rule has no answer.
+    #[error("there is no typing")]
     NoTyping,
+    /// Memory ran out.
+    #[error("memory ran out")]
     Memory,
 }
 

@@ -16,15 +16,15 @@ mod operators;
 mod prelude;
 mod types;
 
-pub use checker::{Checker, Scope, entity_in};
+pub use checker::{Checker, Scope, entity_in, entity_of};
 pub use constants::{
     Constant, a_number, binary, cast, character_bits, choice, constant_bits, constant_type,
-    converted, natural, unary, value_at,
+    converted, int_of, natural, unary, value_at,
 };
 pub use declared::{Declared, Derived, Parameter, adjusted, pointer_to, result_type, whole_type};
 pub use entity::Entity;
 pub use fault::Stop;
-pub use names::Names;
+pub use names::{Names, owned};
 pub use operators::{Operator, operator_of};
 pub use prelude::{LibraryName, library};
 pub use types::{function_type, measured, same_type};

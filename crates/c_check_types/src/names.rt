@@ -1,11 +1,32 @@
 //! Names with numbers.
 
-ghost use Rattle.std.specs.Prelude.{◌≡◌, ◌∷◌, ◌++◌, [], length, None, OnOk};
+ghost use Rattle.std.specs.Prelude.{◌≡◌, ◌∷◌, ◌++◌, [], length, map, None, IfOk, OnOk};
 ghost use Rattle.c_check_types.specs.State.{number_of};
 
+use c_token::Bytes;
 use indexmap::IndexSet;
 use std::alloc::{AllocError, Global};
 use std::marker::Model;
+
+/// Bytes in memory of their own.
+pub fn owned(alloc: Global, name: &[u8]) -> Result<Bytes, AllocError>
+    ensures { IfOk result (λ b. b ≡ name.now) }
+{
+    let mut bytes = Vec::new(alloc);
+    bytes.extend_from_slice(name)?;
+    Ok(Bytes::new(bytes))
+}
+
+/// Names in memory of their own.
+fn copied(alloc: Global, names: &[&[u8]]) -> Result<Vec<Bytes>, AllocError>
+    ensures { IfOk result (λ v. v.items ≡ map (λ b. b.now) names.now) }
+{
+    let mut kept = Vec::new(alloc);
+    for name in names {
+        kept.push(owned(alloc, name)?)?;
+    }
+    Ok(kept)
+}
 
 /// Names, each with the number of the names before it; a look-up is no scan. Contracts see the list of them.
 #[derive(Drop)]
@@ -38,6 +59,13 @@ impl<'a> Names<'a> {
     {
         self.names.insert_full(name)?;
         Ok(())
+    }
+
+    /// The names, in order, in memory of their own.
+    pub fn to_vec(&self, alloc: Global) -> Result<Vec<Bytes>, AllocError>
+        ensures { IfOk result (λ v. v.items ≡ self.now) }
+    {
+        copied(alloc, self.names.as_slice())
     }
 
     /// The number of a name.

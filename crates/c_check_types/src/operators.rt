@@ -6,7 +6,7 @@ ghost use Rattle.c_check_types.specs.Operators as words;
 use c_typed::{BinaryOp, RelOp};
 
 /// A binary operator as typing sees it (C11, 6.5.5 to 6.5.14).
-#[derive(Clone, Copy, Debug, PartialEq, Eq)]
+#[derive(Clone, Copy, PartialEq, Eq)]
 pub enum Operator {
     And,
     Or,

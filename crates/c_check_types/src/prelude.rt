@@ -4,12 +4,13 @@ ghost use Rattle.std.specs.Prelude.{◌≡◌};
 ghost use Rattle.c_check_types.specs.Scopes as words;
 
 /// A name that stands before the unit (C11, 7.19, 7.21 and 7.22).
-#[derive(Clone, Copy, Debug, PartialEq, Eq)]
+#[derive(Clone, Copy, PartialEq, Eq)]
 pub enum LibraryName {
     Putchar,
     Getchar,
     Abort,
     Malloc,
+    Calloc,
     Free,
     Null,
     Eof,
@@ -30,6 +31,9 @@ pub fn library(name: &[u8]) -> Option<LibraryName>
     }
     if name == b"malloc".as_slice() {
         return Some(LibraryName::Malloc);
+    }
+    if name == b"calloc".as_slice() {
+        return Some(LibraryName::Calloc);
     }
     if name == b"free".as_slice() {
         return Some(LibraryName::Free);

@@ -15,7 +15,7 @@ use std::rc::Rc;
 
 /// Whether two types are the same (C11, 6.2.7).
 #[cycle(same)]
-#[tactic(auto, using(crate::proofs::Rows::same_functions))]
+#[tactic(auto, using(crate::proofs::TypeLists::same_functions))]
 pub fn same_type(t: &CType, u: &CType) -> bool
     ensures { result ≡ words.same_type (type_of t.now) (type_of u.now) }
 {
@@ -81,7 +81,7 @@ fn same_signature(f: &Signature, g: &Signature) -> bool
 
 /// Whether the types of two lists are the same, one by one.
 #[cycle(same)]
-#[tactic(auto, using(crate::proofs::Rows::lengths_differ))]
+#[tactic(auto, using(crate::proofs::TypeLists::lengths_differ))]
 fn same_types(ts: &[CType], us: &[CType]) -> bool
     ensures { result ≡ words.same_types (tys_of (types_in ts.now)) (tys_of (types_in us.now)) }
 {

@@ -1,14 +1,17 @@
 -- Functions that are defined (C11, 6.9.1): their parameters, slots and bodies.
 use Rattle.std.specs.Prelude.{ℕ, not, Bool, false, List, [], ◌∷◌, ◌++◌, is_some, slice_get, slice_set, Option, Some, None}
 use Rattle.c_types.specs.Types.{Ty, function}
+use Rattle.c_typed.specs.declared.unit.Subject.TheVariants as subjects
 use Rattle.c_typed.specs.Tree.{Function, Stmt}
-use Rattle.c_check_types.specs.State.{Rule, ◌>>=◌, ◌>>◌, pure, given, only_if, state, change, and_then}
-use Rattle.c_check_types.specs.Scopes.{enters_local}
+use Rattle.c_check_types.specs.State.{Rule, ◌>>=◌, ◌>>◌, pure, given, only_if, state, change, added, and_then}
+use Rattle.c_check_types.specs.Scopes.{new_slot, enters_local}
 use Rattle.c_check_types.specs.Types.{Parameter}
 
 -- parameters stand in the scope of the body's block; they may have no name
 abbrev pub enters_parameter : Option (List ℕ) → Ty → Rule (Unit {0})
-enters_parameter None t = change (λ s. record s { slots = s.slots ++ t ∷ [] })
+enters_parameter None t = do
+  new_slot t
+  pure tt
 enters_parameter (Some name) t = do
   enters_local name t
   pure tt
@@ -40,6 +43,7 @@ with_body n body = do
   s ← state
   fs ← given (with_definition s.functions n s.slots body)
   change (λ s. record s { functions = fs; slots = [] })
+  added (subjects.Body n)
 
 abbrev pub result_in : Ty → Option Ty
 result_in (function r ps) = Some r

@@ -1,3 +1,4 @@
+pub mod Enumerations
 pub mod Structs
 pub mod Functions
 pub mod Initials

@@ -8,8 +8,10 @@ use Rattle.c_tree.specs.declared.external.OuterSpecifier.TheVariants as outers
 use Rattle.c_tree.specs.declared.external.Piece.{Piece}
 use Rattle.c_tree.specs.declared.external.Piece.TheVariants as pieces
 use Rattle.c_tree.specs.Tree.{Declarator}
-use Rattle.c_check_types.specs.State.{Names, number_of, Rule, ◌>>=◌, ◌>>◌, pure, none, given, only_if, state, change}
+use Rattle.c_typed.specs.declared.unit.Subject.TheVariants as subjects
+use Rattle.c_check_types.specs.State.{Names, number_of, Rule, ◌>>=◌, ◌>>◌, pure, none, given, only_if, state, change, added}
 use Rattle.c_check_types.specs.Scopes.{tag_number}
+use Rattle.c_declare.specs.Enumerations.{enumeration}
 use Rattle.c_check_types.specs.Types.{whole, whole_type, specified, declared, size_of}
 
 -- a struct whose members are being read: its number, and the names and types of those so far
@@ -47,13 +49,20 @@ abbrev pub is_undefined : Option (Option Layout) → Bool
 is_undefined (Some None) = true
 is_undefined _ = false
 
+-- a struct has a member at least (6.7.2.1, paragraph 8)
+abbrev pub has_members : List Ty → Bool
+has_members [] = false
+has_members (t ∷ ts) = true
+
 -- a tag is defined once, and its struct isn't too large
 abbrev pub defines : Open → Rule Ty
 defines o = do
   s ← state
   only_if (is_undefined (slice_get s.structs o.number))
+  only_if (has_members o.types)
   only_if (nat_le (length o.types) most_bytes)
   change (λ s. record s { structs = slice_set s.structs o.number (Some (laid_out s.structs o.types)); members = slice_set s.members o.number o.names })
+  added (subjects.Members o.number)
   size_of (struct o.number)
   pure (struct o.number)
 
@@ -78,6 +87,9 @@ piece os (pieces.Opens tag) = do
 piece os (pieces.Member (heads.Specifier s) ds) = do
   b ← specified s
   in_front os b ds
+piece os (pieces.Member (heads.Enum tag xs comma) ds) = do
+  b ← enumeration tag xs
+  in_front os b ds
 piece os (pieces.Member heads.Close ds) = do
   x ← closes os
   in_front x.1 x.0 ds
@@ -101,3 +113,4 @@ struct_defined tag ps = do
 abbrev pub outer : OuterSpecifier → Rule Ty
 outer (outers.Plain s) = specified s
 outer (outers.Struct tag ps) = struct_defined tag ps
+outer (outers.Enum tag xs comma) = enumeration tag xs

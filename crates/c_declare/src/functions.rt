@@ -4,23 +4,23 @@ ghost use Rattle.std.specs.Prelude.{◌≡◌, map, slice_get};
 ghost use Rattle.c_types.specs.Types.{type_of};
 ghost use Rattle.c_types.specs.Views.{types_in};
 ghost use Rattle.c_typed.specs.Views.{function_of, stmt_of};
-ghost use Rattle.c_check_types.specs.Views.{Answers, Gives, name_of, parameters_in, state_of};
+ghost use Rattle.c_check_types.specs.Views.{Obeys, Gives, name_of, parameters_in, state_of};
 ghost use Rattle.c_declare.specs.Functions as words;
 
-use crate::scope::enters_local;
+use crate::scope::{enters_local, new_slot};
 use c_check_types::{Checker, Parameter, Stop};
-use c_typed::{Function, Stmt};
+use c_typed::{Function, Stmt, Subject};
 use c_types::CType;
 use std::mem;
 
 /// A parameter, which may have no name.
 fn enters_parameter<'a>(checker: &mut Checker<'a>, p: &Parameter<'a>) -> Result<(), Stop>
-    ensures { Answers (λ _. tt) (words.enters_parameter (name_of p.now.name) (type_of p.now.ty)) (state_of checker.old) (state_of checker.new) result }
+    ensures { Obeys (λ _. tt) (words.enters_parameter (name_of p.now.name) (type_of p.now.ty)) (state_of checker.old) (state_of checker.new) result }
 {
     let t = p.ty.share()?;
     match p.name {
         None => {
-            checker.slots.push(t)?;
+            new_slot(checker, t)?;
             Ok(())
         }
         Some(name) => {
@@ -35,7 +35,7 @@ pub fn enters_parameters<'a>(
     checker: &mut Checker<'a>,
     params: &[Parameter<'a>],
 ) -> Result<(), Stop>
-    ensures { Answers (λ _. tt) (words.enters_parameters (parameters_in params.now)) (state_of checker.old) (state_of checker.new) result }
+    ensures { Obeys (λ _. tt) (words.enters_parameters (parameters_in params.now)) (state_of checker.old) (state_of checker.new) result }
 {
     for p in params {
         match enters_parameter(checker, p) {
@@ -58,7 +58,7 @@ fn has_no_body(functions: &[Function], n: u32) -> bool
 
 /// A function is defined once.
 pub fn is_declared_alone<'a>(checker: &Checker<'a>, n: u32) -> Result<(), Stop>
-    ensures { Answers (λ _. tt) (words.is_declared_alone n) (state_of checker.now) (state_of checker.now) result }
+    ensures { Obeys (λ _. tt) (words.is_declared_alone n) (state_of checker.now) (state_of checker.now) result }
 {
     if !has_no_body(checker.functions.as_slice(), n) {
         return Err(Stop::NoTyping);
@@ -94,10 +94,11 @@ fn with_definition(
 
 /// Gives a function the slots that were made and its body.
 pub fn with_body<'a>(checker: &mut Checker<'a>, n: u32, body: Box<Stmt>) -> Result<(), Stop>
-    ensures { Answers (λ _. tt) (words.with_body n (stmt_of body.value)) (state_of checker.old) (state_of checker.new) result }
+    ensures { Obeys (λ _. tt) (words.with_body n (stmt_of body.value)) (state_of checker.old) (state_of checker.new) result }
 {
     let slots = mem::replace(&mut checker.slots, Vec::new(checker.alloc));
-    with_definition(&mut checker.functions, n, slots, body)
+    with_definition(&mut checker.functions, n, slots, body)?;
+    checker.added(Subject::Body(n))
 }
 
 /// The result of a function's type.

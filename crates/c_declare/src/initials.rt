@@ -2,7 +2,7 @@
 
 ghost use Rattle.std.specs.Prelude.{◌≡◌, Some};
 ghost use Rattle.c_types.specs.Types.{type_of};
-ghost use Rattle.c_check_types.specs.Views.{Answers, derived_of, name_of, state_of};
+ghost use Rattle.c_check_types.specs.Views.{Obeys, derived_of, name_of, state_of};
 ghost use Rattle.c_declare.specs.Initials as words;
 
 use c_check_types::{Checker, Derived, Stop};
@@ -150,7 +150,7 @@ pub fn variable_type<'a>(
     d: Derived,
     v: &Option<Initialiser>,
 ) -> Result<CType, Stop>
-    ensures { Answers type_of (words.variable_type (derived_of d) v.now) (state_of checker.old) (state_of checker.new) result }
+    ensures { Obeys type_of (words.variable_type (derived_of d) v.now) (state_of checker.old) (state_of checker.new) result }
 {
     match d {
         Derived::Whole(t) => {

@@ -5,6 +5,7 @@
 //! place in a unit and its rules. Read `specs/Structs.antt` first, then `specs/Initials.antt`.
 #![tactic(auto)]
 
+mod enumerations;
 mod functions;
 mod initials;
 mod scope;

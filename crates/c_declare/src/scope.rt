@@ -5,22 +5,22 @@ ghost use Rattle.c_types.specs.Types.{type_of};
 ghost use Rattle.c_typed.specs.Views.{function_of};
 ghost use Rattle.c_check_types.specs.Scopes as words;
 ghost use Rattle.c_check_types.specs.State.{number_of};
-ghost use Rattle.c_check_types.specs.Views.{Answers, scope_of, scopes_of, state_of};
+ghost use Rattle.c_check_types.specs.Views.{Obeys, scope_of, scopes_of, state_of};
 
-use c_check_types::{Checker, Entity, Names, Scope, Stop, entity_in, library, same_type};
-use c_token::Bytes;
-use c_typed::Function;
+use c_check_types::{Checker, Entity, Names, Scope, Stop, entity_in, library, owned, same_type};
+use c_typed::{Function, Subject, is_identifier};
 use c_types::CType;
 use std::alloc::{AllocError, Global};
 use std::collections::LinkedList;
 
 /// Opens a scope.
 pub fn opened<'a>(checker: &mut Checker<'a>) -> Result<(), Stop>
-    ensures { Answers (λ _. tt) words.opened (state_of checker.old) (state_of checker.new) result }
+    ensures { Obeys (λ _. tt) words.opened (state_of checker.old) (state_of checker.new) result }
 {
     let scope = Scope {
         names: Names::new(checker.alloc),
         entities: Vec::new(checker.alloc),
+        slots: Vec::new(checker.alloc),
     };
     checker.scopes.push_front(scope)?;
     Ok(())
@@ -28,7 +28,7 @@ pub fn opened<'a>(checker: &mut Checker<'a>) -> Result<(), Stop>
 
 /// Closes the innermost scope.
 pub fn closed<'a>(checker: &mut Checker<'a>) -> Result<(), Stop>
-    ensures { Answers (λ _. tt) words.closed (state_of checker.old) (state_of checker.new) result }
+    ensures { Obeys (λ _. tt) words.closed (state_of checker.old) (state_of checker.new) result }
 {
     let _scope = checker.scopes.pop_front();
     Ok(())
@@ -42,10 +42,44 @@ fn with_name<'a>(scope: Scope<'a>, name: &'a [u8], e: Entity) -> Result<Scope<'a
     let Scope {
         mut names,
         mut entities,
+        slots,
     } = scope;
     names.add(name)?;
     entities.push(e)?;
-    Ok(Scope { names, entities })
+    Ok(Scope {
+        names,
+        entities,
+        slots,
+    })
+}
+
+/// A scope with one more slot.
+fn with_slot<'a>(scope: Scope<'a>, n: u32) -> Result<Scope<'a>, AllocError>
+    ensures { IfOk result (λ s. scope_of s ≡ words.with_slot (scope_of scope.entry) n) }
+{
+    let Scope {
+        names,
+        entities,
+        mut slots,
+    } = scope;
+    slots.push(n)?;
+    Ok(Scope {
+        names,
+        entities,
+        slots,
+    })
+}
+
+/// Puts a slot into the innermost scope.
+fn opens<'a>(scopes: &mut LinkedList<Scope<'a>>, n: u32) -> Result<(), AllocError>
+    ensures { OnOk result (scopes_of scopes.new ≡ words.opens (scopes_of scopes.old) n) }
+{
+    let Some(scope) = scopes.pop_front() else {
+        return Ok(());
+    };
+    let scope = with_slot(scope, n)?;
+    scopes.push_front(scope)?;
+    Ok(())
 }
 
 /// Whether the innermost scope has a name.
@@ -71,9 +105,16 @@ fn put<'a>(scopes: &mut LinkedList<Scope<'a>>, name: &'a [u8], e: Entity) -> Res
     Ok(())
 }
 
+/// Enters an enumerator, which has this number.
+pub fn enters_constant<'a>(checker: &mut Checker<'a>, name: &'a [u8], bits: u32) -> Result<(), Stop>
+    ensures { Obeys (λ _. tt) (words.enters_constant name.now bits) (state_of checker.old) (state_of checker.new) result }
+{
+    enters(checker, name, Entity::Constant(bits))
+}
+
 /// Enters a name into the innermost scope, where it stands for one thing (C11, 6.7, paragraph 3).
 fn enters<'a>(checker: &mut Checker<'a>, name: &'a [u8], e: Entity) -> Result<(), Stop>
-    ensures { Answers (λ _. tt) (words.enters name.now e) (state_of checker.old) (state_of checker.new) result }
+    ensures { Obeys (λ _. tt) (words.enters name.now e) (state_of checker.old) (state_of checker.new) result }
 {
     if library(name).is_some() {
         return Err(Stop::NoTyping);
@@ -85,21 +126,30 @@ fn enters<'a>(checker: &mut Checker<'a>, name: &'a [u8], e: Entity) -> Result<()
     Ok(())
 }
 
-/// The slot of a variable or a parameter that is entered.
-pub fn enters_local<'a>(checker: &mut Checker<'a>, name: &'a [u8], t: CType) -> Result<u32, Stop>
-    ensures { Answers (λ n. n) (words.enters_local name.now (type_of t)) (state_of checker.old) (state_of checker.new) result }
+/// The next slot, for a parameter or a variable of this type.
+pub fn new_slot<'a>(checker: &mut Checker<'a>, t: CType) -> Result<u32, Stop>
+    ensures { Obeys (λ n. n) (words.new_slot (type_of t)) (state_of checker.old) (state_of checker.new) result }
 {
     let Ok(n) = u32::try_from(checker.slots.len()) else {
         return Err(Stop::Memory);
     };
-    enters(checker, name, Entity::Local(n))?;
+    opens(&mut checker.scopes, n)?;
     checker.slots.push(t)?;
+    Ok(n)
+}
+
+/// The slot of a variable or a parameter that is entered.
+pub fn enters_local<'a>(checker: &mut Checker<'a>, name: &'a [u8], t: CType) -> Result<u32, Stop>
+    ensures { Obeys (λ n. n) (words.enters_local name.now (type_of t)) (state_of checker.old) (state_of checker.new) result }
+{
+    let n = new_slot(checker, t)?;
+    enters(checker, name, Entity::Local(n))?;
     Ok(n)
 }
 
 /// The number of a variable at file scope that is entered. No function has its name.
 pub fn enters_global<'a>(checker: &mut Checker<'a>, name: &'a [u8], t: CType) -> Result<u32, Stop>
-    ensures { Answers (λ n. n) (words.enters_global name.now (type_of t)) (state_of checker.old) (state_of checker.new) result }
+    ensures { Obeys (λ n. n) (words.enters_global name.now (type_of t)) (state_of checker.old) (state_of checker.new) result }
 {
     if checker.function_names.find(name).is_some() {
         return Err(Stop::NoTyping);
@@ -108,7 +158,9 @@ pub fn enters_global<'a>(checker: &mut Checker<'a>, name: &'a [u8], t: CType) ->
         return Err(Stop::Memory);
     };
     enters(checker, name, Entity::Global(n))?;
+    checker.global_names.push(owned(checker.alloc, name)?)?;
     checker.globals.push(t)?;
+    checker.added(Subject::Variable(n))?;
     Ok(n)
 }
 
@@ -130,13 +182,14 @@ fn is_function(e: Option<Entity>, n: u32) -> bool
         Some(Entity::Function(m)) => m == n,
         Some(Entity::Local(_)) => false,
         Some(Entity::Global(_)) => false,
+        Some(Entity::Constant(_)) => false,
         None => false,
     }
 }
 
 /// Enters a function's name. Where it stands for that function already, it may be named again.
 fn enters_function<'a>(checker: &mut Checker<'a>, name: &'a [u8], n: u32) -> Result<(), Stop>
-    ensures { Answers (λ _. tt) (words.enters_function name.now n) (state_of checker.old) (state_of checker.new) result }
+    ensures { Obeys (λ _. tt) (words.enters_function name.now n) (state_of checker.old) (state_of checker.new) result }
 {
     if is_function(entity_in_front(&checker.scopes, name), n) {
         return Ok(());
@@ -152,6 +205,7 @@ fn is_global(e: Option<Entity>) -> bool
         Some(Entity::Global(_)) => true,
         Some(Entity::Local(_)) => false,
         Some(Entity::Function(_)) => false,
+        Some(Entity::Constant(_)) => false,
         None => false,
     }
 }
@@ -175,10 +229,8 @@ fn add_function(
 ) -> Result<(), AllocError>
     ensures { OnOk result (map function_of functions.new.items ≡ map function_of functions.old.items ++ words.a_function name.now (type_of t) ∷ []) }
 {
-    let mut bytes = Vec::new(alloc);
-    bytes.extend_from_slice(name)?;
     functions.push(Function {
-        name: Bytes::new(bytes),
+        name: owned(alloc, name)?,
         ty: t,
         slots: Vec::new(alloc),
         body: None,
@@ -189,8 +241,11 @@ fn add_function(
 /// The number of a function that is declared for the first time.
 fn new_function<'a>(checker: &mut Checker<'a>, name: &'a [u8], t: CType) -> Result<u32, Stop>
     requires { number_of (state_of checker.old).function_names name.now ≡ None }
-    ensures { Answers (λ n. n) (words.new_function name.now (type_of t)) (state_of checker.old) (state_of checker.new) result }
+    ensures { Obeys (λ n. n) (words.new_function name.now (type_of t)) (state_of checker.old) (state_of checker.new) result }
 {
+    if !is_identifier(name) {
+        return Err(Stop::NoTyping);
+    }
     if names_variable(&checker.scopes, name) {
         return Err(Stop::NoTyping);
     }
@@ -199,6 +254,7 @@ fn new_function<'a>(checker: &mut Checker<'a>, name: &'a [u8], t: CType) -> Resu
     };
     checker.function_names.add(name)?;
     add_function(checker.alloc, &mut checker.functions, name, t)?;
+    checker.added(Subject::Function(n))?;
     enters_function(checker, name, n)?;
     Ok(n)
 }
@@ -220,7 +276,7 @@ fn old_function<'a>(
     t: &CType,
     n: u32,
 ) -> Result<u32, Stop>
-    ensures { Answers (λ n. n) (words.old_function name.now (type_of t.now) n) (state_of checker.old) (state_of checker.new) result }
+    ensures { Obeys (λ n. n) (words.old_function name.now (type_of t.now) n) (state_of checker.old) (state_of checker.new) result }
 {
     if !has_type(checker.functions.as_slice(), n, t) {
         return Err(Stop::NoTyping);
@@ -235,7 +291,7 @@ pub fn declares_function<'a>(
     name: &'a [u8],
     t: CType,
 ) -> Result<u32, Stop>
-    ensures { Answers (λ n. n) (words.declares_function name.now (type_of t)) (state_of checker.old) (state_of checker.new) result }
+    ensures { Obeys (λ n. n) (words.declares_function name.now (type_of t)) (state_of checker.old) (state_of checker.new) result }
 {
     match checker.function_names.find(name) {
         Some(n) => match u32::try_from(n) {

@@ -5,12 +5,14 @@ ghost use Rattle.std.specs.List.{All};
 ghost use Rattle.c_types.specs.Layout.{IsSmall};
 ghost use Rattle.c_types.specs.Types.{type_of};
 ghost use Rattle.c_types.specs.Views.{types_in};
-ghost use Rattle.c_check_types.specs.Views.{Answers, state_of};
+ghost use Rattle.c_check_types.specs.Views.{Obeys, state_of};
 ghost use Rattle.c_declare.specs.Structs as words;
 ghost use Rattle.c_declare.specs.Views.{open_of, opens_of};
 
+use crate::enumerations::enumeration;
 use c_check_types::{Checker, Derived, Names, Stop, measured, whole_type};
 use c_tree::{Declarator, MemberHead, Members, OuterSpecifier, Piece};
+use c_typed::Subject;
 use c_types::{CType, MOST_BYTES, Structs};
 use std::collections::LinkedList;
 use std::mem;
@@ -25,7 +27,7 @@ pub struct Open<'a> {
 
 /// Begins the members of a struct.
 fn opens_struct<'a>(checker: &mut Checker<'a>, tag: &'a [u8]) -> Result<Open<'a>, Stop>
-    ensures { Answers open_of (words.opens_struct tag.now) (state_of checker.old) (state_of checker.new) result }
+    ensures { Obeys open_of (words.opens_struct tag.now) (state_of checker.old) (state_of checker.new) result }
 {
     let number = checker.tag_number(tag)?;
     Ok(Open {
@@ -42,7 +44,7 @@ fn with_member<'a>(
     name: &'a [u8],
     t: CType,
 ) -> Result<(), Stop>
-    ensures { Answers (λ _. open_of o.new) (words.with_member (open_of o.old) name.now (type_of t)) (state_of checker.old) (state_of checker.new) result }
+    ensures { Obeys (λ _. open_of o.new) (words.with_member (open_of o.old) name.now (type_of t)) (state_of checker.old) (state_of checker.new) result }
 {
     if o.names.find(name).is_some() {
         return Err(Stop::NoTyping);
@@ -60,7 +62,7 @@ fn declares_member<'a>(
     b: &CType,
     d: &'a Declarator,
 ) -> Result<(), Stop>
-    ensures { Answers (λ _. open_of o.new) (words.declares_member (open_of o.old) (type_of b.now) d.now) (state_of checker.old) (state_of checker.new) result }
+    ensures { Obeys (λ _. open_of o.new) (words.declares_member (open_of o.old) (type_of b.now) d.now) (state_of checker.old) (state_of checker.new) result }
 {
     let x = checker.declared(d, Derived::Whole(b.share()?), Vec::new(checker.alloc))?;
     let Some(name) = x.name else {
@@ -77,7 +79,7 @@ fn with_members<'a>(
     b: &CType,
     ds: &'a [Declarator],
 ) -> Result<(), Stop>
-    ensures { Answers (λ _. open_of o.new) (words.with_members (open_of o.old) (type_of b.now) ds.now) (state_of checker.old) (state_of checker.new) result }
+    ensures { Obeys (λ _. open_of o.new) (words.with_members (open_of o.old) (type_of b.now) ds.now) (state_of checker.old) (state_of checker.new) result }
 {
     for d in ds {
         match declares_member(checker, o, b, d) {
@@ -110,9 +112,19 @@ fn keeps_names<'a>(members: &mut Vec<Names<'a>>, number: u32, names: Names<'a>)
     }
 }
 
+/// Whether there is a member (C11, 6.7.2.1, paragraph 8).
+fn has_members(types: &[CType]) -> bool
+    ensures { result ≡ words.has_members (types_in types.now) }
+{
+    match types {
+        [] => false,
+        [_, ..] => true,
+    }
+}
+
 /// Defines a struct, which isn't defined so far and isn't too large.
 fn defines<'a>(checker: &mut Checker<'a>, o: Open<'a>) -> Result<CType, Stop>
-    ensures { Answers type_of (words.defines (open_of o.entry)) (state_of checker.old) (state_of checker.new) result }
+    ensures { Obeys type_of (words.defines (open_of o.entry)) (state_of checker.old) (state_of checker.new) result }
 {
     let Open {
         number,
@@ -120,6 +132,9 @@ fn defines<'a>(checker: &mut Checker<'a>, o: Open<'a>) -> Result<CType, Stop>
         types,
     } = o;
     if !checker.structs.is_undefined(number) {
+        return Err(Stop::NoTyping);
+    }
+    if !has_members(types.as_slice()) {
         return Err(Stop::NoTyping);
     }
     // Each member has a byte at least.
@@ -132,6 +147,7 @@ fn defines<'a>(checker: &mut Checker<'a>, o: Open<'a>) -> Result<CType, Stop>
     }
     checker.structs.define(checker.alloc, number, types)?;
     keeps_names(&mut checker.members, number, names);
+    checker.added(Subject::Members(number))?;
     let t = CType::Struct(number);
     checker.size_of(&t)?;
     Ok(t)
@@ -139,7 +155,7 @@ fn defines<'a>(checker: &mut Checker<'a>, o: Open<'a>) -> Result<CType, Stop>
 
 /// Closes the innermost struct, which stands in another one.
 fn closes<'a>(checker: &mut Checker<'a>, opens: &mut LinkedList<Open<'a>>) -> Result<CType, Stop>
-    ensures { Answers (λ t. (type_of t, opens_of opens.new)) (words.closes (opens_of opens.old)) (state_of checker.old) (state_of checker.new) result }
+    ensures { Obeys (λ t. (type_of t, opens_of opens.new)) (words.closes (opens_of opens.old)) (state_of checker.old) (state_of checker.new) result }
 {
     let Some(o) = opens.pop_front() else {
         return Err(Stop::NoTyping);
@@ -157,7 +173,7 @@ fn in_front<'a>(
     b: &CType,
     ds: &'a [Declarator],
 ) -> Result<(), Stop>
-    ensures { Answers (λ _. opens_of opens.new) (words.in_front (opens_of opens.old) (type_of b.now) ds.now) (state_of checker.old) (state_of checker.new) result }
+    ensures { Obeys (λ _. opens_of opens.new) (words.in_front (opens_of opens.old) (type_of b.now) ds.now) (state_of checker.old) (state_of checker.new) result }
 {
     let Some(mut o) = opens.pop_front() else {
         return Err(Stop::NoTyping);
@@ -173,7 +189,7 @@ fn piece<'a>(
     opens: &mut LinkedList<Open<'a>>,
     p: &'a Piece,
 ) -> Result<(), Stop>
-    ensures { Answers (λ _. opens_of opens.new) (words.piece (opens_of opens.old) p.now) (state_of checker.old) (state_of checker.new) result }
+    ensures { Obeys (λ _. opens_of opens.new) (words.piece (opens_of opens.old) p.now) (state_of checker.old) (state_of checker.new) result }
 {
     match p {
         Piece::Opens(tag) => {
@@ -183,6 +199,10 @@ fn piece<'a>(
         }
         Piece::Member(MemberHead::Specifier(s), ds) => {
             let b = checker.specified(s.node())?;
+            in_front(checker, opens, &b, ds.items())
+        }
+        Piece::Member(MemberHead::Enum(tag, xs, _), ds) => {
+            let b = enumeration(checker, tag, xs)?;
             in_front(checker, opens, &b, ds.items())
         }
         Piece::Member(MemberHead::Close, ds) => {
@@ -198,7 +218,7 @@ fn all_pieces<'a>(
     opens: &mut LinkedList<Open<'a>>,
     ps: &'a [Piece],
 ) -> Result<(), Stop>
-    ensures { Answers (λ _. opens_of opens.new) (words.all_pieces (opens_of opens.old) ps.now) (state_of checker.old) (state_of checker.new) result }
+    ensures { Obeys (λ _. opens_of opens.new) (words.all_pieces (opens_of opens.old) ps.now) (state_of checker.old) (state_of checker.new) result }
 {
     for p in ps {
         match piece(checker, opens, p) {
@@ -211,7 +231,7 @@ fn all_pieces<'a>(
 
 /// Defines the struct that is open, the only one.
 fn last_one<'a>(checker: &mut Checker<'a>, mut opens: LinkedList<Open<'a>>) -> Result<CType, Stop>
-    ensures { Answers type_of (words.last_one (opens_of opens.entry)) (state_of checker.old) (state_of checker.new) result }
+    ensures { Obeys type_of (words.last_one (opens_of opens.entry)) (state_of checker.old) (state_of checker.new) result }
 {
     let Some(o) = opens.pop_front() else {
         return Err(Stop::NoTyping);
@@ -228,7 +248,7 @@ fn struct_defined<'a>(
     tag: &'a [u8],
     members: &'a Members,
 ) -> Result<CType, Stop>
-    ensures { Answers type_of (words.struct_defined tag.now members.now) (state_of checker.old) (state_of checker.new) result }
+    ensures { Obeys type_of (words.struct_defined tag.now members.now) (state_of checker.old) (state_of checker.new) result }
 {
     let o = opens_struct(checker, tag)?;
     let mut opens = LinkedList::new(checker.alloc);
@@ -239,10 +259,11 @@ fn struct_defined<'a>(
 
 /// The type of a specifier at file scope.
 pub fn outer<'a>(checker: &mut Checker<'a>, s: &'a OuterSpecifier) -> Result<CType, Stop>
-    ensures { Answers type_of (words.outer s.now) (state_of checker.old) (state_of checker.new) result }
+    ensures { Obeys type_of (words.outer s.now) (state_of checker.old) (state_of checker.new) result }
 {
     match s {
         OuterSpecifier::Plain(s) => checker.specified(s.node()),
         OuterSpecifier::Struct(tag, members) => struct_defined(checker, tag.as_slice(), members),
+        OuterSpecifier::Enum(tag, xs, _) => enumeration(checker, tag, xs),
     }
 }

@@ -3,7 +3,7 @@
 ghost use Rattle.std.specs.Prelude.{◌≡◌};
 ghost use Rattle.c_types.specs.Types.{integer, pointer, type_of};
 ghost use Rattle.c_typed.specs.Views.{expr_of};
-ghost use Rattle.c_check_types.specs.Views.{Answers, Gives, state_of};
+ghost use Rattle.c_check_types.specs.Views.{Obeys, Gives, state_of};
 ghost use Rattle.c_operators.specs.Operations as words;
 ghost use Rattle.c_typed.specs.FormViews.{form_of, value_pair};
 
@@ -20,7 +20,7 @@ pub fn sum<'a>(
     x: (Box<Expr>, CType),
     y: (Box<Expr>, CType),
 ) -> Result<Form<'a>, Stop>
-    ensures { Answers form_of (words.sum (value_pair x) (value_pair y)) (state_of checker.old) (state_of checker.new) result }
+    ensures { Obeys form_of (words.sum (value_pair x) (value_pair y)) (state_of checker.old) (state_of checker.new) result }
 {
     let (a, t) = x;
     match t {
@@ -39,7 +39,7 @@ fn int_plus<'a>(
     x: (Box<Expr>, IntType),
     y: (Box<Expr>, CType),
 ) -> Result<Form<'a>, Stop>
-    ensures { Answers form_of (words.sum (expr_of x.0.value, integer x.1) (value_pair y)) (state_of checker.old) (state_of checker.new) result }
+    ensures { Obeys form_of (words.sum (expr_of x.0.value, integer x.1) (value_pair y)) (state_of checker.old) (state_of checker.new) result }
 {
     let (b, u) = y;
     match u {
@@ -58,7 +58,7 @@ fn pointer_plus<'a>(
     x: (Box<Expr>, Rc<CType>),
     y: (Box<Expr>, CType),
 ) -> Result<Form<'a>, Stop>
-    ensures { Answers form_of (words.sum (expr_of x.0.value, pointer (type_of x.1.value)) (value_pair y)) (state_of checker.old) (state_of checker.new) result }
+    ensures { Obeys form_of (words.sum (expr_of x.0.value, pointer (type_of x.1.value)) (value_pair y)) (state_of checker.old) (state_of checker.new) result }
 {
     let (b, u) = y;
     match u {
@@ -77,7 +77,7 @@ pub fn minus<'a>(
     x: (Box<Expr>, CType),
     y: (Box<Expr>, CType),
 ) -> Result<Form<'a>, Stop>
-    ensures { Answers form_of (words.minus (value_pair x) (value_pair y)) (state_of checker.old) (state_of checker.new) result }
+    ensures { Obeys form_of (words.minus (value_pair x) (value_pair y)) (state_of checker.old) (state_of checker.new) result }
 {
     let (a, t) = x;
     match t {
@@ -96,7 +96,7 @@ fn int_minus<'a>(
     x: (Box<Expr>, IntType),
     y: (Box<Expr>, CType),
 ) -> Result<Form<'a>, Stop>
-    ensures { Answers form_of (words.minus (expr_of x.0.value, integer x.1) (value_pair y)) (state_of checker.now) (state_of checker.now) result }
+    ensures { Obeys form_of (words.minus (expr_of x.0.value, integer x.1) (value_pair y)) (state_of checker.now) (state_of checker.now) result }
 {
     let (b, u) = y;
     match u {
@@ -115,7 +115,7 @@ fn pointer_minus<'a>(
     x: (Box<Expr>, Rc<CType>),
     y: (Box<Expr>, CType),
 ) -> Result<Form<'a>, Stop>
-    ensures { Answers form_of (words.minus (expr_of x.0.value, pointer (type_of x.1.value)) (value_pair y)) (state_of checker.old) (state_of checker.new) result }
+    ensures { Obeys form_of (words.minus (expr_of x.0.value, pointer (type_of x.1.value)) (value_pair y)) (state_of checker.old) (state_of checker.new) result }
 {
     let (b, u) = y;
     match u {

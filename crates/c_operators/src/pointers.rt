@@ -5,7 +5,7 @@ ghost use Rattle.c_types.specs.declared.integers.IntType.TheVariants.{LongLong};
 ghost use Rattle.c_types.specs.Types.{pointer, type_of};
 ghost use Rattle.c_typed.specs.Tree as to;
 ghost use Rattle.c_typed.specs.Views.{expr_of};
-ghost use Rattle.c_check_types.specs.Views.{Answers, Gives, state_of};
+ghost use Rattle.c_check_types.specs.Views.{Obeys, Gives, state_of};
 ghost use Rattle.c_typed.specs.Forms as forms;
 ghost use Rattle.c_operators.specs.Operations as words;
 ghost use Rattle.c_typed.specs.FormViews.{form_of, integer_pair};
@@ -23,7 +23,7 @@ pub fn moved<'a>(
     p: (Box<Expr>, Rc<CType>),
     i: (Box<Expr>, IntType),
 ) -> Result<Form<'a>, Stop>
-    ensures { Answers form_of (words.moved back (expr_of p.0.value, type_of p.1.value) (integer_pair i)) (state_of checker.old) (state_of checker.new) result }
+    ensures { Obeys form_of (words.moved back (expr_of p.0.value, type_of p.1.value) (integer_pair i)) (state_of checker.old) (state_of checker.new) result }
 {
     checker.size_of(&p.1)?;
     Ok(move_of(checker.alloc, back, p, i)?)
@@ -51,7 +51,7 @@ pub fn moved_by<'a>(
     i: (Box<Expr>, IntType),
     p: (Box<Expr>, Rc<CType>),
 ) -> Result<Form<'a>, Stop>
-    ensures { Answers form_of (words.moved_by (integer_pair i) (expr_of p.0.value, type_of p.1.value)) (state_of checker.old) (state_of checker.new) result }
+    ensures { Obeys form_of (words.moved_by (integer_pair i) (expr_of p.0.value, type_of p.1.value)) (state_of checker.old) (state_of checker.new) result }
 {
     checker.size_of(&p.1)?;
     Ok(move_by_of(checker.alloc, i, p)?)
@@ -78,7 +78,7 @@ pub fn difference<'a>(
     p: (Box<Expr>, Rc<CType>),
     q: (Box<Expr>, Rc<CType>),
 ) -> Result<Form<'a>, Stop>
-    ensures { Answers form_of (words.difference (expr_of p.0.value, type_of p.1.value) (expr_of q.0.value, type_of q.1.value)) (state_of checker.old) (state_of checker.new) result }
+    ensures { Obeys form_of (words.difference (expr_of p.0.value, type_of p.1.value) (expr_of q.0.value, type_of q.1.value)) (state_of checker.old) (state_of checker.new) result }
 {
     let (p, t) = p;
     let (q, u) = q;

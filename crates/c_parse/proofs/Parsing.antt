@@ -7,17 +7,17 @@ use Rattle.c_tree.specs.declared.external.External.{External}
 use Rattle.c_tree.specs.declared.external.OuterSpecifier.{OuterSpecifier}
 use Rattle.c_tree.specs.declared.external.ExternalForm.{ExternalForm}
 use Rattle.c_tree.specs.Grammar.{IsUnit, empty_unit}
-use Rattle.c_rows.specs.declared.kind.Kind.TheVariants as kinds
-use Rattle.c_rows.specs.declared.value.Value.TheVariants as values
-use Rattle.c_rows.specs.Table.{State}
-use Rattle.c_rows.specs.Meaning.{first_state, lowest}
-use Rattle.c_goals.proofs.Units.{At, at_first, at_next, closes, at_start, goes_on, refused, risen, unfinished as never}
+use Rattle.c_productions.specs.declared.kind.Kind.TheVariants as kinds
+use Rattle.c_productions.specs.declared.value.Value.TheVariants as values
+use Rattle.c_productions.specs.Table.{State}
+use Rattle.c_productions.specs.Meaning.{first_state, lowest}
+use Rattle.c_parse_steps.proofs.Units.{At, at_first, at_next, closes, at_start, goes_on, refused, risen, unfinished as never}
 use Rattle.c_parse.specs.declared.fault.CParse.{CParse}
 use Rattle.c_parse.specs.declared.fault.CParse.TheVariants.{Syntax, TooDeep, Memory}
 use Rattle.c_parse.specs.declared.parser.Parser.{Parser}
 use Rattle.c_parse.specs.declared.steps.Goal.TheVariants as goals
-use Rattle.c_parse.specs.Units.{Parses, Begins, NoneBegins, Stops, syntax, too_deep, unfinished, Tells, Answers}
-use Rattle.c_parse.specs.Calls.{whole, is_whole, Takes, Comes, Refuses, Unfinished, state_of, placed, Goes, Fails, further, anew, Reads, Starts, IsLow, Finished, Finishes}
+use Rattle.c_parse.specs.Units.{Parses, Begins, NoneBegins, Stops, syntax, too_deep, unfinished, Tells, ParsesTo}
+use Rattle.c_parse.specs.Calls.{whole, is_whole, Takes, Comes, Refuses, Unfinished, state_of, placed, Goes, Fails, further, anew, ReadsToken, Starts, IsLow, Finished, Finishes}
 
 -- these tokens are read, those lie ahead, and what goes on so may be low enough
 pub record Stands (front ahead : List Token) (p : Parser) : Type 0 where
@@ -156,13 +156,13 @@ none_read (t ∷ ts) all l e = absurd (omega arith)
 
 -- ---- the answers of the calls
 
-pub begun_reads : (p : Parser) (t : Token) (o : OuterSpecifier) (f : ExternalForm) (done : List External) (r : Result Parser CParse) → Comes (state_of p) t.word (whole o f) → done ≡ p.done ++ placed p.at o f ∷ [] → Starts done t r → Reads p t r
+pub begun_reads : (p : Parser) (t : Token) (o : OuterSpecifier) (f : ExternalForm) (done : List External) (r : Result Parser CParse) → Comes (state_of p) t.word (whole o f) → done ≡ p.done ++ placed p.at o f ∷ [] → Starts done t r → ReadsToken p t r
 begun_reads p t o f done (Ok r) c e s = anew o f c s.0 (s.1 ∙ e) s.2
 begun_reads p t o f done (Err (Syntax at)) c e s = (s.0, anew o f c s.1)
 begun_reads p t o f done (Err (TooDeep at)) c e s = s
 begun_reads p t o f done (Err Memory) c e s = tt
 
-pub read_fails : (tokens : List Token) (end i : ℕ) (t : Token) (p : Parser) (e : CParse) → i < length tokens → t ≡ get_or tokens i t → StandsAt tokens i p → Reads p t (Err e) → Tells tokens end e
+pub read_fails : (tokens : List Token) (end i : ℕ) (t : Token) (p : Parser) (e : CParse) → i < length tokens → t ≡ get_or tokens i t → StandsAt tokens i p → ReadsToken p t (Err e) → Tells tokens end e
 read_fails tokens end i t p (Syntax at) l e s r =
     let P : ℕ → Type 0 = λ n. Stops tokens end (Syntax n) in
     subst P (sym r.0) (syntax_at tokens end i t p l e s r.1)
@@ -181,7 +181,7 @@ low_goes tokens i t p r q l e s g h =
     let P : Parser → Type 0 = λ x. StandsAt tokens (i + 1) x in
     subst P (sym h.0) (next_at tokens i t p r l e s g h.1)
 
-pub ends_so : (tokens : List Token) (end i : ℕ) (p : Parser) (r : Result (List External) CParse) → length tokens ≤ i → StandsAt tokens i p → Finishes p end r → Answers tokens end r
+pub ends_so : (tokens : List Token) (end i : ℕ) (p : Parser) (r : Result (List External) CParse) → length tokens ≤ i → StandsAt tokens i p → Finishes p end r → ParsesTo tokens end r
 ends_so tokens end i p (Ok all) l s f = whole_at tokens i p all l s f
 ends_so tokens end i p (Err (Syntax at)) l s f =
     let P : ℕ → Type 0 = λ n. Stops tokens end (Syntax n) in

@@ -3,11 +3,11 @@ use Rattle.std.proofs.Common.{◌≡◌, ◌⊎◌, inl, inr, ℕ, List, [], ◌
 use Rattle.c_token.specs.declared.word.Token.{Token}
 use Rattle.c_tree.specs.declared.external.External.{External}
 use Rattle.c_tree.specs.Grammar.{IsUnit}
-use Rattle.c_goals.proofs.Lists.{append_nil}
-use Rattle.c_goals.proofs.Units.{one_unit}
+use Rattle.c_parse_steps.proofs.Lists.{append_nil}
+use Rattle.c_parse_steps.proofs.Units.{one_unit}
 use Rattle.c_parse.specs.declared.fault.CParse.{CParse}
 use Rattle.c_parse.specs.declared.fault.CParse.TheVariants.{Syntax, TooDeep, Memory}
-use Rattle.c_parse.specs.Units.{Parses, Begins, NoneBegins, Stops, syntax, too_deep, unfinished, Answers}
+use Rattle.c_parse.specs.Units.{Parses, Begins, NoneBegins, Stops, syntax, too_deep, unfinished, ParsesTo}
 
 -- how two fronts with a token more lie in one list
 data Meet (xs ys : List Token) (a b : Token) : Type 0 where
@@ -97,13 +97,13 @@ no_stop tokens end _ whole (unfinished b n) p = n whole p.is_unit
 
 -- ---- the clauses of the parser
 
-pub only_one : (tokens : List Token) (end : ℕ) (r : Result (List External) CParse) (whole : List External) → Answers tokens end r → Parses tokens whole → MatchResult r (λ u. u ≡ whole) (λ e. e ≡ Memory)
+pub only_one : (tokens : List Token) (end : ℕ) (r : Result (List External) CParse) (whole : List External) → ParsesTo tokens end r → Parses tokens whole → MatchResult r (λ u. u ≡ whole) (λ e. e ≡ Memory)
 only_one tokens end (Ok other) whole a p = one_unit tokens other whole a.is_unit p.is_unit
 only_one tokens end (Err (Syntax at)) whole a p = absurd (no_stop tokens end (Syntax at) whole a p)
 only_one tokens end (Err (TooDeep at)) whole a p = absurd (no_stop tokens end (TooDeep at) whole a p)
 only_one tokens end (Err Memory) whole a p = refl
 
-pub stop_given : (tokens : List Token) (end : ℕ) (r : Result (List External) CParse) (e : CParse) → Answers tokens end r → Stops tokens end e → (r ≡ Err e) ⊎ (r ≡ Err Memory)
+pub stop_given : (tokens : List Token) (end : ℕ) (r : Result (List External) CParse) (e : CParse) → ParsesTo tokens end r → Stops tokens end e → (r ≡ Err e) ⊎ (r ≡ Err Memory)
 stop_given tokens end (Ok whole) e a s = absurd (no_stop tokens end e whole s a)
 stop_given tokens end (Err (Syntax at)) e a s = inl (ap (λ x. Err x) (one_stop tokens end (Syntax at) e a s))
 stop_given tokens end (Err (TooDeep at)) e a s = inl (ap (λ x. Err x) (one_stop tokens end (TooDeep at) e a s))

@@ -1,9 +1,9 @@
--- Heights of what rows that stand open are part of.
+-- Heights of what productions that stand open are part of.
 use Rattle.std.proofs.Common.{◌≡◌, ℕ, ◌+◌, max, List, [], ◌∷◌, ◌++◌, reverse, sym, ◌∙◌, ap, subst, arith}
 use Rattle.std.proofs.lemmas.List.{reverse-append}
-use Rattle.c_rows.specs.declared.frame.Frame.{Frame}
-use Rattle.c_rows.specs.Table.{rise}
-use Rattle.c_rows.specs.Meaning.{over, overs, leasts}
+use Rattle.c_productions.specs.declared.frame.Frame.{Frame}
+use Rattle.c_productions.specs.Table.{rise}
+use Rattle.c_productions.specs.Meaning.{over, overs, leasts}
 use Rattle.c_parse.specs.declared.waiting.Entry.{Entry}
 use Rattle.c_parse.specs.Waiting.{frames_of, rises, AreSummed}
 
@@ -25,17 +25,17 @@ over_all es floor rising n s =
     omega (arith, r.floor_is, r.rising_is, overs_is (frames_of es) n)
 
 pub one_more : (es : List Entry) (e : Entry) (floor rising : ℕ) → AreSummed es e.floor e.rising
-    → floor ≡ overs (frames_of es) (max e.frame.base (leasts e.frame.rest + rise e.frame.row)) → rising ≡ rise e.frame.row + e.rising
+    → floor ≡ overs (frames_of es) (max e.frame.base (leasts e.frame.rest + rise e.frame.production)) → rising ≡ rise e.frame.production + e.rising
     → AreSummed (e ∷ es) floor rising
 one_more es e floor rising s f r =
     let a = summed es e.floor e.rising s in
-    let inside : max e.frame.base (leasts e.frame.rest + rise e.frame.row) ≡ over e.frame 0 = omega arith in
-    (f ∙ ap (λ n. overs (frames_of es) n) inside, r ∙ ap (λ n. rise e.frame.row + n) a.rising_is, s)
+    let inside : max e.frame.base (leasts e.frame.rest + rise e.frame.production) ≡ over e.frame 0 = omega arith in
+    (f ∙ ap (λ n. overs (frames_of es) n) inside, r ∙ ap (λ n. rise e.frame.production + n) a.rising_is, s)
 
 pub one_pushed : (items new : List Entry) (e : Entry) (floor rising : ℕ) → new ≡ items ++ e ∷ [] → AreSummed (reverse items) e.floor e.rising
-    → floor ≡ overs (frames_of (reverse items)) (max e.frame.base (leasts e.frame.rest + rise e.frame.row)) → rising ≡ rise e.frame.row + e.rising
+    → floor ≡ overs (frames_of (reverse items)) (max e.frame.base (leasts e.frame.rest + rise e.frame.production)) → rising ≡ rise e.frame.production + e.rising
     → AreSummed (reverse new) floor rising
 one_pushed items new e floor rising n s f r =
     let P : List Entry → Type 0 = λ x. AreSummed x floor rising in
-    let turned : reverse new ≡ e ∷ reverse items = ap (λ (x : List Entry). reverse x) n ∙ reverse-append items (e ∷ []) in
-    subst P (sym turned) (one_more (reverse items) e floor rising s f r)
+    let acted : reverse new ≡ e ∷ reverse items = ap (λ (x : List Entry). reverse x) n ∙ reverse-append items (e ∷ []) in
+    subst P (sym acted) (one_more (reverse items) e floor rising s f r)

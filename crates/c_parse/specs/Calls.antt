@@ -6,13 +6,13 @@ use Rattle.c_token.specs.declared.word.Token.{Token}
 use Rattle.c_tree.specs.declared.external.External.{External}
 use Rattle.c_tree.specs.declared.external.OuterSpecifier.{OuterSpecifier}
 use Rattle.c_tree.specs.declared.external.ExternalForm.{ExternalForm}
-use Rattle.c_rows.specs.declared.kind.Kind.{Kind}
-use Rattle.c_rows.specs.declared.kind.Kind.TheVariants as kinds
-use Rattle.c_rows.specs.declared.value.Value.{Value}
-use Rattle.c_rows.specs.declared.value.Value.TheVariants as values
-use Rattle.c_rows.specs.declared.frame.Frame.{Frame}
-use Rattle.c_rows.specs.Table.{Goal as Wanted, made, expects, State, rests, takes, goes, stops, resumes, step, end_step}
-use Rattle.c_rows.specs.Meaning.{first_state, lowest, Reaches}
+use Rattle.c_productions.specs.declared.kind.Kind.{Kind}
+use Rattle.c_productions.specs.declared.kind.Kind.TheVariants as kinds
+use Rattle.c_productions.specs.declared.value.Value.{Value}
+use Rattle.c_productions.specs.declared.value.Value.TheVariants as values
+use Rattle.c_productions.specs.declared.frame.Frame.{Frame}
+use Rattle.c_productions.specs.Table.{Goal as Wanted, made, expects, State, rests, takes, goes, stops, resumes, step, end_step}
+use Rattle.c_productions.specs.Meaning.{first_state, lowest, Reaches}
 use Rattle.c_parse.specs.declared.fault.CParse.{CParse}
 use Rattle.c_parse.specs.declared.fault.CParse.TheVariants.{Syntax, TooDeep, Memory}
 use Rattle.c_parse.specs.declared.steps.Goal.{Goal}
@@ -50,7 +50,7 @@ abbrev pub is_whole : Wanted → List Frame → Bool
 is_whole g [] = is_whole_goal g
 is_whole g (f ∷ fs) = false
 
--- a value for which no row waits
+-- a value for which no production waits
 abbrev pub IsLast : Kind → Value → Resumed → Type 0
 IsLast K v (resumed.Goes g) = ⊥
 IsLast K v (resumed.Whole o f) = (K ≡ kinds.External) × (v ≡ values.External o f)
@@ -134,11 +134,11 @@ pub data Fails (p : Parser) (t : Token) : Type 0 where
   further : Refuses (state_of p) t.word → Fails p t
   anew : (o : OuterSpecifier) (f : ExternalForm) → Comes (state_of p) t.word (whole o f) → Refuses first_state t.word → Fails p t
 
-abbrev pub Reads : Parser → Token → Result Parser CParse → Type 0
-Reads p t (Ok r) = Goes p t r
-Reads p t (Err (Syntax at)) = (at ≡ t.at) × Fails p t
-Reads p t (Err (TooDeep at)) = ⊥
-Reads p t (Err Memory) = Unit {0}
+abbrev pub ReadsToken : Parser → Token → Result Parser CParse → Type 0
+ReadsToken p t (Ok r) = Goes p t r
+ReadsToken p t (Err (Syntax at)) = (at ≡ t.at) × Fails p t
+ReadsToken p t (Err (TooDeep at)) = ⊥
+ReadsToken p t (Err Memory) = Unit {0}
 
 -- the first token of an external declaration is read
 abbrev pub Starts : List External → Token → Result Parser CParse → Type 0

@@ -2,8 +2,7 @@
 use Rattle.std.specs.Prelude.{◌≡◌, ℕ, ◌≤◌, List, [], ◌∷◌, ◌++◌, Result, Ok, Err}
 use Rattle.c_token.specs.declared.word.Token.{Token}
 use Rattle.c_tree.specs.declared.external.External.{External}
-use Rattle.c_tree.specs.Heights.{tallest_of}
-use Rattle.c_tree.specs.ExternalHeights.{external_height}
+use Rattle.c_tree.specs.ExternalHeights.{unit_height}
 use Rattle.c_tree.specs.Grammar.{IsUnit}
 use Rattle.c_parse.specs.declared.fault.CParse.{CParse}
 use Rattle.c_parse.specs.declared.fault.CParse.TheVariants.{Syntax, TooDeep, Memory}
@@ -11,9 +10,6 @@ use Rattle.c_parse.specs.declared.fault.CParse.TheVariants.{Syntax, TooDeep, Mem
 -- the greatest height of a unit that is read
 abbrev pub most_high : ℕ
 most_high = 200
-
-abbrev pub unit_height : List External → ℕ
-unit_height unit = tallest_of external_height unit
 
 -- By the grammar these tokens are that unit, and it isn't too high.
 pub record Parses (tokens : List Token) (unit : List External) : Type 0 where
@@ -48,6 +44,6 @@ Tells tokens end Memory = Unit {0}
 Tells tokens end fault = Stops tokens end fault
 
 -- the whole answer
-abbrev pub Answers : List Token → ℕ → Result (List External) CParse → Type 0
-Answers tokens end (Ok unit) = Parses tokens unit
-Answers tokens end (Err fault) = Tells tokens end fault
+abbrev pub ParsesTo : List Token → ℕ → Result (List External) CParse → Type 0
+ParsesTo tokens end (Ok unit) = Parses tokens unit
+ParsesTo tokens end (Err fault) = Tells tokens end fault

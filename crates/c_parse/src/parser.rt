@@ -2,15 +2,15 @@
 
 ghost use Rattle.std.specs.Prelude.{◌≡◌, ◌⊎◌, List, [], IfErr, IfOk, MatchResult, Ok, Err};
 ghost use Rattle.c_tree.specs.declared.external.External.{External};
-ghost use Rattle.c_rows.specs.Meaning.{lowest};
-ghost use Rattle.c_parse.specs.Calls.{Finishes, IsLow, Reads, Starts, goal_of};
-ghost use Rattle.c_parse.specs.Units.{Answers, Parses, Stops, Tells};
+ghost use Rattle.c_productions.specs.Meaning.{lowest};
+ghost use Rattle.c_parse.specs.Calls.{Finishes, IsLow, ReadsToken, Starts, goal_of};
+ghost use Rattle.c_parse.specs.Units.{ParsesTo, Parses, Stops, Tells};
 
 use crate::fault::CParse;
 use crate::runs::{Taking, finish, take};
 use crate::steps::Goal;
 use crate::waiting::Waiting;
-use c_rows::{Kind, Value};
+use c_productions::{Kind, Value};
 use c_token::Token;
 use c_tree::{External, Unit};
 use std::alloc::{AllocError, Global};
@@ -42,7 +42,7 @@ impl Parser {
         }
     }
 
-    /// Reads the first token of an external declaration.
+    /// ReadsToken the first token of an external declaration.
     fn begin(alloc: Global, done: Unit, token: &Token) -> Result<Self, CParse>
         ensures { Starts done token.now result }
     {
@@ -62,9 +62,9 @@ impl Parser {
         }
     }
 
-    /// Reads a token, which may be the first of an external declaration.
+    /// ReadsToken a token, which may be the first of an external declaration.
     fn read(self, alloc: Global, token: &Token) -> Result<Self, CParse>
-        ensures { Reads self token.now result }
+        ensures { ReadsToken self token.now result }
     {
         let Parser {
             done,
@@ -143,7 +143,7 @@ impl Parser {
 
 /// What the tokens are, or why they aren't read.
 fn unit_of(alloc: Global, tokens: &[Token], end: usize) -> Result<Unit, CParse>
-    ensures { Answers tokens.now end result }
+    ensures { ParsesTo tokens.now end result }
 {
     let Some(first) = tokens.first() else {
         return Ok(Unit::new(alloc));

@@ -1,13 +1,13 @@
 //! Single steps of the table.
 
 ghost use Rattle.std.specs.Prelude.{◌≡◌, IfOk};
-ghost use Rattle.c_rows.specs.Table.{first_frame, opened, symbols, with_part};
-ghost use Rattle.c_rows.specs.Meaning.{lowest};
+ghost use Rattle.c_productions.specs.Table.{first_frame, opened, symbols, with_part};
+ghost use Rattle.c_productions.specs.Meaning.{lowest};
 ghost use Rattle.c_parse.specs.Calls.{IsLast, Resumes, Steps, Sticks, goal_of, state};
 
 use crate::waiting::{Waiting, higher, sum};
-use c_goals::{Outcome, least, rests, turn};
-use c_rows::{Frame, Kind, Parts, Punctuator, Row, Symbol, Value, build};
+use c_parse_steps::{Outcome, action, least, rests};
+use c_productions::{Frame, Kind, Parts, Production, Symbol, Terminal, Value, build};
 use c_token::Word;
 use c_tree::{ExternalForm, OuterSpecifier};
 use std::alloc::{AllocError, Global};
@@ -17,16 +17,16 @@ use std::alloc::{AllocError, Global};
 pub enum Goal {
     /// More behind what is in hand.
     Made(Kind, Value),
-    /// A punctuator of the row.
-    Expects(Punctuator, Frame),
+    /// A terminal of the production.
+    Expects(Terminal, Frame),
 }
 
 /// What becomes of a value to which no word belongs.
 #[derive(Drop)]
 pub enum Resumed {
-    /// The row that waited for it goes on.
+    /// The production that waited for it goes on.
     Goes(Goal),
-    /// It is an external declaration, and no row waits.
+    /// It is an external declaration, and no production waits.
     Whole(OuterSpecifier, ExternalForm),
     /// It isn't complete, or isn't wanted.
     Stops,
@@ -45,24 +45,24 @@ pub enum Step {
     Stops,
 }
 
-/// Goes on with a row, of which this is still to come.
+/// Goes on with a production, of which this is still to come.
 fn open(alloc: Global, waiting: &mut Waiting, frame: Frame) -> Result<Goal, AllocError>
     ensures { IfOk result (λ goal. opened frame frame.rest waiting.old ≡ state goal waiting.new) }
 {
     let Frame {
         kind,
-        row,
+        production,
         rest,
         mut parts,
         base,
     } = frame;
     match rest.split() {
-        None => Ok(Goal::Made(kind, build(alloc, row, &mut parts)?)),
-        Some((Symbol::Word(punctuator), rest)) => Ok(Goal::Expects(
-            punctuator,
+        None => Ok(Goal::Made(kind, build(alloc, production, &mut parts)?)),
+        Some((Symbol::Word(terminal), rest)) => Ok(Goal::Expects(
+            terminal,
             Frame {
                 kind,
-                row,
+                production,
                 rest,
                 parts,
                 base,
@@ -71,7 +71,7 @@ fn open(alloc: Global, waiting: &mut Waiting, frame: Frame) -> Result<Goal, Allo
         Some((Symbol::Part(part), rest)) => {
             waiting.push(Frame {
                 kind,
-                row,
+                production,
                 rest,
                 parts,
                 base,
@@ -81,32 +81,32 @@ fn open(alloc: Global, waiting: &mut Waiting, frame: Frame) -> Result<Goal, Allo
     }
 }
 
-/// Begins a row with a value.
+/// Begins a production with a value.
 fn begin(
     alloc: Global,
     waiting: &mut Waiting,
     kind: Kind,
-    row: Row,
+    production: Production,
     value: Value,
 ) -> Result<Goal, AllocError>
-    ensures { IfOk result (λ goal. opened (first_frame kind row value) (symbols row) waiting.old ≡ state goal waiting.new) }
+    ensures { IfOk result (λ goal. opened (first_frame kind production value) (symbols production) waiting.old ≡ state goal waiting.new) }
 {
-    let base = sum(value.height()?, row.lift())?;
+    let base = sum(value.height()?, production.lift())?;
     let parts = Parts::new(alloc, value)?;
     open(
         alloc,
         waiting,
         Frame {
             kind,
-            row,
-            rest: row.symbols(),
+            production,
+            rest: production.symbols(),
             parts,
             base,
         },
     )
 }
 
-/// Gives a part to the row that waited for it.
+/// Gives a part to the production that waited for it.
 fn give(
     alloc: Global,
     waiting: &mut Waiting,
@@ -115,13 +115,13 @@ fn give(
 ) -> Result<Goal, AllocError>
     ensures { IfOk result (λ goal. opened (with_part frame value) frame.rest waiting.old ≡ state goal waiting.new) }
 {
-    let base = higher(frame.base, sum(value.height()?, frame.row.rise())?);
+    let base = higher(frame.base, sum(value.height()?, frame.production.rise())?);
     frame.base = base;
     frame.parts.push(value)?;
     open(alloc, waiting, frame)
 }
 
-/// A value for which no row waits.
+/// A value for which no production waits.
 fn last(kind: Kind, value: Value) -> Resumed
     ensures { IsLast kind value result }
 {
@@ -159,17 +159,17 @@ pub fn resume(
     Ok(Resumed::Goes(give(alloc, waiting, frame, part)?))
 }
 
-/// What a word makes of a punctuator that is wanted.
+/// What a word makes of a terminal that is wanted.
 fn said(
     alloc: Global,
     waiting: &mut Waiting,
-    punctuator: Punctuator,
+    terminal: Terminal,
     frame: Frame,
     word: &Word,
 ) -> Result<Step, AllocError>
-    ensures { Steps (state (Goal.Expects punctuator frame) waiting.old) word.now waiting.new result }
+    ensures { Steps (state (Goal.Expects terminal frame) waiting.old) word.now waiting.new result }
 {
-    if !punctuator.is(word) {
+    if !terminal.is(word) {
         return Ok(Step::Stops);
     }
     Ok(Step::Taken(open(alloc, waiting, frame)?))
@@ -187,7 +187,7 @@ fn stuck(alloc: Global, waiting: &mut Waiting, kind: Kind, value: Value) -> Resu
 }
 
 /// What a word makes of a value.
-fn turned(
+fn acted(
     alloc: Global,
     waiting: &mut Waiting,
     kind: Kind,
@@ -196,10 +196,14 @@ fn turned(
 ) -> Result<Step, AllocError>
     ensures { Steps (state (Goal.Made kind value) waiting.old) word.now waiting.new result }
 {
-    match turn(alloc, kind, value, word)? {
+    match action(alloc, kind, value, word)? {
         Outcome::Joined(grown) => Ok(Step::Taken(Goal::Made(kind, grown))),
-        Outcome::Opens(row, first) => Ok(Step::Taken(begin(alloc, waiting, kind, row, first)?)),
-        Outcome::Begins(row, first) => Ok(Step::Goes(begin(alloc, waiting, kind, row, first)?)),
+        Outcome::Opens(production, first) => Ok(Step::Taken(begin(
+            alloc, waiting, kind, production, first,
+        )?)),
+        Outcome::Begins(production, first) => Ok(Step::Goes(begin(
+            alloc, waiting, kind, production, first,
+        )?)),
         Outcome::Stuck(same) => stuck(alloc, waiting, kind, same),
     }
 }
@@ -214,8 +218,8 @@ pub fn advance(
     ensures { Steps (state goal waiting.old) word.now waiting.new result }
 {
     match goal {
-        Goal::Expects(punctuator, frame) => said(alloc, waiting, punctuator, frame, word),
-        Goal::Made(kind, value) => turned(alloc, waiting, kind, value, word),
+        Goal::Expects(terminal, frame) => said(alloc, waiting, terminal, frame, word),
+        Goal::Made(kind, value) => acted(alloc, waiting, kind, value, word),
     }
 }
 
@@ -227,7 +231,7 @@ impl Goal {
         match self {
             Goal::Made(kind, value) => waiting.over(least(*kind, value)?),
             Goal::Expects(_, frame) => {
-                let rest = sum(frame.rest.least(), frame.row.rise())?;
+                let rest = sum(frame.rest.least(), frame.production.rise())?;
                 waiting.over(higher(frame.base, rest))
             }
         }

@@ -1,13 +1,13 @@
-//! The stack of rows that stand open.
+//! The stack of productions that stand open.
 
 ghost use Rattle.std.specs.Prelude.{◌≡◌, ◌+◌, [], ◌∷◌, max, IfSome, IfNone, OnOk, IfOk};
-ghost use Rattle.c_rows.specs.Meaning.{overs};
+ghost use Rattle.c_productions.specs.Meaning.{overs};
 
-use c_rows::Frame;
+use c_productions::Frame;
 use std::alloc::{AllocError, Global};
 use std::marker::Model;
 
-/// The rows that stand open, the innermost last. Contracts see a list, the innermost first.
+/// The productions that stand open, the innermost last. Contracts see a list, the innermost first.
 #[derive(Drop)]
 pub struct Waiting {
     entries: Vec<Entry>,
@@ -17,7 +17,7 @@ pub struct Waiting {
     rising: usize,
 }
 
-/// A row that stands open, with both figures of those behind it.
+/// A production that stands open, with both figures of those behind it.
 #[derive(Drop)]
 struct Entry {
     frame: Frame,
@@ -28,8 +28,8 @@ struct Entry {
 impl Model for Waiting {
     ghost use Rattle.std.specs.Prelude.{List, reverse};
     ghost use Rattle.std.specs.Coded.{coded_list};
-    ghost use Rattle.c_rows.specs.declared.frame.Frame.{Frame};
-    ghost use Rattle.c_rows.specs.contracts.frame.Frame as frame_row;
+    ghost use Rattle.c_productions.specs.declared.frame.Frame.{Frame};
+    ghost use Rattle.c_productions.specs.contracts.frame.Frame as frame_row;
 
     ghost Value = { List Frame };
 
@@ -72,9 +72,9 @@ impl Waiting {
     pub fn push(&mut self, frame: Frame) -> Result<(), AllocError>
         ensures { OnOk result (self.new ≡ frame ∷ self.old) }
     {
-        let least = sum(frame.rest.least(), frame.row.rise())?;
+        let least = sum(frame.rest.least(), frame.production.rise())?;
         let floor = self.over(higher(frame.base, least))?;
-        let rising = sum(frame.row.rise(), self.rising)?;
+        let rising = sum(frame.production.rise(), self.rising)?;
         self.entries.push(Entry {
             frame,
             floor: self.floor,

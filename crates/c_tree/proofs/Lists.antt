@@ -6,7 +6,7 @@ use Rattle.c_tree.specs.declared.tree.Parameter.{Parameter}
 use Rattle.c_tree.specs.declared.statement.Item.{Item}
 use Rattle.c_tree.specs.declared.statement.Item.TheVariants as item
 use Rattle.c_tree.specs.Tree.{Expr, Exprs, no_exprs, expr_and, Declarator, Parameters, no_parameters, parameter_and, Initialiser, Initialisers, no_initialisers, initialiser_and}
-use Rattle.c_tree.specs.Statements.{Items, no_items, statement_and, declaration_and}
+use Rattle.c_tree.specs.Statements.{Items, no_items, statement_and, declaration_and, case_and, default_and}
 use Rattle.c_tree.specs.Views.{exprs_of, parameters_of, with_parameter, with_expr, are_none}
 use Rattle.c_tree.specs.InitialiserViews.{initialisers_of, with_initialiser}
 use Rattle.c_tree.specs.StatementViews.{item_height, items_of, with_item}
@@ -45,12 +45,18 @@ pub items_last : (is : List Item) (i : Item) → items_of (is ++ i ∷ []) ≡ w
 items_last [] i = refl
 items_last (item.Statement s ∷ is) i = ap (λ xs. statement_and s xs) (items_last is i)
 items_last (item.Declaration s ds ∷ is) i = ap (λ xs. declaration_and s ds xs) (items_last is i)
+items_last (item.Case e ∷ is) i = ap (λ xs. case_and e xs) (items_last is i)
+items_last (item.Default ∷ is) i = ap (λ xs. default_and xs) (items_last is i)
 
 pub tallest_item_last : (is : Items) (i : Item) → tallest_item (with_item is i) ≡ max (tallest_item is) (item_height i)
 tallest_item_last no_items (item.Statement s) = omega arith
 tallest_item_last no_items (item.Declaration s xs) = omega arith
+tallest_item_last no_items (item.Case e) = omega arith
+tallest_item_last no_items item.Default = omega arith
 tallest_item_last (statement_and a is) i = omega (arith, tallest_item_last is i)
 tallest_item_last (declaration_and a xs is) i = omega (arith, tallest_item_last is i)
+tallest_item_last (case_and e is) i = omega (arith, tallest_item_last is i)
+tallest_item_last (default_and is) i = omega (arith, tallest_item_last is i)
 
 pub tallest_of_last : {A : Type 0} (height : A → ℕ) (xs : List A) (x : A) → tallest_of height (xs ++ x ∷ []) ≡ max (tallest_of height xs) (height x)
 tallest_of_last height [] x = omega arith

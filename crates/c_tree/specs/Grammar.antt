@@ -21,8 +21,9 @@ use Rattle.c_tree.specs.declared.first.ForFirstNode.{ForFirstNode}
 use Rattle.c_tree.specs.declared.first.ForFirstNode.TheVariants as firsts
 use Rattle.c_tree.specs.declared.first.Jump.{Jump}
 use Rattle.c_tree.specs.declared.first.Jump.TheVariants as jumps
-use Rattle.c_tree.specs.Statements.{Statement, block, plain, empty, if_then, if_else, while_loop, for_loop, return_none, return_value, jump, Items, no_items, statement_and, declaration_and}
+use Rattle.c_tree.specs.Statements.{Statement, block, plain, empty, if_then, if_else, while_loop, do_while, for_loop, switch, return_none, return_value, jump, Items, no_items, statement_and, declaration_and, case_and, default_and}
 use Rattle.c_tree.specs.StatementHeights.{ends_open}
+use Rattle.c_tree.specs.declared.enumerator.Enumerator.{Enumerator}
 use Rattle.c_tree.specs.declared.external.MemberHead.{MemberHead}
 use Rattle.c_tree.specs.declared.external.MemberHead.TheVariants as heads
 use Rattle.c_tree.specs.declared.external.Piece.{Piece}
@@ -75,6 +76,7 @@ spell_specifier (specifiers.Integer ws) r = spell_integer ws r
 spell_specifier specifiers.SizeT r = keyword keywords.SizeT r
 spell_specifier specifiers.PtrdiffT r = keyword keywords.PtrdiffT r
 spell_specifier (specifiers.Struct t) r = keyword keywords.Struct (words.Name t ∷ r)
+spell_specifier (specifiers.Enum t) r = keyword keywords.Enum (words.Name t ∷ r)
 
 -- ---- expressions (6.5), declarators (6.7.6) and abstract declarators (6.7.7)
 
@@ -125,7 +127,7 @@ abbrev mutual
 
 -- ---- initializers (6.7.9) and declarations (6.7)
 
-abbrev spell_last_comma : Bool → List Word → List Word
+abbrev pub spell_last_comma : Bool → List Word → List Word
 spell_last_comma true r = mark marks.Comma r
 spell_last_comma false r = r
 
@@ -176,7 +178,9 @@ abbrev mutual
   spell_statement (if_then c a) r = keyword keywords.If (mark marks.OpenParen (spell c (mark marks.CloseParen (spell_statement a r))))
   spell_statement (if_else c a b) r = keyword keywords.If (mark marks.OpenParen (spell c (mark marks.CloseParen (spell_statement a (keyword keywords.Else (spell_statement b r))))))
   spell_statement (while_loop c s) r = keyword keywords.While (mark marks.OpenParen (spell c (mark marks.CloseParen (spell_statement s r))))
+  spell_statement (do_while s c) r = keyword keywords.Do (spell_statement s (keyword keywords.While (mark marks.OpenParen (spell c (mark marks.CloseParen (mark marks.Semicolon r))))))
   spell_statement (for_loop a c b s) r = keyword keywords.For (mark marks.OpenParen (spell_first a (mark marks.Semicolon (spell_clause c (mark marks.Semicolon (spell_clause b (mark marks.CloseParen (spell_statement s r))))))))
+  spell_statement (switch e is) r = keyword keywords.Switch (mark marks.OpenParen (spell e (mark marks.CloseParen (mark marks.OpenBrace (spell_items is (mark marks.CloseBrace r))))))
   spell_statement return_none r = keyword keywords.Return (mark marks.Semicolon r)
   spell_statement (return_value e) r = keyword keywords.Return (spell e (mark marks.Semicolon r))
   spell_statement (jump j) r = keyword (jump_keyword j) (mark marks.Semicolon r)
@@ -185,11 +189,34 @@ abbrev mutual
   spell_items no_items r = r
   spell_items (statement_and s is) r = spell_statement s (spell_items is r)
   spell_items (declaration_and s xs is) r = spell_specifier s (spell_inits xs (mark marks.Semicolon (spell_items is r)))
+  spell_items (case_and e is) r = keyword keywords.Case (spell e (mark marks.Colon (spell_items is r)))
+  spell_items (default_and is) r = keyword keywords.Default (mark marks.Colon (spell_items is r))
+
+-- ---- enumerations (6.7.2.2)
+
+abbrev pub spell_value_of : Option Expr → List Word → List Word
+spell_value_of None r = r
+spell_value_of (Some e) r = mark marks.Equals (spell e r)
+
+abbrev pub spell_enumerator : Enumerator → List Word → List Word
+spell_enumerator x r = words.Name x.name ∷ spell_value_of x.value r
+
+abbrev pub spell_enumerators : List Enumerator → List Word → List Word
+spell_enumerators xs r = separated spell_enumerator xs r
+
+abbrev pub spell_tag : Option (List ℕ) → List Word → List Word
+spell_tag None r = r
+spell_tag (Some t) r = words.Name t ∷ r
+
+-- whether a comma stands before the closing brace
+abbrev pub spell_enum : Option (List ℕ) → List Enumerator → Bool → List Word → List Word
+spell_enum t xs comma r = keyword keywords.Enum (spell_tag t (mark marks.OpenBrace (spell_enumerators xs (spell_last_comma comma (mark marks.CloseBrace r)))))
 
 -- ---- structures (6.7.2.1) and external declarations (6.9)
 
 abbrev pub spell_head : MemberHead → List Word → List Word
 spell_head (heads.Specifier s) r = spell_specifier s r
+spell_head (heads.Enum t xs comma) r = spell_enum t xs comma r
 spell_head heads.Close r = mark marks.CloseBrace r
 
 abbrev pub spell_declarators : List Declarator → List Word → List Word
@@ -206,6 +233,7 @@ spell_members (p ∷ ps) r = spell_piece p (spell_members ps r)
 abbrev pub spell_outer : OuterSpecifier → List Word → List Word
 spell_outer (outers.Plain s) r = spell_specifier s r
 spell_outer (outers.Struct t ps) r = keyword keywords.Struct (words.Name t ∷ mark marks.OpenBrace (spell_members ps (mark marks.CloseBrace r)))
+spell_outer (outers.Enum t xs comma) r = spell_enum t xs comma r
 
 abbrev pub spell_form : ExternalForm → List Word → List Word
 spell_form forms.Alone r = mark marks.Semicolon r
@@ -220,6 +248,7 @@ FitsSpecifier (specifiers.Integer ws) = is_said (combination ws) ≡ true
 FitsSpecifier specifiers.SizeT = Unit {0}
 FitsSpecifier specifiers.PtrdiffT = Unit {0}
 FitsSpecifier (specifiers.Struct t) = Unit {0}
+FitsSpecifier (specifiers.Enum t) = Unit {0}
 
 -- the nonterminal of an expression, as a level
 abbrev pub level : Expr → ℕ
@@ -275,32 +304,32 @@ AreParameters (parameter_and specifiers.Void nothing no_parameters) = ⊥
 AreParameters _ = Unit {0}
 
 abbrev mutual
-  pub Fits : Expr → Type 0
-  Fits (name n) = Unit {0}
-  Fits (integer n t) = Unit {0}
-  Fits (character n) = Unit {0}
-  Fits (string s) = Unit {0}
-  Fits (paren e) = Fits e
-  Fits (index a i) = (a_postfix ≤ level a) × Fits a × Fits i
-  Fits (call f xs) = (a_postfix ≤ level f) × Fits f × FitArguments xs
-  Fits (member op e n) = (a_postfix ≤ level e) × Fits e
-  Fits (after op e) = (a_postfix ≤ level e) × Fits e
-  Fits (unary op e) = (operand_of op ≤ level e) × Fits e
-  Fits (size_of_type s d) = FitsSpecifier s × FitsDeclarator cores.Nothing d
-  Fits (cast s d e) = FitsSpecifier s × FitsDeclarator cores.Nothing d × (a_cast ≤ level e) × Fits e
-  Fits (between op a b) = (left_of op ≤ level a) × (right_of op ≤ level b) × Fits a × Fits b
-  Fits (choice c a b) = (an_or ≤ level c) × (a_choice ≤ level b) × Fits c × Fits a × Fits b
+  pub FitsExpr : Expr → Type 0
+  FitsExpr (name n) = Unit {0}
+  FitsExpr (integer n t) = Unit {0}
+  FitsExpr (character n) = Unit {0}
+  FitsExpr (string s) = Unit {0}
+  FitsExpr (paren e) = FitsExpr e
+  FitsExpr (index a i) = (a_postfix ≤ level a) × FitsExpr a × FitsExpr i
+  FitsExpr (call f xs) = (a_postfix ≤ level f) × FitsExpr f × FitArguments xs
+  FitsExpr (member op e n) = (a_postfix ≤ level e) × FitsExpr e
+  FitsExpr (after op e) = (a_postfix ≤ level e) × FitsExpr e
+  FitsExpr (unary op e) = (operand_of op ≤ level e) × FitsExpr e
+  FitsExpr (size_of_type s d) = FitsSpecifier s × FitsDeclarator cores.Nothing d
+  FitsExpr (cast s d e) = FitsSpecifier s × FitsDeclarator cores.Nothing d × (a_cast ≤ level e) × FitsExpr e
+  FitsExpr (between op a b) = (left_of op ≤ level a) × (right_of op ≤ level b) × FitsExpr a × FitsExpr b
+  FitsExpr (choice c a b) = (an_or ≤ level c) × (a_choice ≤ level b) × FitsExpr c × FitsExpr a × FitsExpr b
 
   pub FitArguments : Exprs → Type 0
   FitArguments no_exprs = Unit {0}
-  FitArguments (expr_and e es) = (an_assignment ≤ level e) × Fits e × FitArguments es
+  FitArguments (expr_and e es) = (an_assignment ≤ level e) × FitsExpr e × FitArguments es
 
   pub FitsDeclarator : Core → Declarator → Type 0
   FitsDeclarator c (named n) = may_name c ≡ true
   FitsDeclarator c nothing = may_be_nothing c ≡ true
   FitsDeclarator c (pointer d) = FitsDeclarator c d
   FitsDeclarator c (array d) = IsDirect d × FitsDeclarator c d
-  FitsDeclarator c (sized d e) = IsDirect d × FitsDeclarator c d × (a_choice ≤ level e) × Fits e
+  FitsDeclarator c (sized d e) = IsDirect d × FitsDeclarator c d × (a_choice ≤ level e) × FitsExpr e
   FitsDeclarator c (wrapped d) = IsSomething d × FitsDeclarator c d
   FitsDeclarator c (function d ps) = IsDirect d × FitsDeclarator c d × AreParameters ps × FitParameters ps
   FitsDeclarator c (function_void d) = IsDirect d × FitsDeclarator c d
@@ -315,7 +344,7 @@ AreInitialisers (initialiser_and v vs) = Unit {0}
 
 abbrev mutual
   pub FitsInitialiser : Initialiser → Type 0
-  FitsInitialiser (single e) = (an_assignment ≤ level e) × Fits e
+  FitsInitialiser (single e) = (an_assignment ≤ level e) × FitsExpr e
   FitsInitialiser (braces vs comma) = AreInitialisers vs × FitInitialisers vs
 
   pub FitInitialisers : Initialisers → Type 0
@@ -335,31 +364,49 @@ FitInits xs = are_some xs × each FitsInit xs
 
 abbrev pub FitsClause : Option Expr → Type 0
 FitsClause None = Unit {0}
-FitsClause (Some e) = Fits e
+FitsClause (Some e) = FitsExpr e
+
+-- a constant expression, if there is one (6.6)
+abbrev pub FitsConstant : Option Expr → Type 0
+FitsConstant None = Unit {0}
+FitsConstant (Some e) = (a_choice ≤ level e) × FitsExpr e
 
 abbrev pub FitsFirst : ForFirstNode → Type 0
 FitsFirst firsts.Nothing = Unit {0}
-FitsFirst (firsts.Expr e) = Fits e
+FitsFirst (firsts.Expr e) = FitsExpr e
 FitsFirst (firsts.Declaration s xs) = FitsSpecifier s × FitInits xs
 
+-- A label is the constant expression of a `case` or a `default`. It stands only right in the braces of a switch.
 abbrev mutual
   pub FitsStatement : Statement → Type 0
-  FitsStatement (block is) = FitItems is
-  FitsStatement (plain e) = Fits e
+  FitsStatement (block is) = FitItems false is
+  FitsStatement (plain e) = FitsExpr e
   FitsStatement empty = Unit {0}
-  FitsStatement (if_then c a) = Fits c × FitsStatement a
+  FitsStatement (if_then c a) = FitsExpr c × FitsStatement a
   -- an `else` belongs to the nearest `if` (6.8.4.1, paragraph 3)
-  FitsStatement (if_else c a b) = Fits c × (ends_open a ≡ false) × FitsStatement a × FitsStatement b
-  FitsStatement (while_loop c s) = Fits c × FitsStatement s
+  FitsStatement (if_else c a b) = FitsExpr c × (ends_open a ≡ false) × FitsStatement a × FitsStatement b
+  FitsStatement (while_loop c s) = FitsExpr c × FitsStatement s
+  FitsStatement (do_while s c) = FitsStatement s × FitsExpr c
   FitsStatement (for_loop a c b s) = FitsFirst a × FitsClause c × FitsClause b × FitsStatement s
+  FitsStatement (switch e is) = FitsExpr e × FitItems true is
   FitsStatement return_none = Unit {0}
-  FitsStatement (return_value e) = Fits e
+  FitsStatement (return_value e) = FitsExpr e
   FitsStatement (jump j) = Unit {0}
 
-  pub FitItems : Items → Type 0
-  FitItems no_items = Unit {0}
-  FitItems (statement_and s is) = FitsStatement s × FitItems is
-  FitItems (declaration_and s xs is) = FitsSpecifier s × FitInits xs × FitItems is
+  -- and whether labels may stand among them
+  pub FitItems : Bool → Items → Type 0
+  FitItems labels no_items = Unit {0}
+  FitItems labels (statement_and s is) = FitsStatement s × FitItems labels is
+  FitItems labels (declaration_and s xs is) = FitsSpecifier s × FitInits xs × FitItems labels is
+  FitItems labels (case_and e is) = (labels ≡ true) × (a_choice ≤ level e) × FitsExpr e × FitItems labels is
+  FitItems labels (default_and is) = (labels ≡ true) × FitItems labels is
+
+abbrev pub FitsEnumerator : Enumerator → Type 0
+FitsEnumerator x = FitsConstant x.value
+
+-- at least one
+abbrev pub FitEnumerators : List Enumerator → Type 0
+FitEnumerators xs = are_some xs × each FitsEnumerator xs
 
 -- at least one
 abbrev pub FitDeclarators : List Declarator → Type 0
@@ -371,16 +418,18 @@ abbrev pub FitMembers : ℕ → Bool → List Piece → Type 0
 FitMembers n some [] = (n ≡ 0) × (some ≡ true)
 FitMembers n some (pieces.Opens t ∷ ps) = FitMembers (n + 1) false ps
 FitMembers n some (pieces.Member (heads.Specifier s) ds ∷ ps) = FitsSpecifier s × FitDeclarators ds × FitMembers n true ps
+FitMembers n some (pieces.Member (heads.Enum t xs comma) ds ∷ ps) = FitEnumerators xs × FitDeclarators ds × FitMembers n true ps
 FitMembers n some (pieces.Member heads.Close ds ∷ ps) = (1 ≤ n) × (some ≡ true) × FitDeclarators ds × FitMembers (n - 1) true ps
 
 abbrev pub FitsOuter : OuterSpecifier → Type 0
 FitsOuter (outers.Plain s) = FitsSpecifier s
 FitsOuter (outers.Struct t ps) = FitMembers 0 false ps
+FitsOuter (outers.Enum t xs comma) = FitEnumerators xs
 
 abbrev pub FitsForm : ExternalForm → Type 0
 FitsForm forms.Alone = Unit {0}
 FitsForm (forms.Declaration xs) = FitInits xs
-FitsForm (forms.Function d is) = FitsDeclarator cores.Name d × FitItems is
+FitsForm (forms.Function d is) = FitsDeclarator cores.Name d × FitItems false is
 
 -- ==== units
 

@@ -4,6 +4,7 @@ pub mod Statements
 pub mod Codes
 pub mod InitCodes
 pub mod StatementCodes
+pub mod EnumeratorCodes
 pub mod PieceCodes
 pub mod UnitCodes
 pub mod Views
@@ -14,5 +15,6 @@ pub mod InitialiserFalls
 pub mod StatementFalls
 pub mod Heights
 pub mod StatementHeights
+pub mod EnumeratorHeights
 pub mod ExternalHeights
 pub mod Grammar

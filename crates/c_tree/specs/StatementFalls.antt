@@ -16,7 +16,9 @@ statement_falls statements.Empty = omega arith
 statement_falls (statements.IfThen c a) = omega arith
 statement_falls (statements.IfElse c a b) = omega arith
 statement_falls (statements.While c s) = omega arith
+statement_falls (statements.DoWhile s c) = omega arith
 statement_falls (statements.For a c b s) = omega arith
+statement_falls (statements.Switch e is) = omega arith
 statement_falls statements.ReturnNone = omega arith
 statement_falls (statements.ReturnValue e) = omega arith
 statement_falls (statements.Jump j) = omega arith
@@ -25,3 +27,5 @@ pub items_fall : (is : List Item) → max (most (λ i. deep-Item i) is) 0 ≤ it
 items_fall [] = omega arith
 items_fall (items.Statement s ∷ is) = omega (arith, items_fall is)
 items_fall (items.Declaration s xs ∷ is) = omega (arith, items_fall is)
+items_fall (items.Case e ∷ is) = omega (arith, items_fall is)
+items_fall (items.Default ∷ is) = omega (arith, items_fall is)

@@ -1,7 +1,7 @@
--- Heights of statements and externals. A declaration is none, and neither is a specifier.
+-- Heights of statements. A declaration is none, and neither are a specifier and a label; the braces of a switch are its own.
 use Rattle.std.specs.Prelude.{ℕ, ◌+◌, max, Bool, true, false, Option, Some, None}
 use Rattle.c_tree.specs.Tree.{Expr}
-use Rattle.c_tree.specs.Statements.{Statement, block, plain, empty, if_then, if_else, while_loop, for_loop, return_none, return_value, jump, Items, no_items, statement_and, declaration_and}
+use Rattle.c_tree.specs.Statements.{Statement, block, plain, empty, if_then, if_else, while_loop, do_while, for_loop, switch, return_none, return_value, jump, Items, no_items, statement_and, declaration_and, case_and, default_and}
 use Rattle.c_tree.specs.Heights.{expr_height, tallest_of, init_height}
 use Rattle.c_tree.specs.declared.first.ForFirstNode.{ForFirstNode}
 use Rattle.c_tree.specs.declared.first.ForFirstNode.TheVariants as firsts
@@ -23,7 +23,9 @@ abbrev mutual
   statement_height (if_then c a) = max (expr_height c) (statement_height a) + 1
   statement_height (if_else c a b) = max (max (expr_height c) (statement_height a)) (statement_height b) + 1
   statement_height (while_loop c s) = max (expr_height c) (statement_height s) + 1
+  statement_height (do_while s c) = max (statement_height s) (expr_height c) + 1
   statement_height (for_loop a c b s) = max (max (max (first_height a) (clause_height c)) (clause_height b)) (statement_height s) + 1
+  statement_height (switch e is) = max (expr_height e) (tallest_item is) + 1
   statement_height return_none = 1
   statement_height (return_value e) = expr_height e + 1
   statement_height (jump j) = 1
@@ -32,6 +34,8 @@ abbrev mutual
   tallest_item no_items = 0
   tallest_item (statement_and s is) = max (statement_height s) (tallest_item is)
   tallest_item (declaration_and s xs is) = max (tallest_of init_height xs) (tallest_item is)
+  tallest_item (case_and e is) = max (expr_height e) (tallest_item is)
+  tallest_item (default_and is) = tallest_item is
 
 -- an `if` without an `else` at its end, which would take an `else` that follows (6.8.4.1)
 abbrev pub ends_open : Statement → Bool
@@ -41,7 +45,9 @@ ends_open empty = false
 ends_open (if_then c a) = true
 ends_open (if_else c a b) = ends_open b
 ends_open (while_loop c s) = ends_open s
+ends_open (do_while s c) = false
 ends_open (for_loop a c b s) = ends_open s
+ends_open (switch e is) = false
 ends_open return_none = false
 ends_open (return_value e) = false
 ends_open (jump j) = false

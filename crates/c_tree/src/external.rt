@@ -1,9 +1,10 @@
-//! External declarations and structures (C11, 6.7.2.1, 6.9).
+//! External declarations, structures and enumerations (C11, 6.7.2.1, 6.7.2.2, 6.9).
 
 ghost use Rattle.std.specs.Prelude.{◌≡◌, ◌+◌, [], ◌∷◌, ◌++◌, IfOk};
-ghost use Rattle.c_tree.specs.ExternalHeights.{external_height, form_height, outer_height, piece_height};
+ghost use Rattle.c_tree.specs.ExternalHeights.{external_height, form_height, head_height, outer_height, piece_height};
 ghost use Rattle.c_tree.specs.Heights.{declarator_height, tallest_of};
 
+use crate::enumerator::Enumerators;
 use crate::initialiser::Inits;
 use crate::specifier::Specifier;
 use crate::statement::Block;
@@ -41,6 +42,8 @@ impl Model for Declarators {
 #[derive(Drop)]
 pub enum MemberHead {
     Specifier(Specifier),
+    /// `enum`, the tag if there is one, enumerators in braces, and whether a comma stands before the closing one.
+    Enum(Option<Bytes>, Enumerators, bool),
     /// The closing brace of a structure that is defined there.
     Close,
 }
@@ -80,12 +83,14 @@ impl Model for Members {
     ghost invariant = { λ a. a.height ≡ tallest_of piece_height a.items.items };
 }
 
-/// The specifier of an external declaration, which may define a structure (C11, 6.7.2.1).
+/// The specifier of an external declaration, which may define a structure or an enumeration (C11, 6.7.2.1, 6.7.2.2).
 #[derive(Drop)]
 pub enum OuterSpecifier {
     Plain(Specifier),
     /// `struct`, the tag and members in braces.
     Struct(Bytes, Members),
+    /// `enum`, the tag if there is one, enumerators in braces, and whether a comma stands before the closing one.
+    Enum(Option<Bytes>, Enumerators, bool),
 }
 
 /// What stands behind the specifier of an external declaration (C11, 6.7 and 6.9).
@@ -169,6 +174,19 @@ impl Declarators {
     }
 }
 
+impl MemberHead {
+    /// Its height: that of the enumerators.
+    pub fn height(&self) -> usize
+        ensures { result ≡ head_height self.now }
+    {
+        match self {
+            MemberHead::Specifier(_) => 0,
+            MemberHead::Enum(_, enumerators, _) => enumerators.height(),
+            MemberHead::Close => 0,
+        }
+    }
+}
+
 impl Piece {
     /// Its height.
     pub fn height(&self) -> usize
@@ -176,7 +194,7 @@ impl Piece {
     {
         match self {
             Piece::Opens(_) => 0,
-            Piece::Member(_, declarators) => declarators.height(),
+            Piece::Member(head, declarators) => head.height().max(declarators.height()),
         }
     }
 }
@@ -219,13 +237,14 @@ impl Members {
 }
 
 impl OuterSpecifier {
-    /// Its height: that of the members' declarators.
+    /// Its height: that of the members or the enumerators.
     pub fn height(&self) -> usize
         ensures { result ≡ outer_height self.now }
     {
         match self {
             OuterSpecifier::Plain(_) => 0,
             OuterSpecifier::Struct(_, members) => members.height(),
+            OuterSpecifier::Enum(_, enumerators, _) => enumerators.height(),
         }
     }
 }

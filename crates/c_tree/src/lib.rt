@@ -4,6 +4,7 @@
 //! `specs/Grammar.antt` is the definition to read first, beside `specs/Tree.antt`.
 #![tactic(auto)]
 
+mod enumerator;
 mod external;
 mod first;
 mod initialiser;
@@ -12,6 +13,7 @@ mod specifier;
 mod statement;
 mod tree;
 
+pub use enumerator::{Enumerator, Enumerators};
 pub use external::{
     Declarators, External, ExternalForm, MemberHead, Members, OuterSpecifier, Piece, Unit,
 };

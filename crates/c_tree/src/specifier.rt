@@ -190,6 +190,8 @@ pub enum SpecifierNode {
     PtrdiffT,
     /// A structure by its tag.
     Struct(Bytes),
+    /// An enumeration by its tag (C11, 6.7.2.2).
+    Enum(Bytes),
 }
 
 impl Model for Specifier {

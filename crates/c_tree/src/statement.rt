@@ -32,8 +32,12 @@ pub enum StatementNode {
     IfThen(Expr, Statement),
     IfElse(Expr, Statement, Statement),
     While(Expr, Statement),
+    /// The body and the test.
+    DoWhile(Statement, Expr),
     /// What stands first, the test, the step and the body.
     For(ForFirst, Option<Expr>, Option<Expr>, Statement),
+    /// The operand, and what stands in the braces, labels among it.
+    Switch(Expr, Block),
     ReturnNone,
     ReturnValue(Expr),
     Jump(Jump),
@@ -63,15 +67,19 @@ impl Model for Statement {
     ghost size_decreases = { λ a h. statement_falls a.node.value };
 }
 
-/// A statement or a declaration in a block (C11, 6.8.2).
+/// A statement or a declaration in a block (C11, 6.8.2), or a label of a switch (C11, 6.8.1).
 #[cycle(statement)]
 #[derive(Drop)]
 pub enum Item {
     Statement(Statement),
     Declaration(Specifier, Inits),
+    /// `case`, its expression and a colon.
+    Case(Expr),
+    /// `default` and a colon.
+    Default,
 }
 
-/// What stands in a block, in order.
+/// What stands in the braces of a block or of a switch, in order.
 #[cycle(statement)]
 #[derive(Drop)]
 pub struct Block {
@@ -124,10 +132,12 @@ fn height_of(node: &StatementNode) -> Result<usize, AllocError>
         StatementNode::IfThen(c, a) => above(c.height().max(a.height())),
         StatementNode::IfElse(c, a, b) => above(c.height().max(a.height()).max(b.height())),
         StatementNode::While(c, s) => above(c.height().max(s.height())),
+        StatementNode::DoWhile(s, c) => above(s.height().max(c.height())),
         StatementNode::For(a, c, b, s) => {
             let head = a.height().max(clause_height(c)).max(clause_height(b));
             above(head.max(s.height()))
         }
+        StatementNode::Switch(e, items) => above(e.height().max(items.height())),
         StatementNode::ReturnNone => Ok(1),
         StatementNode::ReturnValue(e) => above(e.height()),
         StatementNode::Jump(_) => Ok(1),
@@ -184,6 +194,8 @@ fn item_height(item: &Item) -> usize
     match item {
         Item::Statement(s) => s.height(),
         Item::Declaration(_, inits) => inits.height(),
+        Item::Case(e) => e.height(),
+        Item::Default => 0,
     }
 }
 

@@ -8,10 +8,16 @@ use Rattle.c_typed.specs.Tree as to
 use Rattle.c_typed.specs.Views.{expr_of, place_of}
 use Rattle.c_typed.specs.declared.tree.Expr.{Expr}
 use Rattle.c_typed.specs.declared.tree.Place.{Place}
+use Rattle.c_typed.specs.declared.form.Amount.{Amount as AmountCode}
+use Rattle.c_typed.specs.declared.form.Amount.TheVariants as amounts
 use Rattle.c_typed.specs.declared.form.Form.{Form as Code}
 use Rattle.c_typed.specs.declared.form.Form.TheVariants as code
 use Rattle.c_typed.specs.Forms as words
-use Rattle.c_typed.specs.Forms.{Form}
+use Rattle.c_typed.specs.Forms.{Amount, Form}
+
+abbrev pub amount_of : AmountCode → Amount
+amount_of (amounts.Bytes e) = words.bytes (expr_of e.value)
+amount_of (amounts.Product n e) = words.product (expr_of n.value) (expr_of e.value)
 
 abbrev pub form_of : Code → Form
 form_of (code.Place p t) = words.place (place_of p.value) (type_of t)
@@ -20,7 +26,7 @@ form_of (code.Designator e t) = words.designator (expr_of e.value) (type_of t)
 form_of (code.Text bytes) = words.text bytes.now
 form_of (code.Zero t) = words.zero t
 form_of code.Null = words.null
-form_of (code.Allocation e) = words.allocation (expr_of e.value)
+form_of (code.Allocation a) = words.allocation (amount_of a)
 
 abbrev pub boxed_expr : Box Expr Global → to.Expr
 boxed_expr e = expr_of e.value

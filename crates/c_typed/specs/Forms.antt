@@ -9,6 +9,11 @@ use Rattle.c_typed.specs.declared.ops.RelOp.{RelOp}
 use Rattle.c_typed.specs.Tree as to
 use Rattle.c_typed.specs.Tree.{Expr, Place}
 
+-- what is allocated: so many bytes, or so many parts of so many bytes (7.22.3)
+pub data Amount : Type 0 where
+  bytes : Expr → Amount
+  product : (count size : Expr) → Amount
+
 pub data Form : Type 0 where
   place : Place → Ty → Form
   -- a value of an integer type or a pointer type, or a void expression
@@ -21,8 +26,8 @@ pub data Form : Type 0 where
   zero : IntType → Form
   -- NULL
   null : Form
-  -- a call of malloc with this argument
-  allocation : Expr → Form
+  -- a call of malloc or calloc
+  allocation : Amount → Form
 
 -- ---- conversions (6.3.1.3, 6.3.2.3)
 

@@ -3,7 +3,7 @@ use Rattle.std.specs.Prelude.{ℕ, ◌==◌, ◌||◌, Bool, true, false, List, 
 use Rattle.c_types.specs.Types.{Ty, array, struct}
 use Rattle.c_typed.specs.declared.ops.Variable.{Variable}
 use Rattle.c_typed.specs.declared.ops.Variable.TheVariants.{Local, Global}
-use Rattle.c_typed.specs.Tree.{Place, of, deref, member, Expr, number, null, no_function, function, literal, read, decay, address, convert, truth, not, unary, binary, compare, compare_pointers, same_function, difference, move, move_by, and, or, choose, comma, assign, update, advance, copy, call, call_through, putchar, getchar, abort, malloc, free, discard, visit, size_of_place, size_of_value, size_of_type, Exprs, none, more, Stmt, nothing, perform, fill, if_else, loop, scope, return, return_nothing, break, continue, Stmts, done, seq}
+use Rattle.c_typed.specs.Tree.{Place, of, deref, member, Expr, number, null, no_function, function, literal, read, decay, address, convert, truth, not, unary, binary, compare, compare_pointers, same_function, difference, move, move_by, and, or, choose, comma, assign, update, advance, copy, call, call_through, putchar, getchar, abort, malloc, calloc, free, discard, visit, size_of_place, size_of_value, size_of_type, Exprs, none, more, Stmt, nothing, perform, fill, if_else, loop, do_while, switch, scope, return, return_nothing, break, continue, Stmts, done, seq}
 
 abbrev pub is_variable : Variable → Variable → Bool
 is_variable (Local m) (Local n) = m == n
@@ -48,6 +48,7 @@ module _ (v : Variable) where
     in_expr (call_through t s a es) = in_expr a || in_exprs es
     in_expr (putchar a) = in_expr a
     in_expr (malloc t a) = in_expr a
+    in_expr (calloc t a b) = in_expr a || in_expr b
     in_expr (free a) = in_expr a
     in_expr (discard a) = in_expr a
     in_expr (visit p) = in_place p
@@ -62,10 +63,12 @@ module _ (v : Variable) where
   abbrev mutual
     pub in_stmt : Stmt → Bool
     in_stmt (perform e) = in_expr e
-    in_stmt (fill p bytes) = in_place p
+    in_stmt (fill p n bytes) = in_place p
     in_stmt (if_else c a b) = in_expr c || (in_stmt a || in_stmt b)
     in_stmt (loop c None s) = in_expr c || in_stmt s
     in_stmt (loop c (Some e) s) = in_expr c || (in_expr e || in_stmt s)
+    in_stmt (do_while s c) = in_stmt s || in_expr c
+    in_stmt (switch t e slots cases ss) = in_expr e || in_stmts ss
     in_stmt (scope slots ss) = in_stmts ss
     in_stmt (return e) = in_expr e
     in_stmt _ = false

@@ -8,6 +8,9 @@ use Rattle.c_typed.specs.declared.ops.BinaryOp.{BinaryOp}
 use Rattle.c_typed.specs.declared.ops.RelOp.{RelOp}
 use Rattle.c_typed.specs.declared.ops.UnaryOp.{UnaryOp}
 use Rattle.c_typed.specs.declared.ops.Variable.{Variable}
+use Rattle.c_typed.specs.declared.tree.Case.{Case}
+use Rattle.c_typed.specs.declared.unit.Addition.{Addition}
+use Rattle.c_typed.specs.declared.unit.Enumerator.{Enumerator}
 
 mutual
   -- places (6.3.2.1)
@@ -52,6 +55,7 @@ mutual
     getchar : Expr
     abort : Expr
     malloc : Ty → Expr → Expr
+    calloc : Ty → (count size : Expr) → Expr
     free : Expr → Expr
     discard : Expr → Expr
     visit : Place → Expr
@@ -68,9 +72,11 @@ mutual
   pub data Stmt : Type 0 where
     nothing : Stmt
     perform : Expr → Stmt
-    fill : Place → List ℕ → Stmt
+    fill : Place → (count : ℕ) → List ℕ → Stmt
     if_else : Expr → Stmt → Stmt → Stmt
     loop : Expr → (step : Option Expr) → Stmt → Stmt
+    do_while : Stmt → Expr → Stmt
+    switch : IntType → Expr → (slots : List ℕ) → (cases : List Case) → (groups : Stmts) → Stmt
     scope : List ℕ → Stmts → Stmt
     return : Expr → Stmt
     return_nothing : Stmt
@@ -88,15 +94,27 @@ pub record Function : Type 0 where
   pub slots : List Ty
   pub body : Option Stmt
 
--- what is made before `main`: a variable at file scope, or a string literal
+-- what is made before `main`: a variable at file scope with the values that it is given, or a string literal
 pub data Made : Type 0 where
-  global : ℕ → Made
+  global : ℕ → List Stmt → Made
   text : List ℕ → Made
+
+-- an enumerated type that is defined (6.7.2.2)
+pub record Enumeration : Type 0 where
+  pub tag : Option (List ℕ)
+  pub constants : List Enumerator
 
 -- a translation unit (6.9)
 pub record Typed : Type 0 where
+  -- the tags, the structs that have them, and the names of their members
+  pub tags : List (List ℕ)
   pub structs : Table
+  pub members : List (List (List ℕ))
+  pub enumerations : List Enumeration
+  -- the names and the types of the variables at file scope
+  pub names : List (List ℕ)
   pub globals : List Ty
   pub made : List Made
-  pub values : List Stmt
   pub functions : List Function
+  -- what the external declarations add, in order
+  pub additions : List Addition

@@ -1,5 +1,5 @@
 -- What the code's typed trees are, as plain values.
-use Rattle.std.specs.Prelude.{ℕ, List, [], ◌∷◌, map, Option, Some, None, Box}
+use Rattle.std.specs.Prelude.{ℕ, List, [], ◌∷◌, map, Option, Some, None, Box, Vec}
 use Rattle.std.specs.declared.alloc.Global.{Global}
 use Rattle.c_types.specs.Types.{Ty, type_of}
 use Rattle.c_typed.specs.Tree as tree
@@ -9,7 +9,7 @@ use Rattle.c_typed.specs.declared.tree.Place.TheVariants.{Of, Deref', Member'}
 use Rattle.c_typed.specs.declared.tree.Sized.{Sized}
 use Rattle.c_typed.specs.declared.tree.Sized.TheVariants.{Place', Value', Nothing}
 use Rattle.c_typed.specs.declared.tree.Expr.{Expr, Row_of-Expr, end_of-Expr, more_of-Expr}
-use Rattle.c_typed.specs.declared.tree.Expr.TheVariants.{Number, Null, NoFunction, Function, Literal, Read', Decay', Address', Convert', Truth', Not', Unary', Binary', Compare', ComparePointers', SameFunction', Difference', Move', MoveBy', And', Or', Choose', Comma', Assign', Update', Advance', Copy', Call', CallThrough', Putchar', Getchar, Abort, Malloc', Free', Discard', Visit', SizeOf}
+use Rattle.c_typed.specs.declared.tree.Expr.TheVariants.{Number, Null, NoFunction, Function, Literal, Read', Decay', Address', Convert', Truth', Not', Unary', Binary', Compare', ComparePointers', SameFunction', Difference', Move', MoveBy', And', Or', Choose', Comma', Assign', Update', Advance', Copy', Call', CallThrough', Putchar', Getchar, Abort, Malloc', Calloc', Free', Discard', Visit', SizeOf}
 use Rattle.c_typed.specs.declared.path.Path.{Path}
 use Rattle.c_typed.specs.declared.path.Path.TheVariants as paths
 use Rattle.c_typed.specs.declared.tree.Stmt.{Stmt, Row_of-Stmt, end_of-Stmt, more_of-Stmt}
@@ -17,7 +17,8 @@ use Rattle.c_typed.specs.declared.tree.Stmt.TheVariants as stmts
 use Rattle.c_typed.specs.declared.unit.Function.{Function as FunctionCode}
 use Rattle.c_typed.specs.declared.unit.Made.{Made}
 use Rattle.c_typed.specs.declared.unit.Made.TheVariants as mades
-use Rattle.c_typed.specs.declared.unit.Typed.{Typed}
+use Rattle.c_typed.specs.declared.unit.Enumeration.{Enumeration}
+use Rattle.c_typed.specs.declared.unit.TypedUnit.{TypedUnit}
 
 abbrev mutual
   pub place_of : Place → tree.Place
@@ -64,6 +65,7 @@ abbrev mutual
   expr_of Getchar = tree.getchar
   expr_of Abort = tree.abort
   expr_of (Malloc' t p e) = tree.malloc (type_of t) (expr_of e)
+  expr_of (Calloc' t p n q e) = tree.calloc (type_of t) (expr_of n) (expr_of e)
   expr_of (Free' p e) = tree.free (expr_of e)
   expr_of (Discard' p e) = tree.discard (expr_of e)
   expr_of (Visit' p b) = tree.visit (place_of b)
@@ -81,9 +83,11 @@ abbrev mutual
   pub stmt_of : Stmt → tree.Stmt
   stmt_of stmts.Nothing = tree.nothing
   stmt_of (stmts.Perform e) = tree.perform (expr_of e)
-  stmt_of (stmts.Fill b bytes) = tree.fill (place_of b) bytes.items
+  stmt_of (stmts.Fill b n bytes) = tree.fill (place_of b) n bytes.items
   stmt_of (stmts.If' c p a q b) = tree.if_else (expr_of c) (stmt_of a) (stmt_of b)
   stmt_of (stmts.Loop' c step p s) = tree.loop (expr_of c) (step_of step) (stmt_of s)
+  stmt_of (stmts.DoWhile' p s e) = tree.do_while (stmt_of s) (expr_of e)
+  stmt_of (stmts.Switch' t e slots cases shape ss) = tree.switch t (expr_of e) slots.items cases.items (stmts_of ss)
   stmt_of (stmts.Scope' slots shape ss) = tree.scope slots.items (stmts_of ss)
   stmt_of (stmts.Return e) = tree.return (expr_of e)
   stmt_of stmts.ReturnNothing = tree.return_nothing
@@ -119,9 +123,25 @@ abbrev pub function_of : FunctionCode → tree.Function
 function_of f = record { name = f.name; ty = type_of f.ty; slots = map type_of f.slots.items; body = body_of f.body }
 
 abbrev pub made_of : Made → tree.Made
-made_of (mades.Global n) = tree.global n
+made_of (mades.Global n ss) = tree.global n (list_of ss.items)
 made_of (mades.Literal bytes) = tree.text bytes.items
 
-abbrev pub typed_of : Typed → tree.Typed
+abbrev pub enumeration_of : Enumeration → tree.Enumeration
+enumeration_of e = record { tag = e.tag; constants = e.constants.items }
+
+abbrev pub names_in : List (Vec (List ℕ) Global) → List (List (List ℕ))
+names_in ns = map (λ (v : Vec (List ℕ) Global). v.items) ns
+
+abbrev pub typed_of : TypedUnit → tree.Typed
 typed_of u =
-    record { structs = u.structs; globals = map type_of u.globals.items; made = map made_of u.made.items; values = list_of u.values.items; functions = map function_of u.functions.items }
+    record {
+      tags = u.tags.items;
+      structs = u.structs;
+      members = names_in u.members.items;
+      enumerations = map enumeration_of u.enumerations.items;
+      names = u.names.items;
+      globals = map type_of u.globals.items;
+      made = map made_of u.made.items;
+      functions = map function_of u.functions.items;
+      additions = u.additions.items;
+    }

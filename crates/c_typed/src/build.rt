@@ -7,8 +7,8 @@ ghost use Rattle.c_typed.specs.Views.{boxed_step, expr_of, list_of, path_place, 
 
 use crate::make::boxed;
 use crate::path::{Path, place_at};
-use crate::tree::{Expr, Place, Stmt};
-use c_types::Scalar;
+use crate::tree::{Case, Expr, Place, Stmt};
+use c_types::{IntType, Scalar};
 use std::alloc::{AllocError, Global};
 
 /// An expression whose value is thrown away.
@@ -41,14 +41,14 @@ pub fn copy(alloc: Global, n: u32, path: &Path, from: Box<Place>) -> Result<Box<
     perform(alloc, e)
 }
 
-/// The bytes of a string that are written.
-pub fn fill(alloc: Global, path: &Path, bytes: &[u8]) -> Result<Box<Stmt>, AllocError>
-    ensures { IfOk result (λ s. stmt_of s.value ≡ to.fill (path_place path.now) bytes.now) }
+/// The bytes of a string that are written into an array of so many char.
+pub fn fill(alloc: Global, path: &Path, count: u32, bytes: &[u8]) -> Result<Box<Stmt>, AllocError>
+    ensures { IfOk result (λ s. stmt_of s.value ≡ to.fill (path_place path.now) count bytes.now) }
 {
     let mut kept = Vec::new(alloc);
     kept.extend_from_slice(bytes)?;
     let p = place_at(alloc, path)?;
-    boxed(alloc, Stmt::Fill(Box::into_inner(p), kept))
+    boxed(alloc, Stmt::Fill(Box::into_inner(p), count, kept))
 }
 
 /// One statement more.
@@ -94,6 +94,42 @@ pub fn loop_of(
             Stmt::Loop(Box::into_inner(test), Some(Box::into_inner(step)), body),
         ),
     }
+}
+
+/// A loop whose condition is evaluated after each iteration.
+pub fn do_while(alloc: Global, body: Box<Stmt>, test: Box<Expr>) -> Result<Box<Stmt>, AllocError>
+    ensures { IfOk result (λ s. stmt_of s.value ≡ to.do_while (stmt_of body.value) (expr_of test.value)) }
+{
+    boxed(alloc, Stmt::DoWhile(body, Box::into_inner(test)))
+}
+
+/// A `switch` on an integer of this type.
+pub fn switch(
+    alloc: Global,
+    t: IntType,
+    e: Box<Expr>,
+    slots: Vec<u32>,
+    cases: Vec<Case>,
+    groups: Vec<Stmt>,
+) -> Result<Box<Stmt>, AllocError>
+    ensures { IfOk result (λ s. stmt_of s.value ≡ to.switch t (expr_of e.value) slots.items cases.items (words.sequence (list_of groups.items))) }
+{
+    switch_on(alloc, t, Box::into_inner(e), slots, cases, groups)
+}
+
+/// A `switch` on an integer of this type.
+fn switch_on(
+    alloc: Global,
+    t: IntType,
+    e: Expr,
+    slots: Vec<u32>,
+    cases: Vec<Case>,
+    groups: Vec<Stmt>,
+) -> Result<Box<Stmt>, AllocError>
+    ensures { IfOk result (λ s. stmt_of s.value ≡ to.switch t (expr_of e) slots.items cases.items (words.sequence (list_of groups.items))) }
+{
+    let s = boxed(alloc, Stmt::Switch(t, e, slots, cases, groups))?;
+    Ok(s)
 }
 
 /// A result that is returned.

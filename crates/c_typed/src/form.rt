@@ -3,6 +3,15 @@
 use crate::tree::{Expr, Place};
 use c_types::{CType, IntType};
 
+/// How much is allocated.
+#[derive(Drop)]
+pub enum Amount {
+    /// So many bytes, as malloc has it.
+    Bytes(Box<Expr>),
+    /// So many parts of so many bytes each, as calloc has it.
+    Product(Box<Expr>, Box<Expr>),
+}
+
 /// What an expression is before it is used.
 #[derive(Drop)]
 pub enum Form<'a> {
@@ -17,6 +26,6 @@ pub enum Form<'a> {
     Zero(IntType),
     /// `NULL`.
     Null,
-    /// A call of malloc with this argument.
-    Allocation(Box<Expr>),
+    /// A call of malloc or calloc, whose type is to come.
+    Allocation(Amount),
 }

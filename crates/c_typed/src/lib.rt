@@ -7,6 +7,7 @@
 
 mod build;
 mod form;
+mod identifier;
 mod integers;
 mod make;
 mod ops;
@@ -15,12 +16,14 @@ mod tree;
 mod unit;
 
 pub use build::{
-    add, assign, copy, fill, if_else, loop_of, perform, return_value, scope, while_loop,
+    add, assign, copy, do_while, fill, if_else, loop_of, perform, return_value, scope, switch,
+    while_loop,
 };
-pub use form::Form;
+pub use form::{Amount, Form};
+pub use identifier::is_identifier;
 pub use integers::{arithmetic, compared, promoted_value, shift};
 pub use make::{at_type, boxed, discarded, null_at, null_of, number, pointer_scalar, zero_of};
 pub use ops::{BinaryOp, RelOp, UnaryOp, Variable};
 pub use path::Path;
-pub use tree::{Expr, Place, Sized, Stmt};
-pub use unit::{Function, Made, Typed};
+pub use tree::{Case, Expr, Place, Sized, Stmt};
+pub use unit::{Addition, Enumeration, Enumerator, Function, Made, Subject, TypedUnit};

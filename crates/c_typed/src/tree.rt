@@ -89,6 +89,8 @@ pub enum Expr {
     Abort,
     /// Of elements of this type, by the number of bytes, an `unsigned int`.
     Malloc(CType, Box<Expr>),
+    /// The same of so many parts of so many bytes, two `unsigned int`, whose product is taken exactly.
+    Calloc(CType, Box<Expr>, Box<Expr>),
     Free(Box<Expr>),
     /// What is evaluated and thrown away.
     Discard(Box<Expr>),
@@ -98,17 +100,30 @@ pub enum Expr {
     SizeOf(u32, Sized),
 }
 
+/// A label of a `switch` (C11, 6.8.1): its number, by its bits, `None` for `default`, and with which group of statements it
+/// goes on.
+#[derive(Clone, Copy, PartialEq, Eq)]
+pub struct Case {
+    pub label: Option<u64>,
+    pub group: u32,
+}
+
 /// A statement (C11, 6.8). A condition is an integer of at most 32 bits, and means that it isn't 0.
 #[derive(Drop)]
 pub enum Stmt {
     Nothing,
     /// An expression whose value, if it has one, is thrown away.
     Perform(Expr),
-    /// The bytes of a string into the first elements of an array of char.
-    Fill(Place, Vec<u8>),
+    /// The bytes of a string into the first elements of an array of so many char.
+    Fill(Place, u32, Vec<u8>),
     If(Expr, Box<Stmt>, Box<Stmt>),
-    /// The condition, what is evaluated behind each turn, and the body.
+    /// The condition, what is evaluated after each iteration, and the body.
     Loop(Expr, Option<Expr>, Box<Stmt>),
+    /// The body, and the condition that is evaluated after each iteration.
+    DoWhile(Box<Stmt>, Expr),
+    /// An integer of a promoted type, the slots of the variables that are declared in the block, its labels, and the groups of
+    /// statements between them: the first group stands before each label.
+    Switch(IntType, Expr, Vec<u32>, Vec<Case>, Vec<Stmt>),
     /// The slots of the variables that are declared in it, in order, and what is done.
     Scope(Vec<u32>, Vec<Stmt>),
     Return(Expr),

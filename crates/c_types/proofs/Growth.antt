@@ -6,7 +6,7 @@ use Rattle.std.proofs.lemmas.List.Elements.{All-head, All-tail, All-weaker}
 use Rattle.std.proofs.lemmas.List.{map-append, map-set}
 use Rattle.c_types.specs.Views.{layout_of, layout_of_option, table_of}
 use Rattle.c_types.specs.declared.definition.Definition.{Definition}
-use Rattle.c_types.specs.Layout.{Table, IsSmall, Layout, layout_at, HasSize, IsLaidOut, size_in, align_in, size, align, round_up, offsets_from, end_from, greatest_from, laid_out}
+use Rattle.c_types.specs.Layout.{Table, IsSmall, Layout, layout_at, HasSize, IsLaidOut, size_in, align_in, size, align, round_up, offsets_from, end_from, greatest_from, depth_in, depth, deepest_from, laid_out}
 use Rattle.c_types.specs.Types.{Ty, void, integer, struct, pointer, array, function}
 
 -- what is defined stays
@@ -41,6 +41,14 @@ same_align old new x (pointer t) h = refl
 same_align old new x (array t n) h = same_align old new x t h.1
 same_align old new x (function r ps) h = refl
 
+same_depth : (old new : Table) → Extends old new → (t : Ty) → HasSize old t → depth new t ≡ depth old t
+same_depth old new x void h = refl
+same_depth old new x (integer t) h = refl
+same_depth old new x (struct n) h = ap (λ o. depth_in o) (same_struct (layout_at old n) old new n x refl h)
+same_depth old new x (pointer t) h = refl
+same_depth old new x (array t n) h = same_depth old new x t h.1
+same_depth old new x (function r ps) h = refl
+
 -- ---- of members
 
 same_offsets : (old new : Table) → Extends old new → (end : ℕ) (ts : List Ty) → All (HasSize old) ts → offsets_from new end ts ≡ offsets_from old end ts
@@ -60,9 +68,14 @@ same_greatest old new x least [] h = refl
 same_greatest old new x least (t ∷ ts) h =
     rw (same_align old new x t (All-head (HasSize old) t ts h)) (same_greatest old new x (max least (align old t)) ts (All-tail (HasSize old) t ts h))
 
+same_deepest : (old new : Table) → Extends old new → (least : ℕ) (ts : List Ty) → All (HasSize old) ts → deepest_from new least ts ≡ deepest_from old least ts
+same_deepest old new x least [] h = refl
+same_deepest old new x least (t ∷ ts) h =
+    rw (same_depth old new x t (All-head (HasSize old) t ts h)) (same_deepest old new x (max least (depth old t)) ts (All-tail (HasSize old) t ts h))
+
 same_layout : (old new : Table) → Extends old new → (ts : List Ty) → All (HasSize old) ts → laid_out new ts ≡ laid_out old ts
 same_layout old new x ts h =
-    rw (same_offsets old new x 0 ts h, same_end old new x 0 ts h, same_greatest old new x 1 ts h) refl
+    rw (same_offsets old new x 0 ts h, same_end old new x 0 ts h, same_greatest old new x 1 ts h, same_deepest old new x 0 ts h) refl
 
 -- ---- of tables
 

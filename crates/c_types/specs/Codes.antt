@@ -57,7 +57,7 @@ coded_ty = record { code = ty_code; inj = ty_inj }
 
 abbrev coded_layout : Coded Layout
 coded_layout =
-    code_by (List Ty × (List ℕ × (ℕ × ℕ))) (coded× (coded_list coded_ty) (coded× (coded_list coded_ℕ) (coded× coded_ℕ coded_ℕ))) (λ l. (l.members, (l.offsets, (l.size, l.align)))) (λ p. record { members = p.0; offsets = p.1.0; size = p.1.1.0; align = p.1.1.1 }) (λ _. refl)
+    code_by (List Ty × (List ℕ × (ℕ × (ℕ × ℕ)))) (coded× (coded_list coded_ty) (coded× (coded_list coded_ℕ) (coded× coded_ℕ (coded× coded_ℕ coded_ℕ)))) (λ l. (l.members, (l.offsets, (l.size, (l.align, l.depth))))) (λ p. record { members = p.0; offsets = p.1.0; size = p.1.1.0; align = p.1.1.1.0; depth = p.1.1.1.1 }) (λ _. refl)
 
 abbrev pub coded_table : Coded Table
 coded_table = coded_list (coded_option coded_layout)

@@ -10,6 +10,8 @@ pub record Layout : Type 0 where
   pub offsets : List ℕ
   pub size : ℕ
   pub align : ℕ
+  -- how deep structs lie in it, itself counted: it is above each struct that is in it
+  pub depth : ℕ
 
 -- the structs, by the numbers of their tags; None: not defined so far
 abbrev pub Table : Type 0
@@ -63,6 +65,16 @@ align table (pointer t) = pointer_size t
 align table (array t n) = align table t
 align table (function r ps) = 1
 
+-- how deep structs lie in a type: a struct that is defined is deeper than all in it
+abbrev pub depth_in : Option Layout → ℕ
+depth_in None = 0
+depth_in (Some l) = l.depth
+
+abbrev pub depth : Table → Ty → ℕ
+depth table (struct n) = depth_in (layout_at table n)
+depth table (array t n) = depth table t
+depth table _ = 0
+
 -- ---- of members, each at the next place of its alignment
 
 abbrev pub round_up : (align n : ℕ) → ℕ
@@ -86,9 +98,14 @@ greatest_from table least (t ∷ ts) = greatest_from table (max least (align tab
 abbrev pub greatest : Table → List Ty → ℕ
 greatest table ts = greatest_from table 1 ts
 
+-- the greatest depth, and at least that which is given
+abbrev pub deepest_from : Table → ℕ → List Ty → ℕ
+deepest_from table least [] = least
+deepest_from table least (t ∷ ts) = deepest_from table (max least (depth table t)) ts
+
 abbrev pub laid_out : Table → List Ty → Layout
 laid_out table ts =
-    record { members = ts; offsets = offsets_from table 0 ts; size = round_up (greatest table ts) (end_from table 0 ts); align = greatest table ts }
+    record { members = ts; offsets = offsets_from table 0 ts; size = round_up (greatest table ts) (end_from table 0 ts); align = greatest table ts; depth = deepest_from table 0 ts + 1 }
 
 -- each struct that is defined has members that have a size, and is laid out as they say
 pub record IsLaidOut (table : Table) : Type 0 where

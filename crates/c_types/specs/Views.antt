@@ -10,7 +10,7 @@ types_in ts = map type_of ts
 
 abbrev pub layout_of : Definition → Layout
 layout_of d =
-    record { members = types_in d.members.items; offsets = d.offsets.items; size = d.size; align = d.align }
+    record { members = types_in d.members.items; offsets = d.offsets.items; size = d.size; align = d.align; depth = d.depth }
 
 abbrev pub layout_of_option : Option Definition → Option Layout
 layout_of_option None = None

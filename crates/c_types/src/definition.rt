@@ -14,6 +14,8 @@ pub struct Definition {
     pub size: u64,
     /// At most 16.
     pub align: u8,
+    /// How deep structs lie in it, itself counted.
+    pub depth: u64,
     ghost aligned: { (0 < align) × (align ≤ 16) },
     ghost paired: { length offsets.items ≡ length members.items },
 }

@@ -4,7 +4,7 @@ ghost use Rattle.std.specs.Prelude.{◌≡◌};
 ghost use Rattle.c_types.specs.Integers.{bits, common, greater, holds, is_signed, of_both_signs, promoted, rank, same_integer, unsigned_of};
 
 /// An integer type (C11, 6.2.5). The three types of a character differ; a plain `char` is signed.
-#[derive(Clone, Copy, Debug, PartialEq, Eq)]
+#[derive(Clone, Copy, PartialEq, Eq)]
 pub enum IntType {
     Char,
     SignedChar,

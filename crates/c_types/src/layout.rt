@@ -94,6 +94,49 @@ fn larger(a: u8, b: u8) -> u8
     if a < b { b } else { a }
 }
 
+/// The larger of two depths.
+fn deeper(a: u64, b: u64) -> u64
+    ensures { result ≡ max a b }
+{
+    if a < b { b } else { a }
+}
+
+/// How deep structs lie in a type.
+fn depth_in(definitions: &[Option<Definition>], t: &CType) -> u64
+    ensures { result ≡ words.depth (table_of definitions.now) (type_of t.now) }
+{
+    match t {
+        CType::Struct(n) => depth_at(definitions, *n),
+        CType::Array(element, _) => depth_in(definitions, element),
+        CType::Void => 0,
+        CType::Int(_) => 0,
+        CType::Pointer(_) => 0,
+        CType::Function(_) => 0,
+    }
+}
+
+/// How deep structs lie in a struct, which is itself counted where it is defined.
+fn depth_at(definitions: &[Option<Definition>], number: u32) -> u64
+    ensures { result ≡ words.depth_in (words.layout_at (table_of definitions.now) number) }
+{
+    match definitions.get(number as usize) {
+        Some(Some(definition)) => definition.depth,
+        Some(None) => 0,
+        None => 0,
+    }
+}
+
+/// The greatest depth of types.
+fn deepest(definitions: &[Option<Definition>], members: &[CType]) -> u64
+    ensures { result ≡ words.deepest_from (table_of definitions.now) 0 (types_in members.now) }
+{
+    let mut depth = 0;
+    for member in members {
+        depth = deeper(depth, depth_in(definitions, member));
+    }
+    depth
+}
+
 /// A struct with these members, each at the next place of its alignment.
 pub fn lay_out(
     alloc: Global,
@@ -104,6 +147,10 @@ pub fn lay_out(
     requires count { length members.items ≤ most_bytes }
     ensures { IfOk result (λ d. layout_of d ≡ laid_out (table_of definitions.now) (types_in members.items)) }
 {
+    let below = deepest(definitions, members.as_slice());
+    let Some(depth) = below.checked_add(1) else {
+        return Err(AllocError);
+    };
     let mut offsets = Vec::new(alloc);
     let mut end = 0;
     let mut align = 1;
@@ -119,5 +166,6 @@ pub fn lay_out(
         members,
         offsets,
         align,
+        depth,
     })
 }

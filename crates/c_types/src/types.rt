@@ -8,7 +8,7 @@ use std::alloc::AllocError;
 use std::rc::Rc;
 
 /// What one local, one operand or one leaf of an object holds (C11, 6.2.5, paragraph 21).
-#[derive(Clone, Copy, Debug, PartialEq, Eq)]
+#[derive(Clone, Copy, PartialEq, Eq)]
 pub enum Scalar {
     Int(IntType),
     /// A pointer to an object.

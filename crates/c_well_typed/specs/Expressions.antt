@@ -1,5 +1,5 @@
 -- The types of places and expressions (C11, 6.5). Each form has one line: what its type is, and what its parts have to be.
-use Rattle.std.specs.Prelude.{◌≡◌, ℕ, ◌≤◌, ◌<◌, ◌^◌, true, false, List, slice_get, Some}
+use Rattle.std.specs.Prelude.{◌≡◌, ℕ, ◌==◌, ◌||◌, ◌≤◌, ◌<◌, ◌^◌, Bool, true, false, List, [], ◌∷◌, ◌++◌, slice_get, Some}
 use Rattle.c_types.specs.declared.integers.IntType.{IntType}
 use Rattle.c_types.specs.declared.integers.IntType.TheVariants.{Char, Int, UnsignedInt, LongLong}
 use Rattle.c_types.specs.Integers.{bits, promoted}
@@ -11,7 +11,8 @@ use Rattle.c_typed.specs.Tree as tree
 use Rattle.c_typed.specs.Tree.{Place, Expr, Exprs}
 use Rattle.c_well_typed.specs.Types.{IsType}
 
--- What a tree may name: structs, variables at file scope, string literals, functions, and the variables of the function.
+-- What a tree may name: structs, variables at file scope, string literals, functions, and of the variables of the function those
+-- of the blocks that stand around it.
 pub record Context : Type 0 where
   pub structs : Table
   pub globals : List Ty
@@ -19,12 +20,22 @@ pub record Context : Type 0 where
   pub literals : ℕ
   pub functions : List Ty
   pub slots : List Ty
+  -- the slots of its parameters, and of the variables of these blocks
+  pub visible : List ℕ
 
 abbrev pub with_literals : Context → ℕ → Context
 with_literals c n = record c { literals = n }
 
+abbrev pub is_visible : List ℕ → ℕ → Bool
+is_visible [] n = false
+is_visible (m ∷ ms) n = m == n || is_visible ms n
+
+-- with the variables of a block (6.2.1, paragraph 4)
+abbrev pub opened : Context → List ℕ → Context
+opened c ns = record c { visible = c.visible ++ ns }
+
 abbrev pub IsVariable : Context → Variable → Ty → Type 0
-IsVariable c (Local n) t = slice_get c.slots n ≡ Some t
+IsVariable c (Local n) t = (slice_get c.slots n ≡ Some t) × (is_visible c.visible n ≡ true)
 IsVariable c (Global n) t = slice_get c.globals n ≡ Some t
 
 -- what a struct's member is
@@ -101,6 +112,8 @@ abbrev mutual
   HasType c tree.abort t = t ≡ void
   HasType c (tree.malloc u e) t =
       (t ≡ pointer u) × IsType c.structs u × IsSmall c.structs u × HasType c e (integer UnsignedInt)
+  HasType c (tree.calloc u a b) t =
+      (t ≡ pointer u) × IsType c.structs u × IsSmall c.structs u × HasType c a (integer UnsignedInt) × HasType c b (integer UnsignedInt)
   HasType c (tree.free e) t =
       (u : Ty) × (t ≡ void) × (is_function u ≡ false) × HasType c e (pointer u)
   HasType c (tree.discard e) t = (u : Ty) × (t ≡ void) × HasType c e u

@@ -1,6 +1,11 @@
-use Rattle.std.proofs.Common.{◌<◌, subst, arith}
-use Rattle.c_tree.specs.Statements.{Items}
-use Rattle.c_tree.specs.StatementViews.{items_nodes}
+use Rattle.std.proofs.Common.{◌≡◌, ◌<◌, subst, arith}
+use Rattle.c_types.specs.Types.{type_of}
+use Rattle.c_tree.specs.Statements.{Items, Statement}
+use Rattle.c_tree.specs.StatementViews.{items_nodes, statement_of}
+use Rattle.c_tree.specs.declared.statement.StatementNode.{StatementNode}
+use Rattle.c_check_types.specs.Views.{Obeys, state_of}
+use Rattle.c_check.specs.Statements as words
+use Rattle.c_check.specs.Views.{boxed_stmt}
 use Rattle.c_check.proofs.Items.{item_nodes, one_falls}
 use Rattle.c_check.proofs.statement.+statement.Goals as goal
 
@@ -11,3 +16,8 @@ items-item-requires n c =
     let less = subst (λ (is : Items). item_nodes i < items_nodes is) c.items-i-items.ensures falls in
     let bound = c.decreases in
     (omega (arith, less, bound), tt)
+
+pub statement-returns-in-For : goal.statement-returns-in-For
+statement-returns-in-For n c =
+    let is = subst (λ (node : StatementNode). statement_of node ≡ c.args.s.now) c.in-For.is c.node.ensures in
+    subst (λ (s : Statement). Obeys boxed_stmt (words.statement s (type_of c.args.result_type.now) c.args.j) (state_of c.args.checker.now) (state_of c.for_loop.new.checker) c.for_loop.result) is c.for_loop.ensures

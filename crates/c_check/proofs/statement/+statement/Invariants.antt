@@ -9,8 +9,8 @@ use Rattle.c_check.proofs.statement.+statement.Given as goal
 
 abbrev pub invariant-items-loop-i : goal.invariant-items-loop-i
 invariant-items-loop-i l =
-    items (items_of (drop l.i-index l.i-items)) (type_of l.result_type) l.in_loop (declaring_of l.so_far) (state_of l.checker)
-    ≡ items l.fn.is (type_of l.result_type) l.in_loop (declaring_of l.fn.so_far) (state_of l.fn.checker)
+    items (items_of (drop l.i-index l.i-items)) (type_of l.result_type) l.j l.labels (declaring_of l.so_far) (state_of l.checker)
+    ≡ items l.fn.is (type_of l.result_type) l.j l.labels (declaring_of l.fn.so_far) (state_of l.fn.checker)
 
 abbrev pub decreases-statement : goal.decreases-statement
 decreases-statement l = 8 * statement_nodes l.s.now
@@ -18,8 +18,14 @@ decreases-statement l = 8 * statement_nodes l.s.now
 abbrev pub decreases-block : goal.decreases-block
 decreases-block l = 8 * items_nodes l.is.now + 6
 
+abbrev pub decreases-switch : goal.decreases-switch
+decreases-switch l = 8 * items_nodes l.is.now + 6
+
 abbrev pub decreases-for_loop : goal.decreases-for_loop
 decreases-for_loop l = 8 * statement_nodes l.body.now + 4
+
+abbrev pub decreases-for_parts : goal.decreases-for_parts
+decreases-for_parts l = 8 * statement_nodes l.body.now + 3
 
 abbrev pub decreases-items : goal.decreases-items
 decreases-items l = 8 * items_nodes l.is.now + 4

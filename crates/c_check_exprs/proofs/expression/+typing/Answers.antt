@@ -1,16 +1,16 @@
-use Rattle.std.proofs.Common.{◌≡◌, ◌∙◌, ◌<◌, [], None, ap, sym, subst, arith}
+use Rattle.std.proofs.Common.{◌≡◌, ◌∙◌, ◌+◌, ◌<◌, [], None, ap, sym, subst, arith}
 use Rattle.c_types.specs.Types.{Ty, type_of}
 use Rattle.c_types.specs.Views.{types_in}
 use Rattle.c_tree.specs.Tree.{Exprs}
 use Rattle.c_tree.specs.Views.{expr_nodes, exprs_nodes}
 use Rattle.c_typed.specs.Views.{expr_of}
-use Rattle.c_check_types.proofs.Rows.{function_is}
+use Rattle.c_check_types.proofs.TypeLists.{function_is}
 use Rattle.c_check_types.specs.TypeEquality.{tys_of}
-use Rattle.c_check_types.specs.Views.{Answers, state_of}
-use Rattle.c_check_exprs.specs.Expressions.{arguments, called, sole, typing}
+use Rattle.c_check_types.specs.Views.{Obeys, state_of}
+use Rattle.c_check_exprs.specs.Expressions.{arguments, called, factors, multiplying, sole, typing}
 use Rattle.c_typed.specs.FormViews.{form_of}
 use Rattle.c_check_types.proofs.Rules.{answered}
-use Rattle.c_check_exprs.proofs.Arguments.{differ, one_falls, sole_is, sole_isnt}
+use Rattle.c_check_exprs.proofs.Arguments.{differ, one_falls, sole_is, sole_isnt, factors_are, factors_arent, two_fall}
 use Rattle.c_check_exprs.proofs.expression.+typing.Goals as goal
 
 pub arguments-returns-then-items-types : goal.arguments-returns-then-items-types
@@ -41,4 +41,26 @@ sole-returns n c =
 pub called-returns-in-Function : goal.called-returns-in-Function
 called-returns-in-Function n c =
     let same = ap (λ t. type_of t) c.in-Function.is ∙ function_is c.in-Function.s in
-    subst (λ (u : Ty). Answers form_of (called (expr_of c.args.e.value, u) (λ ts. arguments c.args.es.now ts [])) (state_of c.args.checker.now) (state_of c.called_function.new.checker) c.called_function.result) (sym same) c.called_function.ensures
+    subst (λ (u : Ty). Obeys form_of (called (expr_of c.args.e.value, u) (λ ts. arguments c.args.es.now ts [])) (state_of c.args.checker.now) (state_of c.called_function.new.checker) c.called_function.result) (sym same) c.called_function.ensures
+
+pub factors-returns-then-items-ne2 : goal.factors-returns-then-items-ne2
+factors-returns-then-items-ne2 n c =
+    let s = state_of c.args.checker.now in
+    subst (λ (es : Exprs). factors es s ≡ None) c.items-items.ensures (factors_arent c.items-items.result.now c.if-items-ne2.true s)
+
+pub factors-multiplying-requires : goal.factors-multiplying-requires
+factors-multiplying-requires n c =
+    let a = c.index-items-0.result in
+    let b = c.index-items-1.result in
+    let falls = two_fall c.items-items.result.now a b c.if-items-ne2.false c.index-items-0.is c.index-items-1.is in
+    let less = subst (λ (es : Exprs). expr_nodes a + expr_nodes b < exprs_nodes es) c.items-items.ensures falls in
+    let bound = c.decreases in
+    (omega (arith, less, bound), tt)
+
+pub factors-returns : goal.factors-returns
+factors-returns n c =
+    let s = state_of c.args.checker.now in
+    let a = c.index-items-0.result in
+    let b = c.index-items-1.result in
+    answered form_of (factors c.args.es.now) (multiplying (typing a) (typing b)) s (state_of c.multiplying.new.checker) c.multiplying.result
+    (subst (λ (es : Exprs). factors es s ≡ multiplying (typing a) (typing b) s) c.items-items.ensures (factors_are c.items-items.result.now a b c.if-items-ne2.false c.index-items-0.is c.index-items-1.is s)) c.multiplying.ensures

@@ -74,6 +74,12 @@ decreases-library_call l = 8 * exprs_nodes l.es.now + 2
 abbrev pub decreases-sole : goal.decreases-sole
 decreases-sole l = 8 * exprs_nodes l.es.now + 1
 
+abbrev pub decreases-factors : goal.decreases-factors
+decreases-factors l = 8 * exprs_nodes l.es.now + 1
+
+abbrev pub decreases-multiplying : goal.decreases-multiplying
+decreases-multiplying l = 8 * (expr_nodes l.a.now + expr_nodes l.b.now) + 2
+
 abbrev pub decreases-called : goal.decreases-called
 decreases-called l = 8 * exprs_nodes l.es.now + 3
 

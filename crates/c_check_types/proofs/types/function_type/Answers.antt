@@ -3,7 +3,7 @@ use Rattle.c_types.specs.Types.{function, type_of}
 use Rattle.c_types.specs.Views.{types_in}
 use Rattle.c_types.specs.declared.types.Signature.{Signature}
 use Rattle.c_check_types.specs.TypeEquality.{tys_of}
-use Rattle.c_check_types.proofs.Rows.{function_is}
+use Rattle.c_check_types.proofs.TypeLists.{function_is}
 use Rattle.c_check_types.proofs.types.function_type.Goals as goal
 
 pub returns : goal.returns

@@ -1,5 +1,5 @@
 use Rattle.std.proofs.Common.{[]}
-use Rattle.c_rows.specs.Meaning.{Reaches}
+use Rattle.c_productions.specs.Meaning.{Reaches}
 use Rattle.c_parse.specs.Calls.{state}
 use Rattle.c_parse.proofs.Falls.{amount}
 use Rattle.c_parse.proofs.runs.finish.Given as goal

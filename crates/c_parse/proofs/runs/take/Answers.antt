@@ -1,5 +1,5 @@
 use Rattle.std.proofs.Common.{◌∷◌}
-use Rattle.c_rows.specs.Meaning.{here}
+use Rattle.c_productions.specs.Meaning.{here}
 use Rattle.c_parse.specs.Calls.{goal_of, state}
 use Rattle.c_parse.proofs.Falls.{goes_less}
 use Rattle.c_parse.proofs.Ways.{taken, gone}

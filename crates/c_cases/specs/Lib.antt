@@ -1,2 +1,0 @@
--- What becomes of texts of C.
-pub mod Answers

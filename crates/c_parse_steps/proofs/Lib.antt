@@ -1,0 +1,12 @@
+pub mod Words
+pub mod Lists
+pub mod Empty
+pub mod Closed
+pub mod Actions
+pub mod Ends
+pub mod States
+pub mod Reach
+pub mod Firsts
+pub mod Reading
+pub mod Whole
+pub mod Units

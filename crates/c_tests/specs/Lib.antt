@@ -1,0 +1,2 @@
+-- What becomes of texts of C.
+pub mod Texts
