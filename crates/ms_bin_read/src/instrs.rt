@@ -78,6 +78,7 @@ fn segment_of(at: usize, code: u8, c: &mut Cursor) -> Result<Instr, ReadFault>
         0x07 => Ok(Instr::Segment(Segment::Diff)),
         0x08 => Ok(Instr::Segment(Segment::LoadHandle)),
         0x09 => Ok(Instr::Segment(Segment::StoreHandle)),
+        0x1D => Ok(Instr::Segment(Segment::Seal)),
         _ => segment_access_of(at, code, c),
     }
 }

@@ -174,6 +174,7 @@ second_law segment.LoadHandle h t = segment_form 0x08 (Bare (instr.Segment segme
 second_law segment.StoreHandle h t = segment_form 0x09 (Bare (instr.Segment segment.StoreHandle)) t (instr.Segment segment.StoreHandle) t refl (refl, refl)
 second_law (segment.Load op) h t = segment_load_law op t
 second_law (segment.Store op) h t = segment_store_law op t
+second_law segment.Seal h t = segment_form 0x1D (Bare (instr.Segment segment.Seal)) t (instr.Segment segment.Seal) t refl (refl, refl)
 
 -- ---- all of them
 

@@ -15,7 +15,10 @@ use ms_module::RelOp::*;
 use ms_module::StoreOp::{self, *};
 use ms_module::UnOp::*;
 use ms_module::Width::{W32, W64};
-use ms_module::{Instr, Linear, Opening, PREFIX, Segment};
+use ms_module::{
+    Instr, Linear, Opening, PREFIX, Segment, code_by_item, load_opcodes, numeric_opcodes,
+    segment_load_codes, segment_store_codes, store_opcodes,
+};
 use ms_types::ValType;
 
 /// The code of a value type.
@@ -57,69 +60,7 @@ pub fn opening_code(opening: Opening) -> u8
 fn numeric_code(op: Numeric) -> u8
     ensures { result ≡ numeric_code op }
 {
-    match op {
-        Eqz(W32) => 0x45,
-        Compare(W32, Eq) => 0x46,
-        Compare(W32, Ne) => 0x47,
-        Compare(W32, LtS) => 0x48,
-        Compare(W32, LtU) => 0x49,
-        Compare(W32, GtS) => 0x4A,
-        Compare(W32, GtU) => 0x4B,
-        Compare(W32, LeS) => 0x4C,
-        Compare(W32, LeU) => 0x4D,
-        Compare(W32, GeS) => 0x4E,
-        Compare(W32, GeU) => 0x4F,
-        Eqz(W64) => 0x50,
-        Compare(W64, Eq) => 0x51,
-        Compare(W64, Ne) => 0x52,
-        Compare(W64, LtS) => 0x53,
-        Compare(W64, LtU) => 0x54,
-        Compare(W64, GtS) => 0x55,
-        Compare(W64, GtU) => 0x56,
-        Compare(W64, LeS) => 0x57,
-        Compare(W64, LeU) => 0x58,
-        Compare(W64, GeS) => 0x59,
-        Compare(W64, GeU) => 0x5A,
-        Unary(W32, Clz) => 0x67,
-        Unary(W32, Ctz) => 0x68,
-        Unary(W32, Popcnt) => 0x69,
-        Binary(W32, Add) => 0x6A,
-        Binary(W32, Sub) => 0x6B,
-        Binary(W32, Mul) => 0x6C,
-        Binary(W32, DivS) => 0x6D,
-        Binary(W32, DivU) => 0x6E,
-        Binary(W32, RemS) => 0x6F,
-        Binary(W32, RemU) => 0x70,
-        Binary(W32, And) => 0x71,
-        Binary(W32, Or) => 0x72,
-        Binary(W32, Xor) => 0x73,
-        Binary(W32, Shl) => 0x74,
-        Binary(W32, ShrS) => 0x75,
-        Binary(W32, ShrU) => 0x76,
-        Binary(W32, Rotl) => 0x77,
-        Binary(W32, Rotr) => 0x78,
-        Unary(W64, Clz) => 0x79,
-        Unary(W64, Ctz) => 0x7A,
-        Unary(W64, Popcnt) => 0x7B,
-        Binary(W64, Add) => 0x7C,
-        Binary(W64, Sub) => 0x7D,
-        Binary(W64, Mul) => 0x7E,
-        Binary(W64, DivS) => 0x7F,
-        Binary(W64, DivU) => 0x80,
-        Binary(W64, RemS) => 0x81,
-        Binary(W64, RemU) => 0x82,
-        Binary(W64, And) => 0x83,
-        Binary(W64, Or) => 0x84,
-        Binary(W64, Xor) => 0x85,
-        Binary(W64, Shl) => 0x86,
-        Binary(W64, ShrS) => 0x87,
-        Binary(W64, ShrU) => 0x88,
-        Binary(W64, Rotl) => 0x89,
-        Binary(W64, Rotr) => 0x8A,
-        Wrap => 0xA7,
-        ExtendS => 0xAC,
-        ExtendU => 0xAD,
-    }
+    numeric_opcodes!(code_by_item op)
 }
 
 /// The opcode of a load.
@@ -127,20 +68,7 @@ fn numeric_code(op: Numeric) -> u8
 fn load_code(op: LoadOp) -> u8
     ensures { result ≡ code_of load_rows (load_word (codes "load") op) }
 {
-    match op {
-        I32Load => 0x28,
-        I64Load => 0x29,
-        I32Load8S => 0x2C,
-        I32Load8U => 0x2D,
-        I32Load16S => 0x2E,
-        I32Load16U => 0x2F,
-        I64Load8S => 0x30,
-        I64Load8U => 0x31,
-        I64Load16S => 0x32,
-        I64Load16U => 0x33,
-        I64Load32S => 0x34,
-        I64Load32U => 0x35,
-    }
+    load_opcodes!(code_by_item op)
 }
 
 /// The opcode of a store.
@@ -148,15 +76,7 @@ fn load_code(op: LoadOp) -> u8
 fn store_code(op: StoreOp) -> u8
     ensures { result ≡ code_of store_rows (store_word (codes "store") op) }
 {
-    match op {
-        I32Store => 0x36,
-        I64Store => 0x37,
-        I32Store8 => 0x3A,
-        I32Store16 => 0x3B,
-        I64Store8 => 0x3C,
-        I64Store16 => 0x3D,
-        I64Store32 => 0x3E,
-    }
+    store_opcodes!(code_by_item op)
 }
 
 /// The opcode of an instruction on the linear memory.
@@ -177,20 +97,7 @@ fn linear_code(instr: Linear) -> u8
 fn segment_load_code(op: LoadOp) -> u8
     ensures { result ≡ code_of segment_load_rows (load_word (codes "segload") op) }
 {
-    match op {
-        I32Load => 0x0A,
-        I64Load => 0x0B,
-        I32Load8S => 0x0C,
-        I32Load8U => 0x0D,
-        I32Load16S => 0x0E,
-        I32Load16U => 0x0F,
-        I64Load8S => 0x10,
-        I64Load8U => 0x11,
-        I64Load16S => 0x12,
-        I64Load16U => 0x13,
-        I64Load32S => 0x14,
-        I64Load32U => 0x15,
-    }
+    segment_load_codes!(code_by_item op)
 }
 
 /// The byte behind the prefix of a store into a segment.
@@ -198,15 +105,7 @@ fn segment_load_code(op: LoadOp) -> u8
 fn segment_store_code(op: StoreOp) -> u8
     ensures { result ≡ code_of segment_store_rows (store_word (codes "segstore") op) }
 {
-    match op {
-        I32Store => 0x16,
-        I64Store => 0x17,
-        I32Store8 => 0x18,
-        I32Store16 => 0x19,
-        I64Store8 => 0x1A,
-        I64Store16 => 0x1B,
-        I64Store32 => 0x1C,
-    }
+    segment_store_codes!(code_by_item op)
 }
 
 /// The byte behind the prefix of an instruction on handles or segments.
@@ -227,6 +126,7 @@ pub fn segment_code(instr: Segment) -> u8
         Segment::StoreHandle => 0x09,
         Segment::Load(op) => segment_load_code(op),
         Segment::Store(op) => segment_store_code(op),
+        Segment::Seal => 0x1D,
     }
 }
 

@@ -48,7 +48,7 @@ budget = record { name = codes "budget"; least = 0; most = 1000000000000; defaul
 
 -- how many bytes the segment memory has
 abbrev pub memory : NumberOption
-memory = record { name = codes "memory"; least = 16; most = 16777216; default = codes "1048576" }
+memory = record { name = codes "memory"; least = 16; most = 1073741824; default = codes "1048576" }
 
 abbrev pub exec : CommandRow
 exec = record { name = codes "exec"; places = file ∷ []; options = budget ∷ memory ∷ [] }

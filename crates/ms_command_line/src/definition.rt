@@ -53,7 +53,7 @@ pub const DEFAULT_BUDGET: u64 = 1_000_000;
 pub const MEMORY: NumberOption = NumberOption {
     name: "memory",
     least: 16,
-    most: 16_777_216,
+    most: 1_073_741_824,
     default: "1048576",
 };
 

@@ -11,7 +11,7 @@ use std::alloc::Global;
 
 /// Reads the words of a command line, of which the first is the program's name.
 ///
-/// A budget is at most 1,000,000,000,000, and 1,000,000 where none is given; a memory has 16 to 16,777,216 bytes, and
+/// A budget is at most 1,000,000,000,000, and 1,000,000 where none is given; a memory has 16 to 1,073,741,824 bytes, and
 /// 1,048,576 where none is given. `Refused` comes exactly where the definition of the commands refuses the words: an
 /// unknown command or option, a word too many or too few, a number that is none or is out of its range, an option given
 /// twice, a request for help. Options stand anywhere after the command; words that begin with `-` may follow `--`.

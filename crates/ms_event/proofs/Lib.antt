@@ -1,5 +1,6 @@
 pub mod Digits
 pub mod Numbers
 pub mod Groups
+pub mod Endings
 pub mod OneText
 pub mod Traces

@@ -1,9 +1,12 @@
-//! The numbers of an event, which are all that stands behind its word.
+//! The numbers of an event, which are all that stands behind its word but for the word of a sealed handle.
 
-ghost use Rattle.ms_event.specs.Text.{IsId, IsWord};
-ghost use Rattle.ms_event.specs.refinement.Reading.{ReadsFive, ReadsOne, ReadsThree};
+ghost use Rattle.std.specs.Prelude.{◌≡◌, ◌++◌, List, ℕ, Bool};
+ghost use Rattle.std.specs.List.{AllByRecursion};
+ghost use Rattle.ms_event.specs.Text.{IsId, IsWord, ending, numbers};
+ghost use Rattle.ms_event.specs.refinement.Reading.{ReadsEnded, ReadsFive, ReadsOne, ReadsThree};
 
 use crate::number::{id, pair, word};
+use crate::text::SEALED;
 use ms_bytes::Cursor;
 
 /// One identity.
@@ -43,4 +46,24 @@ pub(crate) fn id_and_pairs(bytes: &[u8]) -> Option<(u64, (u32, u32), (u32, u32))
     let first = pair(&mut left)?;
     let second = pair(&mut left)?;
     left.is_empty().then_some((id, first, second))
+}
+
+/// An identity and four numbers, and whether the word of a sealed handle stands behind them.
+pub(crate) fn id_and_pairs_ended(line: &[u8]) -> Option<(u64, (u32, u32), (u32, u32), bool)>
+    ensures { ReadsEnded line.now result }
+{
+    let (numbers, sealed) = ended(line);
+    let (id, first, second) = id_and_pairs(numbers)?;
+    Some((id, first, second, sealed))
+}
+
+/// The line without the word of a sealed handle at its end, and whether the word stood there.
+fn ended(line: &[u8]) -> (&[u8], bool)
+    ensures found { line.now ≡ result.0.now ++ ending result.1 }
+    ensures only { (ns : List ℕ) (sealed : Bool) → AllByRecursion IsId ns → line.now ≡ numbers ns ++ ending sealed → (result.0.now ≡ numbers ns) × (result.1 ≡ sealed) }
+{
+    match line.strip_suffix(SEALED.as_bytes()) {
+        Some(front) => (front, true),
+        None => (line, false),
+    }
 }

@@ -136,6 +136,7 @@ segment_word segment.LoadHandle = codes "handle.load"
 segment_word segment.StoreHandle = codes "handle.store"
 segment_word (segment.Load op) = load_word (codes "segload") op
 segment_word (segment.Store op) = store_word (codes "segstore") op
+segment_word segment.Seal = codes "handle.seal"
 
 -- ---- all of them
 

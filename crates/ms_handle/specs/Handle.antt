@@ -19,7 +19,7 @@ is_near offset = int_le (negsuc 1099511627775) offset && int_le offset farthest
 abbrev pub HasBounds : Handle → Type 0
 HasBounds Null = Unit {0}
 HasBounds Broken = Unit {0}
-HasBounds (Good id base length offset) = (negsuc 1099511627775 ≤ℤ offset) × (offset ≤ℤ farthest) × (base + length < 4294967296)
+HasBounds (Good sealed id base length offset) = (negsuc 1099511627775 ≤ℤ offset) × (offset ≤ℤ farthest) × (base + length < 4294967296)
 
 -- ---- moving
 
@@ -27,7 +27,7 @@ HasBounds (Good id base length offset) = (negsuc 1099511627775 ≤ℤ offset) ×
 abbrev pub moved : Handle → ℤ → Handle
 moved Null distance = Broken
 moved Broken distance = Broken
-moved (Good id base length offset) distance = if is_near (offset +ℤ distance) then Good id base length (offset +ℤ distance) else Broken
+moved (Good sealed id base length offset) distance = if is_near (offset +ℤ distance) then Good sealed id base length (offset +ℤ distance) else Broken
 
 abbrev pub add : Handle → ℤ → ℕ → Handle
 add h delta scale = let distance = delta *ℤ pos scale in if int_eq distance (pos 0) then h else moved h distance
@@ -35,23 +35,31 @@ add h delta scale = let distance = delta *ℤ pos scale in if int_eq distance (p
 -- ---- slicing
 
 -- the part of a bound that has this start, counted from the base, and this length
-abbrev pub part : ℕ → ℕ → ℕ → ℤ → ℕ → Handle
-part id base length (pos start) len = if nat_le (start + len) length then Good id (base + start) len (pos 0) else Broken
-part id base length (negsuc n) len = Broken
+abbrev pub part : Bool → ℕ → ℕ → ℕ → ℤ → ℕ → Handle
+part sealed id base length (pos start) len = if nat_le (start + len) length then Good sealed id (base + start) len (pos 0) else Broken
+part sealed id base length (negsuc n) len = Broken
 
 abbrev pub slice : Handle → ℕ → ℕ → Handle
 slice Null from len = Broken
 slice Broken from len = Broken
-slice (Good id base length offset) from len = part id base length (offset +ℤ pos from) len
+slice (Good sealed id base length offset) from len = part sealed id base length (offset +ℤ pos from) len
+
+-- ---- sealing
+
+-- for reading alone: what is moved or sliced from a sealed handle is sealed
+abbrev pub seal : Handle → Handle
+seal Null = Null
+seal Broken = Broken
+seal (Good sealed id base length offset) = Good true id base length offset
 
 -- ---- comparing
 
--- equal where both are null, or both are good and at one place of one segment
+-- equal where both are null, or both are good and at one place of one segment, sealed or not
 abbrev pub eq : Handle → Handle → Bool
 eq Null Null = true
-eq (Good id base length offset) (Good id' base' length' offset') = (id == id') && int_eq (pos base +ℤ offset) (pos base' +ℤ offset')
+eq (Good sealed id base length offset) (Good sealed' id' base' length' offset') = (id == id') && int_eq (pos base +ℤ offset) (pos base' +ℤ offset')
 eq _ _ = false
 
 abbrev pub difference : Handle → Handle → Result ℤ Apart
-difference (Good id base length offset) (Good id' base' length' offset') = if id == id' then Ok ((pos base +ℤ offset) -ℤ (pos base' +ℤ offset')) else Err (record {})
+difference (Good sealed id base length offset) (Good sealed' id' base' length' offset') = if id == id' then Ok ((pos base +ℤ offset) -ℤ (pos base' +ℤ offset')) else Err (record {})
 difference _ _ = Err (record {})

@@ -1,7 +1,7 @@
-//! Moving, slicing and comparing handles.
+//! Moving, slicing, sealing and comparing handles.
 
 ghost use Rattle.std.specs.Prelude.{◌≡◌, IsTrue, ◌↔◌, pos, negsuc, ◌+ℤ◌, ◌≤ℤ◌};
-ghost use Rattle.ms_handle.specs.Handle.{HasBounds, add, difference, eq, farthest, moved, slice};
+ghost use Rattle.ms_handle.specs.Handle.{HasBounds, add, difference, eq, farthest, moved, seal, slice};
 
 use crate::handle::{Apart, Handle};
 
@@ -21,25 +21,27 @@ pub fn add(h: Handle, delta: i64, scale: u32) -> Handle
     match (h, delta.checked_mul(i64::from(scale))) {
         (
             Handle::Good {
+                sealed,
                 id,
                 base,
                 length,
                 offset,
             },
             Some(distance),
-        ) => moved(id, base, length, offset, distance),
+        ) => moved(sealed, id, base, length, offset, distance),
         _ => Handle::Broken,
     }
 }
 
 /// The handle at `offset + distance`, or broken where that is too far.
-fn moved(id: u64, base: u32, length: u32, offset: i64, distance: i64) -> Handle
-    requires { HasBounds (Handle.Good id base length offset) }
-    ensures moved { result ≡ moved (Handle.Good id base length offset) distance }
+fn moved(sealed: bool, id: u64, base: u32, length: u32, offset: i64, distance: i64) -> Handle
+    requires { HasBounds (Handle.Good sealed id base length offset) }
+    ensures moved { result ≡ moved (Handle.Good sealed id base length offset) distance }
     ensures bounds { HasBounds result }
 {
     match offset.checked_add(distance) {
         Some(offset) if -FARTHEST <= offset && offset <= FARTHEST => Handle::Good {
+            sealed,
             id,
             base,
             length,
@@ -58,6 +60,7 @@ pub fn slice(h: Handle, from: u32, len: u32) -> Handle
 {
     match h {
         Handle::Good {
+            sealed,
             id,
             base,
             length,
@@ -68,6 +71,7 @@ pub fn slice(h: Handle, from: u32, len: u32) -> Handle
                 return Handle::Broken;
             }
             Handle::Good {
+                sealed,
                 id,
                 base: base + start as u32,
                 length: len,
@@ -78,7 +82,32 @@ pub fn slice(h: Handle, from: u32, len: u32) -> Handle
     }
 }
 
-/// Whether both are null, or both are good and at one place of one segment.
+/// The handle sealed: no store and no free goes through it, nor through what is moved or sliced from it. A sealed handle
+/// stays as it is, as do the null and the broken one.
+pub fn seal(h: Handle) -> Handle
+    requires { HasBounds h }
+    ensures sealed { result ≡ seal h }
+    ensures bounds { HasBounds result }
+{
+    match h {
+        Handle::Good {
+            id,
+            base,
+            length,
+            offset,
+            ..
+        } => Handle::Good {
+            sealed: true,
+            id,
+            base,
+            length,
+            offset,
+        },
+        _ => h,
+    }
+}
+
+/// Whether both are null, or both are good and at one place of one segment, sealed or not.
 pub fn eq(a: Handle, b: Handle) -> bool
     requires a { HasBounds a }
     requires b { HasBounds b }

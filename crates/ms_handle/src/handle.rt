@@ -18,6 +18,9 @@ pub enum Handle {
     Broken,
     /// A handle into a segment.
     Good {
+        /// Whether the handle is sealed: no store and no free goes through it, nor through one that is made of it. It
+        /// stands first, beside the tag of one byte, where it takes no room of its own.
+        sealed: bool,
         /// The identity of the segment, counted from 1 and never used again.
         id: u64,
         /// The place in the segment where the handle's bound begins.
@@ -28,6 +31,9 @@ pub enum Handle {
         offset: i64,
     },
 }
+
+// A handle takes 32 bytes, which it does only with the two single bytes, the tag and `sealed`, side by side.
+const _: () = prove!(size_of::<Handle>() == 32);
 
 /// Two handles that aren't into one segment, so that they have no difference.
 #[derive(Clone, Copy, PartialEq, Eq)]

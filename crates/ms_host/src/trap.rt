@@ -34,6 +34,8 @@ pub enum TrapKind {
     Bounds,
     /// An access for a handle at an address that is no multiple of 16.
     Misaligned,
+    /// A store or a free through a sealed handle.
+    Readonly,
     /// A load of a number where a piece of a handle stands.
     Provenance,
     /// A free through a handle that is to a part of a segment, or isn't at its start.
@@ -64,6 +66,7 @@ impl TrapKind {
             TrapKind::Freed => "freed",
             TrapKind::Bounds => "bounds",
             TrapKind::Misaligned => "misaligned",
+            TrapKind::Readonly => "readonly",
             TrapKind::Provenance => "provenance",
             TrapKind::Whole => "whole",
             TrapKind::Kind => "kind",

@@ -16,7 +16,7 @@ pub struct Job {
     pub schedule: Option<Name>,
     /// How many entries are used at most, up to 10^12; with a trace up to 10^6.
     pub budget: u64,
-    /// How many bytes the segment memory has, 16 to 16,777,216.
+    /// How many bytes the segment memory has, 16 to 1,073,741,824.
     pub memory: u32,
     /// The file that the events of the segment memory are written to.
     pub trace: Option<Name>,

@@ -19,6 +19,7 @@ enum Kept {
     Null,
     Broken,
     Good {
+        sealed: bool,
         id: u64,
         base: u32,
         length: u32,
@@ -62,12 +63,14 @@ impl Cell {
             Value::Handle(Handle::Broken) => Kept::Broken,
             Value::Handle(
                 Handle::Good {
+                    sealed,
                     id,
                     base,
                     length,
                     offset,
                 },
             ) => Kept::Good {
+                sealed,
                 id,
                 base,
                 length,
@@ -128,11 +131,13 @@ impl Cell {
             Kept::Null => Value::Handle(Handle::Null),
             Kept::Broken => Value::Handle(Handle::Broken),
             Kept::Good {
+                sealed,
                 id,
                 base,
                 length,
                 offset,
             } => Value::Handle(Handle::Good {
+                sealed,
                 id,
                 base,
                 length,

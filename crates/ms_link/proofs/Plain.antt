@@ -1,5 +1,5 @@
 -- The linked store before anything has run: no global holds a handle into the segment memory, which is empty.
-use Rattle.std.proofs.Common.{◌≡◌, ◌<◌, ℕ, zero, suc, List, [], ◌∷◌, ◌++◌, map, replicate, slice_get, Result, Ok, Err, refl, subst, arith}
+use Rattle.std.proofs.Common.{◌≡◌, ◌<◌, ℕ, zero, suc, false, List, [], ◌∷◌, ◌++◌, map, replicate, slice_get, Result, Ok, Err, refl, subst, arith}
 use Rattle.std.specs.List.{Contains}
 use Rattle.std.proofs.lemmas.List.Elements.{All-contains, All-nil, All-replicate}
 use Rattle.ms_event.specs.Monitor.{nothing_yet, shade_of}
@@ -34,7 +34,7 @@ use Rattle.ms_link.proofs.Stores.{linked_made}
 -- ---- values without a handle into the segment memory
 
 abbrev IsPlain : Value → Type 0
-IsPlain (values.Handle (handles.Good id base size offset)) = ⊥
+IsPlain (values.Handle (handles.Good sealed id base size offset)) = ⊥
 IsPlain v = Unit {0}
 
 some_plain : (vs : List Value) (x : ℕ) → Each IsPlain vs → IsPlain (value_or_zero (slice_get vs x))
@@ -92,7 +92,7 @@ plain_fits m (g ∷ gs) all = (fits g.value all.0, plain_fits m gs all.1) where
   handle_fits : (h : Handle) → IsPlain (values.Handle h) → Fits m (values.Handle h)
   handle_fits handles.Null plain = tt
   handle_fits handles.Broken plain = tt
-  handle_fits (handles.Good id base size offset) plain = absurd plain
+  handle_fits (handles.Good sealed id base size offset) plain = absurd plain
 
   fits : (v : Value) → IsPlain v → Fits m v
   fits (values.I32 n) plain = tt
@@ -105,7 +105,7 @@ plain_known (g ∷ gs) all = (known g.value all.0, plain_known gs all.1) where
   handle_known : (h : Handle) → IsPlain (values.Handle h) → Knows nothing_yet (values.Handle h)
   handle_known handles.Null plain = tt
   handle_known handles.Broken plain = tt
-  handle_known (handles.Good id base size offset) plain = absurd plain
+  handle_known (handles.Good sealed id base size offset) plain = absurd plain
 
   known : (v : Value) → IsPlain v → Knows nothing_yet v
   known (values.I32 n) plain = tt
@@ -116,7 +116,7 @@ new_monitored : (capacity : ℕ) → IsMonitored nothing_yet (record { bytes = r
 new_monitored capacity = record {
   live = refl;
   painted = λ p. (λ has. absurd (Contains-none p has), λ is. absurd (Contains-none is.0 is.1));
-  roots = All-nil (λ (s : Live). Contains [] (shade_of s.id 0 s.size));
+  roots = All-nil (λ (s : Live). Contains [] (shade_of false s.id 0 s.size));
   used = λ colour. (λ has. absurd (Contains-none colour has), λ between. let from = between.0 in let to = between.1 in absurd (omega arith));
   pieces = λ h i has. absurd (All-contains IsData (replicate capacity (Data 0)) (Piece h i) (All-replicate IsData capacity (Data 0) tt) has);
 }

@@ -1,6 +1,6 @@
 -- What the search for a place rests on: which places a live segment takes.
-use Rattle.std.proofs.Common.{◌≡◌, ℕ, ◌+◌, ◌-◌, ◌<◌, ◌≤◌, true, false, List, Some, None, inl, inr, arith}
-use Rattle.std.specs.List.{find}
+use Rattle.std.proofs.Common.{◌≡◌, ℕ, ◌+◌, ◌-◌, ◌<◌, ◌≤◌, ◌⊎◌, true, false, List, Some, None, inl, inr, arith}
+use Rattle.std.specs.List.{Contains, find}
 use Rattle.std.proofs.lemmas.List.Elements.{All-contains, All-weaker}
 use Rattle.std.proofs.lemmas.Bool.Decides.{nat_tests}
 use Rattle.std.proofs.lemmas.Bool.{cases_lt}
@@ -60,4 +60,25 @@ none_at_all live capacity n place some past none_below at aligned free =
     elim (cases_lt at place) [
       | inl less ↦ none_below at less aligned free
       | inr from ↦ let last : at + (n - 1) < capacity = (free (n - 1) (omega arith)).0 in omega arith
+    ]
+
+-- some bytes of a live segment are apart from a free place
+pub free_apart : (live : List Live) (capacity n base : ℕ) (s : Live) (at width : ℕ) → IsFree live capacity n base → Contains live s → s.base ≤ at → at + width ≤ s.base + s.size → 0 < width → 0 < n → (at + width ≤ base) ⊎ (base + n ≤ at)
+free_apart live capacity n base s at width free has low high some some' =
+    elim (cases_lt base (at + width)) [
+      | inr behind ↦ inl behind
+      | inl before ↦ elim (cases_lt at (base + n)) [
+        | inr behind ↦ inr behind
+        | inl meets ↦ absurd (elim (cases_lt at base) [
+          | inl less ↦
+              let out = All-contains (IsOutside (base + 0)) live s (free 0 (omega arith)).1 has in
+              let past : s.base + s.size ≤ base + 0 = out (omega arith) in
+              omega (arith, past)
+          | inr more ↦
+              let place : base + (at - base) ≡ at = omega arith in
+              let out = All-contains (IsOutside (base + (at - base))) live s (free (at - base) (omega arith)).1 has in
+              let past : s.base + s.size ≤ base + (at - base) = out (omega arith) in
+              omega (arith, past, place)
+        ])
+      ]
     ]

@@ -1,7 +1,7 @@
 -- A step counts an access exactly where it tells a read or a write.
-use Rattle.std.proofs.Common.{◌≡◌, ℕ, ℤ, Bool, List, [], ◌∷◌, Option, Some, None, Result, Ok, Err, refl, sym, ap, subst}
+use Rattle.std.proofs.Common.{◌≡◌, ℕ, ℤ, Bool, true, false, List, [], ◌∷◌, Option, Some, None, Result, Ok, Err, refl, sym, ap, subst}
 use Rattle.ms_event.specs.declared.event.Event.{Event}
-use Rattle.ms_handle.specs.Handle.{difference, slice}
+use Rattle.ms_handle.specs.Handle.{difference, seal, slice}
 use Rattle.ms_handle.specs.declared.handle.Apart.{Apart}
 use Rattle.ms_handle.specs.declared.handle.Handle.{Handle as H}
 use Rattle.ms_handle.specs.declared.handle.Handle.TheVariants as handles
@@ -11,10 +11,10 @@ use Rattle.ms_linear.specs.declared.value.Value.TheVariants.{I32, I64, Handle}
 use Rattle.ms_module.specs.Accesses.{load_bytes, store_bytes}
 use Rattle.ms_module.specs.declared.access.LoadOp.{LoadOp}
 use Rattle.ms_module.specs.declared.access.Segment.{Segment}
-use Rattle.ms_module.specs.declared.access.Segment.TheVariants.{Null, New, Free, Add, Slice, Eq, IsNull, Diff, LoadHandle, StoreHandle, Load, Store}
+use Rattle.ms_module.specs.declared.access.Segment.TheVariants.{Null, New, Free, Add, Slice, Eq, IsNull, Diff, LoadHandle, StoreHandle, Load, Store, Seal}
 use Rattle.ms_operate.specs.Accesses.{number_of, width_of}
 use Rattle.ms_segment.specs.Calls.{ended_at, handle_loaded_at, made_at, stored_at}
-use Rattle.ms_segment.specs.Memory.{Access, Memory, access, as_number, freed, handle_access, loaded_at, read_event}
+use Rattle.ms_segment.specs.Memory.{Access, Memory, access, as_number, freed, handle_access, loaded_at, read_event, writable}
 use Rattle.ms_segment.specs.declared.trap.SegTrap.{SegTrap}
 use Rattle.ms_tagged.specs.Bytes.{Byte, data_of, number_at, pieces, range}
 use Rattle.ms_task.specs.Thread.{Thread}
@@ -23,7 +23,7 @@ use Rattle.ms_machine.specs.Hosting as hosting
 use Rattle.ms_machine.specs.Hosting.{host_on, takes}
 use Rattle.ms_machine.specs.Moves.{Goes, hosted, move_for, move_on}
 use Rattle.ms_machine.specs.Running.{with_event}
-use Rattle.ms_machine.specs.Segments.{changed, handle_read, made, measured, number_read, number_stored, segment_on, sliced}
+use Rattle.ms_machine.specs.Segments.{Gives, changed, handle_read, made, measured, number_read, number_stored, seal_event, segment_on, sliced}
 use Rattle.ms_machine.specs.Step.{Calls, Next, Outcome, Stuck, Trap, step_of}
 use Rattle.ms_machine.specs.refinement.Stepped.{DoesStep, IsWell, event_of}
 use Rattle.ms_machine.specs.Store as stores
@@ -53,9 +53,15 @@ module _ (m : Memory) (rest : List Value) where
   sliced_counts : (h g : H) → EventIn (Counts m) (sliced m rest h g)
   sliced_counts handles.Null g = refl
   sliced_counts handles.Broken g = refl
-  sliced_counts (handles.Good id base size offset) handles.Null = refl
-  sliced_counts (handles.Good id base size offset) handles.Broken = refl
-  sliced_counts (handles.Good id base size offset) (handles.Good id' base' size' offset') = refl
+  sliced_counts (handles.Good sealed id base size offset) handles.Null = refl
+  sliced_counts (handles.Good sealed id base size offset) handles.Broken = refl
+  sliced_counts (handles.Good sealed id base size offset) (handles.Good sealed' id' base' size' offset') = refl
+
+  sealed_counts : (h : H) → EventIn (Counts m) (Gives (Handle (seal h) ∷ rest) m (seal_event h))
+  sealed_counts handles.Null = refl
+  sealed_counts handles.Broken = refl
+  sealed_counts (handles.Good true id base size offset) = refl
+  sealed_counts (handles.Good false id base size offset) = refl
 
   measured_counts : (r : Result ℤ Apart) → EventIn (Counts m) (measured m rest r)
   measured_counts (Ok n) = refl
@@ -75,7 +81,7 @@ module _ (m : Memory) (rest : List Value) where
 
   number_stored_counts : (h : H) (width : ℕ) (o : Option ℕ) → EventIn (Counts m) (number_stored m rest h width o)
   number_stored_counts h width None = tt
-  number_stored_counts h width (Some n) = stored_counts (data_of width n) width (access m h width)
+  number_stored_counts h width (Some n) = stored_counts (data_of width n) width (writable (access m h width))
 
 segment_counts : (i : Segment) (m : Memory) (vs : List Value) → EventIn (Counts m) (segment_on i m vs)
 segment_counts Null m vs = refl
@@ -87,9 +93,10 @@ segment_counts Eq m (Handle y ∷ Handle x ∷ rest) = refl
 segment_counts IsNull m (Handle h ∷ rest) = refl
 segment_counts Diff m (Handle y ∷ Handle x ∷ rest) = measured_counts m rest (difference x y)
 segment_counts LoadHandle m (Handle h ∷ rest) = handle_read_counts m rest (handle_access m h)
-segment_counts StoreHandle m (Handle v ∷ Handle h ∷ rest) = stored_counts m rest (pieces v) 16 (handle_access m h)
+segment_counts StoreHandle m (Handle v ∷ Handle h ∷ rest) = stored_counts m rest (pieces v) 16 (writable (handle_access m h))
 segment_counts (Load op) m (Handle h ∷ rest) = number_read_counts m rest op (load_bytes op) (access m h (load_bytes op))
 segment_counts (Store op) m (v ∷ Handle h ∷ rest) = number_stored_counts m rest h (store_bytes op) (number_of (width_of op) v)
+segment_counts Seal m (Handle h ∷ rest) = sealed_counts m rest h
 segment_counts i m vs = tt
 
 -- ---- steps

@@ -3,7 +3,7 @@
 use Rattle.std.proofs.Common.{◌≡◌, ℕ, ◌+◌, ◌≤◌, ℤ, List, [], ◌∷◌, Option, Some, None, Result, Ok, Err, refl, subst, arith}
 use Rattle.ms_num.specs.Integers.{signed}
 use Rattle.ms_event.specs.declared.event.Event.{Event}
-use Rattle.ms_handle.specs.Handle.{add, difference, slice}
+use Rattle.ms_handle.specs.Handle.{add, difference, seal, slice}
 use Rattle.ms_handle.specs.declared.handle.Apart.{Apart}
 use Rattle.ms_handle.specs.declared.handle.Handle.{Handle as H}
 use Rattle.ms_handle.specs.declared.handle.Kind.{Kind}
@@ -12,9 +12,9 @@ use Rattle.ms_linear.specs.declared.value.Value.TheVariants.{I32, I64, Handle}
 use Rattle.ms_module.specs.Accesses.{load_bytes, store_bytes}
 use Rattle.ms_module.specs.declared.access.LoadOp.{LoadOp}
 use Rattle.ms_module.specs.declared.access.Segment.{Segment}
-use Rattle.ms_module.specs.declared.access.Segment.TheVariants.{Null, New, Free, Add, Slice, Eq, IsNull, Diff, LoadHandle, StoreHandle, Load, Store}
+use Rattle.ms_module.specs.declared.access.Segment.TheVariants.{Null, New, Free, Add, Slice, Eq, IsNull, Diff, LoadHandle, StoreHandle, Load, Store, Seal}
 use Rattle.ms_operate.specs.Accesses.{number_of, width_of}
-use Rattle.ms_segment.proofs.Effects.{add_fits, free_keeps, free_made, free_sound, load_handle_fits, make_fits, make_keeps, make_made, make_sound, slice_fits, store_handle_keeps, store_handle_made, store_handle_sound, store_keeps, store_made, store_sound}
+use Rattle.ms_segment.proofs.Effects.{add_fits, free_keeps, free_made, free_sound, load_handle_fits, make_fits, make_keeps, make_made, make_sound, seal_fits, slice_fits, store_handle_keeps, store_handle_made, store_handle_sound, store_keeps, store_made, store_sound}
 use Rattle.ms_segment.proofs.Fits.{IsFit-once_more}
 use Rattle.ms_segment.proofs.Sound.{IsSound-once_more}
 use Rattle.ms_segment.specs.Calls as call
@@ -65,6 +65,7 @@ module _ (R : Memory → Type 0) (m : Memory) (same : R m) (reads : R (once_more
   segment_left P makes frees stores puts (Load op) (Handle h ∷ rest) a = number_read_left op rest (loaded m h (load_bytes op))
   segment_left P makes frees stores puts (Store op) (v ∷ Handle h ∷ rest) a =
       number_stored_left rest h (store_bytes op) (number_of (width_of op) v) (λ value c is. stores h (store_bytes op) value c a.1.0 is)
+  segment_left P makes frees stores puts Seal (Handle h ∷ rest) a = same
   segment_left P makes frees stores puts i vs a = tt
 
 -- ---- what the memory keeps
@@ -113,5 +114,6 @@ pub segment_fresh : (i : Segment) (m m' : Memory) (vs us : List Value) (event : 
 segment_fresh (New kind) m m' (I32 n ∷ rest) us event sound a keeps is = made_fits m m' n kind rest us event sound is
 segment_fresh (Add scale) m m' (I64 delta ∷ Handle h ∷ rest) us event sound a keeps is = keeps (add h (signed 64 delta) scale) (add_fits m h (signed 64 delta) scale a.1.0)
 segment_fresh Slice m m' (I32 len ∷ I32 from ∷ Handle h ∷ rest) us event sound a keeps is = keeps (slice h from len) (slice_fits m h from len a.1.1.0)
+segment_fresh Seal m m' (Handle h ∷ rest) us event sound a keeps is = keeps (seal h) (seal_fits m h a.0)
 segment_fresh LoadHandle m m' (Handle h ∷ rest) us event sound a keeps is = read_fits m m' h (call.load_handle m h) sound a.0 keeps refl
 segment_fresh i m m' vs us event sound a keeps is = tt

@@ -2,7 +2,7 @@
 use Rattle.std.proofs.Common.{ℕ, List, ◌∷◌, Option, Some, None, Result, Ok, Err, ℤ}
 use Rattle.ms_num.specs.Integers.{signed}
 use Rattle.ms_event.specs.declared.event.Event.{Event}
-use Rattle.ms_handle.specs.Handle.{add, difference, slice}
+use Rattle.ms_handle.specs.Handle.{add, difference, seal, slice}
 use Rattle.ms_handle.specs.declared.handle.Apart.{Apart}
 use Rattle.ms_handle.specs.declared.handle.Handle.{Handle as H}
 use Rattle.ms_handle.specs.declared.handle.Handle.TheVariants as handles
@@ -11,7 +11,7 @@ use Rattle.ms_linear.specs.declared.value.Value.TheVariants.{I32, I64, Handle}
 use Rattle.ms_module.specs.Accesses.{load_bytes, store_bytes}
 use Rattle.ms_module.specs.declared.access.LoadOp.{LoadOp}
 use Rattle.ms_module.specs.declared.access.Segment.{Segment}
-use Rattle.ms_module.specs.declared.access.Segment.TheVariants.{Null, New, Free, Add, Slice, Eq, IsNull, Diff, LoadHandle, StoreHandle, Load, Store}
+use Rattle.ms_module.specs.declared.access.Segment.TheVariants.{Null, New, Free, Add, Slice, Eq, IsNull, Diff, LoadHandle, StoreHandle, Load, Store, Seal}
 use Rattle.ms_module.specs.declared.instr.Instr.{Instr}
 use Rattle.ms_module.specs.declared.instr.Instr.TheVariants as instrs
 use Rattle.ms_operate.specs.Accesses.{number_of, width_of}
@@ -35,11 +35,12 @@ module _ (P : Value → Type 0) where
   FreshRead (Ok x) = P (Handle x.0)
   FreshRead (Err e) = Unit {0}
 
-  -- the fact holds of the handle that is made, added to, cut out or read
+  -- the fact holds of the handle that is made, added to, cut out, sealed or read
   abbrev pub FreshIn : Segment → Memory → List Value → Type 0
   FreshIn (New kind) m (I32 n ∷ rest) = P (Handle (call.make m n kind).handle)
   FreshIn (Add scale) m (I64 delta ∷ Handle h ∷ rest) = P (Handle (add h (signed 64 delta) scale))
   FreshIn Slice m (I32 len ∷ I32 from ∷ Handle h ∷ rest) = P (Handle (slice h from len))
+  FreshIn Seal m (Handle h ∷ rest) = P (Handle (seal h))
   FreshIn LoadHandle m (Handle h ∷ rest) = FreshRead (call.load_handle m h)
   FreshIn i m vs = Unit {0}
 
@@ -98,4 +99,5 @@ module _ (P : Value → Type 0) (int32 : (n : ℕ) → P (I32 n)) (int64 : (n : 
   segment_holds StoreHandle m (Handle v ∷ Handle h ∷ rest) a fresh = changed_holds P rest (call.store_handle m h v) a.1.1
   segment_holds (Load op) m (Handle h ∷ rest) a fresh = number_read_holds op m rest (loaded m h (load_bytes op)) a.1
   segment_holds (Store op) m (v ∷ Handle h ∷ rest) a fresh = stored_holds P m rest h (store_bytes op) (number_of (width_of op) v) a.1.1
+  segment_holds Seal m (Handle h ∷ rest) a fresh = (fresh, a.1)
   segment_holds i m vs a fresh = tt

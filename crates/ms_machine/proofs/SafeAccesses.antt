@@ -13,10 +13,10 @@ use Rattle.ms_live.proofs.Found.{find-Some}
 use Rattle.ms_segment.specs.Calls.{Change, handle_at, handle_loaded_at, load_handle, store, store_handle, stored_at}
 use Rattle.ms_segment.specs.declared.trap.SegTrap.{SegTrap}
 use Rattle.ms_segment.specs.declared.trap.SegTrap.TheVariants as traps
-use Rattle.ms_segment.specs.Memory.{Access, IsFit, IsSound, Memory, access, accessed, accessed_if, aligned, as_number, handle_access, live_of, loaded, loaded_at, once_more, read_event, with_bytes, write_event}
+use Rattle.ms_segment.specs.Memory.{Access, IsFit, IsSound, Memory, access, accessed, accessed_if, aligned, as_number, handle_access, live_of, loaded, loaded_at, once_more, read_event, with_bytes, writable, write_event}
 use Rattle.ms_segment.proofs.Finds.{Contains-drop, Contains-overwritten, Contains-take}
 use Rattle.ms_segment.proofs.Functions.{IsHandleAt-handle_at}
-use Rattle.ms_segment.proofs.Reach.{access-within, handle_access-within}
+use Rattle.ms_segment.proofs.Reach.{handle_access-within, handle_write-within, writable-Ok, write-within}
 use Rattle.ms_segment.proofs.Sound.{IsData, All-data_of, piece_of}
 use Rattle.ms_tagged.specs.Bytes.{Byte, IsHandleAt, Piece, cleared, data_of, number_at, pieces, range, torn, whole}
 use Rattle.ms_tagged.proofs.Numbers.{length-data_of}
@@ -28,21 +28,21 @@ use Rattle.ms_machine.proofs.SafeStates.{Follows, grows-refl}
 -- ---- where an access goes
 
 -- the offset, counted from the bound's base, and the addresses from there on lie in the bound
-abbrev IsSpot : Live → (base size : ℕ) → ℤ → (width : ℕ) → Access → Type 0
-IsSpot s base size offset width a =
-    (n : ℕ) × (offset ≡ pos n) × (n + width ≤ size) × (record { address = s.base + base + n; id = s.id; lo = base; hi = base + size } ≡ a)
+abbrev IsSpot : Live → (sealed : Bool) (base size : ℕ) → ℤ → (width : ℕ) → Access → Type 0
+IsSpot s sealed base size offset width a =
+    (n : ℕ) × (offset ≡ pos n) × (n + width ≤ size) × (record { address = s.base + base + n; id = s.id; lo = base; hi = base + size; sealed = sealed } ≡ a)
 
-tested_spot : (s : Live) (base size n width : ℕ) (a : Access) (b : Bool) → nat_le (n + width) size ≡ b → cond b (Ok (record { address = s.base + base + n; id = s.id; lo = base; hi = base + size })) (Err traps.Bounds) ≡ Ok a → IsSpot s base size (pos n) width a
-tested_spot s base size n width a true near is = (n, refl, leb-true (n + width) size near, cc)
-tested_spot s base size n width a false near is = absurd (cc)
+tested_spot : (s : Live) (sealed : Bool) (base size n width : ℕ) (a : Access) (b : Bool) → nat_le (n + width) size ≡ b → cond b (Ok (record { address = s.base + base + n; id = s.id; lo = base; hi = base + size; sealed = sealed })) (Err traps.Bounds) ≡ Ok a → IsSpot s sealed base size (pos n) width a
+tested_spot s sealed base size n width a true near is = (n, refl, leb-true (n + width) size near, cc)
+tested_spot s sealed base size n width a false near is = absurd (cc)
 
-accessed_spot : (s : Live) (base size : ℕ) (offset : ℤ) (width : ℕ) (a : Access) → accessed s base size offset width ≡ Ok a → IsSpot s base size offset width a
-accessed_spot s base size (pos n) width a is = tested_spot s base size n width a (nat_le (n + width) size) refl is
-accessed_spot s base size (negsuc n) width a is = absurd (cc)
+accessed_spot : (s : Live) (sealed : Bool) (base size : ℕ) (offset : ℤ) (width : ℕ) (a : Access) → accessed s sealed base size offset width ≡ Ok a → IsSpot s sealed base size offset width a
+accessed_spot s sealed base size (pos n) width a is = tested_spot s sealed base size n width a (nat_le (n + width) size) refl is
+accessed_spot s sealed base size (negsuc n) width a is = absurd (cc)
 
-live_spot : (o : Option Live) (base size : ℕ) (offset : ℤ) (width : ℕ) (a : Access) → accessed_if o base size offset width ≡ Ok a → (s : Live) × (o ≡ Some s) × IsSpot s base size offset width a
-live_spot None base size offset width a is = absurd (cc)
-live_spot (Some s) base size offset width a is = (s, refl, accessed_spot s base size offset width a is)
+live_spot : (o : Option Live) (sealed : Bool) (base size : ℕ) (offset : ℤ) (width : ℕ) (a : Access) → accessed_if o sealed base size offset width ≡ Ok a → (s : Live) × (o ≡ Some s) × IsSpot s sealed base size offset width a
+live_spot None sealed base size offset width a is = absurd (cc)
+live_spot (Some s) sealed base size offset width a is = (s, refl, accessed_spot s sealed base size offset width a is)
 
 aligned_is : (b : Bool) (a c : Access) → cond b (Ok a) (Err traps.Misaligned) ≡ Ok c → a ≡ c
 aligned_is true a c is = cc
@@ -57,28 +57,28 @@ aligned_access (Err e) a is = absurd (cc)
 module _ (state : State) (m : Memory) (monitored : IsMonitored state m) where
   -- ---- what the monitor says of it
 
-  spot_may : (s : Live) (id base size width n : ℕ) → Contains m.live s → s.id ≡ id → base + size ≤ s.size → n + width ≤ size → Contains state.shades (shade_of id base (base + size)) → MayAccess state (shade_of s.id base (base + size)) (s.base + base + n) width
-  spot_may s id base size width n has is part near shade = (
-    subst (λ c. Contains state.shades (shade_of c base (base + size))) (sym is) shade,
+  spot_may : (s : Live) (sealed : Bool) (id base size width n : ℕ) → Contains m.live s → s.id ≡ id → base + size ≤ s.size → n + width ≤ size → Contains state.shades (shade_of sealed id base (base + size)) → MayAccess state (shade_of sealed s.id base (base + size)) (s.base + base + n) width
+  spot_may s sealed id base size width n has is part near shade = (
+    subst (λ c. Contains state.shades (shade_of sealed c base (base + size))) (sym is) shade,
     λ k below.
         (base + n + k, omega arith, omega arith, (monitored.painted (paint (s.base + base + n + k) s.id (base + n + k))).1 (s, has, refl, omega arith, omega arith)),
   )
 
-  access_may : (h : Handle) (width : ℕ) (a : Access) → IsFit m h → KnowsHandle state h → access m h width ≡ Ok a → MayAccess state (shade_of a.id a.lo a.hi) a.address width
+  access_may : (h : Handle) (width : ℕ) (a : Access) → IsFit m h → KnowsHandle state h → access m h width ≡ Ok a → MayAccess state (shade_of a.sealed a.id a.lo a.hi) a.address width
   access_may handles.Null width a fit known is = absurd (cc)
   access_may handles.Broken width a fit known is = absurd (cc)
-  access_may (handles.Good id base size offset) width a fit known is =
-      let spot = live_spot (live_of m id) base size offset width a is in
+  access_may (handles.Good sealed id base size offset) width a fit known is =
+      let spot = live_spot (live_of m id) sealed base size offset width a is in
       let s : Live = spot.0 in
       let there = find-Some (λ (t : Live). t.id == id) m.live s spot.1 in
-      subst (λ (x : Access). MayAccess state (shade_of x.id x.lo x.hi) x.address width) spot.2.3 (spot_may s id base size width spot.2.0 there.0 (eqb-true s.id id there.1) (fit.3 s spot.1) spot.2.2 known.1)
+      subst (λ (x : Access). MayAccess state (shade_of x.sealed x.id x.lo x.hi) x.address width) spot.2.3 (spot_may s sealed id base size width spot.2.0 there.0 (eqb-true s.id id there.1) (fit.3 s spot.1) spot.2.2 known.1)
 
-  handle_access_may : (h : Handle) (a : Access) → IsFit m h → KnowsHandle state h → handle_access m h ≡ Ok a → MayAccess state (shade_of a.id a.lo a.hi) a.address 16
+  handle_access_may : (h : Handle) (a : Access) → IsFit m h → KnowsHandle state h → handle_access m h ≡ Ok a → MayAccess state (shade_of a.sealed a.id a.lo a.hi) a.address 16
   handle_access_may h a fit known is = access_may h 16 a fit known (aligned_access (access m h 16) a is)
 
   -- ---- reads
 
-  read_follows : (a : Access) (width : ℕ) → MayAccess state (shade_of a.id a.lo a.hi) a.address width → Follows state m (Some (read_event a width)) (once_more m)
+  read_follows : (a : Access) (width : ℕ) → MayAccess state (shade_of a.sealed a.id a.lo a.hi) a.address width → Follows state m (Some (read_event a width)) (once_more m)
   read_follows a width may = record {
     may = (may, tt);
     monitored = record { live = monitored.live; painted = monitored.painted; roots = monitored.roots; used = monitored.used; pieces = monitored.pieces };
@@ -86,13 +86,13 @@ module _ (state : State) (m : Memory) (monitored : IsMonitored state m) where
     capacity = refl;
   }
 
-  number_follows : (o : Option ℕ) (a : Access) (width : ℕ) (x : ℕ × Event) → MayAccess state (shade_of a.id a.lo a.hi) a.address width → as_number o (read_event a width) ≡ Ok x → Follows state m (Some x.1) (once_more m)
+  number_follows : (o : Option ℕ) (a : Access) (width : ℕ) (x : ℕ × Event) → MayAccess state (shade_of a.sealed a.id a.lo a.hi) a.address width → as_number o (read_event a width) ≡ Ok x → Follows state m (Some x.1) (once_more m)
   number_follows (Some n) a width x may is =
       let same : (n, read_event a width) ≡ x = cc in
       subst (λ (y : ℕ × Event). Follows state m (Some y.1) (once_more m)) same (read_follows a width may)
   number_follows None a width x may is = absurd (cc)
 
-  loaded_at_follows : (r : Result Access SegTrap) (width : ℕ) (x : ℕ × Event) → ((a : Access) → r ≡ Ok a → MayAccess state (shade_of a.id a.lo a.hi) a.address width) → loaded_at m width r ≡ Ok x → Follows state m (Some x.1) (once_more m)
+  loaded_at_follows : (r : Result Access SegTrap) (width : ℕ) (x : ℕ × Event) → ((a : Access) → r ≡ Ok a → MayAccess state (shade_of a.sealed a.id a.lo a.hi) a.address width) → loaded_at m width r ≡ Ok x → Follows state m (Some x.1) (once_more m)
   loaded_at_follows (Ok a) width x may is = number_follows (number_at (range a.address width m.bytes)) a width x (may a refl) is
   loaded_at_follows (Err e) width x may is = absurd (cc)
 
@@ -111,7 +111,7 @@ module _ (state : State) (m : Memory) (monitored : IsMonitored state m) where
   range_known address within =
       handle_known (range address 16 m.bytes) (handle_at (range address 16 m.bytes)) (λ b has. Contains-drop address m.bytes b (Contains-take 16 _ b has)) (IsHandleAt-handle_at (range address 16 m.bytes) (length-range address 16 m.bytes within))
 
-  handle_loaded_at_follows : (r : Result Access SegTrap) (x : Handle × Event) → ((a : Access) → r ≡ Ok a → MayAccess state (shade_of a.id a.lo a.hi) a.address 16 × (a.address + 16 ≤ length m.bytes)) → handle_loaded_at m r ≡ Ok x → Follows state m (Some x.1) (once_more m) × KnowsHandle state x.0
+  handle_loaded_at_follows : (r : Result Access SegTrap) (x : Handle × Event) → ((a : Access) → r ≡ Ok a → MayAccess state (shade_of a.sealed a.id a.lo a.hi) a.address 16 × (a.address + 16 ≤ length m.bytes)) → handle_loaded_at m r ≡ Ok x → Follows state m (Some x.1) (once_more m) × KnowsHandle state x.0
   handle_loaded_at_follows (Ok a) x goes is =
       let same : (handle_at (range a.address 16 m.bytes), read_event a 16) ≡ x = cc in
       subst (λ (y : Handle × Event). Follows state m (Some y.1) (once_more m) × KnowsHandle state y.0) same (read_follows a 16 (goes a refl).0, range_known a.address (goes a refl).1)
@@ -124,7 +124,7 @@ module _ (state : State) (m : Memory) (monitored : IsMonitored state m) where
 
   -- ---- writes
 
-  written_follows : (a : Access) (new : List Byte) (width : ℕ) → MayAccess state (shade_of a.id a.lo a.hi) a.address width → a.address + length new ≤ length m.bytes → ((h : Handle) (i : ℕ) → Contains new (Piece h i) → KnowsHandle state h) → Follows state m (Some (write_event a width)) (with_bytes m a.address new)
+  written_follows : (a : Access) (new : List Byte) (width : ℕ) → MayAccess state (shade_of false a.id a.lo a.hi) a.address width → a.address + length new ≤ length m.bytes → ((h : Handle) (i : ℕ) → Contains new (Piece h i) → KnowsHandle state h) → Follows state m (Some (write_event a width)) (with_bytes m a.address new)
   written_follows a new width may within known = record {
     may = (may, tt);
     monitored = record {
@@ -139,7 +139,13 @@ module _ (state : State) (m : Memory) (monitored : IsMonitored state m) where
     capacity = length-overwritten a.address new m.bytes within;
   }
 
-  stored_at_follows : (r : Result Access SegTrap) (new : List Byte) (width : ℕ) (c : Change) → ((a : Access) → r ≡ Ok a → MayAccess state (shade_of a.id a.lo a.hi) a.address width × (a.address + length new ≤ length m.bytes)) → ((h : Handle) (i : ℕ) → Contains new (Piece h i) → KnowsHandle state h) → stored_at m new width r ≡ Ok c → Follows state m (Some c.event) c.memory
+  -- a write goes through no sealed handle, so that its shade is writable
+  write_may : (r : Result Access SegTrap) (a : Access) (width : ℕ) → writable r ≡ Ok a → (r ≡ Ok a → MayAccess state (shade_of a.sealed a.id a.lo a.hi) a.address width) → MayAccess state (shade_of false a.id a.lo a.hi) a.address width
+  write_may r a width is may =
+      let through = writable-Ok r a is in
+      subst (λ b. MayAccess state (shade_of b a.id a.lo a.hi) a.address width) through.1 (may through.0)
+
+  stored_at_follows : (r : Result Access SegTrap) (new : List Byte) (width : ℕ) (c : Change) → ((a : Access) → r ≡ Ok a → MayAccess state (shade_of false a.id a.lo a.hi) a.address width × (a.address + length new ≤ length m.bytes)) → ((h : Handle) (i : ℕ) → Contains new (Piece h i) → KnowsHandle state h) → stored_at m new width r ≡ Ok c → Follows state m (Some c.event) c.memory
   stored_at_follows (Ok a) new width c goes known is =
       let same : record { event = write_event a width; memory = with_bytes m a.address new } ≡ c = cc in
       subst (λ (x : Change). Follows state m (Some x.event) x.memory) same (written_follows a new width (goes a refl).0 (goes a refl).1 known)
@@ -148,9 +154,9 @@ module _ (state : State) (m : Memory) (monitored : IsMonitored state m) where
   -- of a number
   pub store_follows : (h : Handle) (width value : ℕ) (c : Change) → IsSound m → IsFit m h → KnowsHandle state h → store m h width value ≡ Ok c → Follows state m (Some c.event) c.memory
   store_follows h width value c sound fit known is =
-      stored_at_follows (access m h width) (data_of width value) width c (λ a goes. (access_may h width a fit known goes, omega (arith, length-data_of width value, access-within m h width a sound fit goes))) (λ g i has. absurd (All-contains IsData (data_of width value) (Piece g i) (All-data_of width value) has)) is
+      stored_at_follows (writable (access m h width)) (data_of width value) width c (λ a goes. (write_may (access m h width) a width goes (access_may h width a fit known), omega (arith, length-data_of width value, write-within m h width a sound fit goes))) (λ g i has. absurd (All-contains IsData (data_of width value) (Piece g i) (All-data_of width value) has)) is
 
   -- of a handle that is known
   pub store_handle_follows : (h v : Handle) (c : Change) → IsSound m → IsFit m h → KnowsHandle state h → KnowsHandle state v → store_handle m h v ≡ Ok c → Follows state m (Some c.event) c.memory
   store_handle_follows h v c sound fit known value is =
-      stored_at_follows (handle_access m h) (pieces v) 16 c (λ a goes. (handle_access_may h a fit known goes, (handle_access-within m h a sound fit goes).0)) (λ g i has. subst (KnowsHandle state) (sym (piece_of v g i has)) value) is
+      stored_at_follows (writable (handle_access m h)) (pieces v) 16 c (λ a goes. (write_may (handle_access m h) a 16 goes (handle_access_may h a fit known), (handle_write-within m h a sound fit goes).0)) (λ g i has. subst (KnowsHandle state) (sym (piece_of v g i has)) value) is

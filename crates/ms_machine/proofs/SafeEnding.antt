@@ -1,5 +1,5 @@
 -- The end of a segment is a free that the monitor accepts.
-use Rattle.std.proofs.Common.{◌≡◌, ◌==◌, ℕ, true, not, List, Option, Some, None, Result, Ok, Err, is_some, refl, sym, ap, subst, ◌∙◌}
+use Rattle.std.proofs.Common.{◌≡◌, ◌==◌, ℕ, true, false, not, List, Option, Some, None, Result, Ok, Err, is_some, refl, sym, ap, subst, ◌∙◌}
 use Rattle.std.specs.List.{Contains, filter, find}
 use Rattle.std.proofs.lemmas.Bool.{eqb-true}
 use Rattle.std.proofs.lemmas.List.Elements.{All-filter}
@@ -44,7 +44,7 @@ module _ (state : State) (m : Memory) (monitored : IsMonitored state m) where
   ended_monitored id = record {
     live = ap (filter (λ colour. not (colour == id))) monitored.live ∙ filter-map (λ (s : Live). s.id) (λ colour. not (colour == id)) m.live;
     painted = λ p. (ended_paints id p, ended_painted id p);
-    roots = All-filter (λ (s : Live). not (s.id == id)) (λ (s : Live). Contains state.shades (shade_of s.id 0 s.size)) m.live monitored.roots;
+    roots = All-filter (λ (s : Live). not (s.id == id)) (λ (s : Live). Contains state.shades (shade_of false s.id 0 s.size)) m.live monitored.roots;
     used = monitored.used;
     pieces = monitored.pieces;
   }

@@ -1,5 +1,5 @@
 -- A new segment is an allocation that the monitor accepts, and where none is made there is no room for it.
-use Rattle.std.proofs.Common.{◌≡◌, ℕ, ◌+◌, ◌-◌, ◌<◌, ◌≤◌, ◌⊎◌, inl, inr, [], ◌∷◌, ◌++◌, Some, None, length, replicate, pos, refl, sym, ap, subst, ◌∙◌, zero-add, arith}
+use Rattle.std.proofs.Common.{◌≡◌, ℕ, ◌+◌, ◌-◌, ◌<◌, ◌≤◌, ◌⊎◌, inl, inr, false, [], ◌∷◌, ◌++◌, Some, None, length, replicate, pos, refl, sym, ap, subst, ◌∙◌, zero-add, arith}
 use Rattle.std.specs.List.{Contains}
 use Rattle.std.proofs.lemmas.Bool.{cases_lt}
 use Rattle.std.proofs.lemmas.List.{length-map, map_push}
@@ -64,7 +64,7 @@ module _ (state : State) (m : Memory) (monitored : IsMonitored state m) where
   makes_grows : (base size : ℕ) → Grows state (made_state base size)
   makes_grows base size = record {
     used = λ colour has. Contains-append_left state.used ((m.made + 1) ∷ []) colour has;
-    shades = λ shade has. Contains-append_left state.shades (shade_of (m.made + 1) 0 size ∷ []) shade has;
+    shades = λ shade has. Contains-append_left state.shades (shade_of false (m.made + 1) 0 size ∷ []) shade has;
   }
 
   alloc_may : (base size : ℕ) → length m.live < most_live → IsPlace m.live (length m.bytes) size (Some base) → May (length m.bytes) state (events.Alloc (m.made + 1) base size)
@@ -114,19 +114,19 @@ module _ (state : State) (m : Memory) (monitored : IsMonitored state m) where
   made_monitored : (base size : ℕ) (kind : Kind) → IsMonitored (made_state base size) (entered m base size kind)
   made_monitored base size kind =
       let new : Live = record { id = m.made + 1; base = base; size = size; kind = kind } in
-      let rooted : State → Live → Type 0 = λ t s. Contains t.shades (shade_of s.id 0 s.size) in
+      let rooted : State → Live → Type 0 = λ t s. Contains t.shades (shade_of false s.id 0 s.size) in
       record {
         live = ap (λ ids. ids ++ (m.made + 1) ∷ []) monitored.live ∙ sym (map_push (λ (s : Live). s.id) m.live new);
         painted = λ p. (made_paints base size kind p, made_painted base size kind p);
-        roots = All-push (rooted (made_state base size)) m.live new (All-weaker (rooted state) (rooted (made_state base size)) (λ s has. (makes_grows base size).shades _ has) m.live monitored.roots) (Contains-push state.shades (shade_of (m.made + 1) 0 size));
+        roots = All-push (rooted (made_state base size)) m.live new (All-weaker (rooted state) (rooted (made_state base size)) (λ s has. (makes_grows base size).shades _ has) m.live monitored.roots) (Contains-push state.shades (shade_of false (m.made + 1) 0 size));
         used = λ colour. (made_used base size colour, λ between. used_made base size colour between.0 between.1);
         pieces = made_pieces base size kind;
       }
 
-  made_known : (base size : ℕ) → KnowsHandle (made_state base size) (handles.Good (m.made + 1) 0 size (pos 0))
+  made_known : (base size : ℕ) → KnowsHandle (made_state base size) (handles.Good false (m.made + 1) 0 size (pos 0))
   made_known base size =
-      let root = Contains-push state.shades (shade_of (m.made + 1) 0 size) in
-      (Contains-push state.used (m.made + 1), subst (λ n. Contains (made_state base size).shades (shade_of (m.made + 1) 0 n)) (sym (zero-add size)) root)
+      let root = Contains-push state.shades (shade_of false (m.made + 1) 0 size) in
+      (Contains-push state.used (m.made + 1), subst (λ n. Contains (made_state base size).shades (shade_of false (m.made + 1) 0 n)) (sym (zero-add size)) root)
 
   -- ---- none made
 

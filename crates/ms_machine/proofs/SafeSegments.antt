@@ -4,7 +4,7 @@ use Rattle.std.proofs.Common.{◌≡◌, ℕ, ℤ, List, [], ◌∷◌, Option, 
 use Rattle.ms_num.specs.Integers.{signed}
 use Rattle.ms_event.specs.declared.event.Event.{Event}
 use Rattle.ms_event.specs.Monitor.{State, after_all}
-use Rattle.ms_handle.specs.Handle.{add, difference, slice}
+use Rattle.ms_handle.specs.Handle.{add, difference, seal, slice}
 use Rattle.ms_handle.specs.declared.handle.Apart.{Apart}
 use Rattle.ms_handle.specs.declared.handle.Handle.{Handle as H}
 use Rattle.ms_linear.specs.declared.value.Value.{Value}
@@ -12,7 +12,7 @@ use Rattle.ms_linear.specs.declared.value.Value.TheVariants.{I32, I64, Handle}
 use Rattle.ms_module.specs.Accesses.{load_bytes, store_bytes}
 use Rattle.ms_module.specs.declared.access.LoadOp.{LoadOp}
 use Rattle.ms_module.specs.declared.access.Segment.{Segment}
-use Rattle.ms_module.specs.declared.access.Segment.TheVariants.{Null, New, Free, Add, Slice, Eq, IsNull, Diff, LoadHandle, StoreHandle, Load, Store}
+use Rattle.ms_module.specs.declared.access.Segment.TheVariants.{Null, New, Free, Add, Slice, Eq, IsNull, Diff, LoadHandle, StoreHandle, Load, Store, Seal}
 use Rattle.ms_operate.specs.Accesses.{number_of, width_of}
 use Rattle.ms_segment.specs.Calls as call
 use Rattle.ms_segment.specs.Calls.{Change}
@@ -22,11 +22,11 @@ use Rattle.ms_machine.specs.refinement.Holding.{Each, Fits}
 use Rattle.ms_machine.specs.Running.{with_event}
 use Rattle.ms_machine.specs.refinement.Safety.{IsMonitored, Knows, KnowsHandle}
 use Rattle.ms_machine.specs.Segments as segments
-use Rattle.ms_machine.specs.Segments.{changed, handle_read, measured, number_read, number_stored, segment_on, slice_event}
+use Rattle.ms_machine.specs.Segments.{changed, handle_read, measured, number_read, number_stored, seal_event, segment_on, slice_event}
 use Rattle.ms_machine.proofs.HeldSegments.{FreshIn, FreshRead}
 use Rattle.ms_machine.proofs.SafeAccesses.{load_handle_follows, loaded_follows, store_follows, store_handle_follows}
 use Rattle.ms_machine.proofs.SafeEnding.{free_follows}
-use Rattle.ms_machine.proofs.SafeHandles.{add_known, slice_follows}
+use Rattle.ms_machine.proofs.SafeHandles.{add_known, seal_follows, slice_follows}
 use Rattle.ms_machine.proofs.SafeMaking.{make_follows}
 use Rattle.ms_machine.proofs.SafeStates.{Follows, follows-none, handle_grows}
 use Rattle.ms_machine.proofs.SafeEvents.{EventIn}
@@ -75,6 +75,7 @@ module _ (state : State) (m : Memory) (sound : IsSound m) (monitored : IsMonitor
       number_read_follows op rest (loaded m h (load_bytes op)) (λ x is. loaded_follows state m monitored h (load_bytes op) x a.0 b.0 is)
   segment_follows (Store op) (v ∷ Handle h ∷ rest) a b =
       number_stored_follows rest h (store_bytes op) (number_of (width_of op) v) a.1.0 b.1.0
+  segment_follows Seal (Handle h ∷ rest) a b = (seal_follows state m monitored h b.0).0
   segment_follows i vs a b = tt
 
   -- ---- the handles that are made
@@ -100,4 +101,6 @@ module _ (state : State) (m : Memory) (sound : IsSound m) (monitored : IsMonitor
       subst (λ e. KnownAfter e (Handle (slice h from len))) (leaves_event _ us _ m' (slice_event h (slice h from len)) event is) (slice_follows state m monitored h from len b.1.1.0).1
   segment_known LoadHandle (Handle h ∷ rest) us m' event a b is =
       read_known rest us m' event h (call.load_handle m h) a.0 b.0 refl is
+  segment_known Seal (Handle h ∷ rest) us m' event a b is =
+      subst (λ e. KnownAfter e (Handle (seal h))) (leaves_event _ us _ m' (seal_event h) event is) (seal_follows state m monitored h b.0).1
   segment_known i vs us m' event a b is = tt

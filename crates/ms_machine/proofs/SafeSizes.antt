@@ -1,9 +1,9 @@
 -- Each shade that the monitor knows lies within the size at the making of its colour.
-use Rattle.std.proofs.Common.{ℕ, List, [], ◌∷◌, ◌++◌, sym, subst, append-nil, append_assoc, arith}
+use Rattle.std.proofs.Common.{ℕ, true, false, List, [], ◌∷◌, ◌++◌, sym, subst, append-nil, append_assoc, arith}
 use Rattle.std.specs.List.{All}
 use Rattle.std.proofs.lemmas.List.Elements.{All-contains, All-nil, All-push, All-weaker, Contains-append_left, Contains-push}
 use Rattle.ms_event.specs.declared.event.Event.{Event}
-use Rattle.ms_event.specs.declared.event.Event.TheVariants.{Alloc, Free, Read, Refused, Slice, Write}
+use Rattle.ms_event.specs.declared.event.Event.TheVariants.{Alloc, Free, Read, Refused, Seal, Slice, Write}
 use Rattle.ms_event.specs.Monitor.{Accepts, AcceptsFrom, May, Shade, State, after, after_all, nothing_yet, shade_of}
 use Rattle.ms_machine.specs.refinement.Safety.{IsWithinSegment}
 
@@ -17,14 +17,19 @@ all_within_more events more shades old = All-weaker (IsWithinSegment events) (Is
 new_within : (capacity : ℕ) (events : List Event) (state : State) (e : Event) → All (IsWithinSegment events) state.shades → May capacity state e → All (IsWithinSegment (events ++ e ∷ [])) (after state e).shades
 new_within capacity events state (Alloc id addr size) old may =
     let e = Alloc id addr size in
-    All-push (IsWithinSegment (events ++ e ∷ [])) state.shades (shade_of id 0 size) (all_within_more events (e ∷ []) state.shades old) (addr, size, Contains-push events e, omega arith)
-new_within capacity events state (Slice id lo hi lo2 hi2) old may =
-    let e = Slice id lo hi lo2 hi2 in
-    let whole = All-contains (IsWithinSegment events) state.shades (shade_of id lo hi) old may.0 in
-    All-push (IsWithinSegment (events ++ e ∷ [])) state.shades (shade_of id lo2 hi2) (all_within_more events (e ∷ []) state.shades old)
+    All-push (IsWithinSegment (events ++ e ∷ [])) state.shades (shade_of false id 0 size) (all_within_more events (e ∷ []) state.shades old) (addr, size, Contains-push events e, omega arith)
+new_within capacity events state (Seal id lo hi) old may =
+    let e = Seal id lo hi in
+    let whole = All-contains (IsWithinSegment events) state.shades (shade_of false id lo hi) old may in
+    All-push (IsWithinSegment (events ++ e ∷ [])) state.shades (shade_of true id lo hi) (all_within_more events (e ∷ []) state.shades old)
+    (whole.0, whole.1, Contains-append_left events (e ∷ []) (Alloc id whole.0 whole.1) whole.2, whole.3)
+new_within capacity events state (Slice sealed id lo hi lo2 hi2) old may =
+    let e = Slice sealed id lo hi lo2 hi2 in
+    let whole = All-contains (IsWithinSegment events) state.shades (shade_of sealed id lo hi) old may.0 in
+    All-push (IsWithinSegment (events ++ e ∷ [])) state.shades (shade_of sealed id lo2 hi2) (all_within_more events (e ∷ []) state.shades old)
     (whole.0, whole.1, Contains-append_left events (e ∷ []) (Alloc id whole.0 whole.1) whole.2, omega (arith, whole.3, may.3))
 new_within capacity events state (Refused size) old may = all_within_more events (Refused size ∷ []) state.shades old
-new_within capacity events state (Read id lo hi addr width) old may = all_within_more events (Read id lo hi addr width ∷ []) state.shades old
+new_within capacity events state (Read sealed id lo hi addr width) old may = all_within_more events (Read sealed id lo hi addr width ∷ []) state.shades old
 new_within capacity events state (Write id lo hi addr width) old may = all_within_more events (Write id lo hi addr width ∷ []) state.shades old
 new_within capacity events state (Free id) old may = all_within_more events (Free id ∷ []) state.shades old
 

@@ -23,8 +23,8 @@ grows-refl state = record { used = λ colour has. has; shades = λ shade has. ha
 pub handle_grows : (state state' : State) → Grows state state' → (h : Handle) → KnowsHandle state h → KnowsHandle state' h
 handle_grows state state' grows handles.Null known = tt
 handle_grows state state' grows handles.Broken known = tt
-handle_grows state state' grows (handles.Good id base size offset) known =
-    (grows.used id known.0, grows.shades (shade_of id base (base + size)) known.1)
+handle_grows state state' grows (handles.Good sealed id base size offset) known =
+    (grows.used id known.0, grows.shades (shade_of sealed id base (base + size)) known.1)
 
 pub value_grows : (state state' : State) → Grows state state' → (v : Value) → Knows state v → Knows state' v
 value_grows state state' grows (values.I32 n) known = tt

@@ -9,7 +9,7 @@ use Rattle.ms_linear.specs.declared.value.Value.TheVariants as values
 use Rattle.ms_module.specs.Accesses.{load_bytes, store_bytes}
 use Rattle.ms_module.specs.declared.access.LoadOp.{LoadOp}
 use Rattle.ms_module.specs.declared.access.Segment.{Segment}
-use Rattle.ms_module.specs.declared.access.Segment.TheVariants.{Null, New, Free, Add, Slice, Eq, IsNull, Diff, LoadHandle, StoreHandle, Load, Store}
+use Rattle.ms_module.specs.declared.access.Segment.TheVariants.{Null, New, Free, Add, Slice, Eq, IsNull, Diff, LoadHandle, StoreHandle, Load, Store, Seal}
 use Rattle.ms_operate.specs.Accesses.{number_of, width_of}
 use Rattle.ms_rules.specs.Instructions.{loaded as loaded_type, segment_type}
 use Rattle.ms_rules.specs.Typing.{types}
@@ -99,3 +99,6 @@ segment_typed (Store op) m vs r e =
     let h = handle_top x.2 r x.5 in
     subst (λ l. EffectTyped r (segment_on (Store op) m l)) (sym (x.3 ∙ ap (λ l. x.0 ∷ l) h.2))
     (number_stored_typed m h.1 r h.0 (store_bytes op) (number_of (width_of op) x.0) x.1 x.4 h.3)
+segment_typed Seal m vs r e =
+    let h = handle_top vs r e in
+    subst (λ l. EffectTyped (Handle ∷ r) (segment_on Seal m l)) (sym h.2) (ap (λ l. Handle ∷ l) h.3)

@@ -5,7 +5,7 @@ use Rattle.std.specs.Prelude.{ℕ, ◌+◌, Bool, true, false, List, ◌∷◌, 
 use Rattle.ms_num.specs.Integers.{signed, truth, wrapped}
 use Rattle.ms_event.specs.declared.event.Event.{Event}
 use Rattle.ms_event.specs.declared.event.Event.TheVariants as events
-use Rattle.ms_handle.specs.Handle.{add, difference, eq, slice}
+use Rattle.ms_handle.specs.Handle.{add, difference, eq, seal, slice}
 use Rattle.ms_handle.specs.declared.handle.Apart.{Apart}
 use Rattle.ms_handle.specs.declared.handle.Handle.{Handle}
 use Rattle.ms_handle.specs.declared.handle.Handle.TheVariants as handles
@@ -14,7 +14,7 @@ use Rattle.ms_linear.specs.declared.value.Value.TheVariants as values
 use Rattle.ms_module.specs.Accesses.{load_bytes, store_bytes}
 use Rattle.ms_module.specs.declared.access.LoadOp.{LoadOp}
 use Rattle.ms_module.specs.declared.access.Segment.{Segment}
-use Rattle.ms_module.specs.declared.access.Segment.TheVariants.{Null, New, Free, Add, Slice, Eq, IsNull, Diff, LoadHandle, StoreHandle, Load, Store}
+use Rattle.ms_module.specs.declared.access.Segment.TheVariants.{Null, New, Free, Add, Slice, Eq, IsNull, Diff, LoadHandle, StoreHandle, Load, Store, Seal}
 use Rattle.ms_operate.specs.Accesses.{number_of, value_of, width_of}
 use Rattle.ms_segment.specs.Calls as call
 use Rattle.ms_segment.specs.Calls.{Change, Made}
@@ -41,6 +41,7 @@ trap_of seg.Misaligned = traps.Misaligned
 trap_of seg.Provenance = traps.Provenance
 trap_of seg.Whole = traps.Whole
 trap_of seg.Kind = traps.Kind
+trap_of seg.Readonly = traps.Readonly
 
 abbrev pub made : List Value → Made → Effect
 made rest m = Gives (values.Handle m.handle ∷ rest) m.memory (Some m.event)
@@ -51,8 +52,13 @@ changed rest (Err e) = Trap (trap_of e)
 
 -- a slice of a good handle is told
 abbrev pub slice_event : Handle → Handle → Option Event
-slice_event (handles.Good id base size offset) (handles.Good id' base' size' offset') = Some (events.Slice id base (base + size) base' (base' + size'))
+slice_event (handles.Good sealed id base size offset) (handles.Good sealed' id' base' size' offset') = Some (events.Slice sealed id base (base + size) base' (base' + size'))
 slice_event h g = None
+
+-- where a good handle wasn't sealed before, its sealing is told
+abbrev pub seal_event : Handle → Option Event
+seal_event (handles.Good false id base size offset) = Some (events.Seal id base (base + size))
+seal_event h = None
 
 abbrev pub sliced : Memory → List Value → Handle → Handle → Effect
 sliced m rest h g = Gives (values.Handle g ∷ rest) m (slice_event h g)
@@ -91,4 +97,5 @@ segment_on LoadHandle m (values.Handle h ∷ rest) = handle_read m rest (call.lo
 segment_on StoreHandle m (values.Handle v ∷ values.Handle h ∷ rest) = changed rest (call.store_handle m h v)
 segment_on (Load op) m (values.Handle h ∷ rest) = number_read op m rest (loaded m h (load_bytes op))
 segment_on (Store op) m (v ∷ values.Handle h ∷ rest) = number_stored m rest h (store_bytes op) (number_of (width_of op) v)
+segment_on Seal m (values.Handle h ∷ rest) = Gives (values.Handle (seal h) ∷ rest) m (seal_event h)
 segment_on i m vs = Stuck

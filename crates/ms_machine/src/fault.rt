@@ -65,5 +65,6 @@ pub(crate) fn of_segment(trap: SegTrap) -> TrapKind
         SegTrap::Provenance => TrapKind::Provenance,
         SegTrap::Whole => TrapKind::Whole,
         SegTrap::Kind => TrapKind::Kind,
+        SegTrap::Readonly => TrapKind::Readonly,
     }
 }

@@ -4,12 +4,12 @@ ghost use Rattle.std.specs.Prelude.{◌≡◌, ◌≢◌, ◌<◌, ◌^◌, List
 ghost use Rattle.ms_handle.specs.Handle.{HasBounds};
 ghost use Rattle.ms_machine.specs.refinement.Doing.{DoesInSegments};
 ghost use Rattle.ms_machine.specs.refinement.Holding.{Each, Fits};
-ghost use Rattle.ms_machine.specs.Segments.{Stuck, is_null, segment_on, slice_event};
+ghost use Rattle.ms_machine.specs.Segments.{Stuck, is_null, seal_event, segment_on, slice_event};
 ghost use Rattle.ms_module.specs.declared.access.Segment.TheVariants as instr;
 
 use crate::fault::{Fault, of_segment};
 use ms_event::Event;
-use ms_handle::{Handle, Kind, add, diff, eq, slice};
+use ms_handle::{Handle, Kind, add, diff, eq, seal, slice};
 use ms_host::TrapKind;
 use ms_linear::{Operands, Value};
 use ms_live::Gaps;
@@ -43,6 +43,7 @@ pub(crate) fn segment<G: Gaps, T: Tagged>(
         Segment::StoreHandle => store_handle(segments, operands),
         Segment::Load(op) => load(op, segments, operands),
         Segment::Store(op) => store(op, segments, operands),
+        Segment::Seal => seal_top(segments, operands),
     }
 }
 
@@ -131,6 +132,7 @@ fn event_of_slice(handle: Handle, part: Handle) -> Option<Event>
     match (handle, part) {
         (
             Handle::Good {
+                sealed,
                 id,
                 base,
                 length,
@@ -142,6 +144,7 @@ fn event_of_slice(handle: Handle, part: Handle) -> Option<Event>
                 ..
             },
         ) => Some(Event::Slice {
+            sealed,
             id,
             lo: base,
             hi: base + length,
@@ -271,6 +274,44 @@ fn store_handle<G: Gaps, T: Tagged>(
         }
         Err(trap) => Err(Fault::Trap(of_segment(trap))),
     }
+}
+
+/// What the sealing of a handle tells.
+fn event_of_seal(handle: Handle) -> Option<Event>
+    requires { HasBounds handle }
+    ensures { result ≡ seal_event handle }
+{
+    match handle {
+        Handle::Good {
+            sealed: false,
+            id,
+            base,
+            length,
+            ..
+        } => Some(Event::Seal {
+            id,
+            lo: base,
+            hi: base + length,
+        }),
+        _ => None,
+    }
+}
+
+/// `handle.seal`.
+fn seal_top<G: Gaps, T: Tagged>(
+    segments: &Segments<G, T>,
+    operands: &mut Operands,
+) -> Result<Option<Event>, Fault>
+    requires there { segment_on instr.Seal segments.now operands.old ≢ Stuck }
+    requires fit { Each (Fits segments.now) operands.old }
+    ensures { DoesInSegments (segment_on instr.Seal segments.now operands.old) operands.old operands.new segments.now segments.now result }
+{
+    let _ = segments;
+    let Value::Handle(handle) = operands.get(0) else {
+        unreachable!()
+    };
+    operands.set_top(Value::Handle(seal(handle)));
+    Ok(event_of_seal(handle))
 }
 
 /// `i32.segload` and its kin.

@@ -224,6 +224,7 @@ segment_rows =
     row 0x07 (codes "handle.diff") (Bare (instr.Segment segment.Diff)) ∷
     row 0x08 (codes "handle.load") (Bare (instr.Segment segment.LoadHandle)) ∷
     row 0x09 (codes "handle.store") (Bare (instr.Segment segment.StoreHandle)) ∷
+    row 0x1D (codes "handle.seal") (Bare (instr.Segment segment.Seal)) ∷
     []
 
 unfoldable pub segment_load_rows : List (Row LoadOp)

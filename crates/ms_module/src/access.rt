@@ -111,4 +111,6 @@ pub enum Segment {
     Load(LoadOp),
     /// `i32.segstore` and its kin.
     Store(StoreOp),
+    /// `handle.seal`.
+    Seal,
 }

@@ -1,4 +1,5 @@
-//! The instructions by their opcodes (WebAssembly 1.0, 5.4), as the one table of them has it.
+//! The opcodes of instructions (WebAssembly 1.0, 5.4), as the one table of the definitions has them. Those of each family stand
+//! once, as rows that a macro hands to `item_by_code` or `code_by_item`: so reading and writing are made of the same rows.
 
 ghost use Rattle.std.specs.Prelude.{◌≡◌};
 ghost use Rattle.ms_module.specs.Instructions.{by_code, is_float, is_float_type, load_rows, numeric_rows, segment_load_rows, segment_store_rows, store_rows, value_rows};
@@ -12,22 +13,33 @@ use crate::numeric::UnOp::*;
 use crate::numeric::Width::{W32, W64};
 use ms_types::ValType;
 
-/// The opcode of `else` (WebAssembly 1.0, 5.4.1).
-pub const ELSE_CODE: u8 = 0x05;
+/// The item of a code in a table; in a function that answers an option.
+#[macro_export]
+macro_rules! item_by_code {
+    ($code:expr; $($row:literal => $item:expr,)+) => {
+        Some(match $code {
+            $($row => $item,)+
+            _ => return None,
+        })
+    };
+}
 
-/// The opcode of `end` (WebAssembly 1.0, 5.4.1).
-pub const END_CODE: u8 = 0x0B;
+/// The code of an item of a table, which has each.
+#[macro_export]
+macro_rules! code_by_item {
+    ($item:expr; $($row:literal => $pattern:pat,)+) => {
+        match $item {
+            $($pattern => $row,)+
+        }
+    };
+}
 
-/// The opcode of each instruction on handles and segments, in front of a second byte.
-pub const PREFIX: u8 = 0xE0;
-
-impl Numeric {
-    /// The numeric instruction of this opcode, but for constants.
-    #[tactic(auto, unfolding(crate::specs::Instructions::numeric_rows))]
-    pub fn from_opcode(code: u8) -> Option<Self>
-        ensures { result ≡ by_code numeric_rows code }
-    {
-        Some(match code {
+/// The numeric instructions but for constants, by their opcodes.
+#[macro_export]
+macro_rules! numeric_opcodes {
+    ($each:ident $given:expr) => {
+        $each! {
+            $given;
             0x45 => Eqz(W32),
             0x46 => Compare(W32, Eq),
             0x47 => Compare(W32, Ne),
@@ -89,18 +101,16 @@ impl Numeric {
             0xA7 => Wrap,
             0xAC => ExtendS,
             0xAD => ExtendU,
-            _ => return None,
-        })
-    }
+        }
+    };
 }
 
-impl LoadOp {
-    /// The load of this opcode.
-    #[tactic(auto, unfolding(crate::specs::Instructions::load_rows))]
-    pub fn from_opcode(code: u8) -> Option<Self>
-        ensures { result ≡ by_code load_rows code }
-    {
-        Some(match code {
+/// The loads from the linear memory, by their opcodes.
+#[macro_export]
+macro_rules! load_opcodes {
+    ($each:ident $given:expr) => {
+        $each! {
+            $given;
             0x28 => I32Load,
             0x29 => I64Load,
             0x2C => I32Load8S,
@@ -113,16 +123,16 @@ impl LoadOp {
             0x33 => I64Load16U,
             0x34 => I64Load32S,
             0x35 => I64Load32U,
-            _ => return None,
-        })
-    }
+        }
+    };
+}
 
-    /// The load from a segment of this byte behind the prefix E0.
-    #[tactic(auto, unfolding(crate::specs::Instructions::segment_load_rows))]
-    pub fn from_segment_code(code: u8) -> Option<Self>
-        ensures { result ≡ by_code segment_load_rows code }
-    {
-        Some(match code {
+/// The loads from segments, by the byte behind the prefix.
+#[macro_export]
+macro_rules! segment_load_codes {
+    ($each:ident $given:expr) => {
+        $each! {
+            $given;
             0x0A => I32Load,
             0x0B => I64Load,
             0x0C => I32Load8S,
@@ -135,8 +145,78 @@ impl LoadOp {
             0x13 => I64Load16U,
             0x14 => I64Load32S,
             0x15 => I64Load32U,
-            _ => return None,
-        })
+        }
+    };
+}
+
+/// The stores into the linear memory, by their opcodes.
+#[macro_export]
+macro_rules! store_opcodes {
+    ($each:ident $given:expr) => {
+        $each! {
+            $given;
+            0x36 => I32Store,
+            0x37 => I64Store,
+            0x3A => I32Store8,
+            0x3B => I32Store16,
+            0x3C => I64Store8,
+            0x3D => I64Store16,
+            0x3E => I64Store32,
+        }
+    };
+}
+
+/// The stores into segments, by the byte behind the prefix.
+#[macro_export]
+macro_rules! segment_store_codes {
+    ($each:ident $given:expr) => {
+        $each! {
+            $given;
+            0x16 => I32Store,
+            0x17 => I64Store,
+            0x18 => I32Store8,
+            0x19 => I32Store16,
+            0x1A => I64Store8,
+            0x1B => I64Store16,
+            0x1C => I64Store32,
+        }
+    };
+}
+
+/// The opcode of `else` (WebAssembly 1.0, 5.4.1).
+pub const ELSE_CODE: u8 = 0x05;
+
+/// The opcode of `end` (WebAssembly 1.0, 5.4.1).
+pub const END_CODE: u8 = 0x0B;
+
+/// The opcode of each instruction on handles and segments, in front of a second byte.
+pub const PREFIX: u8 = 0xE0;
+
+impl Numeric {
+    /// The numeric instruction of this opcode, but for constants.
+    #[tactic(auto, unfolding(crate::specs::Instructions::numeric_rows))]
+    pub fn from_opcode(code: u8) -> Option<Self>
+        ensures { result ≡ by_code numeric_rows code }
+    {
+        numeric_opcodes!(item_by_code code)
+    }
+}
+
+impl LoadOp {
+    /// The load of this opcode.
+    #[tactic(auto, unfolding(crate::specs::Instructions::load_rows))]
+    pub fn from_opcode(code: u8) -> Option<Self>
+        ensures { result ≡ by_code load_rows code }
+    {
+        load_opcodes!(item_by_code code)
+    }
+
+    /// The load from a segment of this byte behind the prefix E0.
+    #[tactic(auto, unfolding(crate::specs::Instructions::segment_load_rows))]
+    pub fn from_segment_code(code: u8) -> Option<Self>
+        ensures { result ≡ by_code segment_load_rows code }
+    {
+        segment_load_codes!(item_by_code code)
     }
 }
 
@@ -146,16 +226,7 @@ impl StoreOp {
     pub fn from_opcode(code: u8) -> Option<Self>
         ensures { result ≡ by_code store_rows code }
     {
-        Some(match code {
-            0x36 => I32Store,
-            0x37 => I64Store,
-            0x3A => I32Store8,
-            0x3B => I32Store16,
-            0x3C => I64Store8,
-            0x3D => I64Store16,
-            0x3E => I64Store32,
-            _ => return None,
-        })
+        store_opcodes!(item_by_code code)
     }
 
     /// The store into a segment of this byte behind the prefix E0.
@@ -163,16 +234,7 @@ impl StoreOp {
     pub fn from_segment_code(code: u8) -> Option<Self>
         ensures { result ≡ by_code segment_store_rows code }
     {
-        Some(match code {
-            0x16 => I32Store,
-            0x17 => I64Store,
-            0x18 => I32Store8,
-            0x19 => I32Store16,
-            0x1A => I64Store8,
-            0x1B => I64Store16,
-            0x1C => I64Store32,
-            _ => return None,
-        })
+        segment_store_codes!(item_by_code code)
     }
 }
 

@@ -1,16 +1,17 @@
--- An access, and a slice: when they may come, and what is shown after them.
-use Rattle.std.proofs.Common.{◌≡◌, ℕ, ◌+◌, ◌-◌, ◌<◌, ◌≤◌, List, [], ◌∷◌, ◌++◌, arith, ap, sym, subst, inl, inr}
+-- An access, and a shade that joins: when they may come, and what is shown after them.
+use Rattle.std.proofs.Common.{◌≡◌, Bool, false, Result, Ok, Err, ℕ, ◌+◌, ◌-◌, ◌<◌, ◌≤◌, List, [], ◌∷◌, ◌++◌, arith, ap, sym, subst, inl, inr}
 use Rattle.std.specs.List.{Contains}
 use Rattle.std.proofs.lemmas.List.Elements.{Contains-append_left, Contains-push, Contains-push_cases}
-use Rattle.ms_event.specs.Monitor.{IsInside, MayAccess, Shade, State, after}
-use Rattle.ms_event.specs.Monitor as monitor
-use Rattle.ms_event.specs.declared.event.Event.TheVariants.{Slice}
-use Rattle.ms_gap_tree.specs.refinement.Rooms.{Arena}
+use Rattle.ms_event.specs.Monitor.{IsInside, MayAccess, Shade, State}
+use Rattle.ms_event.specs.declared.event.Event.TheVariants.{Read, Write}
 use Rattle.ms_monitor.specs.refinement.Colours.{colour_of}
+use Rattle.ms_monitor.specs.refinement.Judging.{Judges}
 use Rattle.ms_monitor.specs.refinement.Kept.{Kept}
 use Rattle.ms_monitor.specs.refinement.Shades.{Learns}
 use Rattle.ms_monitor.specs.refinement.Showing.{IsCovered, IsKnown, Shows}
 use Rattle.ms_monitor.specs.declared.colours.Colour.{Colour}
+use Rattle.ms_monitor.specs.declared.monitor.Verdict.{Verdict}
+use Rattle.ms_monitor.specs.declared.monitor.Verdict.TheVariants.{Memory, Reject}
 use Rattle.ms_monitor.proofs.Allocated.{one_colour}
 
 pub covered_from_inside : (k : Kept) (s : State) (x : Shade) (a w : ℕ) → Shows k s → IsInside s x a w → IsCovered k.colours x a w
@@ -44,10 +45,18 @@ inside_from_covered k s x a w shows covered i below =
 pub access_may : (k : Kept) (s : State) (x : Shade) (a w : ℕ) → Shows k s → IsKnown k x → IsCovered k.colours x a w → MayAccess s x a w
 access_may k s x a w shows known covered = ((shows.shades x).1 known, inside_from_covered k s x a w shows covered)
 
-pub slice_shows : (k : Kept) (s : State) (id lo hi lo2 hi2 : ℕ) (new : List Shade) (rooms : Arena) → Shows k s → Learns k.shades new (monitor.shade_of id lo2 hi2)
-    → Shows (record { capacity = k.capacity; colours = k.colours; shades = new; rooms = rooms }) (after s (Slice id lo hi lo2 hi2))
-slice_shows k s id lo hi lo2 hi2 new rooms shows learns =
-    let part = monitor.shade_of id lo2 hi2 in
+-- a write through a writable shade is judged as the read is
+pub as_write : (k : Kept) (sealed : Bool) (colour lo hi a w : ℕ) (r : Result Unit Verdict) → sealed ≡ false → Judges k k (Read sealed colour lo hi a w) r → Judges k k (Write colour lo hi a w) r
+as_write k sealed colour lo hi a w r open' read = by r (subst (λ (b : Bool). Judges k k (Read b colour lo hi a w) r) open' read) where
+  by : (r : Result Unit Verdict) → Judges k k (Read false colour lo hi a w) r → Judges k k (Write colour lo hi a w) r
+  by (Ok x) read = read
+  by (Err Reject) read = read
+  by (Err Memory) read = read
+
+-- a shade joins
+pub joined_shows : (k : Kept) (s : State) (part : Shade) (new : List Shade) → Shows k s → Learns k.shades new part
+    → Shows (record { capacity = k.capacity; colours = k.colours; shades = new; rooms = k.rooms }) (record s { shades = s.shades ++ part ∷ [] })
+joined_shows k s part new shows learns =
     record {
       painted = shows.painted;
       live = shows.live;

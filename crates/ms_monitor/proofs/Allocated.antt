@@ -1,5 +1,5 @@
 -- An allocation: when it may come, and what is kept and shown after it.
-use Rattle.std.proofs.Common.{◌≡◌, ◌≢◌, ℕ, zero, suc, ◌+◌, ◌*◌, ◌%◌, ◌<◌, ◌≤◌, true, cond, nat_lt, List, [], ◌∷◌, ◌++◌, Option, Some, None, refl, arith, ap, sym, ◌∙◌, subst, inl, inr}
+use Rattle.std.proofs.Common.{◌≡◌, ◌≢◌, ℕ, zero, suc, ◌+◌, ◌*◌, ◌%◌, ◌<◌, ◌≤◌, true, false, cond, nat_lt, List, [], ◌∷◌, ◌++◌, Option, Some, None, refl, arith, ap, sym, ◌∙◌, subst, inl, inr}
 use Rattle.std.specs.List.{Contains}
 use Rattle.std.proofs.lemmas.Bool.{cases_eq, cases_lt}
 use Rattle.std.proofs.lemmas.List.{length-append}
@@ -148,7 +148,7 @@ pub alloc_shows : (k : Kept) (s : State) (id base size : ℕ) (new : List (ℕ �
 alloc_shows k s id base size new rooms shows absent adds =
     let a = adds.changes in
     let other = λ (q : ℕ) (c : Colour) (e : colour_of k.colours q ≡ Some c). a.others q (differs k.colours new id base size q c absent e) ∙ e in
-    let root = monitor.shade_of id 0 size in
+    let root = monitor.shade_of false id 0 size in
     let n = length-append s.live (id ∷ []) in
     let al = adds.live in
     let count = shows.count in
@@ -191,17 +191,17 @@ alloc_shows k s id base size new rooms shows absent adds =
       );
       shades = λ x. (
         λ there. elim (Contains-push_cases s.shades root x there) [
-          | inl was ↦ elim ((shows.shades x).0 was) [ inl q ↦ inl (q.0, other x.colour q.0 q.1, q.2, q.3) | inr sliced ↦ inr sliced ]
-          | inr same ↦ let P : Shade → Type 0 = IsWhole new in inl (subst P same (live_colour base size, a.here, refl, refl))
+          | inl was ↦ elim ((shows.shades x).0 was) [ inl q ↦ inl (q.0, other x.colour q.0 q.1, q.2, q.3, q.4) | inr sliced ↦ inr sliced ]
+          | inr same ↦ let P : Shade → Type 0 = IsWhole new in inl (subst P same (live_colour base size, a.here, refl, refl, refl))
         ],
         λ known. elim known [
           | inl q ↦ elim (cases_eq x.colour id) [
             | inl same ↦
                 let e = one_colour (colour_of new id) q.0 (live_colour base size) (ap (colour_of new) (sym same) ∙ q.1) a.here in
                 let hi : x.hi ≡ size = q.3 ∙ ap (λ (c : Colour). c.size) e in
-                let is : root ≡ x = λ i. record { colour = sym same i; lo = sym q.2 i; hi = sym hi i } in
+                let is : root ≡ x = λ i. record { colour = sym same i; lo = sym q.2 i; hi = sym hi i; sealed = sym q.4 i } in
                 subst (Contains (s.shades ++ root ∷ [])) is (Contains-push s.shades root)
-            | inr apart ↦ Contains-append_left s.shades (root ∷ []) x ((shows.shades x).1 (inl (q.0, sym (a.others x.colour apart) ∙ q.1, q.2, q.3)))
+            | inr apart ↦ Contains-append_left s.shades (root ∷ []) x ((shows.shades x).1 (inl (q.0, sym (a.others x.colour apart) ∙ q.1, q.2, q.3, q.4)))
           ]
           | inr sliced ↦ Contains-append_left s.shades (root ∷ []) x ((shows.shades x).1 (inr sliced))
         ],

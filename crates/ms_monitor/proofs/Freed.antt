@@ -145,8 +145,8 @@ free_shows k s id c new rooms shows found live ends =
           | inl q ↦ elim (cases_eq x.colour id) [
             | inl same ↦
                 let e = one_colour (colour_of k.colours id) q.0 c (ap (colour_of k.colours) (sym same) ∙ q.1) found in
-                inl (ended c, ap (colour_of new) same ∙ a.here, q.2, q.3 ∙ ap (λ (d : Colour). d.size) e)
-            | inr ne ↦ inl (q.0, a.others x.colour ne ∙ q.1, q.2, q.3)
+                inl (ended c, ap (colour_of new) same ∙ a.here, q.2, q.3 ∙ ap (λ (d : Colour). d.size) e, q.4)
+            | inr ne ↦ inl (q.0, a.others x.colour ne ∙ q.1, q.2, q.3, q.4)
           ]
           | inr sliced ↦ inr sliced
         ],
@@ -154,8 +154,8 @@ free_shows k s id c new rooms shows found live ends =
           | inl q ↦ elim (cases_eq x.colour id) [
             | inl same ↦
                 let e = one_colour (colour_of new id) q.0 (ended c) (ap (colour_of new) (sym same) ∙ q.1) a.here in
-                inl (c, ap (colour_of k.colours) same ∙ found, q.2, q.3 ∙ ap (λ (d : Colour). d.size) e)
-            | inr ne ↦ inl (q.0, sym (a.others x.colour ne) ∙ q.1, q.2, q.3)
+                inl (c, ap (colour_of k.colours) same ∙ found, q.2, q.3 ∙ ap (λ (d : Colour). d.size) e, q.4)
+            | inr ne ↦ inl (q.0, sym (a.others x.colour ne) ∙ q.1, q.2, q.3, q.4)
           ]
           | inr sliced ↦ inr sliced
         ]),

@@ -3,7 +3,7 @@ use Rattle.std.proofs.Common.{◌≡◌, ◌↔◌, ◌⊎◌, zero, suc, Bool, 
 use Rattle.std.specs.BTreeMap.{is_at}
 use Rattle.std.specs.BTreeSet.{BTreeSet, Updates, contains}
 use Rattle.std.specs.List.{Contains}
-use Rattle.std.specs.Ordering.{nat_cmp, ordering_then}
+use Rattle.std.specs.Ordering.{bool_cmp, nat_cmp, ordering_then}
 use Rattle.std.specs.declared.cmp.Ordering.{Ordering}
 use Rattle.std.specs.declared.cmp.Ordering.TheVariants.{Equal, Greater, Less}
 use Rattle.std.proofs.lemmas.List.Elements.{Contains-append_right}
@@ -24,16 +24,23 @@ both_equal Greater b e = absurd (cc)
 abbrev order : Part → Part → Ordering
 order = (cmp-value).it
 
+exact_bool : (a b : Bool) → bool_cmp a b ≡ Equal → a ≡ b
+exact_bool false false e = refl
+exact_bool false true e = absurd (cc)
+exact_bool true false e = absurd (cc)
+exact_bool true true e = refl
+
 -- parts that compare equal are the same
 exact : CmpEqualImpliesEq order
 exact x y e =
-    let p = both_equal (nat_cmp x.colour y.colour) (ordering_then (nat_cmp x.lo y.lo) (nat_cmp x.hi y.hi)) e in
-    let q = both_equal (nat_cmp x.lo y.lo) (nat_cmp x.hi y.hi) p.1 in
-    λ i. record { colour = exact_unsigned x.colour y.colour p.0 i; lo = exact_unsigned x.lo y.lo q.0 i; hi = exact_unsigned x.hi y.hi q.1 i }
+    let p = both_equal (nat_cmp x.colour y.colour) (ordering_then (nat_cmp x.lo y.lo) (ordering_then (nat_cmp x.hi y.hi) (bool_cmp x.sealed y.sealed))) e in
+    let q = both_equal (nat_cmp x.lo y.lo) (ordering_then (nat_cmp x.hi y.hi) (bool_cmp x.sealed y.sealed)) p.1 in
+    let r = both_equal (nat_cmp x.hi y.hi) (bool_cmp x.sealed y.sealed) q.1 in
+    λ i. record { colour = exact_unsigned x.colour y.colour p.0 i; lo = exact_unsigned x.lo y.lo q.0 i; hi = exact_unsigned x.hi y.hi r.0 i; sealed = exact_bool x.sealed y.sealed r.1 i }
 
 -- a shade is of one part
 abbrev part_of : Shade → Part
-part_of s = record { colour = s.colour; lo = s.lo; hi = s.hi }
+part_of s = record { colour = s.colour; lo = s.lo; hi = s.hi; sealed = s.sealed }
 
 to_map : (xs : List Part) (p : Part) → Contains xs p → Contains (map shade_of xs) (shade_of p)
 to_map [] p c = let l = c.1 in absurd (omega arith)

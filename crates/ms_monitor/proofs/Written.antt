@@ -7,8 +7,8 @@ use Rattle.std.proofs.lemmas.Fmt.{decimal_is_IsNumeral}
 use Rattle.std.proofs.lemmas.List.Elements.{All-head, All-tail}
 use Rattle.std.proofs.lemmas.Str.Parse.{digit_from_value}
 use Rattle.ms_event.specs.declared.event.Event.{Event}
-use Rattle.ms_event.specs.declared.event.Event.TheVariants.{Alloc, Free, Read, Refused, Slice, Write}
-use Rattle.ms_event.specs.Text.{IsId, IsInRange, IsWord, numbers, text}
+use Rattle.ms_event.specs.declared.event.Event.TheVariants.{Alloc, Free, Read, Refused, Seal, Slice, Write}
+use Rattle.ms_event.specs.Text.{IsId, IsInRange, IsWord, ending, numbers, text}
 use Rattle.ms_monitor.specs.Traces.{AreOf, IsTrace, lengthened, lines_of, no_line, one_line, trace_text}
 
 -- no LF is among these bytes
@@ -35,14 +35,19 @@ numbers_plain : (ns : List ℕ) → AllByRecursion IsId ns → IsPlain (numbers 
 numbers_plain [] fits = tt
 numbers_plain (n ∷ ns) fits = (refl, both_plain (decimal n) (numbers ns) (digits_plain (decimal n) (decimal_is_IsNumeral n fits.0).0.1) (numbers_plain ns fits.1))
 
+ending_plain : (sealed : Bool) → IsPlain (ending sealed)
+ending_plain false = tt
+ending_plain true = (refl, (refl, (refl, (refl, (refl, (refl, (refl, tt)))))))
+
 wider : {n : ℕ} → IsWord n → IsId n
 wider {n} small = omega arith
 
 event_plain : (e : Event) → IsInRange e → IsPlain (text e)
 event_plain (Alloc id addr size) x = (refl, (refl, (refl, (refl, (refl, numbers_plain (id ∷ addr ∷ size ∷ []) (x.0, (wider x.1, (wider x.2, tt))))))))
 event_plain (Refused size) x = (refl, (refl, (refl, (refl, (refl, (refl, (refl, numbers_plain (size ∷ []) (wider x, tt))))))))
-event_plain (Slice id lo hi lo2 hi2) x = (refl, (refl, (refl, (refl, (refl, numbers_plain (id ∷ lo ∷ hi ∷ lo2 ∷ hi2 ∷ []) (x.0, (wider x.1, (wider x.2, (wider x.3, (wider x.4, tt))))))))))
-event_plain (Read id lo hi addr width) x = (refl, (refl, (refl, (refl, numbers_plain (id ∷ lo ∷ hi ∷ addr ∷ width ∷ []) (x.0, (wider x.1, (wider x.2, (wider x.3, (wider x.4, tt)))))))))
+event_plain (Seal id lo hi) x = (refl, (refl, (refl, (refl, numbers_plain (id ∷ lo ∷ hi ∷ []) (x.0, (wider x.1, (wider x.2, tt)))))))
+event_plain (Slice sealed id lo hi lo2 hi2) x = (refl, (refl, (refl, (refl, (refl, both_plain (numbers (id ∷ lo ∷ hi ∷ lo2 ∷ hi2 ∷ [])) (ending sealed) (numbers_plain (id ∷ lo ∷ hi ∷ lo2 ∷ hi2 ∷ []) (x.0, (wider x.1, (wider x.2, (wider x.3, (wider x.4, tt)))))) (ending_plain sealed))))))
+event_plain (Read sealed id lo hi addr width) x = (refl, (refl, (refl, (refl, both_plain (numbers (id ∷ lo ∷ hi ∷ addr ∷ width ∷ [])) (ending sealed) (numbers_plain (id ∷ lo ∷ hi ∷ addr ∷ width ∷ []) (x.0, (wider x.1, (wider x.2, (wider x.3, (wider x.4, tt)))))) (ending_plain sealed)))))
 event_plain (Write id lo hi addr width) x = (refl, (refl, (refl, (refl, (refl, numbers_plain (id ∷ lo ∷ hi ∷ addr ∷ width ∷ []) (x.0, (wider x.1, (wider x.2, (wider x.3, (wider x.4, tt))))))))))
 event_plain (Free id) x = (refl, (refl, (refl, (refl, numbers_plain (id ∷ []) (x, tt)))))
 

@@ -1,6 +1,6 @@
 //! The judge.
 
-ghost use Rattle.std.specs.Prelude.{◌≡◌, ◌<◌, ◌≤◌, ◌+◌, ◌%◌, ◌⊎◌, IfOk, IsTrue, ◌↔◌, Contains, None};
+ghost use Rattle.std.specs.Prelude.{◌≡◌, ◌<◌, ◌≤◌, ◌+◌, ◌%◌, ◌⊎◌, IfOk, IsTrue, ◌↔◌, Contains, None, false};
 ghost use Rattle.ms_event.specs.Monitor.{most_live, nothing_yet};
 ghost use Rattle.ms_monitor.specs.refinement.Colours.{colour_of, live_in};
 ghost use Rattle.ms_monitor.specs.refinement.Judging.{Judges};
@@ -76,27 +76,57 @@ impl Monitor {
         match *event {
             Event::Alloc { id, addr, size } => self.alloc(id, addr, size),
             Event::Refused { size } => self.refused(size),
+            Event::Seal { id, lo, hi } => self.seal(id, lo, hi),
             Event::Slice {
+                sealed,
                 id,
                 lo,
                 hi,
                 lo2,
                 hi2,
-            } => self.slice(Part { colour: id, lo, hi }, lo2, hi2),
+            } => self.slice(
+                Part {
+                    colour: id,
+                    lo,
+                    hi,
+                    sealed,
+                },
+                lo2,
+                hi2,
+            ),
             Event::Read {
+                sealed,
                 id,
                 lo,
                 hi,
                 addr,
                 width,
-            } => self.access(Part { colour: id, lo, hi }, addr, width),
+            } => self.access(
+                Part {
+                    colour: id,
+                    lo,
+                    hi,
+                    sealed,
+                },
+                addr,
+                width,
+            ),
             Event::Write {
                 id,
                 lo,
                 hi,
                 addr,
                 width,
-            } => self.access(Part { colour: id, lo, hi }, addr, width),
+            } => self.access(
+                Part {
+                    colour: id,
+                    lo,
+                    hi,
+                    sealed: false,
+                },
+                addr,
+                width,
+            ),
             Event::Free { id } => self.free(id),
         }
     }
@@ -132,9 +162,34 @@ impl Monitor {
         Ok(())
     }
 
-    /// A part of a shade, from `lo` to `hi` of its allocation.
+    /// The sealed shade beside a writable one.
+    fn seal(&mut self, colour: u64, lo: u32, hi: u32) -> Result<(), Verdict>
+        ensures { Judges self.old self.new (Event.Seal colour lo hi) result }
+    {
+        let writable = Part {
+            colour,
+            lo,
+            hi,
+            sealed: false,
+        };
+        if !knows(&self.colours, &self.shades, writable) {
+            return Err(Verdict::Reject);
+        }
+        let part = Part {
+            colour,
+            lo,
+            hi,
+            sealed: true,
+        };
+        let Ok(()) = self.shades.add(part) else {
+            return Err(Verdict::Memory);
+        };
+        Ok(())
+    }
+
+    /// A part of a shade, from `lo` to `hi` of its allocation, of the same sort.
     fn slice(&mut self, whole: Part, lo: u32, hi: u32) -> Result<(), Verdict>
-        ensures { Judges self.old self.new (Event.Slice whole.colour whole.lo whole.hi lo hi) result }
+        ensures { Judges self.old self.new (Event.Slice whole.sealed whole.colour whole.lo whole.hi lo hi) result }
     {
         if !knows(&self.colours, &self.shades, whole) {
             return Err(Verdict::Reject);
@@ -146,6 +201,7 @@ impl Monitor {
             colour: whole.colour,
             lo,
             hi,
+            sealed: whole.sealed,
         };
         let Ok(()) = self.shades.add(part) else {
             return Err(Verdict::Memory);
@@ -153,10 +209,10 @@ impl Monitor {
         Ok(())
     }
 
-    /// An access through a shade, be it a read or a write.
+    /// An access through a shade, be it a read or, through a writable one, a write.
     fn access(&self, part: Part, address: u32, width: u32) -> Result<(), Verdict>
-        ensures read { Judges self.now self.now (Event.Read part.colour part.lo part.hi address width) result }
-        ensures write { Judges self.now self.now (Event.Write part.colour part.lo part.hi address width) result }
+        ensures read { Judges self.now self.now (Event.Read part.sealed part.colour part.lo part.hi address width) result }
+        ensures write { part.sealed ≡ false → Judges self.now self.now (Event.Write part.colour part.lo part.hi address width) result }
     {
         if !knows(&self.colours, &self.shades, part) {
             return Err(Verdict::Reject);
@@ -190,19 +246,19 @@ fn may_begin(colours: &Colours, id: u64, base: u32) -> bool
     colours.live() < MOST_LIVE && colours.find(id).is_none() && base % 16 == 0
 }
 
-/// Whether the shade is known, from its allocation or from a slice.
+/// Whether the shade is known, from its allocation or since it was sliced or sealed.
 fn knows(colours: &Colours, shades: &Shades, part: Part) -> bool
     ensures { IsTrue result ↔ (IsWhole colours.now (shade_of part) ⊎ Contains shades.now (shade_of part)) }
 {
     is_whole(colours, part) || shades.contains(part)
 }
 
-/// Whether the part is a whole allocation, be it live or not.
+/// Whether the part is the writable shade of a whole allocation, be it live or not.
 fn is_whole(colours: &Colours, part: Part) -> bool
     ensures { IsTrue result ↔ IsWhole colours.now (shade_of part) }
 {
     match colours.find(part.colour) {
-        Some(colour) => part.lo == 0 && part.hi == colour.size,
+        Some(colour) => part.lo == 0 && part.hi == colour.size && !part.sealed,
         None => false,
     }
 }

@@ -73,3 +73,4 @@ segment_type segment.LoadHandle = instr_type (Handle ∷ []) (Some Handle)
 segment_type segment.StoreHandle = instr_type (Handle ∷ Handle ∷ []) None
 segment_type (segment.Load op) = instr_type (Handle ∷ []) (Some (loaded op))
 segment_type (segment.Store op) = instr_type (Handle ∷ stored op ∷ []) None
+segment_type segment.Seal = instr_type (Handle ∷ []) (Some Handle)

@@ -103,7 +103,11 @@ pub fn segment_params(i: Segment) -> &'static [ValType]
     match i {
         Segment::Null => &[],
         Segment::New(_) => &[I32],
-        Segment::Free(_) | Segment::IsNull | Segment::LoadHandle | Segment::Load(_) => &[Handle],
+        Segment::Free(_)
+        | Segment::IsNull
+        | Segment::LoadHandle
+        | Segment::Load(_)
+        | Segment::Seal => &[Handle],
         Segment::Add(_) => &[Handle, I64],
         Segment::Slice => &[Handle, I32, I32],
         Segment::Eq | Segment::Diff | Segment::StoreHandle => &[Handle, Handle],
@@ -120,8 +124,12 @@ pub fn segment_result(i: Segment) -> Option<ValType>
     ensures { result ≡ (spec.segment_type i).result }
 {
     match i {
-        Segment::Null | Segment::New(_) | Segment::Add(_) | Segment::Slice | Segment::LoadHandle =>
-            Some(Handle),
+        Segment::Null
+        | Segment::New(_)
+        | Segment::Add(_)
+        | Segment::Slice
+        | Segment::LoadHandle
+        | Segment::Seal => Some(Handle),
         Segment::Free(_) | Segment::StoreHandle | Segment::Store(_) => None,
         Segment::Eq | Segment::IsNull => Some(I32),
         Segment::Diff => Some(I64),

@@ -30,7 +30,7 @@ use std::alloc::{AllocError, Global};
 /// program; which ones they are makes no difference to its answer.
 ///
 /// The job is as one that a text says: its modules have different names, it has 1 to 64 tasks with turns of at least 1, a budget of
-/// at most 10^12 and at most 2^24 bytes of segment memory. `naming` says how the report tells of a module that is refused. What
+/// at most 10^12 and at most 2^30 bytes of segment memory. `naming` says how the report tells of a module that is refused. What
 /// becomes of `input` and `out` is as `exec` says.
 #[allow(clippy::too_many_arguments)]
 pub fn run_parsed<G: Gaps, T: Tagged, F: Shelf, I: Source, O: Sink, R: Sink>(
@@ -92,7 +92,7 @@ fn exec_job(alloc: Global, file: &str, budget: u64, memory: u32) -> Result<Job, 
 }
 
 /// `exec FILE`: reads a module from the shelf, validates it, links it with the host and runs its start function and then its
-/// `main`, at most `budget` steps (up to 10^12) with `memory` bytes of segment memory (up to 2^24). The end of the run goes to
+/// `main`, at most `budget` steps (up to 10^12) with `memory` bytes of segment memory (up to 2^30). The end of the run goes to
 /// the report.
 ///
 /// The run takes from `input` and puts to `out`: after its end `out` has grown by exactly its bytes, and `input` has lost

@@ -1,5 +1,5 @@
 -- What the calls on the parts of the memory make of the whole.
-use Rattle.std.proofs.Common.{◌≡◌, ℕ, ◌+◌, ◌<◌, inl, inr, List, [], ◌∷◌, ◌++◌, Option, Some, None, Result, Ok, Err, pos, length, replicate, refl, sym, ap, subst, ◌∙◌, arith}
+use Rattle.std.proofs.Common.{◌≡◌, ℕ, ◌+◌, ◌<◌, inl, inr, List, [], ◌∷◌, ◌++◌, false, Option, Some, None, Result, Ok, Err, pos, length, replicate, refl, sym, ap, subst, ◌∙◌, arith}
 use Rattle.std.specs.List.{Contains}
 use Rattle.ms_event.specs.declared.event.Event.{Event}
 use Rattle.ms_event.specs.declared.event.Event.TheVariants as events
@@ -50,9 +50,9 @@ IsPlaceIn-from_place m size (Some base) few placed = (few, placed)
 
 -- ---- what the calls give
 
-pub Makes-entered : (m after : Memory) (size base : ℕ) (kind : Kind) (h : Handle) (e : Event) → IsPlaceIn m size (Some base) → h ≡ handles.Good (m.made + 1) 0 size (pos 0) → e ≡ events.Alloc (m.made + 1) base size → after ≡ entered m base size kind → Makes m size kind h e after
+pub Makes-entered : (m after : Memory) (size base : ℕ) (kind : Kind) (h : Handle) (e : Event) → IsPlaceIn m size (Some base) → h ≡ handles.Good false (m.made + 1) 0 size (pos 0) → e ≡ events.Alloc (m.made + 1) base size → after ≡ entered m base size kind → Makes m size kind h e after
 Makes-entered m after size base kind h e placed is_h is_e is_after =
-    subst (λ (x : Handle). Makes m size kind x e after) (sym is_h) (subst (λ (x : Event). Makes m size kind (handles.Good (m.made + 1) 0 size (pos 0)) x after) (sym is_e) (subst (λ (x : Memory). Makes m size kind (handles.Good (m.made + 1) 0 size (pos 0)) (events.Alloc (m.made + 1) base size) x) (sym is_after) (made placed.0 placed.1)))
+    subst (λ (x : Handle). Makes m size kind x e after) (sym is_h) (subst (λ (x : Event). Makes m size kind (handles.Good false (m.made + 1) 0 size (pos 0)) x after) (sym is_e) (subst (λ (x : Memory). Makes m size kind (handles.Good false (m.made + 1) 0 size (pos 0)) (events.Alloc (m.made + 1) base size) x) (sym is_after) (made placed.0 placed.1)))
 
 pub Makes-refused : (m : Memory) (size : ℕ) (kind : Kind) → IsPlaceIn m size None → Makes m size kind handles.Null (events.Refused size) m
 Makes-refused m size kind none = elim none [ inl all ↦ full all | inr placed ↦ no_room placed ]

@@ -8,20 +8,22 @@ use Rattle.ms_event.specs.declared.event.Event.{Event}
 use Rattle.ms_handle.specs.declared.handle.Handle.{Handle}
 use Rattle.ms_handle.specs.declared.handle.Handle.TheVariants as handles
 use Rattle.ms_handle.specs.declared.handle.Kind.{Kind}
-use Rattle.ms_handle.specs.Handle.{HasBounds, add, farthest, is_near, moved, part, slice}
+use Rattle.ms_handle.specs.Handle.{HasBounds, add, farthest, is_near, moved, part, seal, slice}
 use Rattle.ms_tagged.specs.Bytes.{Byte, IsHandleAt, data_of, pieces, range}
 use Rattle.ms_tagged.proofs.Numbers.{length-data_of}
 use Rattle.ms_tagged.proofs.Ranges.{length-range}
 use Rattle.ms_segment.specs.declared.trap.SegTrap.{SegTrap}
 use Rattle.ms_event.specs.Monitor.{most_live}
-use Rattle.ms_segment.specs.Memory.{Access, IsFit, IsSound, Makes, Memory, access, freed, handle_access, made, read_event, with_bytes}
+use Rattle.ms_segment.specs.Memory.{Access, IsFit, IsSound, Makes, Memory, access, freed, handle_access, made, read_event, with_bytes, writable}
 use Rattle.ms_segment.specs.Parts.{IsPlaceIn, entered, with_ended}
 use Rattle.ms_segment.specs.Calls.{Change, ended_at, free, handle_at, handle_loaded_at, load_handle, made_at, make, place_of, store, store_handle, stored_at}
 use Rattle.ms_segment.proofs.Calls.{IsFit-read, IsPlaceIn-from_place, Makes-refused}
 use Rattle.ms_segment.proofs.Fits.{HasBounds-from_fit, IsFit-add, IsFit-ended, IsFit-entered, IsFit-made, IsFit-slice, IsFit-written}
-use Rattle.ms_segment.proofs.Functions.{IsHandleAt-handle_at, IsPlace-place_of}
-use Rattle.ms_segment.proofs.Reach.{access-within, handle_access-within}
-use Rattle.ms_segment.proofs.Sound.{IsSound-data, IsSound-ended, IsSound-entered, IsSound-pieces, place-within}
+use Rattle.ms_segment.proofs.Functions.{IsHandleAt-handle_at}
+use Rattle.ms_segment.proofs.Places.{IsPlace-place_of}
+use Rattle.ms_segment.proofs.Reach.{handle_access-within, handle_write-within, write-within}
+use Rattle.ms_segment.proofs.Sound.{IsSound-data, IsSound-ended, IsSound-entered, IsSound-pieces}
+use Rattle.ms_segment.proofs.Placing.{place-within}
 
 -- ---- making
 
@@ -41,7 +43,7 @@ make_makes m size kind sound = made_at_makes m size kind _ (place_in m size soun
 made_at_fits : (m : Memory) (size : ℕ) (kind : Kind) (o : Option ℕ) → IsSound m → IsPlaceIn m size o → IsFit (made_at m size kind o).memory (made_at m size kind o).handle
 made_at_fits m size kind None sound placed = tt
 made_at_fits m size kind (Some base) sound placed =
-    IsFit-made m (entered m base size kind) base size kind (handles.Good (m.made + 1) 0 size (pos 0)) (omega (arith, sound.capacity, place-within m.live (length m.bytes) size base placed.1)) sound refl refl
+    IsFit-made m (entered m base size kind) base size kind (handles.Good false (m.made + 1) 0 size (pos 0)) (omega (arith, sound.capacity, place-within m.live (length m.bytes) size base placed.1)) sound refl refl
 
 -- the new handle fits
 pub make_fits : (m : Memory) (size : ℕ) (kind : Kind) → IsSound m → IsFit (make m size kind).memory (make m size kind).handle
@@ -110,27 +112,27 @@ stored_at_made m new width r c is =
 
 -- a number
 pub store_keeps : (m : Memory) (h : Handle) (width value : ℕ) (c : Change) (x : Handle) → store m h width value ≡ Ok c → IsFit m x → IsFit c.memory x
-store_keeps m h width value c x is fit = stored_at_keeps m (data_of width value) width (access m h width) c x is fit
+store_keeps m h width value c x is fit = stored_at_keeps m (data_of width value) width (writable (access m h width)) c x is fit
 
 pub store_sound : (m : Memory) (h : Handle) (width value : ℕ) (c : Change) → IsSound m → IsFit m h → store m h width value ≡ Ok c → IsSound c.memory
 store_sound m h width value c sound fit is =
-    let left = stored_at_leaves m (data_of width value) width (access m h width) c is in
-    subst IsSound left.2 (IsSound-data m left.0.address width value sound (omega (arith, length-data_of width value, access-within m h width left.0 sound fit left.1)))
+    let left = stored_at_leaves m (data_of width value) width (writable (access m h width)) c is in
+    subst IsSound left.2 (IsSound-data m left.0.address width value sound (omega (arith, length-data_of width value, write-within m h width left.0 sound fit left.1)))
 
 pub store_made : (m : Memory) (h : Handle) (width value : ℕ) (c : Change) → store m h width value ≡ Ok c → c.memory.made ≡ m.made
-store_made m h width value c is = stored_at_made m (data_of width value) width (access m h width) c is
+store_made m h width value c is = stored_at_made m (data_of width value) width (writable (access m h width)) c is
 
 -- a handle
 pub store_handle_keeps : (m : Memory) (h v : Handle) (c : Change) (x : Handle) → store_handle m h v ≡ Ok c → IsFit m x → IsFit c.memory x
-store_handle_keeps m h v c x is fit = stored_at_keeps m (pieces v) 16 (handle_access m h) c x is fit
+store_handle_keeps m h v c x is fit = stored_at_keeps m (pieces v) 16 (writable (handle_access m h)) c x is fit
 
 pub store_handle_sound : (m : Memory) (h v : Handle) (c : Change) → IsSound m → IsFit m h → IsFit m v → store_handle m h v ≡ Ok c → IsSound c.memory
 store_handle_sound m h v c sound place value is =
-    let left = stored_at_leaves m (pieces v) 16 (handle_access m h) c is in
-    subst IsSound left.2 (IsSound-pieces m left.0.address v sound value (handle_access-within m h left.0 sound place left.1).0)
+    let left = stored_at_leaves m (pieces v) 16 (writable (handle_access m h)) c is in
+    subst IsSound left.2 (IsSound-pieces m left.0.address v sound value (handle_write-within m h left.0 sound place left.1).0)
 
 pub store_handle_made : (m : Memory) (h v : Handle) (c : Change) → store_handle m h v ≡ Ok c → c.memory.made ≡ m.made
-store_handle_made m h v c is = stored_at_made m (pieces v) 16 (handle_access m h) c is
+store_handle_made m h v c is = stored_at_made m (pieces v) 16 (writable (handle_access m h)) c is
 
 -- ---- loading a handle
 
@@ -152,17 +154,17 @@ load_handle_fits m h g e sound fit is =
 le_from_test : (a b : ℤ) → int_le a b ≡ true → a ≤ℤ b
 le_from_test a b e = grind (arith, ints)
 
-bounds_near : (id base size : ℕ) (to : ℤ) (b : Bool) → is_near to ≡ b → base + size < 4294967296 → HasBounds (cond b (handles.Good id base size to) handles.Broken)
-bounds_near id base size to true near below =
+bounds_near : (sealed : Bool) (id base size : ℕ) (to : ℤ) (b : Bool) → is_near to ≡ b → base + size < 4294967296 → HasBounds (cond b (handles.Good sealed id base size to) handles.Broken)
+bounds_near sealed id base size to true near below =
     let parts = and_parts (int_le (negsuc 1099511627775) to) (int_le to farthest) near in
     (le_from_test (negsuc 1099511627775) to parts.0, le_from_test to farthest parts.1, below)
-bounds_near id base size to false near below = tt
+bounds_near sealed id base size to false near below = tt
 
 bounds_moved : (h : Handle) (distance : ℤ) → HasBounds h → HasBounds (moved h distance)
 bounds_moved handles.Null distance bounds = tt
 bounds_moved handles.Broken distance bounds = tt
-bounds_moved (handles.Good id base size offset) distance bounds =
-    bounds_near id base size (offset +ℤ distance) (is_near (offset +ℤ distance)) refl bounds.2
+bounds_moved (handles.Good sealed id base size offset) distance bounds =
+    bounds_near sealed id base size (offset +ℤ distance) (is_near (offset +ℤ distance)) refl bounds.2
 
 bounds_added : (h : Handle) (distance : ℤ) (b : Bool) → HasBounds h → HasBounds (cond b h (moved h distance))
 bounds_added h distance true bounds = bounds
@@ -173,20 +175,26 @@ pub add_fits : (m : Memory) (h : Handle) (delta : ℤ) (scale : ℕ) → IsFit m
 add_fits m h delta scale fit =
     IsFit-add m h delta scale fit (bounds_added h (delta *ℤ pos scale) (int_eq (delta *ℤ pos scale) (pos 0)) (HasBounds-from_fit m h fit))
 
-bounds_within : (id base size start len : ℕ) (b : Bool) → nat_le (start + len) size ≡ b → base + size < 4294967296 → HasBounds (cond b (handles.Good id (base + start) len (pos 0)) handles.Broken)
-bounds_within id base size start len true within below =
+bounds_within : (sealed : Bool) (id base size start len : ℕ) (b : Bool) → nat_le (start + len) size ≡ b → base + size < 4294967296 → HasBounds (cond b (handles.Good sealed id (base + start) len (pos 0)) handles.Broken)
+bounds_within sealed id base size start len true within below =
     (omega (arith, ints), omega (arith, ints), omega (arith, leb-true (start + len) size within))
-bounds_within id base size start len false within below = tt
+bounds_within sealed id base size start len false within below = tt
 
-bounds_part : (id base size : ℕ) (start : ℤ) (len : ℕ) → base + size < 4294967296 → HasBounds (part id base size start len)
-bounds_part id base size (pos start) len below = bounds_within id base size start len (nat_le (start + len) size) refl below
-bounds_part id base size (negsuc n) len below = tt
+bounds_part : (sealed : Bool) (id base size : ℕ) (start : ℤ) (len : ℕ) → base + size < 4294967296 → HasBounds (part sealed id base size start len)
+bounds_part sealed id base size (pos start) len below = bounds_within sealed id base size start len (nat_le (start + len) size) refl below
+bounds_part sealed id base size (negsuc n) len below = tt
 
 bounds_sliced : (h : Handle) (from len : ℕ) → HasBounds h → HasBounds (slice h from len)
 bounds_sliced handles.Null from len bounds = tt
 bounds_sliced handles.Broken from len bounds = tt
-bounds_sliced (handles.Good id base size offset) from len bounds = bounds_part id base size (offset +ℤ pos from) len bounds.2
+bounds_sliced (handles.Good sealed id base size offset) from len bounds = bounds_part sealed id base size (offset +ℤ pos from) len bounds.2
 
 -- a handle that is sliced fits
 pub slice_fits : (m : Memory) (h : Handle) (from len : ℕ) → IsFit m h → IsFit m (slice h from len)
 slice_fits m h from len fit = IsFit-slice m h from len fit (bounds_sliced h from len (HasBounds-from_fit m h fit))
+
+-- a handle that is sealed fits
+pub seal_fits : (m : Memory) (h : Handle) → IsFit m h → IsFit m (seal h)
+seal_fits m handles.Null fit = tt
+seal_fits m handles.Broken fit = tt
+seal_fits m (handles.Good sealed id base size offset) fit = fit

@@ -1,112 +1,52 @@
 -- The functions of `Calls.antt` are what the relations of `Memory.antt` hold of, and they hold of nothing else.
-use Rattle.std.proofs.Common.{◌≡◌, ◌==◌, ℕ, zero, suc, ◌+◌, ◌*◌, ◌<◌, ◌≤◌, ◌&&◌, Bool, true, false, not, cond, inl, inr, List, [], ◌∷◌, Option, Some, None, Result, Ok, is_some, length, replicate, refl, sym, ap, subst, ◌∙◌, arith}
-use Rattle.std.specs.Prelude.{nat_le, nat_lt}
-use Rattle.std.specs.List.{find, list_any}
+use Rattle.std.proofs.Common.{◌≡◌, ◌==◌, ℕ, zero, suc, ◌+◌, ◌≤◌, ◌&&◌, Bool, true, false, cond, inl, inr, List, [], ◌∷◌, Option, Some, None, Result, Ok, length, replicate, refl, sym, ap, ◌∙◌, arith}
+use Rattle.std.specs.Prelude.{nat_lt}
 use Rattle.std.specs.Ordering.{int_eq}
-use Rattle.std.proofs.lemmas.Bool.{and_from, and_parts, cases_lt, cases_order, cond-false, cond-true, cond_both, eq-eqb, eqb-true, le-leb, leb-true, lt-ltb, not-true, not_from_false, or_cases, or_right, le-ltb, both_ways}
+use Rattle.std.proofs.lemmas.Bool.{and_from, and_parts, both_ways, cond-false, cond-true, cond_both, eq-eqb, eqb-true, le-ltb, lt-ltb}
 use Rattle.std.proofs.lemmas.Bool.Decides.{Decides-int_eq}
 use Rattle.ms_event.specs.declared.event.Event.{Event}
 use Rattle.ms_handle.specs.declared.handle.Handle.{Handle}
 use Rattle.ms_handle.specs.declared.handle.Handle.TheVariants as handles
 use Rattle.ms_handle.specs.declared.handle.Kind.{Kind}
-use Rattle.ms_live.specs.declared.gaps.Live.{Live}
-use Rattle.ms_live.specs.Overlap.{overlaps}
-use Rattle.ms_live.specs.Place.{IsAligned, IsFree, IsPlace}
-use Rattle.ms_live.proofs.Found.{is_some-find}
-use Rattle.ms_live.proofs.Places.{free-from_None, none_at_all, passes, taken}
 use Rattle.ms_tagged.specs.Bytes.{Byte, Data, IsHandleAt, Piece, cleared, data_of, pieces, range, torn, whole}
 use Rattle.ms_tagged.specs.refinement.Tags.{pieces_from}
 use Rattle.ms_tagged.proofs.Handles.{IsHandleAt-unique}
 use Rattle.ms_tagged.proofs.Ranges.{length-range}
 use Rattle.ms_segment.specs.declared.trap.SegTrap.{SegTrap}
 use Rattle.ms_event.specs.Monitor.{most_live}
-use Rattle.ms_segment.specs.Memory.{Access, Frees, IsFit, IsSound, LoadsHandle, Makes, Memory, Stores, access, ended, freed, full, handle_access, made, no_room, read, read_event, stopped, stored}
+use Rattle.ms_segment.specs.Memory.{Access, Frees, IsFit, IsSound, LoadsHandle, Makes, Memory, Stores, access, ended, freed, full, handle_access, made, no_room, read, read_event, stopped, stored, writable}
 use Rattle.ms_segment.specs.Parts.{IsPlaceIn}
-use Rattle.ms_segment.specs.Calls.{DoesChange, are_pieces, are_zeros, ended_at, free, handle_at, handle_loaded_at, is_free, load_handle, make, made_at, place_from, place_of, same_handle, store, store_handle, stored_at}
+use Rattle.ms_segment.specs.Calls.{DoesChange, are_pieces, are_zeros, ended_at, free, handle_at, handle_loaded_at, load_handle, make, made_at, place_of, same_handle, same_sort, store, store_handle, stored_at}
+use Rattle.ms_segment.proofs.Places.{place_of_is}
 use Rattle.ms_segment.proofs.Reach.{handle_access-within}
 
--- ---- whether a place is free
-
-none_from : (o : Option Live) → is_some o ≡ false → o ≡ None
-none_from None e = refl
-none_from (Some s) e = absurd (cc)
-
-free_from_test : (live : List Live) (capacity n place : ℕ) → is_free live capacity n place ≡ true → IsFree live capacity n place
-free_from_test live capacity n place e =
-    elim (or_cases (n == 0) (nat_le (place + n) capacity && not (list_any (overlaps place n) live)) e) [
-      | inl none ↦ λ k below. absurd (omega (arith, eqb-true n 0 none))
-      | inr both ↦ let parts = and_parts (nat_le (place + n) capacity) (not (list_any (overlaps place n) live)) both in
-          free-from_None live capacity n place (leb-true (place + n) capacity parts.0) (none_from (find (overlaps place n) live) (is_some-find (overlaps place n) live ∙ not-true (list_any (overlaps place n) live) parts.1))
-    ]
-
-none_taken : (live : List Live) (capacity n place : ℕ) (o : Option Live) → 0 < n → IsFree live capacity n place → find (overlaps place n) live ≡ o → is_some o ≡ false
-none_taken live capacity n place None some free e = refl
-none_taken live capacity n place (Some s) some free e =
-    absurd (taken live capacity n place place s some e (omega arith) (passes live n place s e) free)
-
-test_from_free : (live : List Live) (capacity n place : ℕ) → IsFree live capacity n place → is_free live capacity n place ≡ true
-test_from_free live capacity zero place free = refl
-test_from_free live capacity (suc n) place free =
-    let last : place + n < capacity = (free n (omega arith)).0 in
-    let apart : list_any (overlaps place (suc n)) live ≡ false = sym (is_some-find (overlaps place (suc n)) live) ∙ none_taken live capacity (suc n) place (find (overlaps place (suc n)) live) (omega arith) free refl in
-    or_right (suc n == 0) _ (and_from (nat_le (place + suc n) capacity) _ (le-leb (place + suc n) capacity (omega arith)) (not_from_false (list_any (overlaps place (suc n)) live) apart))
-
--- ---- the least place
-
--- past the capacity nothing is free, but for no bytes, which lie at 0
-none_past : (live : List Live) (capacity n place : ℕ) → capacity < place → ((lower : ℕ) → lower < place → IsAligned lower → ¬ (IsFree live capacity n lower)) → (at : ℕ) → IsAligned at → ¬ (IsFree live capacity n at)
-none_past live capacity zero place past none_below at aligned free = none_below 0 (omega arith) refl (λ k below. absurd (omega arith))
-none_past live capacity (suc n) place past none_below at aligned free =
-    none_at_all live capacity (suc n) place (omega arith) (omega arith) none_below at aligned free
-
--- the next multiple of 16 is the next place
-none_below_more : (live : List Live) (capacity n place : ℕ) → IsAligned place → is_free live capacity n place ≡ false → ((lower : ℕ) → lower < place → IsAligned lower → ¬ (IsFree live capacity n lower)) → (lower : ℕ) → lower < place + 16 → IsAligned lower → ¬ (IsFree live capacity n lower)
-none_below_more live capacity n place aligned not_free none_below lower below lower_aligned free =
-    elim (cases_lt lower place) [
-      | inl less ↦ none_below lower less lower_aligned free
-      | inr from ↦ let same : lower ≡ place = omega arith in
-          both_ways (is_free live capacity n place) not_free (test_from_free live capacity n place (subst (IsFree live capacity n) same free))
-    ]
-
-place_from_is_place : (live : List Live) (capacity n steps place : ℕ) → IsAligned place → capacity < place + 16 * steps → ((lower : ℕ) → lower < place → IsAligned lower → ¬ (IsFree live capacity n lower)) → IsPlace live capacity n (place_from live capacity n steps place)
-place_from_is_place live capacity n zero place aligned past none_below = none_past live capacity n place (omega arith) none_below
-place_from_is_place live capacity n (suc steps) place aligned past none_below =
-    cond_both (is_free live capacity n place) (Some place) (place_from live capacity n steps (place + 16)) (IsPlace live capacity n) (λ free. (aligned, free_from_test live capacity n place free, none_below)) (λ taken'. place_from_is_place live capacity n steps (place + 16) (omega arith) (omega arith) (none_below_more live capacity n place aligned taken' none_below))
-
-pub IsPlace-place_of : (live : List Live) (capacity n : ℕ) → IsPlace live capacity n (place_of live capacity n)
-IsPlace-place_of live capacity n = place_from_is_place live capacity n (suc capacity) 0 refl (omega arith) (λ lower below aligned free. absurd (omega arith))
-
-pub IsPlace-unique : (live : List Live) (capacity n : ℕ) (o p : Option ℕ) → IsPlace live capacity n o → IsPlace live capacity n p → o ≡ p
-IsPlace-unique live capacity n None None one other = refl
-IsPlace-unique live capacity n None (Some place) one other = absurd (one place other.0 other.1)
-IsPlace-unique live capacity n (Some place) None one other = absurd (other place one.0 one.1)
-IsPlace-unique live capacity n (Some place) (Some place') one other =
-    elim (cases_order place place') [
-      | inl same ↦ ap Some same
-      | inr apart ↦ elim apart [
-        | inl below ↦ absurd (other.2 place below one.0 one.1)
-        | inr above ↦ absurd (one.2 place' above other.0 other.1)
-      ]
-    ]
-
-pub place_of_is : (live : List Live) (capacity n : ℕ) (o : Option ℕ) → IsPlace live capacity n o → o ≡ place_of live capacity n
-place_of_is live capacity n o placed = IsPlace-unique live capacity n o (place_of live capacity n) placed (IsPlace-place_of live capacity n)
-
 -- ---- the handle that sixteen bytes are
+
+sort_from_test : (a b : Bool) → same_sort a b ≡ true → a ≡ b
+sort_from_test true true e = refl
+sort_from_test true false e = absurd (cc)
+sort_from_test false true e = absurd (cc)
+sort_from_test false false e = refl
+
+same_sort-refl : (a : Bool) → same_sort a a ≡ true
+same_sort-refl true = refl
+same_sort-refl false = refl
 
 same_from_test : (g h : Handle) → same_handle g h ≡ true → g ≡ h
 same_from_test handles.Null handles.Null e = refl
 same_from_test handles.Null handles.Broken e = absurd (cc)
-same_from_test handles.Null (handles.Good id base size offset) e = absurd (cc)
+same_from_test handles.Null (handles.Good sealed id base size offset) e = absurd (cc)
 same_from_test handles.Broken handles.Null e = absurd (cc)
 same_from_test handles.Broken handles.Broken e = refl
-same_from_test handles.Broken (handles.Good id base size offset) e = absurd (cc)
-same_from_test (handles.Good id base size offset) handles.Null e = absurd (cc)
-same_from_test (handles.Good id base size offset) handles.Broken e = absurd (cc)
-same_from_test (handles.Good id base size offset) (handles.Good id' base' size' offset') e =
-    let first = and_parts (id == id') ((base == base') && ((size == size') && int_eq offset offset')) e in
+same_from_test handles.Broken (handles.Good sealed id base size offset) e = absurd (cc)
+same_from_test (handles.Good sealed id base size offset) handles.Null e = absurd (cc)
+same_from_test (handles.Good sealed id base size offset) handles.Broken e = absurd (cc)
+same_from_test (handles.Good sealed id base size offset) (handles.Good sealed' id' base' size' offset') e =
+    let sort = and_parts (same_sort sealed sealed') ((id == id') && ((base == base') && ((size == size') && int_eq offset offset'))) e in
+    let first = and_parts (id == id') ((base == base') && ((size == size') && int_eq offset offset')) sort.1 in
     let second = and_parts (base == base') ((size == size') && int_eq offset offset') first.1 in
     let third = and_parts (size == size') (int_eq offset offset') second.1 in
+    let is_sort : sealed ≡ sealed' = sort_from_test sealed sealed' sort.0 in
     let is_id : id ≡ id' = eqb-true id id' first.0 in
     let is_base : base ≡ base' = eqb-true base base' second.0 in
     let is_size : size ≡ size' = eqb-true size size' third.0 in
@@ -116,8 +56,8 @@ same_from_test (handles.Good id base size offset) (handles.Good id' base' size' 
 same_handle-refl : (h : Handle) → same_handle h h ≡ true
 same_handle-refl handles.Null = refl
 same_handle-refl handles.Broken = refl
-same_handle-refl (handles.Good id base size offset) =
-    and_from (id == id) _ (eq-eqb id id refl) (and_from (base == base) _ (eq-eqb base base refl) (and_from (size == size) _ (eq-eqb size size refl) ((Decides-int_eq offset offset).1 refl)))
+same_handle-refl (handles.Good sealed id base size offset) =
+    and_from (same_sort sealed sealed) _ (same_sort-refl sealed) (and_from (id == id) _ (eq-eqb id id refl) (and_from (base == base) _ (eq-eqb base base refl) (and_from (size == size) _ (eq-eqb size size refl) ((Decides-int_eq offset offset).1 refl))))
 
 zeros_from_test : (bytes : List Byte) → are_zeros bytes ≡ true → bytes ≡ replicate (length bytes) (Data 0)
 zeros_from_test [] e = refl
@@ -216,9 +156,9 @@ stored_at_is : (m after : Memory) (new : List Byte) (width : ℕ) (r : Result Ac
 stored_at_is m after new width r result stored = refl
 stored_at_is m after new width r result stopped = (refl, refl)
 
-pub stores_alone : (m after : Memory) (h : Handle) (width value : ℕ) (result : Result Event SegTrap) → Stores m (data_of width value) width (access m h width) result after → DoesChange (store m h width value) m after result
+pub stores_alone : (m after : Memory) (h : Handle) (width value : ℕ) (result : Result Event SegTrap) → Stores m (data_of width value) width (writable (access m h width)) result after → DoesChange (store m h width value) m after result
 stores_alone m after h width value result stores =
-    stored_at_is m after (data_of width value) width (access m h width) result stores
+    stored_at_is m after (data_of width value) width (writable (access m h width)) result stores
 
-pub stores_handle_alone : (m after : Memory) (h v : Handle) (result : Result Event SegTrap) → Stores m (pieces v) 16 (handle_access m h) result after → DoesChange (store_handle m h v) m after result
-stores_handle_alone m after h v result stores = stored_at_is m after (pieces v) 16 (handle_access m h) result stores
+pub stores_handle_alone : (m after : Memory) (h v : Handle) (result : Result Event SegTrap) → Stores m (pieces v) 16 (writable (handle_access m h)) result after → DoesChange (store_handle m h v) m after result
+stores_handle_alone m after h v result stores = stored_at_is m after (pieces v) 16 (writable (handle_access m h)) result stores

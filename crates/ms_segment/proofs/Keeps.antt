@@ -8,9 +8,9 @@ use Rattle.ms_tagged.specs.Bytes.{Byte, Data, data_of, pieces}
 use Rattle.ms_tagged.proofs.Numbers.{length-data_of}
 use Rattle.ms_tagged.proofs.Ranges.{length-overwritten}
 use Rattle.ms_segment.specs.declared.trap.SegTrap.{SegTrap}
-use Rattle.ms_segment.specs.Memory.{Access, Frees, IsFit, IsSound, Makes, Memory, Stores, access, ended, full, handle_access, made, no_room, stopped, stored}
-use Rattle.ms_segment.proofs.Reach.{access-within, handle_access-within}
-use Rattle.ms_segment.proofs.Sound.{place-within}
+use Rattle.ms_segment.specs.Memory.{Access, Frees, IsFit, IsSound, Makes, Memory, Stores, access, ended, full, handle_access, made, no_room, stopped, stored, writable}
+use Rattle.ms_segment.proofs.Reach.{handle_write-within, write-within}
+use Rattle.ms_segment.proofs.Placing.{place-within}
 
 -- ---- the number of bytes
 
@@ -32,14 +32,14 @@ length_stores m new width r result after (stored {a}) within = length-overwritte
 length_stores m new width r result after stopped within = refl
 
 -- of a number
-pub length-Stores : (m : Memory) (h : Handle) (width value : ℕ) (result : Result Event SegTrap) (after : Memory) → IsSound m → IsFit m h → Stores m (data_of width value) width (access m h width) result after → length after.bytes ≡ length m.bytes
+pub length-Stores : (m : Memory) (h : Handle) (width value : ℕ) (result : Result Event SegTrap) (after : Memory) → IsSound m → IsFit m h → Stores m (data_of width value) width (writable (access m h width)) result after → length after.bytes ≡ length m.bytes
 length-Stores m h width value result after sound fit stores =
-    length_stores m (data_of width value) width (access m h width) result after stores (λ a is. omega (arith, length-data_of width value, access-within m h width a sound fit is))
+    length_stores m (data_of width value) width (writable (access m h width)) result after stores (λ a is. omega (arith, length-data_of width value, write-within m h width a sound fit is))
 
 -- of a handle
-pub length-Stores_handle : (m : Memory) (h v : Handle) (result : Result Event SegTrap) (after : Memory) → IsSound m → IsFit m h → Stores m (pieces v) 16 (handle_access m h) result after → length after.bytes ≡ length m.bytes
+pub length-Stores_handle : (m : Memory) (h v : Handle) (result : Result Event SegTrap) (after : Memory) → IsSound m → IsFit m h → Stores m (pieces v) 16 (writable (handle_access m h)) result after → length after.bytes ≡ length m.bytes
 length-Stores_handle m h v result after sound fit stores =
-    length_stores m (pieces v) 16 (handle_access m h) result after stores (λ a is. (handle_access-within m h a sound fit is).0)
+    length_stores m (pieces v) 16 (writable (handle_access m h)) result after stores (λ a is. (handle_write-within m h a sound fit is).0)
 
 -- ---- the number of identities
 

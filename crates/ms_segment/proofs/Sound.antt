@@ -1,21 +1,22 @@
 -- The memory stays sound, whatever is done to it.
-use Rattle.std.proofs.Common.{◌≡◌, ◌==◌, ℕ, ◌+◌, ◌-◌, ◌<◌, ◌≤◌, not, zero, suc, inl, inr, List, [], ◌∷◌, ◌++◌, Some, get_or, length, replicate, sym, refl, subst, arith}
+use Rattle.std.proofs.Common.{◌≡◌, ◌==◌, ℕ, ◌+◌, ◌<◌, ◌≤◌, not, zero, suc, inl, inr, List, [], ◌∷◌, Some, length, replicate, sym, refl, subst, arith}
 use Rattle.std.specs.List.{All, Contains}
 use Rattle.std.proofs.Common.{length-append}
-use Rattle.std.proofs.lemmas.List.Elements.{All-cons, All-contains, All-filter, All-map, All-nil, All-push, All-replicate, All-weaker}
+use Rattle.std.proofs.lemmas.List.Elements.{All-cons, All-contains, All-map, All-nil, All-replicate}
 use Rattle.std.proofs.lemmas.List.Kept.{AllPairs-filter}
 use Rattle.std.proofs.lemmas.List.Quantifiers.{all_pairs_push}
 use Rattle.std.proofs.lemmas.List.{length-replicate}
 use Rattle.ms_handle.specs.declared.handle.Handle.{Handle}
 use Rattle.ms_handle.specs.declared.handle.Kind.{Kind}
 use Rattle.ms_live.specs.declared.gaps.Live.{Live}
-use Rattle.ms_live.specs.Place.{IsOutside, IsPlace, without}
+use Rattle.ms_live.specs.Place.{IsPlace, without}
 use Rattle.ms_tagged.specs.Bytes.{Byte, Data, Piece, data_of, overwritten, pieces}
 use Rattle.ms_tagged.proofs.Ranges.{length-overwritten}
 use Rattle.ms_event.specs.Monitor.{most_live}
-use Rattle.ms_segment.specs.Memory.{AreApart, IsFit, IsSound, IsWithin, Memory, once_more, with_bytes}
+use Rattle.ms_segment.specs.Memory.{IsFit, IsSound, Memory, once_more, with_bytes}
 use Rattle.ms_segment.specs.Parts.{entered}
 use Rattle.ms_segment.proofs.Finds.{Contains-overwritten, length-filter_le}
+use Rattle.ms_segment.proofs.Placing.{Placed-ended, Placed-entered, Placed-new, Placed-once_more, Placed-written, place-within}
 use Rattle.ms_segment.proofs.Fits.{IsFit-ended, IsFit-entered, IsFit-once_more, IsFit-written}
 
 -- ---- pieces among bytes
@@ -49,9 +50,7 @@ sound_write m address new s within fits =
     record {
       capacity = omega arith;
       few = s.few;
-      within = subst (λ n. All (IsWithin n) m.live) (sym same) s.within;
-      apart = s.apart;
-      ids = s.ids;
+      placed = Placed-written m address new s.placed within;
       rising = s.rising;
       kept = λ h i has.
           IsFit-written m address new h (elim (Contains-overwritten address new m.bytes (Piece h i) has) [ inl here ↦ fits h i here | inr old ↦ s.kept h i old ]);
@@ -73,9 +72,7 @@ pub IsSound-once_more : (m : Memory) → IsSound m → IsSound (once_more m)
 IsSound-once_more m s = record {
   capacity = s.capacity;
   few = s.few;
-  within = s.within;
-  apart = s.apart;
-  ids = s.ids;
+  placed = Placed-once_more m s.placed;
   rising = s.rising;
   kept = λ h i has. IsFit-once_more m h (s.kept h i has);
 }
@@ -86,27 +83,12 @@ pub IsSound-ended : (m : Memory) (id : ℕ) → IsSound m → IsSound (record { 
 IsSound-ended m id s = record {
   capacity = s.capacity;
   few = omega (arith, s.few, length-filter_le (λ (t : Live). not (t.id == id)) m.live);
-  within = All-filter _ (IsWithin (length m.bytes)) m.live s.within;
-  apart = AllPairs-filter AreApart _ m.live s.apart;
-  ids = All-filter _ (λ (t : Live). (1 ≤ t.id) × (t.id ≤ m.made)) m.live s.ids;
+  placed = Placed-ended m id s.placed;
   rising = AllPairs-filter (λ (t u : Live). t.id < u.id) _ m.live s.rising;
   kept = λ h i has. IsFit-ended m id h (s.kept h i has);
 }
 
 -- ---- after one more segment
-
--- a segment at its place lies within the capacity, also one of no bytes, which lies at 0
-pub place-within : (live : List Live) (capacity size base : ℕ) → IsPlace live capacity size (Some base) → base + size ≤ capacity
-place-within live capacity zero zero placed = omega arith
-place-within live capacity zero (suc base) placed = absurd (placed.2 0 (omega arith) refl (λ k below. absurd (omega arith)))
-place-within live capacity (suc size) base placed = let last = (placed.1 size (omega arith)).0 in omega arith
-
-apart_new : (live : List Live) (capacity size base id : ℕ) (kind : Kind) (t : Live) → ((k : ℕ) → k < size → IsOutside (base + k) t) → AreApart t (record { id = id; base = base; size = size; kind = kind })
-apart_new live capacity size base id kind t out address from to from' to' =
-    let k : ℕ = address - base in
-    let at : base + k ≡ address = omega arith in
-    let beyond : t.base + t.size ≤ base + k = out k (omega arith) (omega arith) in
-    omega arith
 
 pub IsSound-entered : (m : Memory) (base size : ℕ) (kind : Kind) → IsSound m → length m.live < most_live → IsPlace m.live (length m.bytes) size (Some base) → IsSound (entered m base size kind)
 IsSound-entered m base size kind s few placed =
@@ -117,10 +99,8 @@ IsSound-entered m base size kind s few placed =
     record {
       capacity = omega arith;
       few = omega (arith, length-append m.live (new ∷ []));
-      within = subst (λ n. All (IsWithin n) (m.live ++ new ∷ [])) (sym same) (All-push (IsWithin (length m.bytes)) m.live new s.within (within, placed.0));
-      apart = all_pairs_push AreApart m.live new s.apart (λ k d below. apart_new m.live (length m.bytes) size base (m.made + 1) kind (get_or m.live k d) (λ j under. (placed.1 j under).1 k d below));
-      ids = All-push (λ (t : Live). (1 ≤ t.id) × (t.id ≤ m.made + 1)) m.live new (All-weaker (λ (t : Live). (1 ≤ t.id) × (t.id ≤ m.made)) (λ (t : Live). (1 ≤ t.id) × (t.id ≤ m.made + 1)) (λ t id. (id.0, omega arith)) m.live s.ids) (omega arith, omega arith);
-      rising = all_pairs_push (λ (t u : Live). t.id < u.id) m.live new s.rising (λ k d below. let id = s.ids k d below in omega arith);
+      placed = Placed-entered m base size kind s.placed placed;
+      rising = all_pairs_push (λ (t u : Live). t.id < u.id) m.live new s.rising (λ k d below. let id = s.placed.ids k d below in omega arith);
       kept = λ h i has.
           IsFit-entered m base size kind h (elim (Contains-overwritten base (replicate size (Data 0)) m.bytes (Piece h i) has) [ inl here ↦ absurd (no_piece (replicate size (Data 0)) (All-replicate IsData size (Data 0) tt) h i here) | inr old ↦ s.kept h i old ]);
     }
@@ -132,9 +112,7 @@ IsSound-new capacity below =
     record {
       capacity = omega arith;
       few = omega arith;
-      within = All-nil (IsWithin (length (replicate capacity (Data 0))));
-      apart = λ i j d first below. absurd (omega arith);
-      ids = All-nil (λ (t : Live). (1 ≤ t.id) × (t.id ≤ 0));
+      placed = Placed-new capacity;
       rising = λ i j d first below. absurd (omega arith);
       kept = λ h i has. absurd (no_piece (replicate capacity (Data 0)) (All-replicate IsData capacity (Data 0) tt) h i has);
     }

@@ -12,7 +12,7 @@ use Rattle.ms_live.specs.declared.gaps.Live.{Live}
 use Rattle.ms_live.specs.Overlap.{overlaps}
 use Rattle.ms_tagged.specs.Bytes.{Byte, Data, Piece, data_of, pieces, range}
 use Rattle.ms_event.specs.Monitor.{most_live}
-use Rattle.ms_segment.specs.Memory.{Access, Memory, access, freed, handle_access, read_event, with_bytes, write_event}
+use Rattle.ms_segment.specs.Memory.{Access, Memory, access, freed, handle_access, read_event, with_bytes, writable, write_event}
 use Rattle.ms_segment.specs.Parts.{entered, with_ended}
 use Rattle.ms_segment.specs.declared.trap.SegTrap.{SegTrap}
 
@@ -30,10 +30,16 @@ place_of live capacity n = place_from live capacity n (suc capacity) 0
 
 -- ---- the handle that sixteen bytes are
 
+-- both are sealed, or neither
+abbrev pub same_sort : Bool → Bool → Bool
+same_sort true true = true
+same_sort false false = true
+same_sort _ _ = false
+
 abbrev pub same_handle : Handle → Handle → Bool
 same_handle handles.Null handles.Null = true
 same_handle handles.Broken handles.Broken = true
-same_handle (handles.Good id base size offset) (handles.Good id' base' size' offset') = (id == id') && ((base == base') && ((size == size') && int_eq offset offset'))
+same_handle (handles.Good sealed id base size offset) (handles.Good sealed' id' base' size' offset') = same_sort sealed sealed' && ((id == id') && ((base == base') && ((size == size') && int_eq offset offset')))
 same_handle _ _ = false
 
 -- the pieces of a handle, from this number on
@@ -63,7 +69,7 @@ pub record Made : Type 0 where
 abbrev pub made_at : Memory → ℕ → Kind → Option ℕ → Made
 made_at m size kind None = record { handle = handles.Null; event = events.Refused size; memory = m }
 made_at m size kind (Some base) = record {
-  handle = handles.Good (m.made + 1) 0 size (pos 0);
+  handle = handles.Good false (m.made + 1) 0 size (pos 0);
   event = events.Alloc (m.made + 1) base size;
   memory = entered m base size kind;
 }
@@ -88,10 +94,10 @@ stored_at m new width (Ok a) = Ok (record { event = write_event a width; memory 
 stored_at m new width (Err e) = Err e
 
 abbrev pub store : Memory → Handle → ℕ → ℕ → Result Change SegTrap
-store m h width value = stored_at m (data_of width value) width (access m h width)
+store m h width value = stored_at m (data_of width value) width (writable (access m h width))
 
 abbrev pub store_handle : Memory → Handle → Handle → Result Change SegTrap
-store_handle m h v = stored_at m (pieces v) 16 (handle_access m h)
+store_handle m h v = stored_at m (pieces v) 16 (writable (handle_access m h))
 
 abbrev pub handle_loaded_at : Memory → Result Access SegTrap → Result (Handle × Event) SegTrap
 handle_loaded_at m (Ok a) = Ok (handle_at (range a.address 16 m.bytes), read_event a 16)

@@ -33,7 +33,7 @@ live_of m id = find (λ s. s.id == id) m.live
 abbrev pub IsFit : Memory → Handle → Type 0
 IsFit m handles.Null = ⊤
 IsFit m handles.Broken = ⊤
-IsFit m (handles.Good id base size offset) = (1 ≤ id) × (id ≤ m.made) × HasBounds (handles.Good id base size offset) × ((s : Live) → live_of m id ≡ Some s → base + size ≤ s.size)
+IsFit m (handles.Good sealed id base size offset) = (1 ≤ id) × (id ≤ m.made) × HasBounds (handles.Good sealed id base size offset) × ((s : Live) → live_of m id ≡ Some s → base + size ≤ s.size)
 
 -- ---- what always holds of it
 
@@ -44,13 +44,17 @@ IsWithin capacity s = (s.base + s.size ≤ capacity) × (s.base % 16 ≡ 0)
 abbrev pub AreApart : Live → Live → Type 0
 AreApart s t = (address : ℕ) → s.base ≤ address → address < s.base + s.size → t.base ≤ address → address < t.base + t.size → ⊥
 
+-- the live segments lie within the capacity at multiples of 16, share no address, and have identities that were made
+pub record Placed (m : Memory) : Type 0 where
+  pub within : All (IsWithin (length m.bytes)) m.live
+  pub apart : AllPairs AreApart m.live
+  pub ids : All (λ (s : Live). (1 ≤ s.id) × (s.id ≤ m.made)) m.live
+
 pub record IsSound (m : Memory) : Type 0 where
   pub capacity : length m.bytes < 4294967296
   pub few : length m.live ≤ most_live
-  pub within : All (IsWithin (length m.bytes)) m.live
-  pub apart : AllPairs AreApart m.live
-  -- identities rise from 1 to the number made
-  pub ids : All (λ (s : Live). (1 ≤ s.id) × (s.id ≤ m.made)) m.live
+  pub placed : Placed m
+  -- identities rise
   pub rising : AllPairs (λ (s t : Live). s.id < t.id) m.live
   pub kept : (handle : Handle) (i : ℕ) → Contains m.bytes (Piece handle i) → IsFit m handle
 
@@ -59,7 +63,7 @@ pub record IsSound (m : Memory) : Type 0 where
 -- a segment of this size and kind is made: at the least place, with bytes 0 and the next identity; or there is no room
 pub data Makes (m : Memory) (size : ℕ) (kind : Kind) : Handle → Event → Memory → Type 0 where
   made : {base : ℕ} → length m.live < most_live → IsPlace m.live (length m.bytes) size (Some base)
-      → Makes m size kind (handles.Good (m.made + 1) 0 size (pos 0)) (events.Alloc (m.made + 1) base size) (record {
+      → Makes m size kind (handles.Good false (m.made + 1) 0 size (pos 0)) (events.Alloc (m.made + 1) base size) (record {
         bytes = overwritten base (replicate size (Data 0)) m.bytes;
         live = m.live ++ record { id = m.made + 1; base = base; size = size; kind = kind } ∷ [];
         made = m.made + 1;
@@ -77,20 +81,20 @@ same_kind _ _ = false
 abbrev pub is_whole : ℕ → ℕ → ℤ → Live → Bool
 is_whole base size offset s = (base == 0) && int_eq offset (pos 0) && (size == s.size)
 
--- what freeing a live segment gives
-abbrev pub ends : Live → ℕ → ℕ → ℤ → Kind → Result ℕ SegTrap
-ends s base size offset kind =
-    if is_whole base size offset s then (if same_kind s.kind kind then Ok s.id else Err traps.Kind) else Err traps.Whole
+-- what freeing a live segment gives, by a handle that may be sealed
+abbrev pub ends : Live → Bool → ℕ → ℕ → ℤ → Kind → Result ℕ SegTrap
+ends s sealed base size offset kind =
+    if is_whole base size offset s then (if same_kind s.kind kind then (if sealed then Err traps.Readonly else Ok s.id) else Err traps.Kind) else Err traps.Whole
 
-abbrev pub ends_if : Option Live → ℕ → ℕ → ℤ → Kind → Result ℕ SegTrap
-ends_if None base size offset kind = Err traps.Freed
-ends_if (Some s) base size offset kind = ends s base size offset kind
+abbrev pub ends_if : Option Live → Bool → ℕ → ℕ → ℤ → Kind → Result ℕ SegTrap
+ends_if None sealed base size offset kind = Err traps.Freed
+ends_if (Some s) sealed base size offset kind = ends s sealed base size offset kind
 
 -- the identity that ends, or the first check that fails
 abbrev pub freed : Memory → Handle → Kind → Result ℕ SegTrap
 freed m handles.Null kind = Err traps.Null
 freed m handles.Broken kind = Err traps.Invalid
-freed m (handles.Good id base size offset) kind = ends_if (live_of m id) base size offset kind
+freed m (handles.Good sealed id base size offset) kind = ends_if (live_of m id) sealed base size offset kind
 
 -- ---- accesses
 
@@ -102,27 +106,28 @@ risen n = min (n + 1) 18446744073709551615
 abbrev pub once_more : Memory → Memory
 once_more m = record { bytes = m.bytes; live = m.live; made = m.made; accesses = risen m.accesses }
 
--- where an access goes: its address, and its shade
+-- where an access goes: its address, its shade, and whether the handle that it goes through is sealed
 pub record Access : Type 0 where
   pub address : ℕ
   pub id : ℕ
   pub lo : ℕ
   pub hi : ℕ
+  pub sealed : Bool
 
-abbrev pub accessed : Live → ℕ → ℕ → ℤ → ℕ → Result Access SegTrap
-accessed s base size (pos offset) width =
-    if nat_le (offset + width) size then Ok (record { address = s.base + base + offset; id = s.id; lo = base; hi = base + size }) else Err traps.Bounds
-accessed s base size (negsuc n) width = Err traps.Bounds
+abbrev pub accessed : Live → Bool → ℕ → ℕ → ℤ → ℕ → Result Access SegTrap
+accessed s sealed base size (pos offset) width =
+    if nat_le (offset + width) size then Ok (record { address = s.base + base + offset; id = s.id; lo = base; hi = base + size; sealed = sealed }) else Err traps.Bounds
+accessed s sealed base size (negsuc n) width = Err traps.Bounds
 
-abbrev pub accessed_if : Option Live → ℕ → ℕ → ℤ → ℕ → Result Access SegTrap
-accessed_if None base size offset width = Err traps.Freed
-accessed_if (Some s) base size offset width = accessed s base size offset width
+abbrev pub accessed_if : Option Live → Bool → ℕ → ℕ → ℤ → ℕ → Result Access SegTrap
+accessed_if None sealed base size offset width = Err traps.Freed
+accessed_if (Some s) sealed base size offset width = accessed s sealed base size offset width
 
 -- the access of so many bytes through a handle, or the first check that fails
 abbrev pub access : Memory → Handle → ℕ → Result Access SegTrap
 access m handles.Null width = Err traps.Null
 access m handles.Broken width = Err traps.Invalid
-access m (handles.Good id base size offset) width = accessed_if (live_of m id) base size offset width
+access m (handles.Good sealed id base size offset) width = accessed_if (live_of m id) sealed base size offset width
 
 -- the same of a handle, which lies at a multiple of 16
 abbrev pub aligned : Result Access SegTrap → Result Access SegTrap
@@ -132,8 +137,13 @@ aligned (Err e) = Err e
 abbrev pub handle_access : Memory → Handle → Result Access SegTrap
 handle_access m h = aligned (access m h 16)
 
+-- the same of a write, for which the handle may not be sealed
+abbrev pub writable : Result Access SegTrap → Result Access SegTrap
+writable (Ok a) = if a.sealed then Err traps.Readonly else Ok a
+writable (Err e) = Err e
+
 abbrev pub read_event : Access → ℕ → Event
-read_event a width = events.Read a.id a.lo a.hi a.address width
+read_event a width = events.Read a.sealed a.id a.lo a.hi a.address width
 
 abbrev pub write_event : Access → ℕ → Event
 write_event a width = events.Write a.id a.lo a.hi a.address width

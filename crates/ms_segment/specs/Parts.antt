@@ -9,7 +9,7 @@ use Rattle.ms_tagged.specs.Bytes.{Data, overwritten}
 
 -- the access that the program's record of one says
 abbrev pub access_of : Spot → Access
-access_of a = record { address = a.address; id = a.id; lo = a.lo; hi = a.hi }
+access_of a = record { address = a.address; id = a.id; lo = a.lo; hi = a.hi; sealed = a.sealed }
 
 -- the place for a segment of this size, or none where no more may be live or none is free
 abbrev pub IsPlaceIn : Memory → ℕ → Option ℕ → Type 0

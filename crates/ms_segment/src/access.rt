@@ -1,8 +1,8 @@
 //! Where an access goes.
 
-ghost use Rattle.std.specs.Prelude.{◌≡◌, ◌+◌, ◌<◌, ◌≤◌, ◌^◌, MatchResult, negsuc, ◌≤ℤ◌};
+ghost use Rattle.std.specs.Prelude.{◌≡◌, Ok, Err, ◌+◌, ◌<◌, ◌≤◌, ◌^◌, MatchResult, negsuc, ◌≤ℤ◌};
 ghost use Rattle.ms_handle.specs.Handle.{farthest};
-ghost use Rattle.ms_segment.specs.Memory.{accessed, ends, read_event, write_event};
+ghost use Rattle.ms_segment.specs.Memory.{accessed, ends, read_event, writable, write_event};
 ghost use Rattle.ms_segment.specs.Parts.{access_of};
 
 use crate::trap::SegTrap;
@@ -21,6 +21,8 @@ pub(crate) struct Access {
     pub(crate) lo: u32,
     /// The place in the segment where the handle's bound ends.
     pub(crate) hi: u32,
+    /// Whether the handle is sealed.
+    pub(crate) sealed: bool,
 }
 
 impl Access {
@@ -29,11 +31,23 @@ impl Access {
         ensures { result ≡ read_event (access_of self) width }
     {
         Event::Read {
+            sealed: self.sealed,
             id: self.id,
             lo: self.lo,
             hi: self.hi,
             addr: self.address,
             width,
+        }
+    }
+
+    /// The access as a write, which goes through no sealed handle.
+    pub(crate) fn to_write(self) -> Result<Access, SegTrap>
+        ensures { MatchResult result (λ a. writable (Ok (access_of self)) ≡ Ok (access_of a)) (λ e. writable (Ok (access_of self)) ≡ Err e) }
+    {
+        if self.sealed {
+            Err(SegTrap::Readonly)
+        } else {
+            Ok(self)
         }
     }
 
@@ -51,9 +65,10 @@ impl Access {
     }
 }
 
-/// Where the access of so many bytes goes, at an offset in a part of a live segment.
+/// Where the access of so many bytes goes, at an offset in a part of a live segment, through a handle that may be sealed.
 pub(crate) fn access_in(
     segment: Live,
+    sealed: bool,
     base: u32,
     size: u32,
     offset: i64,
@@ -63,7 +78,7 @@ pub(crate) fn access_in(
     requires high { offset ≤ℤ farthest }
     requires part { base + size ≤ segment.size }
     requires within { segment.base + segment.size < 2 ^ 32 }
-    ensures { MatchResult result (λ a. accessed segment base size offset width ≡ Ok (access_of a)) (λ e. accessed segment base size offset width ≡ Err e) }
+    ensures { MatchResult result (λ a. accessed segment sealed base size offset width ≡ Ok (access_of a)) (λ e. accessed segment sealed base size offset width ≡ Err e) }
 {
     if offset < 0 || i64::from(size) < offset + i64::from(width) {
         return Err(SegTrap::Bounds);
@@ -73,24 +88,29 @@ pub(crate) fn access_in(
         id: segment.id,
         lo: base,
         hi: base + size,
+        sealed,
     })
 }
 
-/// The identity of a live segment that ends by a handle of this bound and offset, and a kind.
+/// The identity of a live segment that ends by a handle of this bound and offset, which may be sealed, and a kind.
 pub(crate) fn end_of(
     segment: Live,
+    sealed: bool,
     base: u32,
     size: u32,
     offset: i64,
     kind: Kind,
 ) -> Result<u64, SegTrap>
-    ensures { result ≡ ends segment base size offset kind }
+    ensures { result ≡ ends segment sealed base size offset kind }
 {
     if base != 0 || offset != 0 || size != segment.size {
         return Err(SegTrap::Whole);
     }
     if segment.kind != kind {
         return Err(SegTrap::Kind);
+    }
+    if sealed {
+        return Err(SegTrap::Readonly);
     }
     Ok(segment.id)
 }

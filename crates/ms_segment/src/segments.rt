@@ -1,11 +1,11 @@
 //! The segment memory: making, accessing and freeing segments.
 
-ghost use Rattle.std.specs.Prelude.{◌≡◌, ◌+◌, ◌<◌, ◌≤◌, ◌^◌, ℕ, List, [], Some, IfOk, MatchResult, length, pos, replicate, slice_get};
+ghost use Rattle.std.specs.Prelude.{◌≡◌, ◌+◌, ◌<◌, ◌≤◌, ◌^◌, ℕ, List, [], Some, false, IfOk, MatchResult, length, pos, replicate, slice_get};
 ghost use Rattle.ms_handle.specs.declared.handle.Handle.{Handle};
 ghost use Rattle.ms_live.specs.Place.{IsPlace};
 ghost use Rattle.ms_live.specs.declared.gaps.Live.{Live as LiveSegment};
-ghost use Rattle.ms_tagged.specs.Bytes.{Data, IsWidth, data_of, pieces, range, shown_at};
-ghost use Rattle.ms_segment.specs.Memory.{Frees, IsFit, IsSound, LoadsHandle, Makes, Stores, access, after_load, freed, handle_access, live_of, loaded, risen};
+ghost use Rattle.ms_tagged.specs.Bytes.{Data, IsWidth, data_of, held_at, pieces, range, shown_at};
+ghost use Rattle.ms_segment.specs.Memory.{Frees, IsFit, IsSound, LoadsHandle, Makes, Stores, access, after_load, freed, handle_access, live_of, loaded, risen, writable};
 ghost use Rattle.ms_segment.specs.Calls as call;
 ghost use Rattle.ms_segment.specs.Calls.{DoesChange};
 ghost use Rattle.ms_segment.specs.Parts.{IsPlaceIn, access_of, entered};
@@ -78,7 +78,8 @@ impl<G: Gaps, T: Tagged> Segments<G, T> {
         }
     }
 
-    /// Ends the segment of a handle to the beginning of the whole of it, of the kind that it was made as.
+    /// Ends the segment of a handle to the beginning of the whole of it, of the kind that it was made as. The handle may not
+    /// be sealed.
     pub fn free(&mut self, h: Handle, kind: Kind) -> Result<Event, SegTrap>
         requires { IsFit self.old h }
         ensures freed { Frees self.old (freed self.old h kind) result self.new }
@@ -111,16 +112,16 @@ impl<G: Gaps, T: Tagged> Segments<G, T> {
         }
     }
 
-    /// Writes the lowest `width` bytes of the value at the handle, as data, and counts the access.
+    /// Writes the lowest `width` bytes of the value at the handle, which may not be sealed, as data, and counts the access.
     pub fn store(&mut self, h: Handle, width: u32, value: u64) -> Result<Event, SegTrap>
         requires fits { IsFit self.old h }
         requires width { IsWidth width }
-        ensures stored { Stores self.old (data_of width value) width (access self.old h width) result self.new }
+        ensures stored { Stores self.old (data_of width value) width (writable (access self.old h width)) result self.new }
         ensures call { DoesChange (call.store self.old h width value) self.old self.new result }
         ensures sound { IsSound self.new }
         ensures others { (h : Handle) → IsFit self.old h → IsFit self.new h }
     {
-        let access = self.locate(h, width)?;
+        let access = self.locate_write(h, width)?;
         self.tagged.put(access.address, width, value);
         self.accesses = one_more(self.accesses);
         Ok(access.write(width))
@@ -141,16 +142,16 @@ impl<G: Gaps, T: Tagged> Segments<G, T> {
         Ok((self.tagged.get_handle(access.address), access.read(WIDTH)))
     }
 
-    /// Writes the pieces of a handle at the handle, and counts the access.
+    /// Writes the pieces of a handle at the handle, which may not be sealed, and counts the access.
     pub fn store_handle(&mut self, h: Handle, v: Handle) -> Result<Event, SegTrap>
         requires place { IsFit self.old h }
         requires value { IsFit self.old v }
-        ensures stored { Stores self.old (pieces v) 16 (handle_access self.old h) result self.new }
+        ensures stored { Stores self.old (pieces v) 16 (writable (handle_access self.old h)) result self.new }
         ensures call { DoesChange (call.store_handle self.old h v) self.old self.new result }
         ensures sound { IsSound self.new }
         ensures others { (h : Handle) → IsFit self.old h → IsFit self.new h }
     {
-        let access = self.locate_handle(h)?;
+        let access = self.locate_handle_write(h)?;
         self.tagged.put_handle(access.address, v);
         self.accesses = one_more(self.accesses);
         Ok(access.write(WIDTH))
@@ -180,6 +181,14 @@ impl<G: Gaps, T: Tagged> Segments<G, T> {
         self.tagged.shown(address)
     }
 
+    /// The handle of which the byte at the address is a piece. `None` exactly where it is a data byte.
+    pub fn held(&self, address: u32) -> Option<Handle>
+        requires { address < length self.now.bytes }
+        ensures { result ≡ held_at (range address 1 self.now.bytes) }
+    {
+        self.tagged.held(address)
+    }
+
     /// The least place for a segment of `n` bytes, if one more may be live.
     fn place(&self, n: u32) -> Option<u32>
         ensures place { IsPlaceIn self.now n result }
@@ -197,7 +206,7 @@ impl<G: Gaps, T: Tagged> Segments<G, T> {
         requires few { length self.old.live < MOST_LIVE }
         requires placed { IsPlace self.old.live (length self.old.bytes) n (Some base) }
         ensures made { self.new ≡ entered self.old base n kind }
-        ensures handle { result.0 ≡ Handle.Good (self.old.made + 1) 0 n (pos 0) }
+        ensures handle { result.0 ≡ Handle.Good false (self.old.made + 1) 0 n (pos 0) }
         ensures event { result.1 ≡ Event.Alloc (self.old.made + 1) base n }
         ensures sound { IsSound self.new }
     {
@@ -211,6 +220,7 @@ impl<G: Gaps, T: Tagged> Segments<G, T> {
         self.tagged.clear(base, n);
         self.made = id;
         let handle = Handle::Good {
+            sealed: false,
             id,
             base: 0,
             length: n,
@@ -242,12 +252,13 @@ impl<G: Gaps, T: Tagged> Segments<G, T> {
             Handle::Null => Err(SegTrap::Null),
             Handle::Broken => Err(SegTrap::Invalid),
             Handle::Good {
+                sealed,
                 id,
                 base,
                 length,
                 offset,
             } => match self.found(id) {
-                Some(segment) => end_of(segment, base, length, offset, kind),
+                Some(segment) => end_of(segment, sealed, base, length, offset, kind),
                 None => Err(SegTrap::Freed),
             },
         }
@@ -262,15 +273,25 @@ impl<G: Gaps, T: Tagged> Segments<G, T> {
             Handle::Null => Err(SegTrap::Null),
             Handle::Broken => Err(SegTrap::Invalid),
             Handle::Good {
+                sealed,
                 id,
                 base,
                 length,
                 offset,
             } => match self.found(id) {
-                Some(segment) => access_in(segment, base, length, offset, width),
+                Some(segment) => access_in(segment, sealed, base, length, offset, width),
                 None => Err(SegTrap::Freed),
             },
         }
+    }
+
+    /// The same of a write.
+    fn locate_write(&self, h: Handle, width: u32) -> Result<Access, SegTrap>
+        requires { IsFit self.now h }
+        ensures { MatchResult result (λ a. writable (access self.now h width) ≡ Ok (access_of a)) (λ e. writable (access self.now h width) ≡ Err e) }
+    {
+        let place = self.locate(h, width)?;
+        place.to_write()
     }
 
     /// The same of the pieces of a handle.
@@ -284,6 +305,15 @@ impl<G: Gaps, T: Tagged> Segments<G, T> {
         } else {
             Err(SegTrap::Misaligned)
         }
+    }
+
+    /// The same of a write of the pieces of a handle.
+    fn locate_handle_write(&self, h: Handle) -> Result<Access, SegTrap>
+        requires { IsFit self.now h }
+        ensures { MatchResult result (λ a. writable (handle_access self.now h) ≡ Ok (access_of a)) (λ e. writable (handle_access self.now h) ≡ Err e) }
+    {
+        let place = self.locate_handle(h)?;
+        place.to_write()
     }
 }
 

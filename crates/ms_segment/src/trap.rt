@@ -1,7 +1,8 @@
 //! Why an access or a freeing is a trap.
 
 /// Why an access to the segment memory, or the end of a segment, is a trap. The first check that fails decides, in this
-/// order; `Whole` and `Kind` are of `free` alone, `Bounds` of accesses alone.
+/// order; `Whole` and `Kind` are of `free` alone, `Bounds` of accesses alone, `Provenance` of loads alone, and `Readonly`
+/// of stores and of `free`, where it is the last one.
 #[derive(Clone, Copy, PartialEq, Eq)]
 pub enum SegTrap {
     /// The handle is null.
@@ -20,4 +21,6 @@ pub enum SegTrap {
     Whole,
     /// The segment was made as another kind.
     Kind,
+    /// The handle is sealed.
+    Readonly,
 }

@@ -6,8 +6,8 @@ use Rattle.std.proofs.lemmas.List.{take-append-drop, drop-take, get_or-drop, get
 use Rattle.std.proofs.lemmas.Nat.Bits.{bit_at-lt, bit_at-zero, bit_at_ones, same_from_bits_below}
 use Rattle.ms_handle.specs.declared.handle.Handle.{Handle}
 use Rattle.ms_handle.specs.declared.handle.Handle.TheVariants.{Broken}
-use Rattle.ms_tagged.specs.Bytes.{Byte, Data, Piece, IsHandleAt, IsWidth, whole, torn, number_at, number_with, range, shown_at, zeros}
-use Rattle.ms_tagged.specs.refinement.Granules.{byte_at, byte_by, bytes_from, data_bytes, number_of, piece_bit, unset}
+use Rattle.ms_tagged.specs.Bytes.{Byte, Data, Piece, IsHandleAt, IsWidth, whole, torn, number_at, held_at, number_with, range, shown_at, zeros}
+use Rattle.ms_tagged.specs.refinement.Granules.{byte_at, byte_by, bytes_from, data_bytes, handle_in, number_of, piece_bit, unset}
 use Rattle.ms_tagged.proofs.Handles.{torn-with_data}
 use Rattle.ms_tagged.proofs.Numbers.{number_at-none}
 use Rattle.ms_tagged.specs.declared.granules.StoredHandle.{StoredHandle}
@@ -52,10 +52,16 @@ number-read plain masks handles old n at width seen within there none =
     ∙ (ap number_at (range-bytes_from (byte_at plain masks handles) n at width (omega arith) ∙ bytes_from-data plain masks handles at width there none) ∙ number_at-data (take width (drop at plain)))
 
 -- one byte
-pub shown-read : (plain masks : List ℕ) (handles : List StoredHandle) (old : List Byte) (n at : ℕ) → bytes_from (byte_at plain masks handles) 0 n ≡ old → at < length old → shown_at (range at 1 old) ≡ shown_at (byte_at plain masks handles at ∷ [])
-shown-read plain masks handles old n at seen within =
+pub one-read : (plain masks : List ℕ) (handles : List StoredHandle) (old : List Byte) (n at : ℕ) → bytes_from (byte_at plain masks handles) 0 n ≡ old → at < length old → range at 1 old ≡ byte_at plain masks handles at ∷ []
+one-read plain masks handles old n at seen within =
     let room : length old ≡ n = ap length (sym seen) ∙ length-bytes_from (byte_at plain masks handles) 0 n in
-    ap (λ l. shown_at (range at 1 l)) (sym seen) ∙ ap shown_at (range-bytes_from (byte_at plain masks handles) n at 1 (omega arith))
+    ap (range at 1) (sym seen) ∙ range-bytes_from (byte_at plain masks handles) n at 1 (omega arith)
+
+pub shown-read : (plain masks : List ℕ) (handles : List StoredHandle) (old : List Byte) (n at : ℕ) → bytes_from (byte_at plain masks handles) 0 n ≡ old → at < length old → shown_at (range at 1 old) ≡ shown_at (byte_at plain masks handles at ∷ [])
+shown-read plain masks handles old n at seen within = ap shown_at (one-read plain masks handles old n at seen within)
+
+pub held-read : (plain masks : List ℕ) (handles : List StoredHandle) (old : List Byte) (n at : ℕ) → bytes_from (byte_at plain masks handles) 0 n ≡ old → at < length old → held_at (range at 1 old) ≡ held_at (byte_at plain masks handles at ∷ [])
+held-read plain masks handles old n at seen within = ap held_at (one-read plain masks handles old n at seen within)
 
 -- a byte behind the granules that are there
 pub byte_at-past : (plain masks : List ℕ) (handles : List StoredHandle) (i : ℕ) → length plain ≤ i → length plain ≡ 16 * length masks → byte_at plain masks handles i ≡ Data 0
@@ -71,6 +77,15 @@ shown-data plain masks handles i other =
     let small : piece_bit masks i < 2 = bit_at-lt (get_or masks (i / 16) 0) (i % 16) in
     let bit : piece_bit masks i ≡ 0 = elim (cases_lt (piece_bit masks i) 1) [ inl low ↦ omega arith | inr high ↦ absurd (other (omega arith)) ] in
     ap (λ b. shown_at (b ∷ [])) (byte_at-data plain masks handles i bit)
+
+pub held-piece : (plain masks : List ℕ) (handles : List StoredHandle) (i : ℕ) → piece_bit masks i ≡ 1 → held_at (byte_at plain masks handles i ∷ []) ≡ Some (handle_in handles (i / 16))
+held-piece plain masks handles i bit = rw bit refl
+
+pub held-data : (plain masks : List ℕ) (handles : List StoredHandle) (i : ℕ) → (piece_bit masks i ≡ 1 → ⊥) → held_at (byte_at plain masks handles i ∷ []) ≡ None
+held-data plain masks handles i other =
+    let small : piece_bit masks i < 2 = bit_at-lt (get_or masks (i / 16) 0) (i % 16) in
+    let bit : piece_bit masks i ≡ 0 = elim (cases_lt (piece_bit masks i) 1) [ inl low ↦ omega arith | inr high ↦ absurd (other (omega arith)) ] in
+    ap (λ b. held_at (b ∷ [])) (byte_at-data plain masks handles i bit)
 
 -- the bytes of a new memory
 pub bytes_from-none : (i n : ℕ) → bytes_from (byte_at [] [] []) i n ≡ replicate n (Data 0)

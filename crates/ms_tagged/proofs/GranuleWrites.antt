@@ -1,12 +1,12 @@
 -- What a write leaves of the bytes that granules say.
-use Rattle.std.proofs.Common.{◌≡◌, ℕ, Vec, ◌+◌, ◌-◌, ◌*◌, ◌/◌, ◌%◌, ◌<◌, ◌≤◌, zero, suc, List, ◌∷◌, ◌++◌, get_or, length, take, drop, replicate, refl, ap, sym, ◌∙◌, arith}
+use Rattle.std.proofs.Common.{◌≡◌, ℕ, Vec, ◌+◌, ◌-◌, ◌*◌, ◌/◌, ◌%◌, ◌<◌, ◌≤◌, zero, suc, List, [], ◌∷◌, ◌++◌, get_or, length, take, drop, replicate, refl, ap, sym, ◌∙◌, arith}
 use Rattle.std.proofs.Math.ListN.{set}
 use Rattle.std.specs.Vec.{with_items}
 use Rattle.std.proofs.lemmas.List.{places, drop-drop, drop_at, get_or-set_same, get_or-set_other, length-map, length-take-le, take_at, with_items_is}
 use Rattle.std.proofs.lemmas.Nat.Bits.{bit_at_ones}
 use Rattle.ms_handle.specs.declared.handle.Handle.{Handle}
 use Rattle.ms_tagged.specs.Bytes.{Byte, Data, Piece, overwritten, pieces}
-use Rattle.ms_tagged.specs.refinement.Granules.{Forgets, byte_at, bytes_from, data_bytes, unset}
+use Rattle.ms_tagged.specs.refinement.Granules.{Forgets, byte_at, byte_by, bytes_from, data_bytes, piece_bit, unset}
 use Rattle.ms_tagged.specs.declared.granules.StoredHandle.{StoredHandle}
 use Rattle.ms_tagged.proofs.BytesFrom.{length-bytes_from, bytes_from-same, bytes_from-overwritten}
 use Rattle.ms_tagged.proofs.GranuleBytes.{byte_at-same, bytes_from-data}
@@ -63,6 +63,18 @@ zeros-data zero = refl
 zeros-data (suc n) = ap (λ l. Data 0 ∷ l) (zeros-data n)
 
 -- ---- writing a handle
+
+get_or-more : {X : Type 0} (xs : List X) (k i : ℕ) (d : X) → get_or (xs ++ replicate k d) i d ≡ get_or xs i d
+get_or-more [] zero i d = refl
+get_or-more [] (suc k) zero d = refl
+get_or-more [] (suc k) (suc i) d = get_or-more [] k i d
+get_or-more (x ∷ xs) k zero d = refl
+get_or-more (x ∷ xs) k (suc i) d = get_or-more xs k i d
+
+-- granules in which no handle was stored say nothing more
+pub byte_at-filled : (plain masks : List ℕ) (handles more : List StoredHandle) (k i : ℕ) → more ≡ handles ++ replicate k unset → byte_at plain masks more i ≡ byte_at plain masks handles i
+byte_at-filled plain masks handles more k i is =
+    ap (λ (hs : List StoredHandle). byte_at plain masks hs i) is ∙ ap (λ (s : StoredHandle). byte_by (piece_bit masks i) (get_or plain i 0) s.handle (i % 16)) (get_or-more handles k (i / 16) unset)
 
 pub handle-overwritten : (plain masks : List ℕ) (handles : List StoredHandle) (old : ℕ → Byte) (n granule : ℕ) (handle : Handle)
     → ((i : ℕ) → byte_at plain masks handles i ≡ old i) → granule < length masks → granule < length handles → 16 * granule + 16 ≤ n

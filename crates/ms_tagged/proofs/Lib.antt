@@ -8,3 +8,4 @@ pub mod Handles
 pub mod Numbers
 pub mod Ranges
 pub mod Filled
+pub mod Within

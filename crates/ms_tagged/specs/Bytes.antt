@@ -45,6 +45,12 @@ shown_at [] = None
 shown_at (Data byte ∷ bytes) = Some byte
 shown_at (Piece handle i ∷ bytes) = None
 
+-- the handle of which the first byte is a piece
+abbrev pub held_at : List Byte → Option Handle
+held_at [] = None
+held_at (Data byte ∷ bytes) = None
+held_at (Piece handle i ∷ bytes) = Some handle
+
 -- ---- handles
 
 -- the sixteen pieces of a handle

@@ -4,7 +4,8 @@ ghost use Rattle.std.specs.Prelude.{◌≡◌, ◌≤◌, ◌-◌, ◌++◌, len
 ghost use Rattle.ms_tagged.specs.declared.tag.Tag.TheVariants as tag;
 
 use crate::tag::{
-    PIECES, Tag, first_shown, handle_in_front, number, write_number, write_pieces, write_zeros,
+    PIECES, Tag, first_held, first_shown, handle_in_front, number, write_number, write_pieces,
+    write_zeros,
 };
 use crate::tagged::Tagged;
 use ms_handle::Handle;
@@ -94,5 +95,9 @@ impl Tagged for ByteTags {
 
     fn shown(&self, address: u32) -> Option<u8> {
         first_shown(part(self.tags.as_slice(), address as usize, 1))
+    }
+
+    fn held(&self, address: u32) -> Option<Handle> {
+        first_held(part(self.tags.as_slice(), address as usize, 1))
     }
 }

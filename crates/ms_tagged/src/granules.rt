@@ -1,8 +1,9 @@
 //! Tagged bytes by sixteen: plain bytes, a mask and one handle.
 
-ghost use Rattle.std.specs.Prelude.{◌≡◌, ◌≤◌, ◌<◌, ◌+◌, ◌-◌, ◌*◌, ◌/◌, ◌^◌, ◌++◌, ℕ, IfSome, length, replicate, vec_len, vec_capacity};
-ghost use Rattle.ms_tagged.specs.Bytes.{number_at, range, shown_at};
-ghost use Rattle.ms_tagged.specs.refinement.Granules.{byte_at};
+ghost use Rattle.std.specs.Prelude.{◌≡◌, ◌≤◌, ◌<◌, ◌+◌, ◌-◌, ◌*◌, ◌/◌, ◌^◌, ◌++◌, ℕ, List, IfSome, length, replicate, vec_len, vec_capacity};
+ghost use Rattle.ms_tagged.specs.declared.granules.StoredHandle.{StoredHandle};
+ghost use Rattle.ms_tagged.specs.Bytes.{held_at, number_at, range, shown_at};
+ghost use Rattle.ms_tagged.specs.refinement.Granules.{byte_at, handle_in};
 
 use crate::pieces::{GRANULE, forget, forget_few, hold_data, is_piece};
 use crate::tagged::Tagged;
@@ -20,6 +21,9 @@ pub(crate) struct StoredHandle {
     handle: Handle,
 }
 
+// It takes 32 bytes: for each granule as many are reserved.
+const _: () = prove!(size_of::<StoredHandle>() == 32);
+
 /// What a granule keeps in which no handle was written.
 const UNSET: StoredHandle = StoredHandle {
     handle: Handle::Null,
@@ -29,7 +33,8 @@ const UNSET: StoredHandle = StoredHandle {
 ///
 /// A granule has sixteen plain bytes, a mask of sixteen bits and one handle. Bit i of the mask says that byte i is piece i
 /// of that handle; the plain byte there means nothing then. Memory is reserved for all granules. Those behind the last one
-/// that was written so far are not there yet; they stand for data bytes 0.
+/// that was written so far are not there yet; they stand for data bytes 0. Handles are there up to the last one that was
+/// stored, so that no write of data, however long, writes any.
 #[derive(Drop)]
 pub struct Granules {
     plain: Vec<u8>,
@@ -37,7 +42,7 @@ pub struct Granules {
     handles: Vec<StoredHandle>,
     capacity: u32,
     ghost plain_for_each: { vec_len plain ≡ 16 * vec_len masks },
-    ghost handle_for_each: { vec_len handles ≡ vec_len masks },
+    ghost few_handles: { vec_len handles ≤ vec_len masks },
     ghost room_for_plain: { 16 * ((capacity + 15) / 16) ≤ vec_capacity plain },
     ghost room_for_masks: { (capacity + 15) / 16 ≤ vec_capacity masks },
     ghost room_for_handles: { (capacity + 15) / 16 ≤ vec_capacity handles },
@@ -66,19 +71,17 @@ fn fill_up<T: Copy>(items: &mut Vec<T>, len: usize, item: T)
     }
 }
 
-/// Adds the granules up to a place that aren't there yet.
+/// Adds the plain bytes and masks of the granules up to a place that aren't there yet.
 #[inline(always)]
-fn reach(plain: &mut Vec<u8>, masks: &mut Vec<u16>, handles: &mut Vec<StoredHandle>, end: usize)
+fn reach(plain: &mut Vec<u8>, masks: &mut Vec<u16>, end: usize)
     requires plain_for_each { vec_len plain.old ≡ 16 * vec_len masks.old }
-    requires handle_for_each { vec_len handles.old ≡ vec_len masks.old }
-    requires room { (16 * ((end + 15) / 16) ≤ vec_capacity plain.old) × ((end + 15) / 16 ≤ vec_capacity masks.old) × ((end + 15) / 16 ≤ vec_capacity handles.old) }
-    ensures bytes { (i : ℕ) → byte_at plain.new.items masks.new.items handles.new.items i ≡ byte_at plain.old.items masks.old.items handles.old.items i }
+    requires room { (16 * ((end + 15) / 16) ≤ vec_capacity plain.old) × ((end + 15) / 16 ≤ vec_capacity masks.old) }
+    ensures bytes { (handles : List StoredHandle) (i : ℕ) → byte_at plain.new.items masks.new.items handles i ≡ byte_at plain.old.items masks.old.items handles i }
     ensures there { end ≤ vec_len plain.new }
     ensures plain_for_each { vec_len plain.new ≡ 16 * vec_len masks.new }
-    ensures handle_for_each { vec_len handles.new ≡ vec_len masks.new }
+    ensures more { vec_len masks.old ≤ vec_len masks.new }
     ensures room_for_plain { vec_capacity plain.old ≤ vec_capacity plain.new }
     ensures room_for_masks { vec_capacity masks.old ≤ vec_capacity masks.new }
-    ensures room_for_handles { vec_capacity handles.old ≤ vec_capacity handles.new }
 {
     if end <= plain.len() {
         return;
@@ -86,7 +89,16 @@ fn reach(plain: &mut Vec<u8>, masks: &mut Vec<u16>, handles: &mut Vec<StoredHand
     let granules = end.div_ceil(GRANULE);
     fill_up(plain, granules * GRANULE, 0);
     fill_up(masks, granules, 0);
-    fill_up(handles, granules, UNSET);
+}
+
+/// The handle that a granule keeps.
+fn stored(handles: &[StoredHandle], granule: usize) -> Handle
+    ensures { result ≡ handle_in handles.now granule }
+{
+    match handles.get(granule) {
+        Some(stored) => stored.handle,
+        None => Handle::Null,
+    }
 }
 
 impl Granules {
@@ -102,6 +114,20 @@ impl Granules {
             return None;
         }
         Some(self.plain[at])
+    }
+
+    /// The handle of which the byte at a place is a piece. `None` exactly where it is a data byte.
+    fn holder(&self, at: usize) -> Option<Handle>
+        requires { at < length self.now }
+        ensures { result ≡ held_at (range at 1 self.now) }
+    {
+        if at >= self.plain.len() {
+            return None;
+        }
+        if is_piece(&self.masks, at) {
+            return Some(stored(&self.handles, at / GRANULE));
+        }
+        None
     }
 
     /// The number that some bytes are, byte by byte. `None` exactly where one of them is a piece.
@@ -149,7 +175,7 @@ impl Tagged for Granules {
     fn put(&mut self, address: u32, width: u32, value: u64) {
         let from = address as usize;
         let end = from + width as usize;
-        reach(&mut self.plain, &mut self.masks, &mut self.handles, end);
+        reach(&mut self.plain, &mut self.masks, end);
         forget_few(&mut self.masks, from, end);
         write_word(&mut self.plain[from..end], value);
     }
@@ -162,7 +188,7 @@ impl Tagged for Granules {
         }
         let mask = self.masks[granule];
         if mask == WHOLE {
-            return self.handles[granule].handle;
+            return stored(&self.handles, granule);
         }
         if mask != 0 {
             return Handle::Broken;
@@ -177,12 +203,8 @@ impl Tagged for Granules {
     fn put_handle(&mut self, address: u32, handle: Handle) {
         let from = address as usize;
         let granule = from / GRANULE;
-        reach(
-            &mut self.plain,
-            &mut self.masks,
-            &mut self.handles,
-            from + GRANULE,
-        );
+        reach(&mut self.plain, &mut self.masks, from + GRANULE);
+        fill_up(&mut self.handles, granule + 1, UNSET);
         self.masks[granule] = WHOLE;
         self.handles[granule] = StoredHandle { handle };
     }
@@ -190,12 +212,16 @@ impl Tagged for Granules {
     fn clear(&mut self, address: u32, size: u32) {
         let from = address as usize;
         let to = from + size as usize;
-        reach(&mut self.plain, &mut self.masks, &mut self.handles, to);
+        reach(&mut self.plain, &mut self.masks, to);
         forget(&mut self.masks, from, to);
         self.plain[from..to].fill(0);
     }
 
     fn shown(&self, address: u32) -> Option<u8> {
         self.byte(address as usize)
+    }
+
+    fn held(&self, address: u32) -> Option<Handle> {
+        self.holder(address as usize)
     }
 }

@@ -1,7 +1,7 @@
 //! The tag of one byte, and the numbers and handles that tags are.
 
 ghost use Rattle.std.specs.Prelude.{◌≡◌, ◌<◌, ◌≤◌, ◌^◌, ◌↔◌, IfSome, IsTrue, length, replicate};
-ghost use Rattle.ms_tagged.specs.Bytes.{Data, IsHandleAt, data_of, number_at, shown_at};
+ghost use Rattle.ms_tagged.specs.Bytes.{Data, IsHandleAt, data_of, held_at, number_at, shown_at};
 ghost use Rattle.ms_tagged.specs.refinement.Tags.{bytes_of, filled, pieces_from};
 
 use ms_handle::Handle;
@@ -72,6 +72,17 @@ pub(crate) fn first_shown(tags: &[Tag]) -> Option<u8>
         [Tag::Data(byte), ..] => Some(*byte),
         [Tag::Piece(..), ..] => None,
         [] => Some(0),
+    }
+}
+
+/// The handle of which the first byte is a piece. `None` exactly where it is a data byte, as it is where no tag is there.
+pub(crate) fn first_held(tags: &[Tag]) -> Option<Handle>
+    ensures { result ≡ held_at (filled 1 (bytes_of tags.now)) }
+{
+    match tags {
+        [Tag::Data(_), ..] => None,
+        [Tag::Piece(handle, _), ..] => Some(*handle),
+        [] => None,
     }
 }
 

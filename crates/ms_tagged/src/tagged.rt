@@ -7,7 +7,7 @@ use std::alloc::{AllocError, Global};
 
 /// Bytes that are data or pieces of handles, by address. No call but `new` takes memory.
 pub trait Tagged: Sized + Drop {
-    ghost use Rattle.ms_tagged.specs.Bytes.{Byte, Data, IsAligned, IsHandleAt, IsWidth, data_of, number_at, overwritten, pieces, range, shown_at};
+    ghost use Rattle.ms_tagged.specs.Bytes.{Byte, Data, IsAligned, IsHandleAt, IsWidth, data_of, held_at, number_at, overwritten, pieces, range, shown_at};
 
     /// The bytes.
     ghost bytes: { Self → List Byte };
@@ -51,4 +51,9 @@ pub trait Tagged: Sized + Drop {
     fn shown(&self, address: u32) -> Option<u8>
         requires { address < length (bytes self.now) }
         ensures { result ≡ shown_at (range address 1 (bytes self.now)) };
+
+    /// The handle of which the byte at the address is a piece. `None` exactly where it is a data byte.
+    fn held(&self, address: u32) -> Option<Handle>
+        requires { address < length (bytes self.now) }
+        ensures { result ≡ held_at (range address 1 (bytes self.now)) };
 }

@@ -29,13 +29,16 @@ enum Want {
     At(u32, Handle),
     /// `shown` from an address on, for so many bytes.
     Shown(u32, u32, Option<u8>),
+    /// `held` at an address.
+    Held(u32, Option<Handle>),
 }
 
 /// A number each of whose eight bytes is above 127.
 const HIGH: u64 = 0xffee_ddcc_bbaa_9988;
 
-/// Two good handles.
+/// Two good handles, of which the second is sealed.
 const FIRST: Handle = Handle::Good {
+    sealed: false,
     id: 7,
     base: 16,
     length: 64,
@@ -43,6 +46,7 @@ const FIRST: Handle = Handle::Good {
 };
 
 const SECOND: Handle = Handle::Good {
+    sealed: true,
     id: 8,
     base: 16,
     length: 64,
@@ -106,6 +110,13 @@ fn compare<T: Tagged>(rt: &impl Abort, memory: &T, capacity: u32, want: &Want, n
                 assert_eq!(rt; memory.shown(at), byte, "{name}: byte at {at}");
             }
         }
+        Want::Held(address, handle) => {
+            assert!(rt; address < capacity);
+            assert!(rt;
+                memory.held(address) == handle,
+                "{name}: handle of the byte at {address}"
+            );
+        }
     }
 }
 
@@ -126,7 +137,7 @@ fn written<T: Tagged>(
 }
 
 use Step::{Clear, Put, PutHandle};
-use Want::{At, Number, Shown};
+use Want::{At, Held, Number, Shown};
 
 const ROWS: [Row; 13] = [
     Row {
@@ -245,6 +256,10 @@ const ROWS: [Row; 13] = [
             Number(12, 8, Some(HIGH)),
             At(16, Handle::Broken),
             Shown(20, 27, None),
+            Held(19, None),
+            Held(20, Some(FIRST)),
+            Held(46, Some(SECOND)),
+            Held(48, None),
             Shown(47, 1, Some(0)),
             At(32, Handle::Broken),
             At(48, Handle::Null),

@@ -2,7 +2,7 @@
 use Rattle.std.proofs.Common.{◌≡◌, ◌≤◌, ◌+◌, ℕ, true, cond, List, [], ◌∷◌, ◌++◌, Option, Some, None, refl, sym, ap, subst, ◌∙◌, append-nil, append_assoc, arith}
 use Rattle.std.proofs.lemmas.List.{map-append}
 use Rattle.ms_event.specs.declared.event.Event.{Event}
-use Rattle.ms_event.specs.declared.event.Event.TheVariants.{Alloc, Free, Read, Refused, Slice, Write}
+use Rattle.ms_event.specs.declared.event.Event.TheVariants.{Alloc, Free, Read, Refused, Seal, Slice, Write}
 use Rattle.ms_machine.specs.Crews.{Deeds, Run, Whose, behind, both, bytes_of, deed, events_of, nothing}
 use Rattle.ms_machine.specs.Running.{with_event}
 use Rattle.ms_machine.proofs.Outsides.{with_byte}
@@ -64,15 +64,16 @@ logged_both d e l =
 -- ---- its counts
 
 seen_within : (n : ℕ) (e : Event) (t : Trace) → CountsUpTo n t → CountsUpTo (n + 1) (seen e t)
-seen_within n (Alloc id addr size) t h = let a = h.allocs in let b = h.refused in let c = h.slices in let d = h.reads in let e = h.writes in let f = h.frees in record { allocs = omega (arith, a); refused = omega (arith, b); slices = omega (arith, c); reads = omega (arith, d); writes = omega (arith, e); frees = omega (arith, f) }
-seen_within n (Refused size) t h = let a = h.allocs in let b = h.refused in let c = h.slices in let d = h.reads in let e = h.writes in let f = h.frees in record { allocs = omega (arith, a); refused = omega (arith, b); slices = omega (arith, c); reads = omega (arith, d); writes = omega (arith, e); frees = omega (arith, f) }
-seen_within n (Slice id lo hi lo2 hi2) t h = let a = h.allocs in let b = h.refused in let c = h.slices in let d = h.reads in let e = h.writes in let f = h.frees in record { allocs = omega (arith, a); refused = omega (arith, b); slices = omega (arith, c); reads = omega (arith, d); writes = omega (arith, e); frees = omega (arith, f) }
-seen_within n (Read id lo hi addr width) t h = let a = h.allocs in let b = h.refused in let c = h.slices in let d = h.reads in let e = h.writes in let f = h.frees in record { allocs = omega (arith, a); refused = omega (arith, b); slices = omega (arith, c); reads = omega (arith, d); writes = omega (arith, e); frees = omega (arith, f) }
-seen_within n (Write id lo hi addr width) t h = let a = h.allocs in let b = h.refused in let c = h.slices in let d = h.reads in let e = h.writes in let f = h.frees in record { allocs = omega (arith, a); refused = omega (arith, b); slices = omega (arith, c); reads = omega (arith, d); writes = omega (arith, e); frees = omega (arith, f) }
-seen_within n (Free id) t h = let a = h.allocs in let b = h.refused in let c = h.slices in let d = h.reads in let e = h.writes in let f = h.frees in record { allocs = omega (arith, a); refused = omega (arith, b); slices = omega (arith, c); reads = omega (arith, d); writes = omega (arith, e); frees = omega (arith, f) }
+seen_within n (Alloc id addr size) t h = let a = h.allocs in let b = h.refused in let c = h.slices in let d = h.reads in let e = h.writes in let f = h.frees in let g = h.seals in record { allocs = omega (arith, a); refused = omega (arith, b); slices = omega (arith, c); reads = omega (arith, d); writes = omega (arith, e); frees = omega (arith, f); seals = omega (arith, g) }
+seen_within n (Refused size) t h = let a = h.allocs in let b = h.refused in let c = h.slices in let d = h.reads in let e = h.writes in let f = h.frees in let g = h.seals in record { allocs = omega (arith, a); refused = omega (arith, b); slices = omega (arith, c); reads = omega (arith, d); writes = omega (arith, e); frees = omega (arith, f); seals = omega (arith, g) }
+seen_within n (Seal id lo hi) t h = let a = h.allocs in let b = h.refused in let c = h.slices in let d = h.reads in let e = h.writes in let f = h.frees in let g = h.seals in record { allocs = omega (arith, a); refused = omega (arith, b); slices = omega (arith, c); reads = omega (arith, d); writes = omega (arith, e); frees = omega (arith, f); seals = omega (arith, g) }
+seen_within n (Slice sealed id lo hi lo2 hi2) t h = let a = h.allocs in let b = h.refused in let c = h.slices in let d = h.reads in let e = h.writes in let f = h.frees in let g = h.seals in record { allocs = omega (arith, a); refused = omega (arith, b); slices = omega (arith, c); reads = omega (arith, d); writes = omega (arith, e); frees = omega (arith, f); seals = omega (arith, g) }
+seen_within n (Read sealed id lo hi addr width) t h = let a = h.allocs in let b = h.refused in let c = h.slices in let d = h.reads in let e = h.writes in let f = h.frees in let g = h.seals in record { allocs = omega (arith, a); refused = omega (arith, b); slices = omega (arith, c); reads = omega (arith, d); writes = omega (arith, e); frees = omega (arith, f); seals = omega (arith, g) }
+seen_within n (Write id lo hi addr width) t h = let a = h.allocs in let b = h.refused in let c = h.slices in let d = h.reads in let e = h.writes in let f = h.frees in let g = h.seals in record { allocs = omega (arith, a); refused = omega (arith, b); slices = omega (arith, c); reads = omega (arith, d); writes = omega (arith, e); frees = omega (arith, f); seals = omega (arith, g) }
+seen_within n (Free id) t h = let a = h.allocs in let b = h.refused in let c = h.slices in let d = h.reads in let e = h.writes in let f = h.frees in let g = h.seals in record { allocs = omega (arith, a); refused = omega (arith, b); slices = omega (arith, c); reads = omega (arith, d); writes = omega (arith, e); frees = omega (arith, f); seals = omega (arith, g) }
 
 within_more : (n m : ℕ) (t : Trace) → n ≤ m → CountsUpTo n t → CountsUpTo m t
-within_more n m t le h = let a = h.allocs in let b = h.refused in let c = h.slices in let d = h.reads in let e = h.writes in let f = h.frees in record { allocs = omega (arith, a, le); refused = omega (arith, b, le); slices = omega (arith, c, le); reads = omega (arith, d, le); writes = omega (arith, e, le); frees = omega (arith, f, le) }
+within_more n m t le h = let a = h.allocs in let b = h.refused in let c = h.slices in let d = h.reads in let e = h.writes in let f = h.frees in let g = h.seals in record { allocs = omega (arith, a, le); refused = omega (arith, b, le); slices = omega (arith, c, le); reads = omega (arith, d, le); writes = omega (arith, e, le); frees = omega (arith, f, le); seals = omega (arith, g, le) }
 
 pub within_after : (n m : ℕ) (event : Option Event) (t t' : Trace) → n + 1 ≤ m → t' ≡ all_seen (with_event event []) t → CountsUpTo n t → CountsUpTo m t'
 within_after n m None t t' le is h = subst (CountsUpTo m) (sym is) (within_more n m t (omega (arith, le)) h)
@@ -83,16 +84,18 @@ within_after n m (Some e) t t' le is h = subst (CountsUpTo m) (sym is) (within_m
 seen_keep : (e : Event) (t : Trace) → (seen e t).keep ≡ t.keep
 seen_keep (Alloc id addr size) t = refl
 seen_keep (Refused size) t = refl
-seen_keep (Slice id lo hi lo2 hi2) t = refl
-seen_keep (Read id lo hi addr width) t = refl
+seen_keep (Seal id lo hi) t = refl
+seen_keep (Slice sealed id lo hi lo2 hi2) t = refl
+seen_keep (Read sealed id lo hi addr width) t = refl
 seen_keep (Write id lo hi addr width) t = refl
 seen_keep (Free id) t = refl
 
 seen_events : (e : Event) (t : Trace) → t.keep ≡ true → (seen e t).events ≡ t.events ++ e ∷ []
 seen_events (Alloc id addr size) t k = ap (λ b. cond b (t.events ++ Alloc id addr size ∷ []) t.events) k
 seen_events (Refused size) t k = ap (λ b. cond b (t.events ++ Refused size ∷ []) t.events) k
-seen_events (Slice id lo hi lo2 hi2) t k = ap (λ b. cond b (t.events ++ Slice id lo hi lo2 hi2 ∷ []) t.events) k
-seen_events (Read id lo hi addr width) t k = ap (λ b. cond b (t.events ++ Read id lo hi addr width ∷ []) t.events) k
+seen_events (Seal id lo hi) t k = ap (λ b. cond b (t.events ++ Seal id lo hi ∷ []) t.events) k
+seen_events (Slice sealed id lo hi lo2 hi2) t k = ap (λ b. cond b (t.events ++ Slice sealed id lo hi lo2 hi2 ∷ []) t.events) k
+seen_events (Read sealed id lo hi addr width) t k = ap (λ b. cond b (t.events ++ Read sealed id lo hi addr width ∷ []) t.events) k
 seen_events (Write id lo hi addr width) t k = ap (λ b. cond b (t.events ++ Write id lo hi addr width ∷ []) t.events) k
 seen_events (Free id) t k = ap (λ b. cond b (t.events ++ Free id ∷ []) t.events) k
 

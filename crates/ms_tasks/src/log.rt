@@ -15,6 +15,7 @@ pub struct Log {
     entries: u64,
     allocs: u64,
     refused: u64,
+    seals: u64,
     slices: u64,
     reads: u64,
     writes: u64,
@@ -27,19 +28,20 @@ impl Model for Log {
 
     ghost Value = { L };
 
-    ghost view = { λ l. record { entries = l.entries; trace = record { keep = l.keep; allocs = l.allocs; refused = l.refused; slices = l.slices; reads = l.reads; writes = l.writes; frees = l.frees; events = l.events.items } } };
+    ghost view = { λ l. record { entries = l.entries; trace = record { keep = l.keep; allocs = l.allocs; refused = l.refused; seals = l.seals; slices = l.slices; reads = l.reads; writes = l.writes; frees = l.frees; events = l.events.items } } };
 }
 
 impl Log {
     /// A log without entries and events.
     pub fn new(alloc: Global, keep: bool) -> Log
-        ensures { result ≡ record { entries = 0; trace = record { keep = keep; allocs = 0; refused = 0; slices = 0; reads = 0; writes = 0; frees = 0; events = [] } } }
+        ensures { result ≡ record { entries = 0; trace = record { keep = keep; allocs = 0; refused = 0; seals = 0; slices = 0; reads = 0; writes = 0; frees = 0; events = [] } } }
     {
         Log {
             keep,
             entries: 0,
             allocs: 0,
             refused: 0,
+            seals: 0,
             slices: 0,
             reads: 0,
             writes: 0,
@@ -67,6 +69,13 @@ impl Log {
         ensures { result ≡ self.now.trace.refused }
     {
         self.refused
+    }
+
+    /// How many handles were sealed that weren't before.
+    pub fn seals(&self) -> u64
+        ensures { result ≡ self.now.trace.seals }
+    {
+        self.seals
     }
 
     /// How many handles were made of others.
@@ -114,6 +123,7 @@ impl Log {
         match event {
             Event::Alloc { .. } => self.allocs += 1,
             Event::Refused { .. } => self.refused += 1,
+            Event::Seal { .. } => self.seals += 1,
             Event::Slice { .. } => self.slices += 1,
             Event::Read { .. } => self.reads += 1,
             Event::Write { .. } => self.writes += 1,

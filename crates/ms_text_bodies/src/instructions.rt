@@ -210,6 +210,7 @@ fn behind(alloc: Global, keyword: Keyword, c: &mut Words) -> Result<Fresh, TextF
         Keyword::HandleDiff => Ok(complete(Instr::Segment(Segment::Diff))),
         Keyword::HandleLoad => Ok(complete(Instr::Segment(Segment::LoadHandle))),
         Keyword::HandleStore => Ok(complete(Instr::Segment(Segment::StoreHandle))),
+        Keyword::HandleSeal => Ok(complete(Instr::Segment(Segment::Seal))),
         Keyword::SegmentLoad(op) => Ok(complete(Instr::Segment(Segment::Load(op)))),
         Keyword::SegmentStore(op) => Ok(complete(Instr::Segment(Segment::Store(op)))),
     }

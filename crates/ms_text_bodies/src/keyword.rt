@@ -37,6 +37,7 @@ pub enum Keyword {
     HandleDiff,
     HandleLoad,
     HandleStore,
+    HandleSeal,
     SegmentLoad(LoadOp),
     SegmentStore(StoreOp),
 }

@@ -82,6 +82,9 @@ pub fn h(text: &[u8]) -> Option<Keyword>
     if text == b"handle.store".as_slice() {
         return Some(Keyword::HandleStore);
     }
+    if text == b"handle.seal".as_slice() {
+        return Some(Keyword::HandleSeal);
+    }
     None
 }
 

@@ -199,6 +199,7 @@ segments_owe =
     & is_sayable (instr.Segment segment.Diff) tt tt
     & is_sayable (instr.Segment segment.LoadHandle) tt tt
     & is_sayable (instr.Segment segment.StoreHandle) tt tt
+    & is_sayable (instr.Segment segment.Seal) tt tt
     & tt
 
 load_holds : (op : LoadOp) → AllSpelled (load op) So

@@ -201,3 +201,4 @@ form_given (instr.Segment segment.LoadHandle) h = refl
 form_given (instr.Segment segment.StoreHandle) h = refl
 form_given (instr.Segment (segment.Load op)) h = segment_load_form op
 form_given (instr.Segment (segment.Store op)) h = segment_store_form op
+form_given (instr.Segment segment.Seal) h = refl

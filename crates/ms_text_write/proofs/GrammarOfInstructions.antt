@@ -184,6 +184,7 @@ word_other (instr.Segment segment.LoadHandle) h = (refl, refl)
 word_other (instr.Segment segment.StoreHandle) h = (refl, refl)
 word_other (instr.Segment (segment.Load op)) h = load_other _ op
 word_other (instr.Segment (segment.Store op)) h = store_other _ op
+word_other (instr.Segment segment.Seal) h = (refl, refl)
 
 -- ---- what an instruction is taken as
 
@@ -261,6 +262,7 @@ module _ {source : List ℕ} where
   segment_given segment.StoreHandle P h = gives (λ x. x ≡ fresh_said (instr.Segment segment.StoreHandle)) refl
   segment_given (segment.Load op) P h = gives (λ x. x ≡ fresh_said (instr.Segment (segment.Load op))) refl
   segment_given (segment.Store op) P h = gives (λ x. x ≡ fresh_said (instr.Segment (segment.Store op))) refl
+  segment_given segment.Seal P h = gives (λ x. x ≡ fresh_said (instr.Segment segment.Seal)) refl
 
   operands_given : (i : Instr) (P : List Piece) → IsPlain i → SayableInstr i → IsNone P → IsGiven source i P
   unfolding behind operands

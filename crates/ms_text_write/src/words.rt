@@ -219,6 +219,7 @@ fn segment_word(instr: Segment) -> &'static [u8]
         Segment::StoreHandle => b"handle.store",
         Segment::Load(op) => segment_load_word(op),
         Segment::Store(op) => segment_store_word(op),
+        Segment::Seal => b"handle.seal",
     }
 }
 

@@ -1,8 +1,8 @@
 -- What it is to read a line, and a number at the front of what is left of it.
-use Rattle.std.specs.Prelude.{◌≡◌, ℕ, ◌+◌, ◌<◌, List, [], ◌∷◌, ◌++◌, Option, Some, IfSome}
+use Rattle.std.specs.Prelude.{◌≡◌, ℕ, ◌+◌, ◌<◌, List, [], ◌∷◌, ◌++◌, Bool, Option, Some, IfSome}
 use Rattle.std.specs.Fmt.{decimal}
 use Rattle.ms_event.specs.declared.event.Event.{Event}
-use Rattle.ms_event.specs.Text.{IsId, IsInRange, IsWord, numbers, text}
+use Rattle.ms_event.specs.Text.{IsId, IsInRange, IsWord, ending, numbers, text}
 
 -- this is what a line is read as: an event of this text, and each event of this text
 pub record Reads (line : List ℕ) (result : Option Event) : Type 0 where
@@ -43,3 +43,8 @@ pub record ReadsThree (old : List ℕ) (result : Option (ℕ × (ℕ × ℕ))) :
 pub record ReadsFive (old : List ℕ) (result : Option (ℕ × (ℕ × ℕ) × (ℕ × ℕ))) : Type 0 where
   pub found : IfSome result (λ r. old ≡ numbers (r.0 ∷ r.1.0 ∷ r.1.1 ∷ r.2.0 ∷ r.2.1 ∷ []))
   pub only : (id a b c d : ℕ) → IsId id → IsWord a → IsWord b → IsWord c → IsWord d → old ≡ numbers (id ∷ a ∷ b ∷ c ∷ d ∷ []) → result ≡ Some (id, (a, b), (c, d))
+
+-- the same, and whether the word of a sealed handle ends the line behind them
+pub record ReadsEnded (old : List ℕ) (result : Option (ℕ × (ℕ × ℕ) × (ℕ × ℕ) × Bool)) : Type 0 where
+  pub found : IfSome result (λ r. old ≡ numbers (r.0 ∷ r.1.0 ∷ r.1.1 ∷ r.2.0 ∷ r.2.1 ∷ []) ++ ending r.3)
+  pub only : (id a b c d : ℕ) (sealed : Bool) → IsId id → IsWord a → IsWord b → IsWord c → IsWord d → old ≡ numbers (id ∷ a ∷ b ∷ c ∷ d ∷ []) ++ ending sealed → result ≡ Some (id, (a, b), (c, d), sealed)

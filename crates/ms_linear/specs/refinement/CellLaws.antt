@@ -9,4 +9,4 @@ kept_again (parts.I32 n) = refl
 kept_again (parts.I64 n) = refl
 kept_again parts.Null = refl
 kept_again parts.Broken = refl
-kept_again (parts.Good id base length offset) = refl
+kept_again (parts.Good sealed id base length offset) = refl

@@ -10,11 +10,11 @@ value_of (parts.I32 n) = values.I32 n
 value_of (parts.I64 n) = values.I64 n
 value_of parts.Null = values.Handle handles.Null
 value_of parts.Broken = values.Handle handles.Broken
-value_of (parts.Good id base length offset) = values.Handle (handles.Good id base length offset)
+value_of (parts.Good sealed id base length offset) = values.Handle (handles.Good sealed id base length offset)
 
 abbrev pub kept_of : Value → Kept
 kept_of (values.I32 n) = parts.I32 n
 kept_of (values.I64 n) = parts.I64 n
 kept_of (values.Handle handles.Null) = parts.Null
 kept_of (values.Handle handles.Broken) = parts.Broken
-kept_of (values.Handle (handles.Good id base length offset)) = parts.Good id base length offset
+kept_of (values.Handle (handles.Good sealed id base length offset)) = parts.Good sealed id base length offset

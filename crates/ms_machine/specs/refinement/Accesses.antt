@@ -6,7 +6,7 @@ use Rattle.ms_segment.specs.Memory.{risen}
 
 -- the count after an event: reads and writes are accesses, and nothing else is
 abbrev pub counted : Event → ℕ → ℕ
-counted (events.Read id lo hi address width) n = risen n
+counted (events.Read sealed id lo hi address width) n = risen n
 counted (events.Write id lo hi address width) n = risen n
 counted _ n = n
 

@@ -1,5 +1,5 @@
 -- What ties every handle to the colour monitor's state: the memory safety of a store and its threads after some events.
-use Rattle.std.specs.Prelude.{◌≡◌, ◌↔◌, ◌<◌, ◌≤◌, ◌+◌, ℕ, List, length, map, All, Contains}
+use Rattle.std.specs.Prelude.{◌≡◌, ◌↔◌, ◌<◌, ◌≤◌, ◌+◌, ℕ, false, List, length, map, All, Contains}
 use Rattle.ms_event.specs.declared.event.Event.{Event}
 use Rattle.ms_event.specs.declared.event.Event.TheVariants.{Alloc}
 use Rattle.ms_event.specs.Monitor.{Accepts, Paint, Shade, State, after_all, nothing_yet, shade_of}
@@ -14,9 +14,9 @@ use Rattle.ms_task.specs.Thread.{Thread}
 use Rattle.ms_machine.specs.refinement.Holding.{EachGlobal, ThreadHolds}
 use Rattle.ms_machine.specs.Store.{Store}
 
--- A good handle has a used colour, and its bound is a known shade of that colour.
+-- A good handle has a used colour, and its bound is a known shade of that colour, sealed where the handle is sealed and else writable.
 abbrev pub KnowsHandle : State → Handle → Type 0
-KnowsHandle m (handles.Good id base size offset) = Contains m.used id × Contains m.shades (shade_of id base (base + size))
+KnowsHandle m (handles.Good sealed id base size offset) = Contains m.used id × Contains m.shades (shade_of sealed id base (base + size))
 KnowsHandle m h = Unit {0}
 
 abbrev pub Knows : State → Value → Type 0
@@ -31,7 +31,7 @@ IsPaintOf m p = (s : Live) × Contains m.live s × (p.colour ≡ s.id) × (p.pla
 pub record IsMonitored (state : State) (m : Memory) : Type 0 where
   pub live : state.live ≡ map (λ (s : Live). s.id) m.live
   pub painted : (p : Paint) → Contains state.painted p ↔ IsPaintOf m p
-  pub roots : All (λ (s : Live). Contains state.shades (shade_of s.id 0 s.size)) m.live
+  pub roots : All (λ (s : Live). Contains state.shades (shade_of false s.id 0 s.size)) m.live
   pub used : (colour : ℕ) → Contains state.used colour ↔ ((1 ≤ colour) × (colour ≤ m.made))
   pub pieces : (h : Handle) (i : ℕ) → Contains m.bytes (Piece h i) → KnowsHandle state h
 

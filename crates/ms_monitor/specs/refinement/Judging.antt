@@ -2,7 +2,7 @@
 use Rattle.std.specs.Prelude.{◌≡◌, Result, Ok, Err}
 use Rattle.ms_event.specs.Monitor.{May, State, after}
 use Rattle.ms_event.specs.declared.event.Event.{Event}
-use Rattle.ms_event.specs.declared.event.Event.TheVariants.{Alloc, Free, Read, Refused, Slice, Write}
+use Rattle.ms_event.specs.declared.event.Event.TheVariants.{Alloc, Free, Read, Refused, Seal, Slice, Write}
 use Rattle.ms_monitor.specs.refinement.Kept.{Kept}
 use Rattle.ms_monitor.specs.refinement.Showing.{Shows}
 use Rattle.ms_monitor.specs.declared.monitor.Verdict.{Verdict}
@@ -12,8 +12,9 @@ use Rattle.ms_monitor.specs.declared.monitor.Verdict.TheVariants.{Memory, Reject
 abbrev pub TakesMemory : Event → Type 0
 TakesMemory (Alloc id addr size) = Unit {0}
 TakesMemory (Refused size) = ⊥
-TakesMemory (Slice id lo hi lo2 hi2) = Unit {0}
-TakesMemory (Read id lo hi addr width) = ⊥
+TakesMemory (Seal id lo hi) = Unit {0}
+TakesMemory (Slice sealed id lo hi lo2 hi2) = Unit {0}
+TakesMemory (Read sealed id lo hi addr width) = ⊥
 TakesMemory (Write id lo hi addr width) = ⊥
 TakesMemory (Free id) = ⊥
 

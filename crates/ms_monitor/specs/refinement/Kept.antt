@@ -9,7 +9,7 @@ use Rattle.ms_monitor.specs.refinement.Colours.{colour_of, filled_in, live_in}
 use Rattle.ms_monitor.specs.declared.colours.Colour.{Colour}
 use Rattle.ms_live.specs.declared.gaps.TheConstants.{GAP_LEVELS}
 
--- how many addresses there are, all colours used, the shades that were sliced, and the rooms of the gaps between live allocations
+-- how many addresses there are, all colours used, the shades that were sliced or sealed, and the rooms of the gaps between live allocations
 pub record Kept : Type 0 where
   pub capacity : ℕ
   pub colours : List (ℕ × Colour)

@@ -1,5 +1,5 @@
 -- Which states of the colour monitor are shown by what is kept: those with the same members, whatever their order.
-use Rattle.std.specs.Prelude.{◌≡◌, ◌≢◌, ◌↔◌, ◌⊎◌, ℕ, ◌+◌, ◌<◌, ◌≤◌, true, List, Some, AllPairs, Contains, length}
+use Rattle.std.specs.Prelude.{◌≡◌, ◌≢◌, ◌↔◌, ◌⊎◌, ℕ, ◌+◌, ◌<◌, ◌≤◌, true, false, List, Some, AllPairs, Contains, length}
 use Rattle.ms_event.specs.Monitor.{Paint, Shade, State}
 use Rattle.ms_monitor.specs.refinement.Colours.{colour_of, live_in}
 use Rattle.ms_monitor.specs.refinement.Kept.{Kept}
@@ -15,11 +15,11 @@ IsLiveColour colours id = (c : Colour) × (colour_of colours id ≡ Some c) × (
 abbrev pub IsUsed : List (ℕ × Colour) → ℕ → Type 0
 IsUsed colours id = (c : Colour) × (colour_of colours id ≡ Some c)
 
--- the shade of a whole allocation
+-- the writable shade of a whole allocation
 abbrev pub IsWhole : List (ℕ × Colour) → Shade → Type 0
-IsWhole colours x = (c : Colour) × (colour_of colours x.colour ≡ Some c) × (x.lo ≡ 0) × (x.hi ≡ c.size)
+IsWhole colours x = (c : Colour) × (colour_of colours x.colour ≡ Some c) × (x.lo ≡ 0) × (x.hi ≡ c.size) × (x.sealed ≡ false)
 
--- a shade is known from its allocation or from a slice
+-- a shade is known from its allocation, or since it was sliced or sealed
 abbrev pub IsKnown : Kept → Shade → Type 0
 IsKnown k x = IsWhole k.colours x ⊎ Contains k.shades x
 

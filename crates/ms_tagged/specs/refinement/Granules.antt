@@ -19,6 +19,10 @@ number_of (byte ∷ bytes) = byte + 256 * number_of bytes
 abbrev pub unset : StoredHandle
 unset = record { handle = Null }
 
+-- the handle that a granule keeps
+abbrev pub handle_in : List StoredHandle → ℕ → Handle
+handle_in handles granule = let stored = slice_index_or handles granule unset in stored.handle
+
 -- bit i of the masks: 1 where byte i is a piece
 abbrev pub piece_bit : List ℕ → ℕ → ℕ
 piece_bit masks i = bit_at (slice_index_or masks (i / 16) 0) (i % 16)

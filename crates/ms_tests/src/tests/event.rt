@@ -22,7 +22,7 @@ fn expect_event<R: Abort>(
 
 #[test]
 fn texts_and_events(rt: HostRuntime) -> Result<(), Fail> {
-    let table: [(Event, &str); 3] = [
+    let table: [(Event, &str); 4] = [
         (
             Event::Alloc {
                 id: u64::MAX,
@@ -32,14 +32,23 @@ fn texts_and_events(rt: HostRuntime) -> Result<(), Fail> {
             "alloc 18446744073709551615 4294967295 0",
         ),
         (
+            Event::Seal {
+                id: 7,
+                lo: 0,
+                hi: 4,
+            },
+            "seal 7 0 4",
+        ),
+        (
             Event::Slice {
+                sealed: true,
                 id: 1,
                 lo: 2,
                 hi: 30,
                 lo2: 4,
                 hi2: 5,
             },
-            "slice 1 2 30 4 5",
+            "slice 1 2 30 4 5 sealed",
         ),
         (Event::Free { id: 0 }, "free 0"),
     ];

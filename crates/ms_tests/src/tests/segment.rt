@@ -31,6 +31,7 @@ fn use_a_segment<G: Gaps, T: Tagged>(rt: &impl Abort, alloc: Global) -> Result<(
             == Ok((
                 7,
                 Event::Read {
+                    sealed: false,
                     id,
                     lo,
                     hi,

@@ -40,5 +40,6 @@ form_is word.HandleIsNull = operand (Bare (instr.Segment segment.IsNull))
 form_is word.HandleDiff = operand (Bare (instr.Segment segment.Diff))
 form_is word.HandleLoad = operand (Bare (instr.Segment segment.LoadHandle))
 form_is word.HandleStore = operand (Bare (instr.Segment segment.StoreHandle))
+form_is word.HandleSeal = operand (Bare (instr.Segment segment.Seal))
 form_is (word.SegmentLoad op) = segment_load op
 form_is (word.SegmentStore op) = segment_store op

@@ -4,7 +4,8 @@ use Rattle.ms_tagged.specs.Bytes.{Data}
 use Rattle.ms_tagged.proofs.Ranges.{length-written}
 use Rattle.ms_segment.specs.Memory.{IsSound, Memory}
 use Rattle.ms_segment.proofs.Calls.{after-entered, placed-of}
-use Rattle.ms_segment.proofs.Sound.{IsSound-entered, place-within}
+use Rattle.ms_segment.proofs.Sound.{IsSound-entered}
+use Rattle.ms_segment.proofs.Placing.{place-within}
 use Rattle.ms_segment.proofs.segments.Segments.enter.Goals as goal
 
 pub enter-requires-clause-placed : goal.enter-requires-clause-placed

@@ -2,8 +2,8 @@ use Rattle.std.proofs.Common.{◌+◌, ◌≤◌, length, sym, ◌∙◌, arith,
 use Rattle.std.proofs.lemmas.Result.{err_from_is_err_and}
 use Rattle.ms_tagged.specs.Bytes.{data_of}
 use Rattle.ms_tagged.proofs.Numbers.{length-data_of}
-use Rattle.ms_segment.specs.Memory.{access}
-use Rattle.ms_segment.proofs.Reach.{access-within}
+use Rattle.ms_segment.specs.Memory.{access, writable}
+use Rattle.ms_segment.proofs.Reach.{write-within}
 use Rattle.ms_segment.proofs.Sound.{IsSound-data}
 use Rattle.ms_tagged.proofs.Ranges.{length-written}
 use Rattle.ms_segment.specs.Memory.{IsFit, IsSound, Memory}
@@ -15,19 +15,19 @@ use Rattle.ms_segment.proofs.segments.Segments.store.Goals as goal
 pub put-requires-clause-within : goal.put-requires-clause-within
 put-requires-clause-within g c =
     let sound : IsSound c.args.self.now = subst IsSound c.self.view_is c.self.invariant.1 in
-    omega (arith, ap (λ (m : Memory). length m.bytes) c.self.view_is, access-within c.args.self.now c.args.h c.args.width (access_of c.in_ok-access.access) sound c.requires.fits c.in_ok-access.ensures)
+    omega (arith, ap (λ (m : Memory). length m.bytes) c.self.view_is, write-within c.args.self.now c.args.h c.args.width (access_of c.in_ok-access.access) sound c.requires.fits c.in_ok-access.ensures)
 
 pub returns-in_err-access-clause-stored : goal.returns-in_err-access-clause-stored
 returns-in_err-access-clause-stored g c =
     let p = err_from_is_err_and c.from_residual.result c.from_residual.ensures.1 in
-    Stores-stopped c.args.self.now (data_of c.args.width c.args.value) c.args.width (access c.args.self.now c.args.h c.args.width) c.from_residual.result c.in_err-access.field-0.0 c.in_err-access.ensures (cc)
+    Stores-stopped c.args.self.now (data_of c.args.width c.args.value) c.args.width (writable (access c.args.self.now c.args.h c.args.width)) c.from_residual.result c.in_err-access.field-0.0 c.in_err-access.ensures (cc)
 
 pub invariant_of-self : goal.invariant_of-self
 invariant_of-self g c =
     let bytes = g.T.Tagged.bytes c.self.inside.tagged in
     let after = after-written (g.T.Tagged.bytes c.self.inside.tagged) (g.T.Tagged.bytes c.put.new.self) (g.G.Gaps.live c.self.inside.gaps) c.self.inside.made c.self.inside.accesses c.one_more-self-inside.result c.in_ok-access.access.address (data_of c.args.width c.args.value) c.args.self.now c.self.view_is c.put.ensures c.one_more-self-inside.ensures in
     let sound : IsSound c.args.self.now = subst IsSound c.self.view_is c.self.invariant.1 in
-    let within : c.in_ok-access.access.address + length (data_of c.args.width c.args.value) ≤ length c.args.self.now.bytes = omega (arith, length-data_of c.args.width c.args.value, access-within c.args.self.now c.args.h c.args.width (access_of c.in_ok-access.access) sound c.requires.fits c.in_ok-access.ensures) in
+    let within : c.in_ok-access.access.address + length (data_of c.args.width c.args.value) ≤ length c.args.self.now.bytes = omega (arith, length-data_of c.args.width c.args.value, write-within c.args.self.now c.args.h c.args.width (access_of c.in_ok-access.access) sound c.requires.fits c.in_ok-access.ensures) in
     let within_parts : c.in_ok-access.access.address + length (data_of c.args.width c.args.value) ≤ length bytes = omega (arith, within, ap (λ (m : Memory). length m.bytes) c.self.view_is) in
     let as_long = length-written c.in_ok-access.access.address (data_of c.args.width c.args.value) bytes (g.T.Tagged.bytes c.put.new.self) c.put.ensures within_parts in
     (c.self.invariant.0 ∙ sym as_long, subst IsSound (sym after) (IsSound-data c.args.self.now c.in_ok-access.access.address c.args.width c.args.value sound within))
@@ -35,13 +35,13 @@ invariant_of-self g c =
 pub returns-clause-stored : goal.returns-clause-stored
 returns-clause-stored g c =
     let after = after-written (g.T.Tagged.bytes c.self.inside.tagged) (g.T.Tagged.bytes c.put.new.self) (g.G.Gaps.live c.self.inside.gaps) c.self.inside.made c.self.inside.accesses c.one_more-self-inside.result c.in_ok-access.access.address (data_of c.args.width c.args.value) c.args.self.now c.self.view_is c.put.ensures c.one_more-self-inside.ensures in
-    Stores-stored c.args.self.now _ (data_of c.args.width c.args.value) c.args.width (access c.args.self.now c.args.h c.args.width) (access_of c.in_ok-access.access) c.write.result c.in_ok-access.ensures c.write.ensures after
+    Stores-stored c.args.self.now _ (data_of c.args.width c.args.value) c.args.width (writable (access c.args.self.now c.args.h c.args.width)) (access_of c.in_ok-access.access) c.write.result c.in_ok-access.ensures c.write.ensures after
 
 pub returns-clause-sound : goal.returns-clause-sound
 returns-clause-sound g c =
     let after = after-written (g.T.Tagged.bytes c.self.inside.tagged) (g.T.Tagged.bytes c.put.new.self) (g.G.Gaps.live c.self.inside.gaps) c.self.inside.made c.self.inside.accesses c.one_more-self-inside.result c.in_ok-access.access.address (data_of c.args.width c.args.value) c.args.self.now c.self.view_is c.put.ensures c.one_more-self-inside.ensures in
     let sound : IsSound c.args.self.now = subst IsSound c.self.view_is c.self.invariant.1 in
-    let within : c.in_ok-access.access.address + length (data_of c.args.width c.args.value) ≤ length c.args.self.now.bytes = omega (arith, length-data_of c.args.width c.args.value, access-within c.args.self.now c.args.h c.args.width (access_of c.in_ok-access.access) sound c.requires.fits c.in_ok-access.ensures) in
+    let within : c.in_ok-access.access.address + length (data_of c.args.width c.args.value) ≤ length c.args.self.now.bytes = omega (arith, length-data_of c.args.width c.args.value, write-within c.args.self.now c.args.h c.args.width (access_of c.in_ok-access.access) sound c.requires.fits c.in_ok-access.ensures) in
     subst IsSound (sym after) (IsSound-data c.args.self.now c.in_ok-access.access.address c.args.width c.args.value sound within)
 
 pub returns-clause-others : goal.returns-clause-others

@@ -1,8 +1,9 @@
-use Rattle.std.proofs.Common.{◌≡◌, ◌+◌, ◌*◌, ◌/◌, get_or, sym, subst, ◌∙◌, arith}
+use Rattle.std.proofs.Common.{◌≡◌, ◌+◌, ◌*◌, ◌/◌, List, ap, get_or, sym, subst, ◌∙◌, arith}
+use Rattle.ms_handle.specs.declared.handle.Handle.{Handle}
 use Rattle.std.proofs.lemmas.Bool.{false≢true}
 use Rattle.std.proofs.lemmas.List.{get_or_past, get_or_read}
 use Rattle.ms_tagged.specs.Bytes.{IsHandleAt, cleared}
-use Rattle.ms_tagged.specs.refinement.Granules.{byte_at, bytes_from, unset}
+use Rattle.ms_tagged.specs.refinement.Granules.{byte_at, bytes_from, handle_in}
 use Rattle.ms_tagged.specs.declared.granules.StoredHandle.{StoredHandle}
 use Rattle.ms_tagged.proofs.GranuleBytes.{cleared-read, data-read, handle-read, mixed-read, whole-read, zeros-held}
 use Rattle.ms_tagged.proofs.granules.GranulesTagged.get_handle.Goals as goal
@@ -22,10 +23,10 @@ returns-then-mask c =
     let handles = c.self.inside.handles.items in
     let g = c.args.address / 16 in
     let mask : get_or masks g 0 ≡ c.index-mask.result.now = sym (get_or_read masks g c.index-mask.result.now (omega arith) c.index-mask.ensures 0) in
-    let stored : c.index.result.now ≡ get_or handles g unset = get_or_read handles g c.index.result.now (omega arith) c.index.ensures unset in
-    let P : StoredHandle → Type 0 = λ s. IsHandleAt (bytes_from (byte_at plain masks handles) (16 * g) 16) s.handle in
+    let P : Handle → Type 0 = λ h. IsHandleAt (bytes_from (byte_at plain masks handles) (16 * g) 16) h in
+    let kept : c.stored.result ≡ handle_in handles g = c.stored.ensures ∙ ap (λ (hs : List StoredHandle). handle_in hs g) c.deref.ensures.value in
     handle-read plain masks handles c.args.self.now c.self.inside.capacity c.args.address _ c.self.view_is c.requires.aligned c.requires.within
-    (subst P (sym stored) (whole-read plain masks handles g (mask ∙ c.if-mask.true)))
+    (subst P (sym kept) (whole-read plain masks handles g (mask ∙ c.if-mask.true)))
 
 pub returns-then-mask-ne0 : goal.returns-then-mask-ne0
 returns-then-mask-ne0 c =
@@ -44,7 +45,7 @@ returns-then-are_zeros c =
     let handles = c.self.inside.handles.items in
     let g = c.args.address / 16 in
     let mask : get_or masks g 0 ≡ c.index-mask.result.now = sym (get_or_read masks g c.index-mask.result.now (omega arith) c.index-mask.ensures 0) in
-    let are = zeros-held plain c.deref.result.now c.args.address (16 * g) c.deref.ensures.value (omega arith) in
+    let are = zeros-held plain c.deref-2.result.now c.args.address (16 * g) c.deref-2.ensures.value (omega arith) in
     handle-read plain masks handles c.args.self.now c.self.inside.capacity c.args.address _ c.self.view_is c.requires.aligned c.requires.within
     (cleared (cleared-read plain masks handles g (mask ∙ c.if-mask-ne0.false) (are.0 (c.are_zeros.ensures.0 c.if-are_zeros.true))))
 
@@ -55,6 +56,6 @@ returns-else-are_zeros c =
     let handles = c.self.inside.handles.items in
     let g = c.args.address / 16 in
     let mask : get_or masks g 0 ≡ c.index-mask.result.now = sym (get_or_read masks g c.index-mask.result.now (omega arith) c.index-mask.ensures 0) in
-    let are = zeros-held plain c.deref.result.now c.args.address (16 * g) c.deref.ensures.value (omega arith) in
+    let are = zeros-held plain c.deref-2.result.now c.args.address (16 * g) c.deref-2.ensures.value (omega arith) in
     handle-read plain masks handles c.args.self.now c.self.inside.capacity c.args.address _ c.self.view_is c.requires.aligned c.requires.within
     (data-read plain masks handles g (mask ∙ c.if-mask-ne0.false) (omega arith) (λ e. false≢true (sym c.if-are_zeros.false ∙ c.are_zeros.ensures.1 (are.1 e))))

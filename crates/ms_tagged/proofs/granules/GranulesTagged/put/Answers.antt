@@ -9,11 +9,11 @@ use Rattle.ms_tagged.proofs.granules.GranulesTagged.put.Goals as goal
 pub reach-requires-clause-room : goal.reach-requires-clause-room
 reach-requires-clause-room c =
     let long = length-bytes_from (byte_at c.self.inside.plain.items c.self.inside.masks.items c.self.inside.handles.items) 0 c.self.inside.capacity in
-    (omega (arith, long, ap length c.self.view_is), omega (arith, long, ap length c.self.view_is), omega (arith, long, ap length c.self.view_is))
+    (omega (arith, long, ap length c.self.view_is), omega (arith, long, ap length c.self.view_is))
 
 pub returns : goal.returns
 returns c =
     let k : c.args.address + c.args.width - c.args.address ≡ c.args.width = omega arith in
     let held = length-held c.deref_mut-2.result.now c.args.address c.args.width (omega arith) in
-    data-written c.reach.new.plain c.reach.new.masks c.reach.new.handles.items (byte_at c.self.inside.plain.items c.self.inside.masks.items c.self.inside.handles.items) c.deref_mut-2.result.now c.deref_mut.result.now c.forget_few.new.masks c.write_word.new.bytes (data_of c.args.width c.args.value) c.args.self.now c.self.inside.capacity c.args.address c.args.width _
-    c.reach.ensures.bytes c.deref_mut-2.ensures.value c.deref_mut-2.ensures.len c.deref_mut.ensures.value c.forget_few.auto.masks c.deref_mut.ensures.len c.forget_few.ensures c.reach.ensures.there c.self.view_is c.requires.within k c.write_word.auto.bytes (c.write_word.ensures ∙ ap (λ n. data_of n c.args.value) held) (length-data_of c.args.width c.args.value)
+    data-written c.reach.new.plain c.reach.new.masks c.self.inside.handles.items (byte_at c.self.inside.plain.items c.self.inside.masks.items c.self.inside.handles.items) c.deref_mut-2.result.now c.deref_mut.result.now c.forget_few.new.masks c.write_word.new.bytes (data_of c.args.width c.args.value) c.args.self.now c.self.inside.capacity c.args.address c.args.width _
+    (c.reach.ensures.bytes c.self.inside.handles.items) c.deref_mut-2.ensures.value c.deref_mut-2.ensures.len c.deref_mut.ensures.value c.forget_few.auto.masks c.deref_mut.ensures.len c.forget_few.ensures c.reach.ensures.there c.self.view_is c.requires.within k c.write_word.auto.bytes (c.write_word.ensures ∙ ap (λ n. data_of n c.args.value) held) (length-data_of c.args.width c.args.value)

@@ -2,18 +2,25 @@ use Rattle.std.proofs.Common.{◌≡◌, ◌*◌, ◌/◌, ◌∙◌, ap, length
 use Rattle.ms_tagged.specs.Bytes.{overwritten, pieces}
 use Rattle.ms_tagged.specs.refinement.Granules.{byte_at, bytes_from}
 use Rattle.ms_tagged.proofs.BytesFrom.{length-bytes_from}
-use Rattle.ms_tagged.proofs.GranuleWrites.{handle-overwritten}
+use Rattle.ms_tagged.proofs.GranuleWrites.{byte_at-filled, handle-overwritten}
 use Rattle.ms_tagged.proofs.granules.GranulesTagged.put_handle.Goals as goal
 
 pub reach-requires-clause-room : goal.reach-requires-clause-room
 reach-requires-clause-room c =
     let long = length-bytes_from (byte_at c.self.inside.plain.items c.self.inside.masks.items c.self.inside.handles.items) 0 c.self.inside.capacity in
-    (omega (arith, long, ap length c.self.view_is), omega (arith, long, ap length c.self.view_is), omega (arith, long, ap length c.self.view_is))
+    (omega (arith, long, ap length c.self.view_is), omega (arith, long, ap length c.self.view_is))
+
+pub fill_up-requires : goal.fill_up-requires
+fill_up-requires c =
+    let long = length-bytes_from (byte_at c.self.inside.plain.items c.self.inside.masks.items c.self.inside.handles.items) 0 c.self.inside.capacity in
+    omega (arith, long, ap length c.self.view_is)
 
 pub returns : goal.returns
 returns c =
     let before = byte_at c.self.inside.plain.items c.self.inside.masks.items c.self.inside.handles.items in
     let long = length-bytes_from before 0 c.self.inside.capacity in
     let place : 16 * (c.args.address / 16) ≡ c.args.address = omega arith in
-    handle-overwritten c.reach.new.plain.items c.reach.new.masks.items c.reach.new.handles.items before c.self.inside.capacity (c.args.address / 16) c.args.handle c.reach.ensures.bytes (omega arith) (omega arith) (omega (arith, long, ap length c.self.view_is))
+    handle-overwritten c.reach.new.plain.items c.reach.new.masks.items c.fill_up.new.items.items before c.self.inside.capacity (c.args.address / 16) c.args.handle
+    (λ i. byte_at-filled c.reach.new.plain.items c.reach.new.masks.items c.self.inside.handles.items c.fill_up.new.items.items _ i c.fill_up.ensures.items ∙ c.reach.ensures.bytes c.self.inside.handles.items i)
+    (omega arith) (omega arith) (omega (arith, long, ap length c.self.view_is))
     ∙ (ap (λ at. overwritten at (pieces c.args.handle) (bytes_from before 0 c.self.inside.capacity)) place ∙ ap (overwritten c.args.address (pieces c.args.handle)) c.self.view_is)
