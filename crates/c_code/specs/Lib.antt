@@ -1,0 +1,9 @@
+pub mod Uses
+pub mod Operations
+pub mod Targets
+pub mod Leaves
+pub mod Expressions
+pub mod Statements
+pub mod Functions
+pub mod Modules
+pub mod Limits

@@ -1,0 +1,10 @@
+pub mod Shapes
+pub mod Values
+pub mod Objects
+pub mod World
+pub mod Integers
+pub mod Accesses
+pub mod Expressions
+pub mod Statements
+pub mod Functions
+pub mod Units

@@ -1,0 +1,5 @@
+//! Code that is put together of parts (WebAssembly 1.0, 2.4): what each part adds to a body that is built.
+//!
+//! It stands on the builder of bodies (`ms_module`). Read `specs/Codes.antt`: a part is its instructions and the sequences of the
+//! blocks in it, by the number of the first of these.
+#![tactic(auto)]
