@@ -7,3 +7,4 @@ pub mod Statements
 pub mod Functions
 pub mod Modules
 pub mod Limits
+pub mod Stage

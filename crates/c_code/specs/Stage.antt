@@ -1,0 +1,111 @@
+-- The units of which it is shown so far that their code does what they mean: those of integers, variables that are no objects,
+-- control, and calls of functions by their names.
+use Rattle.std.specs.Prelude.{ℕ, suc, ◌&&◌, not, Bool, true, false, List, [], ◌∷◌, Option, Some, None}
+use Rattle.c_types.specs.declared.types.Scalar.{Scalar}
+use Rattle.c_types.specs.declared.types.Scalar.TheVariants as scalars
+use Rattle.c_types.specs.Types.{Ty, void, integer, function, Tys, no_types, types}
+use Rattle.c_typed.specs.declared.ops.Variable.TheVariants.{Local, Global}
+use Rattle.c_typed.specs.Objects.{is_object}
+use Rattle.c_typed.specs.Tree as tree
+use Rattle.c_typed.specs.Tree.{Place, of, Expr, Exprs, none, more, Stmt, nothing, perform, if_else, loop, do_while, switch, scope, return, return_nothing, break, continue, Stmts, done, seq, Function, Typed}
+
+abbrev pub is_integer : Ty → Bool
+is_integer (integer t) = true
+is_integer _ = false
+
+abbrev pub is_number : Scalar → Bool
+is_number (scalars.Int t) = true
+is_number _ = false
+
+abbrev pub is_number_or_void : Option Scalar → Bool
+is_number_or_void None = true
+is_number_or_void (Some s) = is_number s
+
+abbrev pub is_local : Place → Bool
+is_local (of (Local n)) = true
+is_local _ = false
+
+abbrev mutual
+  pub in_expr : Expr → Bool
+  in_expr (tree.number t n) = true
+  in_expr (tree.read s p) = is_local p
+  in_expr (tree.convert t u a) = in_expr a
+  in_expr (tree.truth s a) = is_number s && in_expr a
+  in_expr (tree.not a) = in_expr a
+  in_expr (tree.unary o t a) = in_expr a
+  in_expr (tree.binary o t a b) = in_expr a && in_expr b
+  in_expr (tree.compare o t a b) = in_expr a && in_expr b
+  in_expr (tree.and a b) = in_expr a && in_expr b
+  in_expr (tree.or a b) = in_expr a && in_expr b
+  in_expr (tree.choose s c a b) = is_number_or_void s && (in_expr c && (in_expr a && in_expr b))
+  in_expr (tree.comma a b) = in_expr a && in_expr b
+  in_expr (tree.assign s p e) = is_local p && in_expr e
+  in_expr (tree.update old t o u p e) = is_local p && in_expr e
+  in_expr (tree.call n s es) = is_number_or_void s && in_exprs es
+  in_expr (tree.putchar e) = in_expr e
+  in_expr tree.getchar = true
+  in_expr tree.abort = true
+  in_expr (tree.discard e) = in_expr e
+  in_expr (tree.size_of_place n p) = true
+  in_expr (tree.size_of_value n e) = true
+  in_expr (tree.size_of_type n) = true
+  in_expr _ = false
+
+  pub in_exprs : Exprs → Bool
+  in_exprs none = true
+  in_exprs (more e es) = in_expr e && in_exprs es
+
+abbrev pub in_step : Option Expr → Bool
+in_step None = true
+in_step (Some e) = in_expr e
+
+abbrev mutual
+  pub in_stmt : Stmt → Bool
+  in_stmt nothing = true
+  in_stmt (perform e) = in_expr e
+  in_stmt (if_else c a b) = in_expr c && (in_stmt a && in_stmt b)
+  in_stmt (loop c step s) = in_expr c && (in_step step && in_stmt s)
+  in_stmt (do_while s c) = in_stmt s && in_expr c
+  in_stmt (switch t e slots cases ss) = in_expr e && in_stmts ss
+  in_stmt (scope slots ss) = in_stmts ss
+  in_stmt (return e) = in_expr e
+  in_stmt return_nothing = true
+  in_stmt break = true
+  in_stmt continue = true
+  in_stmt _ = false
+
+  pub in_stmts : Stmts → Bool
+  in_stmts done = true
+  in_stmts (seq s ss) = in_stmt s && in_stmts ss
+
+-- each slot from the n-th on is an integer, and no object
+abbrev pub are_plain : Stmt → (n : ℕ) → List Ty → Bool
+are_plain body n [] = true
+are_plain body n (t ∷ ts) = is_integer t && (not (is_object body n t) && are_plain body (suc n) ts)
+
+abbrev pub are_integers : Tys → Bool
+are_integers no_types = true
+are_integers (types t ts) = is_integer t && are_integers ts
+
+abbrev pub is_integer_or_void : Ty → Bool
+is_integer_or_void void = true
+is_integer_or_void t = is_integer t
+
+abbrev pub is_plain_function : Ty → Bool
+is_plain_function (function r ps) = is_integer_or_void r && are_integers ps
+is_plain_function _ = false
+
+abbrev pub in_body : Function → Option Stmt → Bool
+in_body f None = true
+in_body f (Some s) = are_plain s 0 f.slots && in_stmt s
+
+abbrev pub in_functions : List Function → Bool
+in_functions [] = true
+in_functions (f ∷ fs) = is_plain_function f.ty && (in_body f f.body && in_functions fs)
+
+abbrev pub is_empty : {A : Type 0} → List A → Bool
+is_empty [] = true
+is_empty (x ∷ xs) = false
+
+abbrev pub in_stage : Typed → Bool
+in_stage u = is_empty u.made && (is_empty u.globals && in_functions u.functions)
