@@ -1,5 +1,5 @@
 -- What expressions do (C11, 6.5), by recursion on the typed tree. Evaluation goes from left to right.
-use Rattle.std.specs.Prelude.{ℕ, suc, ◌*◌, ℤ, pos, negsuc, neg_ℤ, int_div, Bool, true, false, not, ◌==◌, List, [], ◌∷◌, Option, Some, None, if◌then◌else◌, slice_get}
+use Rattle.std.specs.Prelude.{ℕ, ◌*◌, ℤ, pos, negsuc, neg_ℤ, int_div, Bool, true, false, not, ◌==◌, List, [], ◌∷◌, Option, Some, None, if◌then◌else◌, slice_get}
 use Rattle.c_types.specs.declared.integers.IntType.TheVariants.{UnsignedChar, UnsignedInt}
 use Rattle.c_types.specs.Types.{Ty, struct}
 use Rattle.c_types.specs.Layout.{size}
@@ -8,7 +8,7 @@ use Rattle.c_typed.specs.declared.ops.Variable.{Variable}
 use Rattle.c_typed.specs.Tree as tree
 use Rattle.c_typed.specs.Tree.{Place, of, deref, member, Expr, Exprs, none, more, Typed}
 use Rattle.c_meaning.specs.Shapes.{shape}
-use Rattle.c_meaning.specs.Values.{Step, to_member, inside, Pointer, Value, number, null, points, function_at, no_function}
+use Rattle.c_meaning.specs.Values.{Step, to_member, inside, Value, number, null, points, function_at, no_function}
 use Rattle.c_meaning.specs.Objects.{moved}
 use Rattle.c_meaning.specs.Objects as objects
 use Rattle.c_meaning.specs.World.{null_call, lost, abort, Held, plain, object, Does, ◌>>=◌, ◌>>◌, pure, stop, known, look, ask, alter, write_byte, take_byte}

@@ -1,13 +1,11 @@
 -- What statements do (C11, 6.8), by recursion on the typed tree. A unit of fuel is spent at each return to the start of a loop.
 -- `loops` and `do_loops` have a bound, by which the recursion goes: it is above the fuel, so that no run comes to it.
-use Rattle.std.specs.Prelude.{◌≡◌, ℕ, zero, suc, ◌==◌, Bool, true, false, List, [], ◌∷◌, length, map, Option, Some, None, if◌then◌else◌, slice_get}
-use Rattle.c_types.specs.declared.integers.IntType.{IntType}
+use Rattle.std.specs.Prelude.{ℕ, zero, suc, ◌==◌, Bool, true, false, List, [], ◌∷◌, map, Option, Some, None, if◌then◌else◌, slice_get}
 use Rattle.c_types.specs.declared.integers.IntType.TheVariants.{Char}
 use Rattle.c_types.specs.Types.{Ty}
 use Rattle.c_typed.specs.declared.ops.Variable.TheVariants.{Local}
 use Rattle.c_typed.specs.declared.tree.Case.{Case}
-use Rattle.c_typed.specs.Tree as tree
-use Rattle.c_typed.specs.Tree.{Place, Expr, Stmt, nothing, perform, fill, if_else, loop, do_while, switch, scope, return, return_nothing, break, continue, Stmts, done, seq, Typed}
+use Rattle.c_typed.specs.Tree.{Expr, Stmt, nothing, perform, fill, if_else, loop, do_while, switch, scope, return, return_nothing, break, continue, Stmts, done, seq, Typed}
 use Rattle.c_well_typed.specs.Statements.{count}
 use Rattle.c_meaning.specs.Values.{Value, inside, number, zero_value}
 use Rattle.c_meaning.specs.Objects as objects

@@ -1,5 +1,5 @@
 -- What a unit does (C11, 5.1.2.2.1 and 6.9): what is made before `main`, and `main`. `means`, at the end, is the meaning of C.
-use Rattle.std.specs.Prelude.{ℕ, suc, Bool, true, false, ◌||◌, List, [], ◌∷◌, ◌++◌, codes, length, map, position, Option, Some, None, if◌then◌else◌, slice_get}
+use Rattle.std.specs.Prelude.{ℕ, suc, Bool, false, ◌||◌, List, [], ◌∷◌, ◌++◌, codes, length, map, position, Option, Some, None, if◌then◌else◌, slice_get}
 use Rattle.std.specs.Str.{bytes_eq}
 use Rattle.c_types.specs.declared.integers.IntType.TheVariants.{Char}
 use Rattle.c_types.specs.Types.{Ty, void, integer, array}
@@ -8,7 +8,7 @@ use Rattle.c_typed.specs.Tree.{Stmt, Function, Made, global, text, Typed}
 use Rattle.c_typed.specs.Objects.{in_stmt, is_whole}
 use Rattle.c_meaning.specs.Values.{Value, inside, number, zero_value}
 use Rattle.c_meaning.specs.Objects as objects
-use Rattle.c_meaning.specs.World.{End, result, lost, Held, plain, object, World, Result, gives, ends, Does, ◌>>=◌, ◌>>◌, pure, stop, known, look, change, alter}
+use Rattle.c_meaning.specs.World.{End, result, lost, plain, object, World, Result, gives, ends, Does, ◌>>=◌, ◌>>◌, pure, stop, known, look, change, alter}
 use Rattle.c_meaning.specs.Integers.{value_of}
 use Rattle.c_meaning.specs.Accesses.{make_frame, hold}
 use Rattle.c_meaning.specs.Expressions.{Calls, further}
