@@ -223,8 +223,8 @@ module _ (u : Typed) where
   compiled = record {
     sigs = host_sigs ++ (map (λ f. signature f.ty) u.functions ++ sigs_through u);
     imports =
-      import_of (codes "env") (codes "putchar") 0 ∷ import_of (codes "env") (codes "getchar") 1 ∷ import_of (codes "env") (codes "abort") 2
-      ∷ map import_from_c (imported u);
+        import_of (codes "env") (codes "putchar") 0 ∷ import_of (codes "env") (codes "getchar") 1 ∷ import_of (codes "env") (codes "abort") 2
+        ∷ map import_from_c (imported u);
     funcs = funcs_from 0 u.functions ++ start_func ∷ [];
     tables = record { min = suc (length (named u)); max = Some (suc (length (named u))) } ∷ [];
     memories = [];

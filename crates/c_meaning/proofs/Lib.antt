@@ -1,1 +1,1 @@
-mod Computed
+pub mod Computed

@@ -54,7 +54,6 @@ after (ends e w) go = ends e w
 
 infixl 20 ◌>>=◌
 infixl 20 ◌>>◌
-
 -- one behind the other (5.1.2.3, paragraph 3)
 abbrev pub ◌>>=◌ : {A B : Type 0} → Does A → (A → Does B) → Does B
 ◌>>=◌ m f = λ w. after (m w) f

@@ -28,7 +28,6 @@ abbrev pub no_code : Code
 no_code = plain []
 
 infixr 30 ◌⨾◌
-
 abbrev pub joined : Coded → Coded → Coded
 joined x y = coded (x.instrs ++ y.instrs) (x.seqs ++ y.seqs)
 
