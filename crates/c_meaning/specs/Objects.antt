@@ -142,8 +142,12 @@ read objects (points p) =
     after (alive_at objects p.object) (λ o. after (element_at o p) (λ k. value_in (nth (array_at p.path o.trees) k)))
 read objects _ = lost
 
+abbrev pub with_trees : Object → Trees → Object
+with_trees o ts = record o { trees = ts }
+
+-- the objects, where this one's element has another value
 abbrev pub with_leaf : List Object → Object → Pointer → ℕ → Value → List Object
-with_leaf objects o p k v = slice_set objects p.object (record o { trees = with_element p.path k (leaf v) o.trees })
+with_leaf objects o p k v = slice_set objects p.object (with_trees o (with_element p.path k (leaf v) o.trees))
 
 abbrev pub write : List Object → Value → Value → Outcome (List Object)
 write objects null v = stops at_null
@@ -154,12 +158,12 @@ write objects _ v = lost
 
 -- ---- ends
 
-abbrev pub ended : List Object → ℕ → Object → List Object
-ended objects n o = slice_set objects n (record o { alive = false })
+abbrev pub ended : Object → Object
+ended o = record o { alive = false }
 
 -- a variable's object ends with its block
 abbrev pub end : List Object → ℕ → Outcome (List Object)
-end objects n = after (alive_at objects n) (λ o. gives (ended objects n o))
+end objects n = after (alive_at objects n) (λ o. gives (slice_set objects n (ended o)))
 
 abbrev pub is_whole_span : Object → Option Span → Bool
 is_whole_span o None = false
@@ -178,7 +182,7 @@ abbrev pub free : List Object → Value → Outcome (List Object)
 free objects null = gives objects
 free objects invalid = stops at_invalid
 free objects (points p) =
-    after (alive_at objects p.object) (λ o. if is_whole o p then free_kind o.kind p.sealed (ended objects p.object o) else stops whole)
+    after (alive_at objects p.object) (λ o. if is_whole o p then free_kind o.kind p.sealed (slice_set objects p.object (ended o)) else stops whole)
 free objects _ = lost
 
 -- ---- comparing

@@ -1,0 +1,16 @@
+pub mod Laid
+pub mod Shapes
+pub mod Accesses
+pub mod Segments
+pub mod Leaves
+pub mod Reading
+pub mod Writing
+pub mod Growing
+pub mod Ending
+pub mod Making
+pub mod Moving
+pub mod Slicing
+pub mod Comparing
+pub mod Copying
+pub mod Operands
+pub mod Acts
