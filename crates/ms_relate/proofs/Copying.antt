@@ -18,23 +18,12 @@ use Rattle.ms_segment.specs.declared.trap.SegTrap.{SegTrap}
 use Rattle.ms_relate.specs.Homes.{Home, handle, IsOf, IsScalar, Leads}
 use Rattle.ms_relate.specs.Relation.{Related}
 use Rattle.ms_relate.specs.Operations.{Reads, reads, stopped, ReadsPointer, reads_pointer, pointer_stopped, Changes, changes, change_stopped}
-use Rattle.ms_relate.specs.Copies.{Copies, copied, copy_stopped, copy_members_on, copy_on, each_on, left, next}
+use Rattle.ms_relate.specs.Copies.{Scalars, MemberScalars, Copies, copied, copy_stopped, copy_members_on, copy_on, each_on, left, next}
 use Rattle.ms_relate.proofs.Growing.{related_once_more}
 use Rattle.ms_relate.proofs.Moving.{is_of_leads, moved_leads, moved_still_leads}
 use Rattle.ms_relate.proofs.Reading.{no_function_scalar, read_number, read_pointer, scalar_shape}
 use Rattle.ms_relate.proofs.Slicing.{elements_give, member_gives}
 use Rattle.ms_relate.proofs.Writing.{write_number, write_pointer}
-
--- each leaf is of a type of one value
-abbrev mutual
-  pub Scalars : Shape → Type 0
-  Scalars (scalar t) = IsScalar t
-  Scalars (elements s n) = Scalars s
-  Scalars (record' n ms) = MemberScalars ms
-
-  pub MemberScalars : Members → Type 0
-  MemberScalars no_members = Unit {0}
-  MemberScalars (member o s ms) = Scalars s × MemberScalars ms
 
 plain_scalar : (t : Ty) (b : Bool) → IsScalar t → is_function t ≡ b → is_function t ≡ false
 plain_scalar t true is e = absurd (no_function_scalar t is e)
@@ -82,11 +71,11 @@ module _ (table : Table) (places : ℕ → ℕ) (homes : List Home) where
         let p = elements_give table places homes objects m s n a related to room in
         let q = elements_give table places homes objects m s n c related from room in
         rw (p.1, q.1) (each_copies n 0 (λ i. copy s (moved (size s) (pos i) p.0) (moved (size s) (pos i) q.0)) (λ i. copy_on s (add (slice (handle homes a) 0 (n * size s)) (pos i) (size s)) (add (slice (handle homes c) 0 (n * size s)) (pos i) (size s))) objects m
-          (λ i os l more.
-            let here : handle homes (moved (size s) (pos i) p.0) ≡ add (slice (handle homes a) 0 (n * size s)) (pos i) (size s) = moved_leads table places homes s (pos i) p.0 p.2.leads some ∙ ap (λ (h : Handle). add h (pos i) (size s)) p.2.handle_is in
-            let there : handle homes (moved (size s) (pos i) q.0) ≡ add (slice (handle homes c) 0 (n * size s)) (pos i) (size s) = moved_leads table places homes s (pos i) q.0 q.2.leads some ∙ ap (λ (h : Handle). add h (pos i) (size s)) q.2.handle_is in
-            rw (← here, ← there) (copies s (moved (size s) (pos i) p.0) (moved (size s) (pos i) q.0) os l is fits.1 (moved_still_leads table places homes s (size s) (pos i) p.0 p.2.leads) (moved_still_leads table places homes s (size s) (pos i) q.0 q.2.leads) more))
-          related)
+        (λ i os l more.
+        let here : handle homes (moved (size s) (pos i) p.0) ≡ add (slice (handle homes a) 0 (n * size s)) (pos i) (size s) = moved_leads table places homes s (pos i) p.0 p.2.leads some ∙ ap (λ (h : Handle). add h (pos i) (size s)) p.2.handle_is in
+        let there : handle homes (moved (size s) (pos i) q.0) ≡ add (slice (handle homes c) 0 (n * size s)) (pos i) (size s) = moved_leads table places homes s (pos i) q.0 q.2.leads some ∙ ap (λ (h : Handle). add h (pos i) (size s)) q.2.handle_is in
+        rw (← here, ← there) (copies s (moved (size s) (pos i) p.0) (moved (size s) (pos i) q.0) os l is fits.1 (moved_still_leads table places homes s (size s) (pos i) p.0 p.2.leads) (moved_still_leads table places homes s (size s) (pos i) q.0 q.2.leads) more))
+        related)
     copies (record' k ms) a c objects m is fits to from related =
         members_copy ms k ms 0 0 a c objects m is fits.1 fits (λ j p at. rw Rattle.std.proofs.Common.add-zero at) to from related
 
@@ -100,6 +89,6 @@ module _ (table : Table) (places : ℕ → ℕ) (homes : List Home) where
         let p = member_gives table places homes objects m (record' k all) number part a related to at some within.0 in
         let q = member_gives table places homes objects m (record' k all) number part c related from at some within.0 in
         rw (p.1, q.1, ← p.2.handle_is, ← q.2.handle_is)
-          (copies_after (copy s p.0 q.0 objects) (copy_on s (handle homes p.0) (handle homes q.0) m) (λ os. copy_members ms (suc number) a c os) (λ l. copy_members_on ms (handle homes a) (handle homes c) l)
-            (copies s p.0 q.0 objects m is.0 fit.2 p.2.leads q.2.leads related)
-            (λ os l more. members_copy ms k all (suc number) (o + size s) a c os l is.1 fit.3 fits (λ j x here. let e : j + suc number ≡ suc j + number = omega arith in rw e (known (suc j) x here)) to from more))
+        (copies_after (copy s p.0 q.0 objects) (copy_on s (handle homes p.0) (handle homes q.0) m) (λ os. copy_members ms (suc number) a c os) (λ l. copy_members_on ms (handle homes a) (handle homes c) l)
+        (copies s p.0 q.0 objects m is.0 fit.2 p.2.leads q.2.leads related)
+        (λ os l more. members_copy ms k all (suc number) (o + size s) a c os l is.1 fit.3 fits (λ j x here. let e : j + suc number ≡ suc j + number = omega arith in rw e (known (suc j) x here)) to from more))

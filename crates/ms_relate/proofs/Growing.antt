@@ -29,7 +29,7 @@ push_cases [] y zero x at = inr (refl, cc)
 push_cases [] y (suc n) x at = absurd (cc)
 push_cases (z ∷ zs) y zero x at = inl at
 push_cases (z ∷ zs) y (suc n) x at =
-    elim (push_cases zs y n x at) [ | inl old ↦ inl old | inr new ↦ inr (ap suc new.0, new.1) ]
+    elim (push_cases zs y n x at) [ inl old ↦ inl old | inr new ↦ inr (ap suc new.0, new.1) ]
 
 -- ---- values
 

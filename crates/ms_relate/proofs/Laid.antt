@@ -218,6 +218,7 @@ module _ (P Q : ℕ → Ty → Value → Type 0) (c n : ℕ) (f : (b : ℕ) (t :
       let t = laid_nth P ts (record' k ms) a i within laid in
       let part = member_fits ms 0 k m p fits.1 is in
       rw t.1 (put_element ts (record' k ms) a i _ fits within (omega arith) (omega (arith, part.0)) laid (up_in t.0 k ms (a + i * k) m p us fits is low high t.2 new))
+
   up_inside : (s : Shape) (ts us : Trees) (a i : ℕ) (t : Span) → elements_at (a + i * size s) s ≡ Some t → i < count ts → Fits s → t.place ≤ c → c + n ≤ t.place + length_of t → AreLaid P ts s a → SpanLaid Q us t → AreLaid Q (with_array_by (inside i) us ts) s a
   up_inside (scalar u) ts us a i t is within fits low high laid new = absurd (cc)
   up_inside (record' k ms) ts us a i t is within fits low high laid new = absurd (cc)

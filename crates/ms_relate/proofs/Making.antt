@@ -171,8 +171,8 @@ module _ (table : Table) (places : ℕ → ℕ) (homes : List Home) (objects : L
   old_there u j (Some g) fits' live (lives alive kind long many laid) =
       let is = live_is m j.id g live in
       lives alive kind long many (are_weaker (λ place. StandsAt table places homes m.bytes (g.base + place)) (λ place. StandsAt table places grown now.bytes (g.base + place)) 0 (j.count * size j.shape)
-        (λ b t v low high stands. stands_still table places grown t v m.bytes now.bytes (g.base + b) (made_range m.live (n * size s) base g (g.base + b) (width t) m.bytes placed is.0 (omega arith) (omega (arith, high, long)) (width_positive table places homes t v stands.is_of)) (stands_grown table places homes grown grows t v m.bytes (g.base + b) stands))
-        u.trees j.shape 0 fits' (omega arith) (rw many (omega arith)) laid)
+      (λ b t v low high stands. stands_still table places grown t v m.bytes now.bytes (g.base + b) (made_range m.live (n * size s) base g (g.base + b) (width t) m.bytes placed is.0 (omega arith) (omega (arith, high, long)) (width_positive table places homes t v stands.is_of)) (stands_grown table places homes grown grows t v m.bytes (g.base + b) stands))
+      u.trees j.shape 0 fits' (omega arith) (rw many (omega arith)) laid)
 
   old_at : (i : ℕ) (u : Object) (j : Home) → slice_get objects i ≡ Some u → slice_get homes i ≡ Some j → IsAt table places grown now u j
   old_at i u j at at' =

@@ -111,13 +111,13 @@ module _ (table : Table) (places : ℕ → ℕ) (homes : List Home) where
   pointer_aligned m o h p s t (Some g) (lives alive kind size many laid) at is has =
       let there = array_stands m.bytes o h g p.path s at many laid in
       test (index_in s.count p.index) (λ k e. index_in-within s.count p.index k e) there where
-    test : (x : Option ℕ) → ((k : ℕ) → x ≡ Some k → k < s.count) → (count (array_at p.path o.trees) ≡ s.count) × AreLaid (λ place. StandsAt table places homes m.bytes (g.base + place)) (array_at p.path o.trees) s.shape s.place → aligned (located_in p.sealed g s.place s.count (width t) x) ≡ located_in p.sealed g s.place s.count (width t) x
-    test None within there = refl
-    test (Some k) within there =
-        let v = element_leaf (λ place. StandsAt table places homes m.bytes (g.base + place)) (array_at p.path o.trees) s.shape t s.place k is (omega (arith, there.0, within k refl)) there.1 in
-        let address : g.base + (s.place + k * width t) ≡ g.base + s.place + k * width t = omega arith in
-        let multiple : (g.base + s.place + k * width t) % 16 ≡ 0 = rw address at (v.2.aligned has) in
-        rw (eq-eqb ((g.base + s.place + k * width t) % 16) 0 multiple) refl
+        test : (x : Option ℕ) → ((k : ℕ) → x ≡ Some k → k < s.count) → (count (array_at p.path o.trees) ≡ s.count) × AreLaid (λ place. StandsAt table places homes m.bytes (g.base + place)) (array_at p.path o.trees) s.shape s.place → aligned (located_in p.sealed g s.place s.count (width t) x) ≡ located_in p.sealed g s.place s.count (width t) x
+        test None within there = refl
+        test (Some k) within there =
+            let v = element_leaf (λ place. StandsAt table places homes m.bytes (g.base + place)) (array_at p.path o.trees) s.shape t s.place k is (omega (arith, there.0, within k refl)) there.1 in
+            let address : g.base + (s.place + k * width t) ≡ g.base + s.place + k * width t = omega arith in
+            let multiple : (g.base + s.place + k * width t) % 16 ≡ 0 = rw address at (v.2.aligned has) in
+            rw (eq-eqb ((g.base + s.place + k * width t) % 16) 0 multiple) refl
 
   pointer_within : (z : Bool) (m : Memory) (g : Live) (ts : Trees) (s : Span) (t : Ty) (x : Option ℕ) → ((k : ℕ) → x ≡ Some k → k < s.count) → s.shape ≡ scalar t → is_handle t ≡ true → count ts ≡ s.count → AreLaid (λ place. StandsAt table places homes m.bytes (g.base + place)) ts s.shape s.place → ReadsPointer table places homes t (after (if_within x) (λ k. value_in (nth ts k))) (handle_loaded_at m (located_in z g s.place s.count (width t) x))
   pointer_within z m g ts s t None within is has many laid = pointer_stopped bounds_ends

@@ -33,7 +33,7 @@ ranges_apart s t apart =
             | inr behind ↦ inl behind
             | inl before ↦ elim (cases_lt x (y + n)) [
               | inr behind ↦ inr behind
-              | inl meets ↦ absurd (elim (cases_lt x y) [ | inl less ↦ apart y (omega arith) (omega arith) (omega arith) (omega arith) | inr more ↦ apart x (omega arith) (omega arith) (omega arith) (omega arith) ])
+              | inl meets ↦ absurd (elim (cases_lt x y) [ inl less ↦ apart y (omega arith) (omega arith) (omega arith) (omega arith) | inr more ↦ apart x (omega arith) (omega arith) (omega arith) (omega arith) ])
             ]
           ];
     }

@@ -1,5 +1,5 @@
 -- The shape of a type: it fits, has the type's size, and its parts are the shapes of the members.
-use Rattle.std.proofs.Common.{◌≡◌, ◌≢◌, ℕ, zero, suc, ◌+◌, ◌-◌, ◌*◌, ◌/◌, ◌%◌, ◌<◌, ◌≤◌, max, Bool, true, false, cond, List, [], ◌∷◌, Option, Some, None, length, inl, inr, refl, sym, ap, ◌∙◌, subst, arith}
+use Rattle.std.proofs.Common.{◌≡◌, ◌≢◌, ℕ, zero, suc, ◌+◌, ◌-◌, ◌*◌, ◌/◌, ◌%◌, ◌<◌, ◌≤◌, max, Bool, true, false, cond, List, [], ◌∷◌, Option, Some, None, inl, inr, refl, sym, ap, ◌∙◌, subst, arith}
 use Rattle.std.specs.Prelude.{slice_get, slice_index, IsSome}
 use Rattle.std.specs.List.{All}
 use Rattle.std.proofs.Math.Nat.{mul-mod_left}
@@ -203,12 +203,12 @@ ranked_by_depth : (table : Table) (laid : IsLaidOut table) → ((n : ℕ) (l : L
 ranked_by_depth table laid some =
     record {
       below = λ n l is.
-        (let deep = layout_deep table laid n l is in
-        let same : depth_in (layout_at table n) ≡ l.depth = ap (λ o. depth_in o) is in
-        all_below table laid 0 (rank_of table n) l.members (laid.sized n l is) (omega (arith, same, deep)));
+          (let deep = layout_deep table laid n l is in
+          let same : depth_in (layout_at table n) ≡ l.depth = ap (λ o. depth_in o) is in
+          all_below table laid 0 (rank_of table n) l.members (laid.sized n l is) (omega (arith, same, deep)));
       most = λ n l is.
-        (let deep = layout_deep table laid n l is in
-        let same : depth_in (layout_at table n) ≡ l.depth = ap (λ o. depth_in o) is in omega (arith, same, deep));
+          (let deep = layout_deep table laid n l is in
+          let same : depth_in (layout_at table n) ≡ l.depth = ap (λ o. depth_in o) is in omega (arith, same, deep));
       some = some;
     }
 
@@ -258,7 +258,7 @@ module _ (table : Table) (rank : ℕ → ℕ) (laid : IsLaidOut table) (ranked :
   members_same_by d e c same (t ∷ ts) [] has below below' less = refl
   members_same_by d e c same (t ∷ ts) (o ∷ os) has below below' less =
       rw (type_same_by d e c same t (All-head (HasSize table) t ts has) (All-head (IsBelow rank d) t ts below) (All-head (IsBelow rank e) t ts below') (All-head (IsBelow rank c) t ts less))
-        (ap (λ ms. member o (shape_with (struct_shape table e) t) ms) (members_same_by d e c same ts os (All-tail (HasSize table) t ts has) (All-tail (IsBelow rank d) t ts below) (All-tail (IsBelow rank e) t ts below') (All-tail (IsBelow rank c) t ts less)))
+      (ap (λ ms. member o (shape_with (struct_shape table e) t) ms) (members_same_by d e c same ts os (All-tail (HasSize table) t ts has) (All-tail (IsBelow rank d) t ts below) (All-tail (IsBelow rank e) t ts below') (All-tail (IsBelow rank c) t ts less)))
 
   layout_same : (d e n : ℕ) → rank n ≤ d → rank n ≤ e → ((k : ℕ) → IsSome (layout_at table k) → rank k < d → rank k < e → rank k < rank n → struct_shape table d k ≡ struct_shape table e k) → (o : Option Layout) → layout_at table n ≡ o → shape_in (struct_shape table d) o ≡ shape_in (struct_shape table e) o
   layout_same d e n some some' same None is = refl

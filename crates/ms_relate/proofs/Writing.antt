@@ -16,7 +16,7 @@ use Rattle.ms_tagged.specs.Bytes.{Byte, data_of, overwritten, pieces, range}
 use Rattle.ms_tagged.proofs.Numbers.{length-data_of}
 use Rattle.ms_tagged.proofs.Ranges.{range-overwritten_apart, range-overwritten_same}
 use Rattle.ms_segment.specs.Memory.{Access, access, handle_access, Memory, Placed, live_of, with_bytes, writable}
-use Rattle.ms_segment.specs.Calls.{store, store_handle, stored_at}
+use Rattle.ms_segment.specs.Calls.{stored_at}
 use Rattle.ms_relate.specs.Homes.{Home, handle, IsOf, IsScalar, is_null, is_invalid, is_pointer, is_named, is_no_function, span_of, word}
 use Rattle.ms_relate.specs.Relation.{whole, IsAt, IsThere, Related, Spell, StandsAt, gone, lives}
 use Rattle.ms_relate.specs.Operations.{Changes, changes, change_stopped, null_ends, invalid_ends, freed_ends, bounds_ends, readonly_ends}
@@ -61,8 +61,8 @@ module _ (table : Table) (places : ℕ → ℕ) (homes : List Home) where
       let apart = segments_apart m h.id i s g sound found live other in
       let inside = live_inside m i g sound live in
       lives alive kind long many (are_weaker (λ place. StandsAt table places homes m.bytes (s.base + place)) (λ place. StandsAt table places homes (overwritten a new m.bytes) (s.base + place)) 0 (h.count * size h.shape)
-        (λ b t v low' high' stands. stands_still table places homes t v m.bytes (overwritten a new m.bytes) (s.base + b) (range-overwritten_apart (s.base + b) (width t) a new m.bytes (apart.ranges (s.base + b) (width t) a (length new) (omega arith) (omega (arith, long, high')) low high (width_positive table places homes t v stands.is_of) some) (omega (arith, inside, low, high))) stands)
-        o.trees h.shape 0 fits (omega arith) (rw many (omega arith)) laid)
+      (λ b t v low' high' stands. stands_still table places homes t v m.bytes (overwritten a new m.bytes) (s.base + b) (range-overwritten_apart (s.base + b) (width t) a new m.bytes (apart.ranges (s.base + b) (width t) a (length new) (omega arith) (omega (arith, long, high')) low high (width_positive table places homes t v stands.is_of) some) (omega (arith, inside, low, high))) stands)
+      o.trees h.shape 0 fits (omega arith) (rw many (omega arith)) laid)
 
   -- the object itself
   own_there : (m : Memory) (o : Object) (h : Home) (g : Live) (path : List Step) (s : Span) (t : Ty) (k : ℕ) (v : Value) (new : List Byte) → Placed m → Fits h.shape → live_of m h.id ≡ Some g → span_of h path ≡ Some s → s.shape ≡ scalar t → k < s.count → IsOf table places homes t v → Spell table places homes t v new → length new ≡ width t → IsThere table places homes m.bytes o h (Some g) → IsThere table places homes (overwritten (g.base + s.place + k * width t) new m.bytes) (with_trees o (with_element path k (leaf v) o.trees)) h (Some g)
@@ -94,8 +94,8 @@ module _ (table : Table) (places : ℕ → ℕ) (homes : List Home) where
       let room : k * width t + width t ≤ s.count * size s.shape = rw sized (rw sized at (index_within k s.count (size s.shape) within)) in
       let ends = live_inside m h.id g placed live in
       omega (arith, bound.1, room, ends, size_of (rw live at here.state)) where
-    size_of : IsThere table places homes m.bytes o h (Some g) → g.size ≡ h.count * size h.shape
-    size_of (lives alive kind long many laid) = long
+        size_of : IsThere table places homes m.bytes o h (Some g) → g.size ≡ h.count * size h.shape
+        size_of (lives alive kind long many laid) = long
 
   -- what becomes of all objects where the leaf of one is written
   written_each : (objects : List Object) (m : Memory) (n : ℕ) (o : Object) (h : Home) (g : Live) (path : List Step) (s : Span) (t : Ty) (k : ℕ) (v : Value) (new : List Byte) → Related table places homes objects m → IsScalar t → slice_get objects n ≡ Some o → slice_get homes n ≡ Some h → live_of m h.id ≡ Some g → span_of h path ≡ Some s → s.shape ≡ scalar t → k < s.count → IsOf table places homes t v → Spell table places homes t v new → length new ≡ width t → (i : ℕ) (u : Object) (j : Home) → slice_get (set objects n (with_trees o (with_element path k (leaf v) o.trees))) i ≡ Some u → slice_get homes i ≡ Some j → IsAt table places homes (with_bytes m (g.base + s.place + k * width t) new) u j
@@ -120,8 +120,8 @@ module _ (table : Table) (places : ℕ → ℕ) (homes : List Home) where
             let state : IsThere table places homes (overwritten (g.base + s.place + k * width t) new m.bytes) u j (live_of m j.id) = other_there m u j h.id (g.base + s.place + k * width t) g new (live_of m j.id) related.placed far.fits live refl (other_identity objects m i n j h related there' at' other) (omega arith) (omega (arith, wide, bound.1, fits_in, long)) (omega (arith, wide, scalar_width t scalar')) far.state in
             record { shape = far.shape; count = far.count; fits = far.fits; state = state }
       ] where
-    size_of : IsThere table places homes m.bytes o h (Some g) → g.size ≡ h.count * size h.shape
-    size_of (lives alive kind long many laid) = long
+        size_of : IsThere table places homes m.bytes o h (Some g) → g.size ≡ h.count * size h.shape
+        size_of (lives alive kind long many laid) = long
 
   pub related_written : (objects : List Object) (m : Memory) (n : ℕ) (o : Object) (h : Home) (g : Live) (path : List Step) (s : Span) (t : Ty) (k : ℕ) (v : Value) (new : List Byte) → Related table places homes objects m → IsScalar t → slice_get objects n ≡ Some o → slice_get homes n ≡ Some h → live_of m h.id ≡ Some g → span_of h path ≡ Some s → s.shape ≡ scalar t → k < s.count → IsOf table places homes t v → Spell table places homes t v new → length new ≡ width t → Related table places homes (set objects n (with_trees o (with_element path k (leaf v) o.trees))) (with_bytes m (g.base + s.place + k * width t) new)
   related_written objects m n o h g path s t k v new related scalar' at at' live span is within of spells wide =
@@ -139,9 +139,9 @@ module _ (table : Table) (places : ℕ → ℕ) (homes : List Home) where
   write_within objects m o h g p s t v new None related scalar' at at' live span is within of spells wide = change_stopped bounds_ends
   write_within objects m o h g p s t v new (Some k) related scalar' at at' live span is within of spells wide =
       sealed_or p.sealed _ (record { address = g.base + s.place + k * width t; id = g.id; lo = s.place; hi = s.place + s.count * width t; sealed = p.sealed }) (related_written objects m p.object o h g p.path s t k v new related scalar' at at' live span is (within k refl) of spells wide) where
-    sealed_or : (b : Bool) (objects' : List Object) (a : Access) → Related table places homes objects' (with_bytes m a.address new) → Changes table places homes (cond b (stops readonly) (gives objects')) (stored_at m new (width t) (cond b (Err Rattle.ms_segment.specs.declared.trap.SegTrap.TheVariants.Readonly) (Ok a)))
-    sealed_or true objects' a related' = change_stopped readonly_ends
-    sealed_or false objects' a related' = changes related'
+        sealed_or : (b : Bool) (objects' : List Object) (a : Access) → Related table places homes objects' (with_bytes m a.address new) → Changes table places homes (cond b (stops readonly) (gives objects')) (stored_at m new (width t) (cond b (Err Rattle.ms_segment.specs.declared.trap.SegTrap.TheVariants.Readonly) (Ok a)))
+        sealed_or true objects' a related' = change_stopped readonly_ends
+        sealed_or false objects' a related' = changes related'
 
   write_there : (objects : List Object) (m : Memory) (o : Object) (h : Home) (p : Pointer) (s : Span) (t : Ty) (v : Value) (new : List Byte) (l : Option Live) → Related table places homes objects m → IsScalar t → slice_get objects p.object ≡ Some o → slice_get homes p.object ≡ Some h → live_of m h.id ≡ l → span_of h p.path ≡ Some s → s.shape ≡ scalar t → IsThere table places homes m.bytes o h l → IsOf table places homes t v → Spell table places homes t v new → length new ≡ width t → Changes table places homes (after (if_alive (Some o)) (λ u. after (element_at u p) (λ k. cond p.sealed (stops readonly) (gives (set objects p.object (with_trees u (with_element p.path k (leaf v) u.trees))))))) (stored_at m new (width t) (writable (located p.sealed l s.place s.count (width t) (index_in s.count p.index))))
   write_there objects m o h p s t v new None related scalar' at at' live span is (gone dead) of spells wide = rw dead (change_stopped freed_ends)

@@ -10,9 +10,20 @@ use Rattle.ms_handle.specs.Handle.{add, slice}
 use Rattle.ms_segment.specs.Memory.{Memory, loaded, once_more}
 use Rattle.ms_segment.specs.Calls.{Change, load_handle, store, store_handle}
 use Rattle.ms_segment.specs.declared.trap.SegTrap.{SegTrap}
-use Rattle.ms_relate.specs.Homes.{Home}
+use Rattle.ms_relate.specs.Homes.{Home, IsScalar}
 use Rattle.ms_relate.specs.Relation.{Related}
 use Rattle.ms_relate.specs.Operations.{Ends}
+
+-- each leaf is of a type of one value
+abbrev mutual
+  pub Scalars : Shape → Type 0
+  Scalars (scalar t) = IsScalar t
+  Scalars (elements s n) = Scalars s
+  Scalars (record' n ms) = MemberScalars ms
+
+  pub MemberScalars : Members → Type 0
+  MemberScalars no_members = Unit {0}
+  MemberScalars (member o s ms) = Scalars s × MemberScalars ms
 
 abbrev pub next : {A B : Type 0} → Result A SegTrap → (A → Result B SegTrap) → Result B SegTrap
 next (Ok a) f = f a

@@ -1,5 +1,5 @@
 -- Where objects lie, and what values of C are for the machine.
-use Rattle.std.specs.Prelude.{◌≡◌, ℕ, suc, ◌<◌, ℤ, pos, ◌*ℤ◌, Bool, true, false, List, Option, Some, None, if◌then◌else◌, slice_get}
+use Rattle.std.specs.Prelude.{◌≡◌, ℕ, suc, ◌<◌, ℤ, pos, ◌*ℤ◌, Bool, true, false, List, Option, Some, None, slice_get}
 use Rattle.c_types.specs.Integers.{bits}
 use Rattle.c_types.specs.Layout.{Table}
 use Rattle.c_types.specs.Types.{Ty, integer, pointer, is_function}

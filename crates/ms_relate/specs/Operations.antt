@@ -1,5 +1,5 @@
 -- What the machine does where the meaning does something to objects.
-use Rattle.std.specs.Prelude.{Bool, true, false, if◌then◌else◌, ◌≡◌, ℕ, pos, List, [], ◌∷◌, ◌++◌, length, Result, Ok, Err}
+use Rattle.std.specs.Prelude.{false, ◌≡◌, ℕ, pos, List, [], ◌∷◌, ◌++◌, length, Result, Ok, Err}
 use Rattle.c_types.specs.Layout.{Table}
 use Rattle.c_types.specs.Types.{Ty}
 use Rattle.c_meaning.specs.Shapes.{Shape}

@@ -1,6 +1,5 @@
 -- The relation between objects and the segment memory.
 use Rattle.std.specs.Prelude.{◌≡◌, ℕ, ◌+◌, ◌*◌, ◌%◌, ◌<◌, ◌≤◌, true, false, List, length, Option, Some, None, slice_get}
-use Rattle.std.specs.List.{All, AllPairs}
 use Rattle.c_types.specs.Layout.{Table}
 use Rattle.c_types.specs.Types.{Ty}
 use Rattle.c_meaning.specs.Shapes.{size, width}
