@@ -1,13 +1,11 @@
 //! The segment memory: making, accessing and freeing segments.
 
-ghost use Rattle.std.specs.Prelude.{◌≡◌, ◌+◌, ◌<◌, ◌≤◌, ◌^◌, ℕ, List, [], Some, false, IfOk, MatchResult, length, pos, replicate, slice_get};
+ghost use Rattle.std.specs.Prelude.{◌≡◌, ◌+◌, ◌<◌, ◌^◌, [], Some, false, IfOk, MatchResult, length, pos, replicate, slice_get};
 ghost use Rattle.ms_handle.specs.declared.handle.Handle.{Handle};
 ghost use Rattle.ms_live.specs.Place.{IsPlace};
 ghost use Rattle.ms_live.specs.declared.gaps.Live.{Live as LiveSegment};
-ghost use Rattle.ms_tagged.specs.Bytes.{Data, IsWidth, data_of, held_at, pieces, range, shown_at};
-ghost use Rattle.ms_segment.specs.Memory.{Frees, IsFit, IsSound, LoadsHandle, Makes, Stores, access, after_load, freed, handle_access, live_of, loaded, risen, writable};
-ghost use Rattle.ms_segment.specs.Calls as call;
-ghost use Rattle.ms_segment.specs.Calls.{DoesChange};
+ghost use Rattle.ms_tagged.specs.Bytes.{Data, held_at, range, shown_at};
+ghost use Rattle.ms_segment.specs.Memory.{IsFit, IsSound, access, freed, handle_access, live_of, risen, writable};
 ghost use Rattle.ms_segment.specs.Parts.{IsPlaceIn, access_of, entered};
 
 use crate::access::{Access, access_in, end_of};
