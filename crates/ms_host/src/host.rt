@@ -2,6 +2,7 @@
 
 ghost use Rattle.std.specs.Prelude.{◌≡◌, [], ◌∷◌, IfOk};
 ghost use Rattle.ms_host.specs.Host.{given_by, lowest_byte, put_of};
+ghost use Rattle.ms_outside.specs.Faults.{CountsCall};
 ghost use Rattle.ms_outside.specs.Sink.{CountsPut, Puts};
 ghost use Rattle.ms_outside.specs.refinement.Source.{CountsTake, Takes};
 ghost use Rattle.ms_outside.specs.declared.source.Got.{Got};
@@ -42,6 +43,7 @@ pub enum TakeFault {
 pub fn putchar<O: Sink>(out: &mut O, value: u32) -> Result<u32, PutFault>
     ensures value { IfOk result (λ v. v ≡ lowest_byte value) }
     ensures held { Puts (put_of result) (lowest_byte value ∷ []) (O.held out.old) (O.held out.new) }
+    ensures puts { CountsCall (O.puts out.old) (O.puts out.new) }
     ensures faults { CountsPut (put_of result) (O.faults out.old) (O.faults out.new) }
 {
     let byte = (value % 256) as u8;
@@ -57,6 +59,7 @@ pub fn putchar<O: Sink>(out: &mut O, value: u32) -> Result<u32, PutFault>
 /// `Failed` comes only where the source's count of faults rose; what is left of the source then stays.
 pub fn getchar<I: Source>(input: &mut I) -> Result<u32, TakeFault>
     ensures take { (got : Got) × (result ≡ given_by got) × Takes got (I.left input.old) (I.left input.new) × CountsTake got (I.faults input.old) (I.faults input.new) }
+    ensures takes { CountsCall (I.takes input.old) (I.takes input.new) }
 {
     match input.take() {
         Answer::Byte(b) => Ok(u32::from(b)),

@@ -22,6 +22,7 @@ mod straight;
 
 pub use externs::{Extern, Why};
 pub use machine::step;
+pub use ms_task::Task;
 pub use starting::{has_ended, start};
 pub use stepped::Stepped;
 pub use store::{Instance, Store};

@@ -1,4 +1,4 @@
-//! Instructions on handles and segments, each in a small function.
+//! Instructions on handles and segments, each in a small function, over any `SegmentMemory`: they see no byte but by its loads.
 
 ghost use Rattle.std.specs.Prelude.{◌≡◌, ◌≢◌, ◌<◌, ◌^◌, List, [], ◌∷◌};
 ghost use Rattle.ms_handle.specs.Handle.{HasBounds};
@@ -12,23 +12,21 @@ use ms_event::Event;
 use ms_handle::{Handle, Kind, add, diff, eq, seal, slice};
 use ms_host::TrapKind;
 use ms_linear::{Operands, Value};
-use ms_live::Gaps;
 use ms_module::{LoadOp, Segment, StoreOp};
 use ms_operate::{number_for, value_of};
-use ms_segment::Segments;
-use ms_tagged::Tagged;
+use ms_segment::SegmentMemory;
 
 /// Carries out an instruction on handles and segments. Where it stops the program nothing has changed, and where memory runs
 /// out the segment memory is as before.
-pub(crate) fn segment<G: Gaps, T: Tagged>(
+pub(crate) fn segment<S: SegmentMemory>(
     i: Segment,
-    segments: &mut Segments<G, T>,
+    segments: &mut S,
     operands: &mut Operands,
 ) -> Result<Option<Event>, Fault>
-    requires there { segment_on i segments.old operands.old ≢ Stuck }
-    requires few { segments.old.made < 2 ^ 63 }
-    requires fit { Each (Fits segments.old) operands.old }
-    ensures { DoesInSegments (segment_on i segments.old operands.old) operands.old operands.new segments.old segments.new result }
+    requires there { segment_on i (S.memory segments.old) operands.old ≢ Stuck }
+    requires few { (S.memory segments.old).made < 2 ^ 63 }
+    requires fit { Each (Fits (S.memory segments.old)) operands.old }
+    ensures { DoesInSegments (segment_on i (S.memory segments.old) operands.old) operands.old operands.new (S.memory segments.old) (S.memory segments.new) result }
 {
     match i {
         Segment::Null => null(segments, operands),
@@ -48,11 +46,8 @@ pub(crate) fn segment<G: Gaps, T: Tagged>(
 }
 
 /// `handle.null`.
-fn null<G: Gaps, T: Tagged>(
-    segments: &Segments<G, T>,
-    operands: &mut Operands,
-) -> Result<Option<Event>, Fault>
-    ensures { DoesInSegments (segment_on instr.Null segments.now operands.old) operands.old operands.new segments.now segments.now result }
+fn null<S: SegmentMemory>(segments: &S, operands: &mut Operands) -> Result<Option<Event>, Fault>
+    ensures { DoesInSegments (segment_on instr.Null (S.memory segments.now) operands.old) operands.old operands.new (S.memory segments.now) (S.memory segments.now) result }
 {
     let _ = segments;
     match operands.push(Value::Handle(Handle::Null)) {
@@ -62,14 +57,14 @@ fn null<G: Gaps, T: Tagged>(
 }
 
 /// `segment.new`.
-fn new<G: Gaps, T: Tagged>(
+fn new<S: SegmentMemory>(
     kind: Kind,
-    segments: &mut Segments<G, T>,
+    segments: &mut S,
     operands: &mut Operands,
 ) -> Result<Option<Event>, Fault>
-    requires there { segment_on (instr.New kind) segments.old operands.old ≢ Stuck }
-    requires few { segments.old.made < 2 ^ 63 }
-    ensures { DoesInSegments (segment_on (instr.New kind) segments.old operands.old) operands.old operands.new segments.old segments.new result }
+    requires there { segment_on (instr.New kind) (S.memory segments.old) operands.old ≢ Stuck }
+    requires few { (S.memory segments.old).made < 2 ^ 63 }
+    ensures { DoesInSegments (segment_on (instr.New kind) (S.memory segments.old) operands.old) operands.old operands.new (S.memory segments.old) (S.memory segments.new) result }
 {
     let Value::I32(n) = operands.get(0) else {
         unreachable!()
@@ -80,14 +75,14 @@ fn new<G: Gaps, T: Tagged>(
 }
 
 /// `segment.free`.
-fn free<G: Gaps, T: Tagged>(
+fn free<S: SegmentMemory>(
     kind: Kind,
-    segments: &mut Segments<G, T>,
+    segments: &mut S,
     operands: &mut Operands,
 ) -> Result<Option<Event>, Fault>
-    requires there { segment_on (instr.Free kind) segments.old operands.old ≢ Stuck }
-    requires fit { Each (Fits segments.old) operands.old }
-    ensures { DoesInSegments (segment_on (instr.Free kind) segments.old operands.old) operands.old operands.new segments.old segments.new result }
+    requires there { segment_on (instr.Free kind) (S.memory segments.old) operands.old ≢ Stuck }
+    requires fit { Each (Fits (S.memory segments.old)) operands.old }
+    ensures { DoesInSegments (segment_on (instr.Free kind) (S.memory segments.old) operands.old) operands.old operands.new (S.memory segments.old) (S.memory segments.new) result }
 {
     let Value::Handle(handle) = operands.get(0) else {
         unreachable!()
@@ -102,14 +97,14 @@ fn free<G: Gaps, T: Tagged>(
 }
 
 /// `handle.add`.
-fn add_to<G: Gaps, T: Tagged>(
+fn add_to<S: SegmentMemory>(
     scale: u32,
-    segments: &Segments<G, T>,
+    segments: &S,
     operands: &mut Operands,
 ) -> Result<Option<Event>, Fault>
-    requires there { segment_on (instr.Add scale) segments.now operands.old ≢ Stuck }
-    requires fit { Each (Fits segments.now) operands.old }
-    ensures { DoesInSegments (segment_on (instr.Add scale) segments.now operands.old) operands.old operands.new segments.now segments.now result }
+    requires there { segment_on (instr.Add scale) (S.memory segments.now) operands.old ≢ Stuck }
+    requires fit { Each (Fits (S.memory segments.now)) operands.old }
+    ensures { DoesInSegments (segment_on (instr.Add scale) (S.memory segments.now) operands.old) operands.old operands.new (S.memory segments.now) (S.memory segments.now) result }
 {
     let _ = segments;
     let Value::I64(delta) = operands.get(0) else {
@@ -156,13 +151,10 @@ fn event_of_slice(handle: Handle, part: Handle) -> Option<Event>
 }
 
 /// `handle.slice`.
-fn slice_of<G: Gaps, T: Tagged>(
-    segments: &Segments<G, T>,
-    operands: &mut Operands,
-) -> Result<Option<Event>, Fault>
-    requires there { segment_on instr.Slice segments.now operands.old ≢ Stuck }
-    requires fit { Each (Fits segments.now) operands.old }
-    ensures { DoesInSegments (segment_on instr.Slice segments.now operands.old) operands.old operands.new segments.now segments.now result }
+fn slice_of<S: SegmentMemory>(segments: &S, operands: &mut Operands) -> Result<Option<Event>, Fault>
+    requires there { segment_on instr.Slice (S.memory segments.now) operands.old ≢ Stuck }
+    requires fit { Each (Fits (S.memory segments.now)) operands.old }
+    ensures { DoesInSegments (segment_on instr.Slice (S.memory segments.now) operands.old) operands.old operands.new (S.memory segments.now) (S.memory segments.now) result }
 {
     let _ = segments;
     let (Value::I32(len), Value::I32(from)) = (operands.get(0), operands.get(1)) else {
@@ -178,13 +170,13 @@ fn slice_of<G: Gaps, T: Tagged>(
 }
 
 /// `handle.eq`.
-fn are_equal<G: Gaps, T: Tagged>(
-    segments: &Segments<G, T>,
+fn are_equal<S: SegmentMemory>(
+    segments: &S,
     operands: &mut Operands,
 ) -> Result<Option<Event>, Fault>
-    requires there { segment_on instr.Eq segments.now operands.old ≢ Stuck }
-    requires fit { Each (Fits segments.now) operands.old }
-    ensures { DoesInSegments (segment_on instr.Eq segments.now operands.old) operands.old operands.new segments.now segments.now result }
+    requires there { segment_on instr.Eq (S.memory segments.now) operands.old ≢ Stuck }
+    requires fit { Each (Fits (S.memory segments.now)) operands.old }
+    ensures { DoesInSegments (segment_on instr.Eq (S.memory segments.now) operands.old) operands.old operands.new (S.memory segments.now) (S.memory segments.now) result }
 {
     let _ = segments;
     let (Value::Handle(b), Value::Handle(a)) = (operands.get(0), operands.get(1)) else {
@@ -196,12 +188,9 @@ fn are_equal<G: Gaps, T: Tagged>(
 }
 
 /// `handle.is_null`.
-fn is_null<G: Gaps, T: Tagged>(
-    segments: &Segments<G, T>,
-    operands: &mut Operands,
-) -> Result<Option<Event>, Fault>
-    requires there { segment_on instr.IsNull segments.now operands.old ≢ Stuck }
-    ensures { DoesInSegments (segment_on instr.IsNull segments.now operands.old) operands.old operands.new segments.now segments.now result }
+fn is_null<S: SegmentMemory>(segments: &S, operands: &mut Operands) -> Result<Option<Event>, Fault>
+    requires there { segment_on instr.IsNull (S.memory segments.now) operands.old ≢ Stuck }
+    ensures { DoesInSegments (segment_on instr.IsNull (S.memory segments.now) operands.old) operands.old operands.new (S.memory segments.now) (S.memory segments.now) result }
 {
     let _ = segments;
     let Value::Handle(handle) = operands.get(0) else {
@@ -212,13 +201,13 @@ fn is_null<G: Gaps, T: Tagged>(
 }
 
 /// `handle.diff`.
-fn difference<G: Gaps, T: Tagged>(
-    segments: &Segments<G, T>,
+fn difference<S: SegmentMemory>(
+    segments: &S,
     operands: &mut Operands,
 ) -> Result<Option<Event>, Fault>
-    requires there { segment_on instr.Diff segments.now operands.old ≢ Stuck }
-    requires fit { Each (Fits segments.now) operands.old }
-    ensures { DoesInSegments (segment_on instr.Diff segments.now operands.old) operands.old operands.new segments.now segments.now result }
+    requires there { segment_on instr.Diff (S.memory segments.now) operands.old ≢ Stuck }
+    requires fit { Each (Fits (S.memory segments.now)) operands.old }
+    ensures { DoesInSegments (segment_on instr.Diff (S.memory segments.now) operands.old) operands.old operands.new (S.memory segments.now) (S.memory segments.now) result }
 {
     let _ = segments;
     let (Value::Handle(b), Value::Handle(a)) = (operands.get(0), operands.get(1)) else {
@@ -235,13 +224,13 @@ fn difference<G: Gaps, T: Tagged>(
 }
 
 /// `handle.load`.
-fn load_handle<G: Gaps, T: Tagged>(
-    segments: &mut Segments<G, T>,
+fn load_handle<S: SegmentMemory>(
+    segments: &mut S,
     operands: &mut Operands,
 ) -> Result<Option<Event>, Fault>
-    requires there { segment_on instr.LoadHandle segments.old operands.old ≢ Stuck }
-    requires fit { Each (Fits segments.old) operands.old }
-    ensures { DoesInSegments (segment_on instr.LoadHandle segments.old operands.old) operands.old operands.new segments.old segments.new result }
+    requires there { segment_on instr.LoadHandle (S.memory segments.old) operands.old ≢ Stuck }
+    requires fit { Each (Fits (S.memory segments.old)) operands.old }
+    ensures { DoesInSegments (segment_on instr.LoadHandle (S.memory segments.old) operands.old) operands.old operands.new (S.memory segments.old) (S.memory segments.new) result }
 {
     let Value::Handle(handle) = operands.get(0) else {
         unreachable!()
@@ -256,13 +245,13 @@ fn load_handle<G: Gaps, T: Tagged>(
 }
 
 /// `handle.store`.
-fn store_handle<G: Gaps, T: Tagged>(
-    segments: &mut Segments<G, T>,
+fn store_handle<S: SegmentMemory>(
+    segments: &mut S,
     operands: &mut Operands,
 ) -> Result<Option<Event>, Fault>
-    requires there { segment_on instr.StoreHandle segments.old operands.old ≢ Stuck }
-    requires fit { Each (Fits segments.old) operands.old }
-    ensures { DoesInSegments (segment_on instr.StoreHandle segments.old operands.old) operands.old operands.new segments.old segments.new result }
+    requires there { segment_on instr.StoreHandle (S.memory segments.old) operands.old ≢ Stuck }
+    requires fit { Each (Fits (S.memory segments.old)) operands.old }
+    ensures { DoesInSegments (segment_on instr.StoreHandle (S.memory segments.old) operands.old) operands.old operands.new (S.memory segments.old) (S.memory segments.new) result }
 {
     let (Value::Handle(value), Value::Handle(place)) = (operands.get(0), operands.get(1)) else {
         unreachable!()
@@ -298,13 +287,10 @@ fn event_of_seal(handle: Handle) -> Option<Event>
 }
 
 /// `handle.seal`.
-fn seal_top<G: Gaps, T: Tagged>(
-    segments: &Segments<G, T>,
-    operands: &mut Operands,
-) -> Result<Option<Event>, Fault>
-    requires there { segment_on instr.Seal segments.now operands.old ≢ Stuck }
-    requires fit { Each (Fits segments.now) operands.old }
-    ensures { DoesInSegments (segment_on instr.Seal segments.now operands.old) operands.old operands.new segments.now segments.now result }
+fn seal_top<S: SegmentMemory>(segments: &S, operands: &mut Operands) -> Result<Option<Event>, Fault>
+    requires there { segment_on instr.Seal (S.memory segments.now) operands.old ≢ Stuck }
+    requires fit { Each (Fits (S.memory segments.now)) operands.old }
+    ensures { DoesInSegments (segment_on instr.Seal (S.memory segments.now) operands.old) operands.old operands.new (S.memory segments.now) (S.memory segments.now) result }
 {
     let _ = segments;
     let Value::Handle(handle) = operands.get(0) else {
@@ -315,14 +301,14 @@ fn seal_top<G: Gaps, T: Tagged>(
 }
 
 /// `i32.segload` and its kin.
-fn load<G: Gaps, T: Tagged>(
+fn load<S: SegmentMemory>(
     op: LoadOp,
-    segments: &mut Segments<G, T>,
+    segments: &mut S,
     operands: &mut Operands,
 ) -> Result<Option<Event>, Fault>
-    requires there { segment_on (instr.Load op) segments.old operands.old ≢ Stuck }
-    requires fit { Each (Fits segments.old) operands.old }
-    ensures { DoesInSegments (segment_on (instr.Load op) segments.old operands.old) operands.old operands.new segments.old segments.new result }
+    requires there { segment_on (instr.Load op) (S.memory segments.old) operands.old ≢ Stuck }
+    requires fit { Each (Fits (S.memory segments.old)) operands.old }
+    ensures { DoesInSegments (segment_on (instr.Load op) (S.memory segments.old) operands.old) operands.old operands.new (S.memory segments.old) (S.memory segments.new) result }
 {
     let Value::Handle(handle) = operands.get(0) else {
         unreachable!()
@@ -337,14 +323,14 @@ fn load<G: Gaps, T: Tagged>(
 }
 
 /// `i32.segstore` and its kin.
-fn store<G: Gaps, T: Tagged>(
+fn store<S: SegmentMemory>(
     op: StoreOp,
-    segments: &mut Segments<G, T>,
+    segments: &mut S,
     operands: &mut Operands,
 ) -> Result<Option<Event>, Fault>
-    requires there { segment_on (instr.Store op) segments.old operands.old ≢ Stuck }
-    requires fit { Each (Fits segments.old) operands.old }
-    ensures { DoesInSegments (segment_on (instr.Store op) segments.old operands.old) operands.old operands.new segments.old segments.new result }
+    requires there { segment_on (instr.Store op) (S.memory segments.old) operands.old ≢ Stuck }
+    requires fit { Each (Fits (S.memory segments.old)) operands.old }
+    ensures { DoesInSegments (segment_on (instr.Store op) (S.memory segments.old) operands.old) operands.old operands.new (S.memory segments.old) (S.memory segments.new) result }
 {
     let Value::Handle(handle) = operands.get(1) else {
         unreachable!()

@@ -77,6 +77,27 @@ impl<G: Gaps, T: Tagged> Store<G, T> {
         &self.instances
     }
 
+    /// The tables, by their addresses.
+    pub fn tables(&self) -> &[Table]
+        ensures { result.now ≡ self.now.tables }
+    {
+        &self.tables
+    }
+
+    /// The linear memories, by their addresses.
+    pub fn memories(&self) -> &[Linear]
+        ensures { result.now ≡ self.now.memories }
+    {
+        &self.memories
+    }
+
+    /// The globals, by their addresses.
+    pub fn globals(&self) -> &[GlobalInst]
+        ensures { result.now ≡ self.now.globals }
+    {
+        &self.globals
+    }
+
     /// The segment memory.
     pub fn segments(&self) -> &Segments<G, T>
         ensures { result.now ≡ self.now.segments }

@@ -1,8 +1,8 @@
 //! The outside of the program, as three traits: a source of bytes, a sink of bytes, and a shelf of named files. Each says what
-//! a call means on what the object holds, where the object tells it, and counts its faults: a generic caller can't raise a
-//! count by itself. `Sure..` are in memory and never fail, `Mem..`, for tests, fail at the calls that they are told to fail
-//! at, and `StdSource`, `StdSink` and `FileShelf` are over the system. It stands on nothing. Read `specs/Source.antt`,
-//! `Sink.antt` and `Shelf.antt` first.
+//! a call means on what the object holds, where the object tells it, and counts its faults, and sources and sinks their calls: a
+//! generic caller can't raise a count by itself. `Sure..` are in memory and never fail, `Mem..`, for tests, fail at the calls
+//! that they are told to fail at, and `StdSource`, `StdSink` and `FileShelf` are over the system. It stands on nothing. Read
+//! `specs/Sink.antt`, `specs/Shelf.antt` and `specs/refinement/Source.antt` first.
 #![tactic(auto)]
 
 mod count;

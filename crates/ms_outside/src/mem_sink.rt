@@ -1,6 +1,7 @@
 //! A sink in memory whose calls fail by a script.
 
 ghost use Rattle.std.specs.Prelude.{◌≡◌, ◌≢◌, ◌≤◌, ◌-◌, [], IfOk, OnErr, IsTrue, ◌↔◌, length};
+ghost use Rattle.ms_outside.specs.Faults.{CountsCall};
 ghost use Rattle.ms_outside.specs.refinement.Memory.{Output};
 ghost use Rattle.ms_outside.specs.refinement.Script.{also_failing, called, counted, next_fails, no_script};
 ghost use Rattle.ms_outside.specs.Sink.{CountsPut, Puts};
@@ -69,10 +70,13 @@ impl Sink for MemSink {
 
     ghost held = { λ s. Some s.held };
 
+    ghost puts = { λ s. s.script.calls };
+
     ghost faults = { λ s. s.faults };
 
     fn put(&mut self, piece: &[u8]) -> Put
         ensures held { Puts result piece.now (Some self.old.held) (Some self.new.held) }
+        ensures puts { CountsCall self.old.script.calls self.new.script.calls }
         ensures faults { CountsPut result self.old.faults self.new.faults }
         ensures failed { (result ≡ Put.Failed) ↔ IsTrue (next_fails self.old.script) }
         ensures script { self.new.script ≡ called self.old.script }

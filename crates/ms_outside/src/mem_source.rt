@@ -1,6 +1,7 @@
 //! A source in memory whose calls fail by a script.
 
 ghost use Rattle.std.specs.Prelude.{◌≡◌, IfOk, OnErr, IsTrue, ◌↔◌};
+ghost use Rattle.ms_outside.specs.Faults.{CountsCall};
 ghost use Rattle.ms_outside.specs.refinement.Memory.{Input};
 ghost use Rattle.ms_outside.specs.refinement.Script.{also_failing, called, counted, next_fails, no_script};
 ghost use Rattle.ms_outside.specs.refinement.Source.{CountsTake, Takes};
@@ -61,10 +62,13 @@ impl Source for MemSource {
 
     ghost left = { λ s. Some s.left };
 
+    ghost takes = { λ s. s.script.calls };
+
     ghost faults = { λ s. s.faults };
 
     fn take(&mut self) -> Got
         ensures left { Takes result (Some self.old.left) (Some self.new.left) }
+        ensures takes { CountsCall self.old.script.calls self.new.script.calls }
         ensures faults { CountsTake result self.old.faults self.new.faults }
         ensures failed { (result ≡ Got.Failed) ↔ IsTrue (next_fails self.old.script) }
         ensures script { self.new.script ≡ called self.old.script }

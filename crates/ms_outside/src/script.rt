@@ -1,8 +1,10 @@
 //! Which calls of an object in memory fail.
 
 ghost use Rattle.std.specs.Prelude.{◌≡◌, IfOk, OnErr};
+ghost use Rattle.ms_outside.specs.Faults.{CountsCall};
 ghost use Rattle.ms_outside.specs.refinement.Script.{also_failing, called, next_fails, no_script};
 
+use crate::count::one_more_call;
 use std::alloc::{AllocError, Global};
 use std::marker::Model;
 
@@ -45,8 +47,9 @@ impl Script {
     pub fn call(&mut self) -> bool
         ensures failed { result ≡ next_fails self.old }
         ensures called { self.new ≡ called self.old }
+        ensures counts { CountsCall self.old.calls self.new.calls }
     {
-        self.calls = self.calls.saturating_add(1);
+        self.calls = one_more_call(self.calls);
         self.failing.contains(&self.calls)
     }
 }

@@ -1,6 +1,7 @@
 //! The contract of a source of bytes.
 
 ghost use Rattle.std.specs.Prelude.{ℕ, List, Option};
+ghost use Rattle.ms_outside.specs.Faults.{CountsCall};
 ghost use Rattle.ms_outside.specs.refinement.Source.{CountsTake, Takes};
 
 /// What a take from a source gives.
@@ -19,11 +20,15 @@ pub trait Source {
     /// The bytes that are left, where the source tells them.
     ghost left: { Self → Option (List ℕ) };
 
+    /// How many takes there were so far. A source that doesn't count them stands at the last value of a `u64`.
+    ghost takes: { Self → ℕ };
+
     /// How many takes have failed so far.
     ghost faults: { Self → ℕ };
 
     /// Takes the next byte. After `Failed` what is left stays.
     fn take(&mut self) -> Got
         ensures left { Takes result (left self.old) (left self.new) }
+        ensures takes { CountsCall (takes self.old) (takes self.new) }
         ensures faults { CountsTake result (faults self.old) (faults self.new) };
 }

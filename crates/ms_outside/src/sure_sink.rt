@@ -2,6 +2,7 @@
 
 ghost use Rattle.std.specs.Prelude.{◌≡◌, ◌≢◌, ◌≤◌, ◌-◌, [], IfOk, length};
 ghost use Rattle.ms_outside.specs.refinement.Memory.{Held};
+ghost use Rattle.ms_outside.specs.Faults.{CountsCall, last_count};
 ghost use Rattle.ms_outside.specs.Sink.{CountsPut, Puts};
 
 use crate::sink::{Put, Sink};
@@ -45,13 +46,17 @@ impl SureSink {
 
 impl Sink for SureSink {
     ghost use Rattle.std.specs.Prelude.{Some};
+    ghost use Rattle.ms_outside.specs.Faults.{last_count};
 
     ghost held = { λ s. Some s.held };
+
+    ghost puts = { λ _. last_count };
 
     ghost faults = { λ _. 0 };
 
     fn put(&mut self, piece: &[u8]) -> Put
         ensures held { Puts result piece.now (Some self.old.held) (Some self.new.held) }
+        ensures puts { CountsCall last_count last_count }
         ensures faults { CountsPut result 0 0 }
         ensures sure { result ≢ Put.Failed }
         ensures stays { result ≢ Put.Done → self.new ≡ self.old }

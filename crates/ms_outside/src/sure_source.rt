@@ -1,6 +1,7 @@
 //! A source that never fails.
 
 ghost use Rattle.std.specs.Prelude.{◌≡◌, ◌≢◌};
+ghost use Rattle.ms_outside.specs.Faults.{CountsCall, last_count};
 ghost use Rattle.ms_outside.specs.refinement.Source.{CountsTake, Takes};
 
 use crate::source::{Got, Source};
@@ -32,13 +33,17 @@ impl SureSource {
 
 impl Source for SureSource {
     ghost use Rattle.std.specs.Prelude.{Some};
+    ghost use Rattle.ms_outside.specs.Faults.{last_count};
 
     ghost left = { λ left. Some left };
+
+    ghost takes = { λ _. last_count };
 
     ghost faults = { λ _. 0 };
 
     fn take(&mut self) -> Got
         ensures left { Takes result (Some self.old) (Some self.new) }
+        ensures takes { CountsCall last_count last_count }
         ensures faults { CountsTake result 0 0 }
         ensures sure { result ≢ Got.Failed }
     {

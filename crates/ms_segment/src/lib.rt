@@ -6,8 +6,10 @@
 #![tactic(auto)]
 
 mod access;
+mod memory;
 mod segments;
 mod trap;
 
+pub use memory::SegmentMemory;
 pub use segments::Segments;
 pub use trap::SegTrap;

@@ -1,16 +1,15 @@
 //! The segment memory: making, accessing and freeing segments.
 
-ghost use Rattle.std.specs.Prelude.{◌≡◌, ◌+◌, ◌<◌, ◌≤◌, ◌^◌, ℕ, List, [], Some, false, IfOk, MatchResult, length, pos, replicate, slice_get};
+ghost use Rattle.std.specs.Prelude.{◌≡◌, ◌+◌, ◌<◌, ◌^◌, [], Some, false, IfOk, MatchResult, length, pos, replicate, slice_get};
 ghost use Rattle.ms_handle.specs.declared.handle.Handle.{Handle};
 ghost use Rattle.ms_live.specs.Place.{IsPlace};
 ghost use Rattle.ms_live.specs.declared.gaps.Live.{Live as LiveSegment};
-ghost use Rattle.ms_tagged.specs.Bytes.{Data, IsWidth, data_of, held_at, pieces, range, shown_at};
-ghost use Rattle.ms_segment.specs.Memory.{Frees, IsFit, IsSound, LoadsHandle, Makes, Stores, access, after_load, freed, handle_access, live_of, loaded, risen, writable};
-ghost use Rattle.ms_segment.specs.Calls as call;
-ghost use Rattle.ms_segment.specs.Calls.{DoesChange};
+ghost use Rattle.ms_tagged.specs.Bytes.{Data, held_at, range, shown_at};
+ghost use Rattle.ms_segment.specs.Memory.{IsFit, IsSound, access, freed, handle_access, live_of, risen, writable};
 ghost use Rattle.ms_segment.specs.Parts.{IsPlaceIn, access_of, entered};
 
 use crate::access::{Access, access_in, end_of};
+use crate::memory::SegmentMemory;
 use crate::trap::SegTrap;
 use ms_event::Event;
 use ms_handle::{Handle, Kind};
@@ -60,101 +59,6 @@ impl<G: Gaps, T: Tagged> Segments<G, T> {
             made: 0,
             accesses: 0,
         })
-    }
-
-    /// Makes a segment of `n` bytes 0, with the next identity, at the least place. Null where there is no place, or
-    /// where 65,536 segments are live.
-    pub fn make(&mut self, n: u32, kind: Kind) -> (Handle, Event)
-        requires { self.old.made < 2 ^ 63 }
-        ensures made { Makes self.old n kind result.0 result.1 self.new }
-        ensures call { record { handle = result.0; event = result.1; memory = self.new } ≡ call.make self.old n kind }
-        ensures fits { IsFit self.new result.0 }
-        ensures sound { IsSound self.new }
-        ensures others { (h : Handle) → IsFit self.old h → IsFit self.new h }
-    {
-        match self.place(n) {
-            Some(base) => self.enter(base, n, kind),
-            None => (Handle::Null, Event::Refused { size: n }),
-        }
-    }
-
-    /// Ends the segment of a handle to the beginning of the whole of it, of the kind that it was made as. The handle may not
-    /// be sealed.
-    pub fn free(&mut self, h: Handle, kind: Kind) -> Result<Event, SegTrap>
-        requires { IsFit self.old h }
-        ensures freed { Frees self.old (freed self.old h kind) result self.new }
-        ensures call { DoesChange (call.free self.old h kind) self.old self.new result }
-        ensures sound { IsSound self.new }
-        ensures others { (h : Handle) → IsFit self.old h → IsFit self.new h }
-    {
-        let id = self.ending(h, kind)?;
-        self.gaps.leave(id);
-        Ok(Event::Free { id })
-    }
-
-    /// Reads the number of `width` bytes at the handle, the lowest byte first, and counts the access.
-    pub fn load(&mut self, h: Handle, width: u32) -> Result<(u64, Event), SegTrap>
-        requires fits { IsFit self.old h }
-        requires width { IsWidth width }
-        ensures loaded { result ≡ loaded self.old h width }
-        ensures fits { IfOk result (λ x. x.0 < 256 ^ width) }
-        ensures counted { self.new ≡ after_load self.old result }
-        ensures sound { IsSound self.new }
-        ensures others { (h : Handle) → IsFit self.old h → IsFit self.new h }
-    {
-        let access = self.locate(h, width)?;
-        match self.tagged.get(access.address, width) {
-            Some(number) => {
-                self.accesses = one_more(self.accesses);
-                Ok((number, access.read(width)))
-            }
-            None => Err(SegTrap::Provenance),
-        }
-    }
-
-    /// Writes the lowest `width` bytes of the value at the handle, which may not be sealed, as data, and counts the access.
-    pub fn store(&mut self, h: Handle, width: u32, value: u64) -> Result<Event, SegTrap>
-        requires fits { IsFit self.old h }
-        requires width { IsWidth width }
-        ensures stored { Stores self.old (data_of width value) width (writable (access self.old h width)) result self.new }
-        ensures call { DoesChange (call.store self.old h width value) self.old self.new result }
-        ensures sound { IsSound self.new }
-        ensures others { (h : Handle) → IsFit self.old h → IsFit self.new h }
-    {
-        let access = self.locate_write(h, width)?;
-        self.tagged.put(access.address, width, value);
-        self.accesses = one_more(self.accesses);
-        Ok(access.write(width))
-    }
-
-    /// Reads the handle whose pieces stand at the handle, and counts the access.
-    pub fn load_handle(&mut self, h: Handle) -> Result<(Handle, Event), SegTrap>
-        requires { IsFit self.old h }
-        ensures loaded { LoadsHandle self.old (handle_access self.old h) result }
-        ensures call { result ≡ call.load_handle self.old h }
-        ensures fits { IfOk result (λ x. IsFit self.old x.0) }
-        ensures counted { self.new ≡ after_load self.old result }
-        ensures sound { IsSound self.new }
-        ensures others { (h : Handle) → IsFit self.old h → IsFit self.new h }
-    {
-        let access = self.locate_handle(h)?;
-        self.accesses = one_more(self.accesses);
-        Ok((self.tagged.get_handle(access.address), access.read(WIDTH)))
-    }
-
-    /// Writes the pieces of a handle at the handle, which may not be sealed, and counts the access.
-    pub fn store_handle(&mut self, h: Handle, v: Handle) -> Result<Event, SegTrap>
-        requires place { IsFit self.old h }
-        requires value { IsFit self.old v }
-        ensures stored { Stores self.old (pieces v) 16 (writable (handle_access self.old h)) result self.new }
-        ensures call { DoesChange (call.store_handle self.old h v) self.old self.new result }
-        ensures sound { IsSound self.new }
-        ensures others { (h : Handle) → IsFit self.old h → IsFit self.new h }
-    {
-        let access = self.locate_handle_write(h)?;
-        self.tagged.put_handle(access.address, v);
-        self.accesses = one_more(self.accesses);
-        Ok(access.write(WIDTH))
     }
 
     /// How many segments are live.
@@ -314,6 +218,54 @@ impl<G: Gaps, T: Tagged> Segments<G, T> {
     {
         let place = self.locate_handle(h)?;
         place.to_write()
+    }
+}
+
+impl<G: Gaps, T: Tagged> SegmentMemory for Segments<G, T> {
+    ghost memory = { λ s. s };
+
+    fn make(&mut self, n: u32, kind: Kind) -> (Handle, Event) {
+        match self.place(n) {
+            Some(base) => self.enter(base, n, kind),
+            None => (Handle::Null, Event::Refused { size: n }),
+        }
+    }
+
+    fn free(&mut self, h: Handle, kind: Kind) -> Result<Event, SegTrap> {
+        let id = self.ending(h, kind)?;
+        self.gaps.leave(id);
+        Ok(Event::Free { id })
+    }
+
+    fn load(&mut self, h: Handle, width: u32) -> Result<(u64, Event), SegTrap> {
+        let access = self.locate(h, width)?;
+        match self.tagged.get(access.address, width) {
+            Some(number) => {
+                self.accesses = one_more(self.accesses);
+                Ok((number, access.read(width)))
+            }
+            None => Err(SegTrap::Provenance),
+        }
+    }
+
+    fn store(&mut self, h: Handle, width: u32, value: u64) -> Result<Event, SegTrap> {
+        let access = self.locate_write(h, width)?;
+        self.tagged.put(access.address, width, value);
+        self.accesses = one_more(self.accesses);
+        Ok(access.write(width))
+    }
+
+    fn load_handle(&mut self, h: Handle) -> Result<(Handle, Event), SegTrap> {
+        let access = self.locate_handle(h)?;
+        self.accesses = one_more(self.accesses);
+        Ok((self.tagged.get_handle(access.address), access.read(WIDTH)))
+    }
+
+    fn store_handle(&mut self, h: Handle, v: Handle) -> Result<Event, SegTrap> {
+        let access = self.locate_handle_write(h)?;
+        self.tagged.put_handle(access.address, v);
+        self.accesses = one_more(self.accesses);
+        Ok(access.write(WIDTH))
     }
 }
 

@@ -49,6 +49,20 @@ impl Frames {
         self.items.len() - self.base
     }
 
+    /// The locals of all frames: those of the kept ones, and behind them those of the current one.
+    pub fn all(&self) -> &[Cell]
+        ensures { result.now ≡ self.now.0 ++ self.now.1 }
+    {
+        &self.items
+    }
+
+    /// How many of them are of the kept frames.
+    pub fn base(&self) -> usize
+        ensures { result ≡ length self.now.0 }
+    {
+        self.base
+    }
+
     pub fn set(&mut self, i: usize, v: Cell)
         requires { i < length self.old.1 }
         ensures { self.new ≡ (self.old.0, slice_set self.old.1 i v) }

@@ -14,4 +14,5 @@ mod task;
 pub use control::CallFault;
 pub use frames::Frames;
 pub use func::FuncInst;
+pub use marks::{Mark, Marks};
 pub use task::{Fetched, Task};

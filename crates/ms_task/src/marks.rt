@@ -12,20 +12,34 @@ use std::marker::Model;
 /// The end of an open block or call: what a branch keeps, the number of values below, and where the work goes on.
 #[derive(Clone, Copy)]
 pub enum Mark {
+    /// The end of a block.
     Label {
+        /// The type of the operand that a branch to it keeps, if any.
         keeps: Option<ValType>,
+        /// How many operands lie below the block.
         height: usize,
+        /// The sequence in which the work goes on behind the block.
         sequence: usize,
+        /// The place in it.
         next: usize,
+        /// Whether a branch begins a loop again, which stands before that place.
         again: bool,
     },
+    /// The end of a call.
     Activation {
+        /// The type of its result, if any.
         keeps: Option<ValType>,
+        /// How many operands lie below the call.
         height: usize,
+        /// The caller's function, by its address.
         function: usize,
+        /// The sequence in which the caller goes on.
         sequence: usize,
+        /// The place in it.
         next: usize,
+        /// How many locals of kept frames lie below the caller's.
         base: usize,
+        /// How many marks there are up to that of the caller's call.
         floor: usize,
     },
 }
@@ -60,6 +74,13 @@ impl Marks {
             floor: 0,
             depth: 0,
         }
+    }
+
+    /// How many there are.
+    pub fn len(&self) -> usize
+        ensures { result ≡ length self.now }
+    {
+        self.items.len()
     }
 
     pub fn labels(&self) -> usize
@@ -139,6 +160,7 @@ impl Marks {
         mark
     }
 
+    /// The mark with so many inner ones.
     pub fn get(&self, n: usize) -> Mark
         requires { n < length self.now }
         ensures { slice_get self.now n ≡ Some result }

@@ -78,6 +78,13 @@ impl Task {
         self.function
     }
 
+    /// The marks of its open blocks and calls.
+    pub fn marks(&self) -> &Marks
+        ensures { result.now ≡ self.now.marks }
+    {
+        &self.marks
+    }
+
     /// Whether one more call may be open.
     pub fn may_call(&self) -> bool
         ensures { (funcs : List FuncInst) (next : ℕ) → result ≡ nat_lt (depth_of (at_next funcs self.now next).work) deepest }

@@ -1,6 +1,7 @@
 -- Which calls of an object in memory are to fail, for tests.
 use Rattle.std.specs.Prelude.{◌==◌, ℕ, ◌+◌, Bool, List, [], ◌∷◌, ◌++◌, min, if◌then◌else◌}
 use Rattle.std.specs.List.{list_any}
+use Rattle.ms_outside.specs.Faults.{last_count}
 
 -- the numbers of the calls that are to fail, counted from 1, and how many calls there were
 pub record Script : Type 0 where
@@ -12,7 +13,7 @@ no_script = record { failing = []; calls = 0 }
 
 -- one more, or the last value of a u64
 abbrev pub one_more : ℕ → ℕ
-one_more n = min (n + 1) 18446744073709551615
+one_more n = min (n + 1) last_count
 
 -- whether the next call is to fail
 abbrev pub next_fails : Script → Bool

@@ -28,8 +28,14 @@ disk_write_faults s = s.write_faults
 abbrev pub source_device : {D : Type 0} → StdSource D → D
 source_device s = s.device
 
+abbrev pub source_takes : {D : Type 0} → StdSource D → ℕ
+source_takes s = s.takes
+
 abbrev pub sink_device : {D : Type 0} → StdSink D → D
 sink_device s = s.device
+
+abbrev pub sink_puts : {D : Type 0} → StdSink D → ℕ
+sink_puts s = s.puts
 
 abbrev pub shelf_disk : {D : Type 0} → FileShelf D → D
 shelf_disk s = s.disk

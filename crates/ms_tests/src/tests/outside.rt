@@ -1,5 +1,6 @@
 //! Sources, sinks and shelves that fail in the middle.
 
+use ms_host::getchar;
 use ms_outside::{
     Fetched, FileShelf, Got, MemShelf, MemSink, MemSource, Put, Shelf, Sink, Source, StdSink,
     StdSource, SureShelf, SureSink, SureSource, SystemDisk,
@@ -40,6 +41,31 @@ impl Read for Turns {
             (_, Turn::Fails) => Err(io::Error::from(ErrorKind::Other)),
             _ => Ok(0),
         }
+    }
+}
+
+/// A source that ends once, and has a byte behind its end.
+#[derive(Drop)]
+struct BehindTheEnd {
+    has_ended: bool,
+}
+
+impl Source for BehindTheEnd {
+    ghost use Rattle.std.specs.Prelude.{None};
+    ghost use Rattle.ms_outside.specs.Faults.{last_count};
+
+    ghost left = { λ _. None };
+
+    ghost takes = { λ _. last_count };
+
+    ghost faults = { λ _. 0 };
+
+    fn take(&mut self) -> Got {
+        if self.has_ended {
+            return Got::Byte(9);
+        }
+        self.has_ended = true;
+        Got::End
     }
 }
 
@@ -97,6 +123,13 @@ fn source_in_memory(rt: HostRuntime) -> Result<(), Fail> {
         assert_eq!(rt; source.faults(), faults);
     }
     Ok(())
+}
+
+#[test]
+fn getchar_leaves_what_is_behind_an_end(rt: HostRuntime) {
+    let mut source = BehindTheEnd { has_ended: false };
+    assert!(rt; getchar(&mut source) == Ok(u32::MAX));
+    assert!(rt; source.take() == Got::Byte(9));
 }
 
 /// Each row is the piece, the answer, what is then held, and the faults.

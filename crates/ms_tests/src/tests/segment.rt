@@ -4,7 +4,7 @@
 use ms_event::Event;
 use ms_handle::Kind;
 use ms_live::{Gaps, ListGaps, TreeGaps};
-use ms_segment::{SegTrap, Segments};
+use ms_segment::{SegTrap, SegmentMemory, Segments};
 use ms_tagged::{ByteTags, Granules, Tagged};
 use std::alloc::{AllocError, Global};
 use std::process::Abort;

@@ -8,7 +8,7 @@ use Rattle.ms_segment.proofs.Fits.{IsFit-once_more}
 use Rattle.ms_segment.proofs.Sound.{IsSound-once_more}
 use Rattle.ms_segment.proofs.Functions.{loads_alone}
 use Rattle.ms_segment.proofs.Reach.{handle_access-within}
-use Rattle.ms_segment.proofs.segments.Segments.load_handle.Goals as goal
+use Rattle.ms_segment.proofs.segments.SegmentsSegmentMemory.load_handle.Goals as goal
 
 pub returns-in_err-access-clause-loaded : goal.returns-in_err-access-clause-loaded
 returns-in_err-access-clause-loaded g c =

@@ -9,7 +9,7 @@ use Rattle.ms_segment.specs.Memory.{IsFit, IsSound, Memory}
 use Rattle.ms_segment.specs.Parts.{access_of}
 use Rattle.ms_segment.proofs.Calls.{Stores-stopped, Stores-stored, after-written}
 use Rattle.ms_segment.proofs.Fits.{IsFit-written}
-use Rattle.ms_segment.proofs.segments.Segments.store_handle.Goals as goal
+use Rattle.ms_segment.proofs.segments.SegmentsSegmentMemory.store_handle.Goals as goal
 
 pub put_handle-requires-clause-within : goal.put_handle-requires-clause-within
 put_handle-requires-clause-within g c =

@@ -5,7 +5,7 @@ use Rattle.ms_segment.proofs.Calls.{after-read}
 use Rattle.ms_segment.proofs.Fits.{IsFit-once_more}
 use Rattle.ms_segment.proofs.Reach.{access-within}
 use Rattle.ms_segment.proofs.Sound.{IsSound-once_more}
-use Rattle.ms_segment.proofs.segments.Segments.load.Goals as goal
+use Rattle.ms_segment.proofs.segments.SegmentsSegmentMemory.load.Goals as goal
 
 pub get-requires-clause-within : goal.get-requires-clause-within
 get-requires-clause-within g c =

@@ -5,7 +5,7 @@ use Rattle.ms_segment.specs.Memory.{IsFit, Memory}
 use Rattle.ms_segment.proofs.Calls.{Makes-entered, Makes-refused}
 use Rattle.ms_segment.proofs.Functions.{makes_alone}
 use Rattle.ms_segment.proofs.Fits.{IsFit-entered, IsFit-made}
-use Rattle.ms_segment.proofs.segments.Segments.make.Goals as goal
+use Rattle.ms_segment.proofs.segments.SegmentsSegmentMemory.make.Goals as goal
 
 pub returns-in-Some-clause-made : goal.returns-in-Some-clause-made
 returns-in-Some-clause-made g c =

@@ -6,7 +6,7 @@ use Rattle.ms_segment.proofs.Calls.{Frees-ended, Frees-stopped, after-ended}
 use Rattle.ms_segment.proofs.Fits.{IsFit-ended}
 use Rattle.ms_segment.proofs.Reach.{freed-live}
 use Rattle.ms_segment.proofs.Sound.{IsSound-ended}
-use Rattle.ms_segment.proofs.segments.Segments.free.Goals as goal
+use Rattle.ms_segment.proofs.segments.SegmentsSegmentMemory.free.Goals as goal
 
 pub returns-in_err-id-clause-freed : goal.returns-in_err-id-clause-freed
 returns-in_err-id-clause-freed g c =

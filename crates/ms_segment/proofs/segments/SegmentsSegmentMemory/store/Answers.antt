@@ -10,7 +10,7 @@ use Rattle.ms_segment.specs.Memory.{IsFit, IsSound, Memory}
 use Rattle.ms_segment.specs.Parts.{access_of}
 use Rattle.ms_segment.proofs.Calls.{Stores-stopped, Stores-stored, after-written}
 use Rattle.ms_segment.proofs.Fits.{IsFit-written}
-use Rattle.ms_segment.proofs.segments.Segments.store.Goals as goal
+use Rattle.ms_segment.proofs.segments.SegmentsSegmentMemory.store.Goals as goal
 
 pub put-requires-clause-within : goal.put-requires-clause-within
 put-requires-clause-within g c =
