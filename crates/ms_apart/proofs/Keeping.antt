@@ -58,7 +58,9 @@ use Rattle.ms_machine.proofs.HeldPlain.{OutcomeHolds, linear_outcome_holds, work
 use Rattle.ms_machine.proofs.HeldSegments.{EffectHolds, FreshIn, FreshRead, segment_holds}
 use Rattle.ms_machine.proofs.HeldValues.{OptionHolds, each_get, each_set, holds}
 use Rattle.ms_apart.specs.Apart.{EachByte, FunctionOn, HandleOn, IsOld, IsSided, MemoryStep, Owned, SegmentOn, Separated, Sides, StoreStep, ThreadOn, ValueOn, WorkOn, contents, counted, ended, global, kept, memory, same, segments as in_memory_step, written}
-use Rattle.ms_apart.proofs.Bytes.{bytes_range, live_inside, live_is, range_within}
+use Rattle.ms_apart.proofs.Bytes.{bytes_range}
+use Rattle.ms_segment.proofs.Standing.{live_inside, live_is}
+use Rattle.ms_tagged.proofs.Within.{range-within}
 use Rattle.ms_apart.proofs.Functions.{MovedFunctions, block_functions, br_if_functions, br_table_functions, branch_functions, call_functions, if_functions, return_functions}
 use Rattle.ms_apart.proofs.Segments.{IsNew, seal_old, slice_old}
 use Rattle.ms_apart.proofs.Steps.{global_on, memory_on}
@@ -236,7 +238,7 @@ module _ (own : Owned) (side : Bool) where
         let all : EachByte (HandleOn own (own y.id)) (contents m y.segment) = subst (SegmentOn own m (own y.id)) y.live (held y.id) in
         let mine : EachByte On (contents m y.segment) = subst (λ b. EachByte (HandleOn own b) (contents m y.segment)) y.mine all in
         read_on (range a.address 16 m.bytes)
-        (subst (EachByte On) (sym (range_within y.segment.base y.place 16 y.segment.size m.bytes y.within (live_inside m y.id y.segment sound y.live)) ∙ ap (λ n. range n 16 m.bytes) (sym y.at)) (bytes_range On y.place 16 (contents m y.segment) mine))
+        (subst (EachByte On) (sym (range-within y.segment.base y.place 16 y.segment.size m.bytes y.within (live_inside m y.id y.segment sound.placed y.live)) ∙ ap (λ n. range n 16 m.bytes) (sym y.at)) (bytes_range On y.place 16 (contents m y.segment) mine))
 
     pub fresh_on : (i : SegmentInstr) (vs : List Value) → (IsNew i → ⊥) → IsSound m → ((id : ℕ) → SegmentOn own m (own id) (live_of m id)) → Each (ValueOn own side) vs → Each (Fits m) vs → FreshIn (ValueOn own side) i m vs
     fresh_on (instrs.New kind) vs old sound held on fit = absurd (old tt)

@@ -1,9 +1,7 @@
 -- A new segment on each of two memories that are alike: its identities become a pair, and all else is as before.
-use Rattle.std.proofs.Common.{◌≡◌, ◌==◌, ℕ, suc, zero, ◌+◌, ◌-◌, ◌<◌, ◌≤◌, ◌⊎◌, inl, inr, Bool, true, false, cond, List, [], ◌∷◌, ◌++◌, Option, Some, None, length, map, replicate, refl, sym, ap, ◌∙◌, subst, arith, option_map}
-use Rattle.std.specs.List.{Contains, find}
-use Rattle.std.proofs.lemmas.Bool.{cases_eq, cases_lt, eq-eqb, ne_eqb}
+use Rattle.std.proofs.Common.{◌≡◌, ℕ, suc, zero, ◌+◌, inl, inr, true, cond, List, [], ◌∷◌, Option, Some, None, length, map, replicate, refl, sym, ap, ◌∙◌, subst, arith, option_map}
+use Rattle.std.proofs.lemmas.Bool.{cases_eq, eq-eqb, ne_eqb}
 use Rattle.std.proofs.lemmas.List.{length-replicate}
-use Rattle.std.proofs.lemmas.List.Elements.{All-contains}
 use Rattle.ms_event.specs.declared.event.Event.TheVariants as events
 use Rattle.ms_handle.specs.declared.handle.Handle.{Handle}
 use Rattle.ms_handle.specs.declared.handle.Handle.TheVariants.{Null, Broken, Good}
@@ -12,19 +10,17 @@ use Rattle.ms_linear.specs.declared.global.GlobalInst.{GlobalInst}
 use Rattle.ms_linear.specs.declared.value.Value.{Value}
 use Rattle.ms_linear.specs.declared.value.Value.TheVariants as values
 use Rattle.ms_live.specs.declared.gaps.Live.{Live}
-use Rattle.ms_live.specs.Place.{IsFree, IsOutside, IsPlace}
-use Rattle.ms_live.proofs.Found.{find-Some}
+use Rattle.ms_live.specs.Place.{IsPlace}
 use Rattle.ms_machine.specs.refinement.Holding.{Each, EachKept}
 use Rattle.ms_segment.specs.Memory.{IsSound, Memory, live_of}
 use Rattle.ms_segment.specs.Parts.{entered}
-use Rattle.ms_segment.proofs.Finds.{find-push_other}
 use Rattle.ms_segment.proofs.Placing.{place-within}
-use Rattle.ms_tagged.specs.Bytes.{Byte, Data, Piece, overwritten, range}
-use Rattle.ms_tagged.proofs.Ranges.{range-overwritten_apart, range-overwritten_same}
+use Rattle.ms_tagged.specs.Bytes.{Byte, Data, Piece}
+use Rattle.ms_tagged.proofs.Ranges.{range-overwritten_same}
 use Rattle.ms_task.specs.Thread.{Activation, Do, Item, Label}
 use Rattle.ms_apart.specs.Renaming.{Renaming, rename, rename_all, rename_byte, rename_frame, rename_global, rename_handle, rename_work}
 use Rattle.ms_apart.specs.Apart.{EachByte, HandleOn, MemoryAlike, Owned, SegmentAlike, SegmentOn, ValueOn, contents, owned_after, renamed_after}
-use Rattle.ms_apart.proofs.Bytes.{live_is, nothing_written}
+use Rattle.ms_segment.proofs.Standing.{live_is, made_range, new_live, old_live}
 
 -- ---- names that agree on what is owned
 
@@ -65,39 +61,6 @@ zeros_renamed r (suc n) = ap (λ xs. Data 0 ∷ xs) (zeros_renamed r n)
 
 -- ---- one memory
 
-none_found : {X : Type 0} (p : X → Bool) (xs : List X) (o : Option X) → find p xs ≡ o → ((x : X) → Contains xs x → p x ≡ false) → find p xs ≡ None
-none_found p xs None e fails = e
-none_found p xs (Some x) e fails =
-    let is = find-Some p xs x e in absurd (let h : p x ≡ false = fails x is.0 in let g : p x ≡ true = is.1 in cc)
-
-push-head : {X : Type 0} (y x : X) (b : Bool) (old new : Option X) → (old ≡ None → new ≡ Some x) → cond b (Some y) old ≡ None → cond b (Some y) new ≡ Some x
-push-head y x true old new rest none = absurd (cc)
-push-head y x false old new rest none = rest none
-
-find-push_new : {X : Type 0} (p : X → Bool) (xs : List X) (x : X) → find p xs ≡ None → p x ≡ true → find p (xs ++ x ∷ []) ≡ Some x
-find-push_new p [] x none is = rw is refl
-find-push_new p (y ∷ ys) x none is = push-head y x (p y) (find p ys) (find p (ys ++ x ∷ [])) (λ r. find-push_new p ys x r is) none
-
-free_apart : (live : List Live) (capacity n base : ℕ) (g : Live) (x w : ℕ) → IsFree live capacity n base → Contains live g → g.base ≤ x → x + w ≤ g.base + g.size → 0 < w → 0 < n → (x + w ≤ base) ⊎ (base + n ≤ x)
-free_apart live capacity n base g x w free has low high some some' =
-    elim (cases_lt base (x + w)) [
-      | inr behind ↦ inl behind
-      | inl before ↦ elim (cases_lt x (base + n)) [
-        | inr behind ↦ inr behind
-        | inl meets ↦ absurd (elim (cases_lt x base) [
-          | inl less ↦ let out = All-contains (IsOutside (base + 0)) live g (free 0 (omega arith)).1 has in let past : g.base + g.size ≤ base + 0 = out (omega arith) in omega (arith, past)
-          | inr more ↦ let place : base + (x - base) ≡ x = omega arith in let out = All-contains (IsOutside (base + (x - base))) live g (free (x - base) (omega arith)).1 has in let past : g.base + g.size ≤ base + (x - base) = out (omega arith) in omega (arith, past, place)
-        ])
-      ]
-    ]
-
--- what stood in a live segment stands there still
-made_range : (live : List Live) (n base : ℕ) (g : Live) (w : ℕ) (old : List Byte) → IsPlace live (length old) n (Some base) → Contains live g → w ≡ g.size → range g.base w (overwritten base (replicate n (Data 0)) old) ≡ range g.base w old
-made_range live n base g zero old placed has is = refl
-made_range live zero base g (suc w) old placed has is = ap (range g.base (suc w)) (nothing_written base old)
-made_range live (suc n) base g (suc w) old placed has is =
-    range-overwritten_apart g.base (suc w) base (replicate (suc n) (Data 0)) old (rw (length-replicate (suc n) (Data 0)) (free_apart live (length old) (suc n) base g g.base (suc w) placed.1 has (omega arith) (omega (arith, is)) (omega arith) (omega arith))) (omega (arith, place-within live (length old) (suc n) base placed))
-
 module _ (m : Memory) (size base : ℕ) (kind : Kind) (sound : IsSound m) (placed : IsPlace m.live (length m.bytes) size (Some base)) where
   abbrev pub segment : Live
   segment = record { id = m.made + 1; base = base; size = size; kind = kind }
@@ -105,18 +68,11 @@ module _ (m : Memory) (size base : ℕ) (kind : Kind) (sound : IsSound m) (place
   abbrev pub now : Memory
   now = entered m base size kind
 
-  pub new_live : live_of now (m.made + 1) ≡ Some segment
-  new_live =
-      find-push_new (λ (x : Live). x.id == m.made + 1) m.live segment (none_found (λ (x : Live). x.id == m.made + 1) m.live (find (λ (x : Live). x.id == m.made + 1) m.live) refl (λ x has. let known = All-contains (λ (y : Live). (1 ≤ y.id) × (y.id ≤ m.made)) m.live x sound.placed.ids has in ne_eqb x.id (m.made + 1) (λ e. omega (arith, e, known.1)))) (eq-eqb (m.made + 1) (m.made + 1) refl)
-
-  pub old_live : (i : ℕ) → (i ≡ m.made + 1 → ⊥) → live_of now i ≡ live_of m i
-  old_live i other = find-push_other (λ (x : Live). x.id == i) m.live segment (ne_eqb (m.made + 1) i (λ e. other (sym e)))
-
   pub new_contents : contents now segment ≡ replicate size (Data 0)
   new_contents = range-overwritten_same base size (replicate size (Data 0)) m.bytes (sym (length-replicate size (Data 0))) (place-within m.live (length m.bytes) size base placed)
 
   pub old_contents : (i : ℕ) (s : Live) → live_of m i ≡ Some s → contents now s ≡ contents m s
-  old_contents i s live = made_range m.live size base s s.size m.bytes placed (live_is m i s live).0 refl
+  old_contents i s live = made_range m.live size base s s.base s.size m.bytes placed (live_is m i s live).0 (omega arith) (omega arith)
 
 -- ---- both
 
@@ -182,15 +138,15 @@ module _ (own : Owned) (r : Renaming) (m m' : Memory) (alike : MemoryAlike own r
         ];
         segments = λ i mine. elim (cases_eq i (m.made + 1)) [
           | inl new ↦ subst (λ j. SegmentAlike r1 (entered m base size kind) (entered m' base' size kind) (live_of (entered m base size kind) j) (live_of (entered m' base' size kind) (r1 j))) (sym new)
-              (subst (λ o. SegmentAlike r1 (entered m base size kind) (entered m' base' size kind) o (live_of (entered m' base' size kind) (r1 (m.made + 1)))) (sym (new_live m size base kind sound at))
+              (subst (λ o. SegmentAlike r1 (entered m base size kind) (entered m' base' size kind) o (live_of (entered m' base' size kind) (r1 (m.made + 1)))) (sym (new_live m size base kind sound.placed))
               (subst (λ j. SegmentAlike r1 (entered m base size kind) (entered m' base' size kind) (Some (segment m size base kind sound at)) (live_of (entered m' base' size kind) j)) (sym name_new)
-              (subst (λ o. SegmentAlike r1 (entered m base size kind) (entered m' base' size kind) (Some (segment m size base kind sound at)) o) (sym (new_live m' size base' kind sound' at')) new_alike)))
+              (subst (λ o. SegmentAlike r1 (entered m base size kind) (entered m' base' size kind) (Some (segment m size base kind sound at)) o) (sym (new_live m' size base' kind sound'.placed)) new_alike)))
           | inr old ↦
               let was = was_own i mine old in
               let apart : r i ≡ m'.made + 1 → ⊥ = name_low i was in
-              subst (λ o. SegmentAlike r1 (entered m base size kind) (entered m' base' size kind) o (live_of (entered m' base' size kind) (r1 i))) (sym (old_live m size base kind sound at i old))
+              subst (λ o. SegmentAlike r1 (entered m base size kind) (entered m' base' size kind) o (live_of (entered m' base' size kind) (r1 i))) (sym (old_live m size base kind i old))
               (subst (λ j. SegmentAlike r1 (entered m base size kind) (entered m' base' size kind) (live_of m i) (live_of (entered m' base' size kind) j)) (sym (name_old i old))
-              (subst (λ o. SegmentAlike r1 (entered m base size kind) (entered m' base' size kind) (live_of m i) o) (sym (old_live m' size base' kind sound' at' (r i) apart))
+              (subst (λ o. SegmentAlike r1 (entered m base size kind) (entered m' base' size kind) (live_of m i) o) (sym (old_live m' size base' kind (r i) apart))
               (old_alike i was (live_of m i) (live_of m' (r i)) refl refl (alike.segments i was))))
         ];
       }

@@ -21,9 +21,10 @@ use Rattle.ms_segment.proofs.Finds.{Contains-drop, Contains-take, find-filter_go
 use Rattle.ms_tagged.specs.Bytes.{Byte, Data, Piece}
 use Rattle.ms_apart.specs.Renaming.{Renaming, rename_byte, rename_global}
 use Rattle.ms_apart.specs.Apart.{Alike, EachByte, HandleOn, MemoryAlike, MemoryStep, Owned, SegmentAlike, SegmentOn, Separated, Sides, StoreStep, ValueOn, contents, counted, ended, global, kept, memory, same, segments, written}
-use Rattle.ms_apart.proofs.Bytes.{bytes_overwritten, contents_other, contents_written, live_is}
+use Rattle.ms_apart.proofs.Bytes.{bytes_overwritten, contents_other, contents_written}
+use Rattle.ms_segment.proofs.Standing.{live_is, new_live, old_live}
 use Rattle.ms_apart.proofs.Lists.{get_set_other, get_set_same}
-use Rattle.ms_apart.proofs.Making.{new_contents, new_live, old_contents, old_live}
+use Rattle.ms_apart.proofs.Making.{new_contents, old_contents}
 
 live_gone : (m : Memory) (i : ℕ) → live_of (with_ended m i) i ≡ None
 live_gone m i = find-filter_gone (λ (t : Live). t.id == i) (λ (t : Live). not (t.id == i)) m.live (λ t is. ap not is)
@@ -114,9 +115,9 @@ module _ (own own1 : Owned) (m : Memory) (agree : (i : ℕ) → i ≤ m.made →
     memory_made_on j =
         elim (cases_eq j (m.made + 1)) [
           | inl is ↦ subst (λ x. SegmentOn own1 (entered m base size kind) (own1 x) (live_of (entered m base size kind) x)) (sym is)
-              (subst (SegmentOn own1 (entered m base size kind) (own1 (m.made + 1))) (sym (new_live m size base kind sound placed))
+              (subst (SegmentOn own1 (entered m base size kind) (own1 (m.made + 1))) (sym (new_live m size base kind sound.placed))
               (subst (EachByte (HandleOn own1 (own1 (m.made + 1)))) (sym (new_contents m size base kind sound placed)) (zeros_on size (own1 (m.made + 1)))))
-          | inr other ↦ subst (SegmentOn own1 (entered m base size kind) (own1 j)) (sym (old_live m size base kind sound placed j other)) (old_on j (live_of m j) refl (on j))
+          | inr other ↦ subst (SegmentOn own1 (entered m base size kind) (own1 j)) (sym (old_live m size base kind j other)) (old_on j (live_of m j) refl (on j))
         ]
 
 pub separated_made : (sides : Sides) (own own1 : Owned) (s : Store) (size base : ℕ) (kind : Kind) → ((i : ℕ) → i ≤ s.segments.made → own1 i ≡ own i) → StoreFits s → IsPlace s.segments.live (length s.segments.bytes) size (Some base) → Separated sides own s → Separated sides own1 (with_segments s (entered s.segments base size kind))
@@ -160,7 +161,7 @@ module _ (own : Owned) (r : Renaming) (m m' : Memory) (alike : MemoryAlike own r
           different = alike.different;
           segments = λ j mine.
               let low = alike.made j mine in
-              subst (λ o. SegmentAlike r (entered m base size kind) m' o (live_of m' (r j))) (sym (old_live m size base kind sound placed j (λ e. omega (arith, e, low.0)))) (still_made j (live_of m j) (live_of m' (r j)) refl (alike.segments j mine));
+              subst (λ o. SegmentAlike r (entered m base size kind) m' o (live_of m' (r j))) (sym (old_live m size base kind j (λ e. omega (arith, e, low.0)))) (still_made j (live_of m j) (live_of m' (r j)) refl (alike.segments j mine));
         }
 
 pub others_kept : (sides : Sides) (own : Owned) (r : Renaming) (s s1 s' : Store) → IsSound s.segments → Alike sides own r s s' → StoreStep sides own false s s1 → Alike sides own r s1 s'

@@ -32,7 +32,9 @@ use Rattle.ms_tagged.specs.Bytes.{Byte, Data, Piece, data_of, number_at, number_
 use Rattle.ms_tagged.proofs.Numbers.{length-data_of}
 use Rattle.ms_apart.specs.Renaming.{Renaming, rename, rename_all, rename_byte, rename_handle}
 use Rattle.ms_apart.specs.Apart.{EachByte, EventAlike, HandleOn, IsOld, MemoryAlike, Owned, SegmentAlike, SegmentOn, ValueOn, base_in, contents}
-use Rattle.ms_apart.proofs.Bytes.{bytes_range, contents_other, contents_written, live_aligned, live_inside, live_is, overwritten_mapped, range_mapped, range_within}
+use Rattle.ms_apart.proofs.Bytes.{bytes_range, contents_other, contents_written, overwritten_mapped, range_mapped}
+use Rattle.ms_segment.proofs.Standing.{live_aligned, live_inside, live_is}
+use Rattle.ms_tagged.proofs.Within.{range-within}
 use Rattle.ms_apart.proofs.Plain.{number_renamed, value_renamed}
 
 abbrev pub IsNew : Segment → Type 0
@@ -266,8 +268,8 @@ module _ (own : Owned) (r : Renaming) (m m' : Memory) (alike : MemoryAlike own r
     aligned_alike (Err e) x' y = ap aligned y
     aligned_alike (Ok a) x' y =
         let z = y.2 in
-        let low = live_aligned m z.id z.segment sound z.live in
-        let low' = live_aligned m' (r z.id) z.segment' sound' z.live' in
+        let low = live_aligned m z.id z.segment sound.placed z.live in
+        let low' = live_aligned m' (r z.id) z.segment' sound'.placed z.live' in
         let at = z.at in
         let at' = z.at' in
         let same : y.0.address % 16 ≡ a.address % 16 = omega (arith, low, low', at, at') in
@@ -289,9 +291,9 @@ module _ (own : Owned) (r : Renaming) (m m' : Memory) (alike : MemoryAlike own r
     bytes_alike width a a' x =
         let same = stand x.id x.segment x.segment' x.mine x.live x.live' in
         let room' : x.place + width ≤ x.segment'.size = let within = x.within in let sized = same.0 in omega (arith, within, sized) in
-        ap (λ n. range n width m'.bytes) x.at' ∙ (range_within x.segment'.base x.place width x.segment'.size m'.bytes room' (live_inside m' (r x.id) x.segment' sound' x.live')
+        ap (λ n. range n width m'.bytes) x.at' ∙ (range-within x.segment'.base x.place width x.segment'.size m'.bytes room' (live_inside m' (r x.id) x.segment' sound'.placed x.live')
         ∙ (ap (range x.place width) same.2 ∙ (range_mapped (rename_byte r) x.place width (contents m x.segment)
-        ∙ ap (map (rename_byte r)) (sym (range_within x.segment.base x.place width x.segment.size m.bytes x.within (live_inside m x.id x.segment sound x.live)) ∙ ap (λ n. range n width m.bytes) (sym x.at)))))
+        ∙ ap (map (rename_byte r)) (sym (range-within x.segment.base x.place width x.segment.size m.bytes x.within (live_inside m x.id x.segment sound.placed x.live)) ∙ ap (λ n. range n width m.bytes) (sym x.at)))))
 
     -- ---- writes
 
@@ -452,7 +454,7 @@ module _ (own : Owned) (r : Renaming) (m m' : Memory) (alike : MemoryAlike own r
       bytes_on width a a' x =
           let all : EachByte (HandleOn own (own x.id)) (contents m x.segment) = subst (SegmentOn own m (own x.id)) x.live (kept x.id) in
           let mine : EachByte On (contents m x.segment) = subst (λ b. EachByte (HandleOn own b) (contents m x.segment)) x.mine all in
-          subst (EachByte On) (sym (range_within x.segment.base x.place width x.segment.size m.bytes x.within (live_inside m x.id x.segment sound x.live)) ∙ ap (λ n. range n width m.bytes) (sym x.at)) (bytes_range On x.place width (contents m x.segment) mine)
+          subst (EachByte On) (sym (range-within x.segment.base x.place width x.segment.size m.bytes x.within (live_inside m x.id x.segment sound.placed x.live)) ∙ ap (λ n. range n width m.bytes) (sym x.at)) (bytes_range On x.place width (contents m x.segment) mine)
 
       handle_read_alike : (rest : List Value) (x x' : Result Access SegTrap) → AccessAlike 16 x x' → EffectAlike (handle_read m rest (call.handle_loaded_at m x)) (handle_read m' (rename_all r rest) (call.handle_loaded_at m' x'))
       handle_read_alike rest (Err e) x' y = ap (λ z. handle_read m' (rename_all r rest) (call.handle_loaded_at m' z)) y
