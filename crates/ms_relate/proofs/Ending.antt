@@ -28,7 +28,7 @@ use Rattle.ms_relate.specs.Relation.{IsAt, IsThere, Related, gone, kind_of, live
 use Rattle.ms_relate.specs.Operations.{Changes, changes, change_stopped, invalid_ends, freed_ends, whole_ends, kind_ends, readonly_ends}
 use Rattle.ms_relate.proofs.Accesses.{negsuc-times}
 use Rattle.ms_relate.proofs.Reading.{object_there}
-use Rattle.ms_relate.proofs.Segments.{live_is}
+use Rattle.ms_segment.proofs.Standing.{live_is}
 use Rattle.ms_relate.proofs.Writing.{other_identity, same_Some, slice_get-set_other, slice_get-set_same}
 
 -- ---- tests

@@ -1,7 +1,6 @@
 pub mod Laid
 pub mod Shapes
 pub mod Accesses
-pub mod Segments
 pub mod Leaves
 pub mod Reading
 pub mod Writing

@@ -1,10 +1,9 @@
 -- A new object: its segment's bytes 0 are the zeros of its shape, and all other objects are as before.
-use Rattle.std.proofs.Common.{◌≡◌, ◌==◌, ℕ, suc, zero, ◌+◌, ◌-◌, ◌*◌, ◌%◌, ◌<◌, ◌≤◌, ◌⊎◌, inl, inr, Bool, true, false, cond, ℤ, pos, ◌*ℤ◌, List, [], ◌∷◌, ◌++◌, Option, Some, None, length, replicate, get_or, take, refl, sym, ap, ◌∙◌, subst, arith, add-zero, length-append}
+use Rattle.std.proofs.Common.{◌≡◌, ℕ, suc, zero, ◌+◌, ◌-◌, ◌*◌, ◌%◌, ◌<◌, ◌≤◌, inl, inr, Bool, true, false, cond, ℤ, pos, ◌*ℤ◌, List, [], ◌∷◌, ◌++◌, Option, Some, None, length, replicate, get_or, take, refl, sym, ap, ◌∙◌, subst, arith, length-append}
 use Rattle.std.specs.Prelude.{nat_lt, slice_get}
-use Rattle.std.specs.List.{All, Contains, find}
-use Rattle.std.proofs.lemmas.Bool.{cases_lt, eq-eqb, ne_eqb}
-use Rattle.std.proofs.lemmas.List.{append-nil, drop-replicate, length-replicate, take-append-drop, take-replicate}
-use Rattle.std.proofs.lemmas.List.Elements.{All-contains, All-push, All-weaker}
+use Rattle.std.specs.List.{All}
+use Rattle.std.proofs.lemmas.List.{drop-replicate, length-replicate, take-replicate}
+use Rattle.std.proofs.lemmas.List.Elements.{All-push, All-weaker}
 use Rattle.std.proofs.lemmas.Option.{slice_get_within}
 use Rattle.c_types.specs.Layout.{Table}
 use Rattle.c_types.specs.Types.{Ty, void, integer, struct, pointer, array, function, is_function}
@@ -17,24 +16,22 @@ use Rattle.ms_relate.specs.Laid.{Fits, is_handle}
 use Rattle.ms_relate.proofs.Laid.{are_weaker, handle_width, span_zeros}
 use Rattle.ms_handle.specs.declared.handle.Handle.TheVariants as handles
 use Rattle.ms_live.specs.declared.gaps.Live.{Live}
-use Rattle.ms_live.specs.Place.{IsFree, IsOutside, IsPlace}
-use Rattle.ms_live.proofs.Found.{find-Some}
+use Rattle.ms_live.specs.Place.{IsPlace}
 use Rattle.ms_tagged.specs.Bytes.{Byte, Data, data_of, overwritten, range, zeros}
-use Rattle.ms_tagged.proofs.Ranges.{length-overwritten, range-overwritten_apart, range-overwritten_inside}
+use Rattle.ms_tagged.proofs.Ranges.{length-overwritten, range-overwritten_inside}
 use Rattle.ms_segment.specs.Memory.{AreApart, IsWithin, Memory, Placed, live_of}
 use Rattle.ms_segment.specs.Parts.{entered}
 use Rattle.ms_segment.specs.Calls.{make, made_at, place_of}
 use Rattle.ms_event.specs.Monitor.{most_live}
 use Rattle.ms_segment.proofs.Places.{IsPlace-place_of}
 use Rattle.std.proofs.lemmas.List.Quantifiers.{all_pairs_push}
-use Rattle.ms_segment.proofs.Finds.{find-push_other}
+use Rattle.ms_segment.proofs.Standing.{live_is, made_range, new_live, old_live}
 use Rattle.ms_segment.proofs.Placing.{place-within}
 use Rattle.ms_relate.specs.Homes.{Home, handle, IsIn, IsOf, is_number, is_null, is_no_function, Leads, leads_to, word}
 use Rattle.ms_relate.specs.Relation.{ArePieces, cleared, IsAt, IsThere, Related, Spell, StandsAt, gone, kind_of, lives}
 use Rattle.ms_relate.specs.Operations.{Creates, created, refused}
 use Rattle.ms_relate.proofs.Growing.{Extends, push_cases, slice_get-push_new, slice_get-push_old, stands_grown}
-use Rattle.ms_relate.proofs.Leaves.{stands_still, width_positive}
-use Rattle.ms_relate.proofs.Segments.{live_is}
+use Rattle.ms_relate.proofs.Leaves.{stands_still}
 
 -- ---- one more object
 
@@ -114,42 +111,6 @@ cleared_range at w base n old low high within =
 
 -- ---- the new segment
 
-none_found : {X : Type 0} (p : X → Bool) (xs : List X) (o : Option X) → find p xs ≡ o → ((x : X) → Contains xs x → p x ≡ false) → find p xs ≡ None
-none_found p xs None e fails = e
-none_found p xs (Some x) e fails =
-    let is = find-Some p xs x e in absurd (let h : p x ≡ false = fails x is.0 in let g : p x ≡ true = is.1 in cc)
-
-push-head : {X : Type 0} (y x : X) (b : Bool) (old new : Option X) → (old ≡ None → new ≡ Some x) → cond b (Some y) old ≡ None → cond b (Some y) new ≡ Some x
-push-head y x true old new rest none = absurd (cc)
-push-head y x false old new rest none = rest none
-
-find-push_new : {X : Type 0} (p : X → Bool) (xs : List X) (x : X) → find p xs ≡ None → p x ≡ true → find p (xs ++ x ∷ []) ≡ Some x
-find-push_new p [] x none is = rw is refl
-find-push_new p (y ∷ ys) x none is = push-head y x (p y) (find p ys) (find p (ys ++ x ∷ [])) (λ r. find-push_new p ys x r is) none
-
--- a range in a live segment is apart from a free one
-free_apart : (live : List Live) (capacity n base : ℕ) (g : Live) (x w : ℕ) → IsFree live capacity n base → Contains live g → g.base ≤ x → x + w ≤ g.base + g.size → 0 < w → 0 < n → (x + w ≤ base) ⊎ (base + n ≤ x)
-free_apart live capacity n base g x w free has low high some some' =
-    elim (cases_lt base (x + w)) [
-      | inr behind ↦ inl behind
-      | inl before ↦ elim (cases_lt x (base + n)) [
-        | inr behind ↦ inr behind
-        | inl meets ↦ absurd (elim (cases_lt x base) [
-          | inl less ↦ let out = All-contains (IsOutside (base + 0)) live g (free 0 (omega arith)).1 has in let past : g.base + g.size ≤ base + 0 = out (omega arith) in omega (arith, past)
-          | inr more ↦ let place : base + (x - base) ≡ x = omega arith in let out = All-contains (IsOutside (base + (x - base))) live g (free (x - base) (omega arith)).1 has in let past : g.base + g.size ≤ base + (x - base) = out (omega arith) in omega (arith, past, place)
-        ])
-      ]
-    ]
-
-nothing_written : (base : ℕ) (old : List Byte) → overwritten base [] old ≡ old
-nothing_written base old = rw (add-zero, append-nil (take base old)) (take-append-drop base old)
-
--- what stood in a live segment stands there still
-made_range : (live : List Live) (n base : ℕ) (g : Live) (x w : ℕ) (old : List Byte) → IsPlace live (length old) n (Some base) → Contains live g → g.base ≤ x → x + w ≤ g.base + g.size → 0 < w → range x w (overwritten base (replicate n (Data 0)) old) ≡ range x w old
-made_range live zero base g x w old placed has low high some = ap (range x w) (nothing_written base old)
-made_range live (suc n) base g x w old placed has low high some =
-    range-overwritten_apart x w base (replicate (suc n) (Data 0)) old (rw (length-replicate (suc n) (Data 0)) (free_apart live (length old) (suc n) base g x w placed.1 has low high some (omega arith))) (omega (arith, place-within live (length old) (suc n) base placed))
-
 zero_times : (w : ℕ) → pos 0 ≡ pos 0 *ℤ pos w
 zero_times w = ap (λ (x : ℕ). pos x) (omega arith)
 
@@ -171,22 +132,18 @@ module _ (table : Table) (places : ℕ → ℕ) (homes : List Home) (objects : L
   old_there u j (Some g) fits' live (lives alive kind long many laid) =
       let is = live_is m j.id g live in
       lives alive kind long many (are_weaker (λ place. StandsAt table places homes m.bytes (g.base + place)) (λ place. StandsAt table places grown now.bytes (g.base + place)) 0 (j.count * size j.shape)
-      (λ b t v low high stands. stands_still table places grown t v m.bytes now.bytes (g.base + b) (made_range m.live (n * size s) base g (g.base + b) (width t) m.bytes placed is.0 (omega arith) (omega (arith, high, long)) (width_positive table places homes t v stands.is_of)) (stands_grown table places homes grown grows t v m.bytes (g.base + b) stands))
+      (λ b t v low high stands. stands_still table places grown t v m.bytes now.bytes (g.base + b) (made_range m.live (n * size s) base g (g.base + b) (width t) m.bytes placed is.0 (omega arith) (omega (arith, high, long))) (stands_grown table places homes grown grows t v m.bytes (g.base + b) stands))
       u.trees j.shape 0 fits' (omega arith) (rw many (omega arith)) laid)
 
   old_at : (i : ℕ) (u : Object) (j : Home) → slice_get objects i ≡ Some u → slice_get homes i ≡ Some j → IsAt table places grown now u j
   old_at i u j at at' =
       let here = related.each i u j at at' in
       let known = related.made i j at' in
-      let live : live_of now j.id ≡ live_of m j.id = find-push_other (λ (x : Live). x.id == j.id) m.live _ (ne_eqb (m.made + 1) j.id (λ e. omega (arith, e, known.1))) in
+      let live : live_of now j.id ≡ live_of m j.id = old_live m (n * size s) base (kind_of k) j.id (λ e. omega (arith, e, known.1)) in
       record { shape = here.shape; count = here.count; fits = here.fits; state = rw live (old_there u j (live_of m j.id) here.fits refl here.state) }
 
   abbrev segment : Live
   segment = record { id = m.made + 1; base = base; size = n * size s; kind = kind_of k }
-
-  new_live : live_of now (m.made + 1) ≡ Some segment
-  new_live =
-      find-push_new (λ (x : Live). x.id == m.made + 1) m.live segment (none_found (λ (x : Live). x.id == m.made + 1) m.live (find (λ (x : Live). x.id == m.made + 1) m.live) refl (λ x has. let known = All-contains (λ (y : Live). (1 ≤ y.id) × (y.id ≤ m.made)) m.live x related.placed.ids has in ne_eqb x.id (m.made + 1) (λ e. omega (arith, e, known.1)))) (eq-eqb (m.made + 1) (m.made + 1) refl)
 
   new_stands : (b : ℕ) (t : Ty) → 0 ≤ b → b + width t ≤ n * size s → 0 < width t → (is_handle t ≡ true → b % 16 ≡ 0) → StandsAt table places grown now.bytes (base + b) t (zero_value t)
   new_stands b t low high some aligned =
@@ -202,7 +159,7 @@ module _ (table : Table) (places : ℕ → ℕ) (homes : List Home) (objects : L
   new_at =
       let zero' = span_zeros (λ place. StandsAt table places grown now.bytes (base + place)) 0 (n * size s) new_stands (whole_of s n) fits (omega arith) (omega arith) refl in
       let there : IsThere table places grown now.bytes (new_object k s n) home (Some segment) = lives refl refl refl zero'.0 zero'.1 in
-      record { shape = refl; count = refl; fits = fits; state = rw new_live there }
+      record { shape = refl; count = refl; fits = fits; state = rw (new_live m (n * size s) base (kind_of k) related.placed) there }
 
   each_made : (i : ℕ) (u : Object) (j : Home) → slice_get (one_more objects k s n) i ≡ Some u → slice_get grown i ≡ Some j → IsAt table places grown now u j
   each_made i u j at at' =

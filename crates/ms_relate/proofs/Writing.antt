@@ -23,7 +23,8 @@ use Rattle.ms_relate.specs.Operations.{Changes, changes, change_stopped, null_en
 use Rattle.ms_relate.proofs.Accesses.{access_is, index_in-within, located, located_in}
 use Rattle.ms_relate.proofs.Leaves.{stands_still, width_positive}
 use Rattle.ms_relate.proofs.Reading.{array_stands, element_leaf, no_function_scalar, object_there, pointer_access, scalar_shape, scalar_width}
-use Rattle.ms_relate.proofs.Segments.{live_inside, placed_written, segments_apart}
+use Rattle.ms_segment.proofs.Placing.{Placed-written}
+use Rattle.ms_segment.proofs.Standing.{live_inside, segments_apart}
 
 -- ---- elements by their numbers
 
@@ -130,7 +131,7 @@ module _ (table : Table) (places : ℕ → ℕ) (homes : List Home) where
         each = written_each objects m n o h g path s t k v new related scalar' at at' live span is within of spells wide;
         rising = related.rising;
         made = related.made;
-        placed = placed_written m (g.base + s.place + k * width t) new related.placed (rw wide (write_inside m o h g path s t k (related.each n o h at at') related.placed live span is within));
+        placed = Placed-written m (g.base + s.place + k * width t) new related.placed (rw wide (write_inside m o h g path s t k (related.each n o h at at') related.placed live span is within));
       }
 
   -- ---- through a pointer

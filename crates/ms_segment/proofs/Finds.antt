@@ -3,6 +3,7 @@ use Rattle.std.proofs.Common.{◌≡◌, ℕ, ◌+◌, ◌≤◌, ◌⊎◌, inl
 use Rattle.std.specs.List.{Contains, filter, find}
 use Rattle.std.proofs.lemmas.List.{take-append-drop}
 use Rattle.std.proofs.lemmas.List.Elements.{Contains-append_cases, Contains-append_left, Contains-append_right}
+use Rattle.ms_live.proofs.Found.{find-Some}
 use Rattle.ms_tagged.specs.Bytes.{Byte, overwritten}
 
 -- ---- finding
@@ -20,6 +21,15 @@ push-head y x false old new rest none = rest none
 pub find-push_new : {X : Type 0} (p : X → Bool) (xs : List X) (x : X) → find p xs ≡ None → p x ≡ true → find p (xs ++ x ∷ []) ≡ Some x
 find-push_new p [] x none is = rw is refl
 find-push_new p (y ∷ ys) x none is = push-head y x (p y) (find p ys) (find p (ys ++ x ∷ [])) (λ r. find-push_new p ys x r is) none
+
+-- none is found where each fails
+none_found : {X : Type 0} (p : X → Bool) (xs : List X) (o : Option X) → find p xs ≡ o → ((x : X) → Contains xs x → p x ≡ false) → o ≡ None
+none_found p xs None e fails = refl
+none_found p xs (Some x) e fails =
+    let is = find-Some p xs x e in absurd (let h : p x ≡ false = fails x is.0 in let g : p x ≡ true = is.1 in cc)
+
+pub find-none : {X : Type 0} (p : X → Bool) (xs : List X) → ((x : X) → Contains xs x → p x ≡ false) → find p xs ≡ None
+find-none p xs fails = none_found p xs (find p xs) refl fails
 
 kept-head : {X : Type 0} (p q : X → Bool) (y : X) (ys : List X) (b c : Bool) → q y ≡ b → p y ≡ c → (p y ≡ true → q y ≡ true) → find p (filter q ys) ≡ find p ys → find p (cond b (y ∷ filter q ys) (filter q ys)) ≡ cond c (Some y) (find p ys)
 kept-head p q y ys true c is_q is_p keeps rest = cc

@@ -2,6 +2,7 @@ pub mod Finds
 pub mod Fits
 pub mod Places
 pub mod Placing
+pub mod Standing
 pub mod Sound
 pub mod Reach
 pub mod Calls
