@@ -5,9 +5,10 @@ ghost use Rattle.ms_linear.specs.Values.{type_of};
 ghost use Rattle.ms_linear.specs.declared.value.Value.TheVariants as values;
 ghost use Rattle.ms_types.specs.declared.types.ValType.TheVariants as types;
 
+use crate::bounded::BoundedStack;
+use crate::room::Room;
 use crate::value::Value;
 use ms_handle::Handle;
-use ms_types::Stack;
 use std::alloc::{AllocError, Global};
 use std::marker::Model;
 
@@ -150,7 +151,7 @@ impl Cell {
 /// Operands (WebAssembly 1.0, 4.2.12). Contracts see them as a list of values with the topmost one first.
 #[derive(Drop)]
 pub struct Operands {
-    cells: Stack<Cell>,
+    cells: BoundedStack<Cell>,
 }
 
 impl Model for Operands {
@@ -163,12 +164,12 @@ impl Model for Operands {
 }
 
 impl Operands {
-    /// No operands. Takes no memory.
-    pub fn new(alloc: Global) -> Self
+    /// No operands, which will take their memory of a room. Takes none yet.
+    pub fn new(alloc: Global, room: Room) -> Self
         ensures { result ≡ [] }
     {
         Operands {
-            cells: Stack::new(alloc),
+            cells: BoundedStack::new(alloc, room, size_of::<Cell>()),
         }
     }
 
@@ -180,7 +181,7 @@ impl Operands {
         self.cells.len()
     }
 
-    /// Puts an operand on top. After an error nothing has changed.
+    /// Puts an operand on top. It fails where the room has ended or memory has run out; then nothing has changed.
     #[inline(always)]
     pub fn push(&mut self, value: Value) -> Result<(), AllocError>
         ensures ok { OnOk result (self.new ≡ value ∷ self.old) }

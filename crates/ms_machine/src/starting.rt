@@ -11,15 +11,17 @@ ghost use Rattle.ms_task.specs.refinement.View.{thread_of};
 ghost use Rattle.ms_task.specs.declared.func.FuncInst.{FuncInst};
 
 use crate::store::Store;
+use ms_linear::Room;
 use ms_live::Gaps;
 use ms_tagged::Tagged;
 use ms_task::Task;
 use std::alloc::{AllocError, Global};
 
-/// A task that carries out the function of an address, which has no parameters. It may have ended already, where the
-/// function's body is empty.
+/// A task that carries out the function of an address, which has no parameters, and takes its memory of a room. It may have
+/// ended already, where the function's body is empty.
 pub fn start<G: Gaps, T: Tagged>(
     alloc: Global,
+    room: &Room,
     store: &Store<G, T>,
     address: u32,
 ) -> Result<Task, AllocError>
@@ -30,7 +32,7 @@ pub fn start<G: Gaps, T: Tagged>(
     ensures fits { IfOk result (λ t. ThreadFits store.now (thread_of store.now.funcs t)) }
     ensures sound { IfOk result (λ t. (events : List Event) (threads : List Thread) → Sound events store.now threads → Sound events store.now (thread_of store.now.funcs t ∷ threads)) }
 {
-    Task::start(alloc, &store.funcs, address)
+    Task::start(alloc, room, &store.funcs, address)
 }
 
 /// Whether a task of the store has nothing left to do.

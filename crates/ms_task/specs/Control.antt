@@ -119,7 +119,7 @@ enter funcs f None t = Stuck
 enter funcs f (Some g) t = if nat_le (length g.ty.params) (length t.operands) then To (entered funcs f g t) else Stuck
 
 abbrev pub deepest : ℕ
-deepest = 4096
+deepest = 16384
 
 -- a call of the function of this address
 abbrev pub call_on : List FuncInst → ℕ → Thread → Moved

@@ -18,14 +18,14 @@ use ms_types::ValType;
 use std::alloc::AllocError;
 
 /// How many calls may be open at once.
-pub(crate) const DEEPEST: usize = 4096;
+pub(crate) const DEEPEST: usize = 16384;
 
 /// Why a function was not called.
 #[derive(Clone, Copy, PartialEq, Eq)]
 pub enum CallFault {
-    /// 4,096 calls are open.
+    /// 16,384 calls are open.
     TooDeep,
-    /// Memory has run out.
+    /// Memory or the room of the tasks has run out.
     Memory,
 }
 

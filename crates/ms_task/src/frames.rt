@@ -4,7 +4,7 @@
 
 ghost use Rattle.std.specs.Prelude.{◌≡◌, ℕ, ◌+◌, ◌<◌, ◌≤◌, [], ◌∷◌, ◌++◌, length, drop, replicate, take, slice_get, slice_set, OnOk, OnErr, Some};
 
-use ms_linear::Cell;
+use ms_linear::{Cell, Room};
 use std::alloc::{AllocError, Global};
 use std::marker::Model;
 
@@ -13,6 +13,7 @@ use std::marker::Model;
 pub struct Frames {
     items: Vec<Cell>,
     base: usize,
+    room: Room,
 }
 
 impl Model for Frames {
@@ -27,12 +28,14 @@ impl Model for Frames {
 }
 
 impl Frames {
-    pub fn new(alloc: Global) -> Self
+    /// No frames, which will take their memory of a room. Takes none yet.
+    pub fn new(alloc: Global, room: Room) -> Self
         ensures { result ≡ ([], []) }
     {
         Frames {
             items: Vec::new(alloc),
             base: 0,
+            room,
         }
     }
 
@@ -75,7 +78,8 @@ impl Frames {
         ensures ok { OnOk result (self.new ≡ (self.old.0, self.old.1 ++ v ∷ [])) }
         ensures err { OnErr result (self.new ≡ self.old) }
     {
-        self.items.push(v)?;
+        self.room.reserve(&mut self.items, 1, size_of::<Cell>())?;
+        self.items.push_reserved(v);
         Ok(())
     }
 
@@ -83,6 +87,8 @@ impl Frames {
     pub fn add_many(&mut self, v: Cell, n: u32) -> Result<(), AllocError>
         ensures { OnOk result (self.new ≡ (self.old.0, self.old.1 ++ replicate n v)) }
     {
+        self.room
+            .reserve(&mut self.items, n as usize, size_of::<Cell>())?;
         self.items.resize(self.items.len() + n as usize, v)?;
         Ok(())
     }

@@ -5,7 +5,8 @@
 ghost use Rattle.std.specs.Prelude.{◌≡◌, ◌≢◌, ℕ, ◌+◌, ◌-◌, ◌<◌, ◌≤◌, List, [], ◌∷◌, length, drop, take, slice_get, OnOk, OnErr, Option, Some, IsTrue, ◌↔◌};
 ghost use Rattle.ms_task.specs.refinement.Marks.{labels_in, calls_in};
 
-use ms_types::{Stack, ValType};
+use ms_linear::{BoundedStack, Room};
+use ms_types::ValType;
 use std::alloc::{AllocError, Global};
 use std::marker::Model;
 
@@ -47,7 +48,7 @@ pub enum Mark {
 /// The marks, the innermost first. It knows how many lie up to that of the current call, and how many calls there are.
 #[derive(Drop)]
 pub struct Marks {
-    items: Stack<Mark>,
+    items: BoundedStack<Mark>,
     floor: usize,
     depth: usize,
 }
@@ -66,11 +67,12 @@ impl Model for Marks {
 }
 
 impl Marks {
-    pub fn new(alloc: Global) -> Self
+    /// No marks, which will take their memory of a room. Takes none yet.
+    pub fn new(alloc: Global, room: Room) -> Self
         ensures { result ≡ [] }
     {
         Marks {
-            items: Stack::new(alloc),
+            items: BoundedStack::new(alloc, room, size_of::<Mark>()),
             floor: 0,
             depth: 0,
         }

@@ -10,7 +10,7 @@ use crate::control::{DEEPEST, add_locals};
 use crate::frames::Frames;
 use crate::func::FuncInst;
 use crate::marks::{Mark, Marks};
-use ms_linear::Operands;
+use ms_linear::{Operands, Room};
 use ms_module::Instr;
 use std::alloc::{AllocError, Global};
 
@@ -41,22 +41,28 @@ pub struct Fetched<'a> {
 }
 
 impl Task {
-    /// A task that carries out the function of an address, which has no parameters. It may have nothing to do.
-    pub fn start(alloc: Global, funcs: &[FuncInst], address: u32) -> Result<Task, AllocError>
+    /// A task that carries out the function of an address, which has no parameters, and takes its memory of a room. It may have
+    /// nothing to do.
+    pub fn start(
+        alloc: Global,
+        room: &Room,
+        funcs: &[FuncInst],
+        address: u32,
+    ) -> Result<Task, AllocError>
         requires { (g : FuncInst) × (slice_get funcs.now address ≡ Some g) × (g.ty.params ≡ []) }
         ensures { (g : FuncInst) → slice_get funcs.now address ≡ Some g → IfOk result (λ t. thread_of funcs.now t ≡ exited (started funcs.now address g)) }
     {
-        let mut frames = Frames::new(alloc);
+        let mut frames = Frames::new(alloc, room.share()?);
         let base = frames.enter();
         let func = &funcs[address as usize];
         add_locals(&mut frames, &func.locals)?;
-        let mut marks = Marks::new(alloc);
+        let mut marks = Marks::new(alloc, room.share()?);
         marks.push_call(func.result(), 0, funcs.len(), 0, 0, base)?;
         let mut task = Task {
             function: address as usize,
             sequence: 0,
             place: 0,
-            operands: Operands::new(alloc),
+            operands: Operands::new(alloc, room.share()?),
             frames,
             marks,
         };

@@ -22,6 +22,7 @@ use crate::ran::{Ran, ran_of};
 use crate::refusal::Refusal;
 use crate::schedule::Schedule;
 use crate::starting::{chain_of, tasks_of};
+use ms_linear::Room;
 use ms_live::Gaps;
 use ms_machine::Store;
 use ms_module::Name;
@@ -50,7 +51,8 @@ impl<G: Gaps, T: Tagged> Model for Crew<G, T> {
 
 impl<G: Gaps, T: Tagged> Crew<G, T> {
     /// The crew of a store, with its start functions, and of tasks: each is the function that the module of a number exports by
-    /// a name, which takes nothing and gives nothing or one number. It refuses the first one that there isn't.
+    /// a name, which takes nothing and gives nothing or one number. It refuses the first one that there isn't. All of them share
+    /// one room for their frames, operands and marks.
     pub fn new(alloc: Global, store: Store<G, T>, tasks: Vec<(u32, Name)>) -> Result<Self, Refusal>
         requires typed { StoreTyped (outline_of store) }
         requires fits { StoreFits store }
@@ -60,10 +62,13 @@ impl<G: Gaps, T: Tagged> Crew<G, T> {
         ensures ready { IfOk result IsReady }
         ensures sound { IfOk result (λ c. (events : List Event) → Sound events store [] → Sound events c.store (threads_of c)) }
     {
-        let Ok(chain) = chain_of(alloc, &store) else {
+        let Ok(room) = Room::new(alloc) else {
             return Err(Refusal::Memory);
         };
-        let tasks = tasks_of(alloc, &store, tasks.as_slice())?;
+        let Ok(chain) = chain_of(alloc, &room, &store) else {
+            return Err(Refusal::Memory);
+        };
+        let tasks = tasks_of(alloc, &room, &store, tasks.as_slice())?;
         Ok(Crew {
             store,
             chain,

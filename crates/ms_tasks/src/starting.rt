@@ -11,6 +11,7 @@ ghost use Rattle.ms_tasks.specs.Tasks.{threads_from};
 
 use crate::finding::task_address;
 use crate::refusal::Refusal;
+use ms_linear::Room;
 use ms_live::Gaps;
 use ms_machine::{Instance, Store, start};
 use ms_module::Name;
@@ -21,6 +22,7 @@ use std::alloc::{AllocError, Global};
 /// The start function of an instance, if it has one.
 fn start_of<G: Gaps, T: Tagged>(
     alloc: Global,
+    room: &Room,
     store: &Store<G, T>,
     instance: &Instance,
 ) -> Result<Option<Task>, AllocError>
@@ -32,12 +34,13 @@ fn start_of<G: Gaps, T: Tagged>(
         return Ok(None);
     };
     let address = instance.funcs.as_slice()[x as usize];
-    Ok(Some(start(alloc, store, address)?))
+    Ok(Some(start(alloc, room, store, address)?))
 }
 
 /// The start functions of these instances, in order.
 fn starts_of<G: Gaps, T: Tagged>(
     alloc: Global,
+    room: &Room,
     store: &Store<G, T>,
     instances: &[Instance],
 ) -> Result<Vec<Task>, AllocError>
@@ -47,7 +50,7 @@ fn starts_of<G: Gaps, T: Tagged>(
 {
     let mut chain = Vec::new(alloc);
     for instance in instances {
-        let Some(task) = start_of(alloc, store, instance)? else {
+        let Some(task) = start_of(alloc, room, store, instance)? else {
             continue;
         };
         chain.push(task)?;
@@ -58,18 +61,20 @@ fn starts_of<G: Gaps, T: Tagged>(
 /// The start functions, in the order of the modules.
 pub(crate) fn chain_of<G: Gaps, T: Tagged>(
     alloc: Global,
+    room: &Room,
     store: &Store<G, T>,
 ) -> Result<Vec<Task>, AllocError>
     requires store { StoreTyped (outline_of store.now) }
     requires starts { StartsTyped store.now }
     ensures { IfOk result (λ ts. threads_in store.now ts.items ≡ map (func_thread store.now) (start_chain store.now.instances)) }
 {
-    starts_of(alloc, store, store.instances())
+    starts_of(alloc, room, store, store.instances())
 }
 
 /// The tasks of these functions, or the first that has none.
 pub(crate) fn tasks_of<G: Gaps, T: Tagged>(
     alloc: Global,
+    room: &Room,
     store: &Store<G, T>,
     tasks: &[(u32, Name)],
 ) -> Result<Vec<Task>, Refusal>
@@ -83,7 +88,7 @@ pub(crate) fn tasks_of<G: Gaps, T: Tagged>(
         let Some(address) = task_address(store, named.0, named.1.as_str()) else {
             return Err(Refusal::Task(number));
         };
-        let Ok(task) = start(alloc, store, address) else {
+        let Ok(task) = start(alloc, room, store, address) else {
             return Err(Refusal::Memory);
         };
         let Ok(()) = all.push(task) else {

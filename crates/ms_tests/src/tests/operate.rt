@@ -6,7 +6,7 @@ ghost use Rattle.ms_linear.specs.Memory.{Memory};
 ghost use Rattle.ms_operate.specs.Memories.{linear_on};
 ghost use Rattle.ms_operate.specs.Effects.{Stuck};
 
-use ms_linear::{Linear as LinearMemory, Operands, Value};
+use ms_linear::{Linear as LinearMemory, Operands, Room, Value};
 use ms_module::Linear;
 use ms_operate::linear;
 use ms_types::Limits;
@@ -33,7 +33,7 @@ fn carry_out(
     i: Linear,
     top: Value,
 ) -> Result<Option<Value>, AllocError> {
-    let mut operands = Operands::new(alloc);
+    let mut operands = Operands::new(alloc, Room::new(alloc)?);
     operands.push(top)?;
     assert!(rt; takes(i, top));
     assert!(rt; linear(i, memory, &mut operands) == Ok(()));

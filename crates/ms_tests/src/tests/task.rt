@@ -7,7 +7,7 @@ ghost use Rattle.ms_task.specs.refinement.View.{at_next};
 ghost use Rattle.ms_task.specs.declared.func.FuncInst.{FuncInst};
 
 use super::shared::{Part, body, gives};
-use ms_linear::Value;
+use ms_linear::{Room, Value};
 use ms_module::{Locals, Opening};
 use ms_task::{FuncInst, Task};
 use ms_types::{SharedType, ValType, Vector};
@@ -73,7 +73,8 @@ fn open<R: Abort>(rt: &R, task: &mut Task, funcs: &[FuncInst]) -> Result<(), All
 fn begins_opens_and_calls(rt: HostRuntime) -> Result<(), Fail> {
     let funcs = [func(&rt, rt.alloc())?];
     assert!(rt; can_start(&funcs, 0));
-    let mut task = Task::start(rt.alloc(), &funcs, 0)?;
+    let room = Room::new(rt.alloc())?;
+    let mut task = Task::start(rt.alloc(), &room, &funcs, 0)?;
     assert!(rt; !task.has_ended(&funcs));
     open(&rt, &mut task, &funcs)?;
     assert!(rt; can_call(&task, &funcs, 0, 1));
