@@ -1,3 +1,4 @@
 pub mod Files
 pub mod Balances
 pub mod Wholes
+pub mod Wider
