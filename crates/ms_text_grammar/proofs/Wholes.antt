@@ -118,5 +118,5 @@ module _ (source : List ℕ) (bounds : Bounds) where
   file_gives false s x t h = so AreWhole x _ h.3.3.0 (fields_give h.2 tt)
 
 pub file_is_whole : (source : List ℕ) (tokens : List Token) (fields : List Field) (rest : List Token) → (file source).spelled tokens fields rest → AreWhole fields
-unfolding file file_within
+unfolding file_within
 file_is_whole source tokens fields rest h = file_gives source usual (begins source word.Module tokens) tokens fields rest h

@@ -135,5 +135,5 @@ module _ (source : List ℕ) (bounds : Bounds) where
   file_within = choose (begins source word.Module) file_by
 
 -- within the usual bounds
-unfoldable pub file : List ℕ → Textual (List Field)
+abbrev pub file : List ℕ → Textual (List Field)
 file source = file_within source usual

@@ -15,7 +15,7 @@ use Rattle.ms_text_grammar.specs.declared.surface.Index.{Index}
 use Rattle.ms_text_grammar.specs.declared.surface.Index.TheVariants.{Name, Number}
 use Rattle.ms_text_grammar.specs.Keywords.{align_is, offset_is}
 use Rattle.ms_text_grammar.specs.Tokens.{begins_id, begins_index, is_keyword, is_number, next}
-use Rattle.ms_text_grammar.specs.Faults.{Textual, bad}
+use Rattle.ms_text_grammar.specs.Faults.{Textual, bad, is_float}
 use Rattle.ms_text_grammar.specs.Parts.{identifier}
 
 abbrev pub if_so : {A : Type 0} → Bool → Option A → Option A
@@ -35,9 +35,9 @@ is_front source front t = is_keyword t.kind && begins_with front (text_of source
 abbrev pub behind : List ℕ → List ℕ → Token → List ℕ
 behind source front t = drop (length front) (text_of source t)
 
--- the front, and behind it digits
+-- the front, and behind it digits; but `0x1_f32` makes it a keyword of floating-point numbers
 abbrev pub is_numbered : List ℕ → List ℕ → Token → Bool
-is_numbered source front t = is_front source front t && is_unsigned (behind source front t)
+is_numbered source front t = is_front source front t && is_unsigned (behind source front t) && not (is_float source t)
 
 -- the number k, from here on and with so many to try, for which n is 2 to the power k
 abbrev pub power_from : ℕ → ℕ → ℕ → Option ℕ

@@ -138,7 +138,7 @@ abbrev pub fault_in : {A : Type 0} → Result A TextFault → Option TextFault
 fault_in (Ok x) = None
 fault_in (Err f) = Some f
 
--- what no text goes on behind, and the depth of parentheses
+-- the first token such that no fields begin with the tokens up to it, or the first parenthesis that is too deep
 abbrev pub plain_stop : List ℕ → List Token → Option TextFault
 plain_stop source s = earlier (fault_in ((file source).read (length source) s)) (limit_at (too_deep usual.parens 0 s))
 

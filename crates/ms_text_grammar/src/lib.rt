@@ -14,7 +14,10 @@ mod word;
 
 pub use fault::{Counted, TextFault};
 pub use frame::{Frame, Fresh, Sign};
-pub use laws::{fields_are_spelled_in_one_way, one_module_is_spelled};
+pub use laws::{
+    fields_are_spelled_in_one_way, folded_instructions_are_taken, greater_bounds_spell_it,
+    one_module_is_spelled,
+};
 pub use placed::Placed;
 pub use surface::{
     Body, Entry, ExternKind, Field, ImportNames, Index, Item, Op, Param, Plain, TypeField, TypeUse,

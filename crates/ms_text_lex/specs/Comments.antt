@@ -13,7 +13,7 @@ use Rattle.ms_text_lex.specs.declared.comments.Comment.{Comment}
 use Rattle.ms_text_lex.specs.declared.comments.Mark.{Mark}
 use Rattle.ms_text_lex.specs.declared.comments.Mark.TheVariants.{Closes, Neither, Opens}
 use Rattle.ms_text_lex.specs.Classes.{is_in}
-use Rattle.ms_text_lex.specs.Fault.{Fault, any, broken, char_here, cut, inside, ◌>>=◌}
+use Rattle.ms_text_lex.specs.Fault.{Fault, any, broken, char_here, inside, ◌>>=◌}
 
 -- ---- up to the line's end
 
@@ -73,7 +73,7 @@ comment_text = do
 -- ---- comments are UTF-8, and what is wrong in one stands at its beginning
 
 unfoldable pub line_comment : Format ℕ Fault (Unit {0})
-line_comment = only (λ x text. is_utf8 text) cut line_text
+line_comment = only (λ x text. is_utf8 text) char_here line_text
 
 unfoldable pub utf8_comment : Format ℕ Fault (Unit {0})
 utf8_comment = only (λ x text. is_utf8 text) char_here comment_text

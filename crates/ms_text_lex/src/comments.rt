@@ -4,7 +4,7 @@ ghost use Rattle.std.specs.Prelude.{◌≡◌, ◌+◌, ◌≤◌, ◌^◌, leng
 ghost use Rattle.ms_text_lex.specs.Comments.{block_comment, comment_goes, comment_step, comment_text, line_comment, line_text, mark_of, utf8_comment};
 ghost use Rattle.ms_text_lex.specs.Readers.{Reads};
 
-use crate::class::{Class, is_utf8, may_be_utf8, run_len};
+use crate::class::{Class, is_utf8, run_len};
 use crate::fault::LexFault;
 use crate::steps::{Steps, any, run, text_before};
 use crate::strings::inside;
@@ -129,11 +129,8 @@ pub fn line_comment(c: &mut Cursor) -> Result<(), LexFault>
     let at = c.at();
     let before = c.rest();
     line_text(c)?;
-    if is_utf8(text_before(before, c)) {
-        return Ok(());
+    if !is_utf8(text_before(before, c)) {
+        return Err(LexFault::Char { at });
     }
-    if may_be_utf8(before) {
-        return Err(LexFault::Unclosed { at });
-    }
-    Err(LexFault::Char { at })
+    Ok(())
 }

@@ -1,10 +1,15 @@
 -- The first entry of a text, when an entry is added.
-use Rattle.std.proofs.Common.{◌≡◌, ℕ, suc, ◌+◌, Bool, true, false, cond, List, [], ◌∷◌, ◌++◌, Option, Some, None, length, nat_eq, is_some, refl, ap, arith, if◌then◌else◌}
+use Rattle.std.proofs.Common.{◌≡◌, ℕ, suc, ◌+◌, Bool, true, false, cond, List, [], ◌∷◌, ◌++◌, Option, Some, None, length, nat_eq, is_some, refl, sym, ap, ◌∙◌, arith, if◌then◌else◌}
+use Rattle.std.proofs.lemmas.Map.Text.{is_eq-slice_cmp}
 use lib.Pointwise.{pointwise}
 use Rattle.ms_text_lex.specs.declared.token.Token.{Token}
 use Rattle.ms_text_lex.specs.Tokens.{text_of}
 use Rattle.ms_text_grammar.specs.Identifiers.{found, is_known}
 use Rattle.ms_text_names.specs.refinement.Spaces.{first_of, first_or, numbered}
+
+-- the order of the keys tells the same texts as `pointwise`
+pub number_at : (text other : List ℕ) (n : ℕ) → (if pointwise nat_eq text other then Some n else None) ≡ numbered text other n
+number_at text other n = ap (λ (b : Bool). if b then Some n else None) (sym (is_eq-slice_cmp text other))
 
 pub first_none : (source : List ℕ) (ids : List (Option Token)) (text : List ℕ) (n : ℕ) → first_of source (ids ++ None ∷ []) text n ≡ first_of source ids text n
 first_none source [] text n = refl
@@ -16,7 +21,7 @@ at_front true n r r' other e = refl
 at_front false n r r' other e = e
 
 pub first_some : (source : List ℕ) (ids : List (Option Token)) (id : Token) (text : List ℕ) (n k : ℕ) → k ≡ n + length ids → first_of source (ids ++ Some id ∷ []) text n ≡ first_or (first_of source ids text n) (numbered (text_of source id) text k)
-first_some source [] id text n k e = let same : n ≡ k = omega arith in ap (λ m. numbered (text_of source id) text m) same
+first_some source [] id text n k e = let same : n ≡ k = omega arith in number_at (text_of source id) text n ∙ ap (λ m. numbered (text_of source id) text m) same
 first_some source (None ∷ ids) id text n k e = first_some source ids id text (suc n) k (omega arith)
 first_some source (Some other ∷ ids) id text n k e =
     at_front (pointwise nat_eq (text_of source other) text) n (first_of source (ids ++ Some id ∷ []) text (suc n)) (first_of source ids text (suc n)) (numbered (text_of source id) text k)

@@ -1,3 +1,4 @@
+pub mod Kept
 pub mod Firsts
 pub mod Lists
 pub mod Repeats

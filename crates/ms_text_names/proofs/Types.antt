@@ -11,6 +11,7 @@ use Rattle.ms_text_grammar.specs.TypeUses.{all_uses, uses_of, with_use, with_use
 use Rattle.ms_text_grammar.specs.Shapes.{has_type, least_equal, same_shape, same_type, use_type}
 use Rattle.ms_text_names.specs.refinement.Keys.{code_of, codes_of, first_of, key_of}
 use Rattle.ms_text_names.specs.refinement.Spaces.{first_or, numbered}
+use Rattle.ms_text_names.proofs.Firsts.{number_at}
 
 same_code : (a b : ValType) → nat_eq (code_of b) (code_of a) ≡ same_type a b
 same_code I32 I32 = refl
@@ -57,7 +58,7 @@ at_front true n r r' other e = refl
 at_front false n r r' other e = e
 
 pub first_added : (tys : List FuncType) (ty : FuncType) (key : List ℕ) (n k : ℕ) → k ≡ n + length tys → first_of (tys ++ ty ∷ []) key n ≡ first_or (first_of tys key n) (numbered (key_of ty) key k)
-first_added [] ty key n k e = let same : n ≡ k = omega arith in ap (λ m. numbered (key_of ty) key m) same
+first_added [] ty key n k e = let same : n ≡ k = omega arith in number_at (key_of ty) key n ∙ ap (λ m. numbered (key_of ty) key m) same
 first_added (other ∷ tys) ty key n k e =
     at_front (pointwise nat_eq (key_of other) key) n (first_of (tys ++ ty ∷ []) key (suc n)) (first_of tys key (suc n)) (numbered (key_of ty) key k)
     (first_added tys ty key (suc n) k (omega arith))

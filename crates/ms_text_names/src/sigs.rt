@@ -4,17 +4,14 @@ ghost use Rattle.std.specs.Prelude.{◌≡◌, ◌++◌, ◌∷◌, [], is_some,
 ghost use Rattle.ms_types.specs.declared.types.FuncType.{FuncType};
 ghost use Rattle.ms_text_grammar.specs.TypeUses.{params_len, with_use, with_uses};
 ghost use Rattle.ms_text_grammar.specs.Shapes.{has_type, least_equal, param_types, use_type};
-ghost use Rattle.ms_text_names.specs.refinement.Keys.{code_of, codes_of, first_of, key_of};
+ghost use Rattle.ms_text_names.specs.refinement.Keys.{at_key, code_of, codes_of, first_of, key_of};
 ghost use Rattle.ms_text_names.specs.refinement.Spaces.{first_or, numbered};
-ghost use Rattle.std.specs.HashMap.{get};
-ghost use lib.Pointwise.{pointwise};
-ghost use Rattle.std.specs.Prelude.{nat_eq};
 
 use crate::names::number;
 use ms_text_grammar::{Param, TypeUse};
 use ms_types::{FuncType, ValType, Vector};
 use std::alloc::{AllocError, Global};
-use std::collections::HashMap;
+use std::collections::BTreeMap;
 use std::marker::Model;
 
 /// The types of parameters.
@@ -72,14 +69,14 @@ fn key_of(alloc: Global, ty: &FuncType) -> Result<Vec<u8>, AllocError>
 }
 
 /// Keeps the number of a key where it has none.
-fn keep(first: &mut HashMap<Vec<u8>, u32>, key: Vec<u8>, number: u32) -> Result<(), AllocError>
-    ensures ok { OnOk result ((q : _) → get (λ x y. pointwise nat_eq x.items y.items) first.new q ≡ first_or (get (λ x y. pointwise nat_eq x.items y.items) first.old q) (numbered key.items q.items number)) }
-    ensures err { OnErr result ((q : _) → get (λ x y. pointwise nat_eq x.items y.items) first.new q ≡ get (λ x y. pointwise nat_eq x.items y.items) first.old q) }
+fn keep(first: &mut BTreeMap<Vec<u8>, u32>, key: Vec<u8>, number: u32) -> Result<(), AllocError>
+    ensures ok { OnOk result ((q : _) → at_key first.new q ≡ first_or (at_key first.old q) (numbered key.items q.items number)) }
+    ensures err { OnErr result ((q : _) → at_key first.new q ≡ at_key first.old q) }
 {
     if first.contains_key(&key) {
         return Ok(());
     }
-    first.insert(key, number)?;
+    let _ = first.insert(key, number)?;
     Ok(())
 }
 
@@ -87,21 +84,19 @@ fn keep(first: &mut HashMap<Vec<u8>, u32>, key: Vec<u8>, number: u32) -> Result<
 #[derive(Drop)]
 pub struct Sigs {
     types: Vec<FuncType>,
-    first: HashMap<Vec<u8>, u32>,
+    first: BTreeMap<Vec<u8>, u32>,
 }
 
 impl Model for Sigs {
-    ghost use Rattle.std.specs.Prelude.{◌≡◌, List, nat_eq};
-    ghost use Rattle.std.specs.HashMap.{get};
-    ghost use lib.Pointwise.{pointwise};
+    ghost use Rattle.std.specs.Prelude.{◌≡◌, List};
     ghost use Rattle.ms_types.specs.declared.types.FuncType.{FuncType};
-    ghost use Rattle.ms_text_names.specs.refinement.Keys.{first_of};
+    ghost use Rattle.ms_text_names.specs.refinement.Keys.{at_key, first_of};
 
     ghost Value = { List FuncType };
 
     ghost view = { λ s. s.types.items };
 
-    ghost invariant = { λ s. (q : _) → get (λ x y. pointwise nat_eq x.items y.items) s.first q ≡ first_of s.types.items q.items 0 };
+    ghost invariant = { λ s. (q : _) → at_key s.first q ≡ first_of s.types.items q.items 0 };
 }
 
 impl Sigs {
@@ -111,7 +106,7 @@ impl Sigs {
     {
         Sigs {
             types: Vec::new(alloc),
-            first: HashMap::new(alloc),
+            first: BTreeMap::new(alloc),
         }
     }
 

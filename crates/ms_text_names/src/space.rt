@@ -6,7 +6,7 @@ ghost use Rattle.ms_text_names.specs.refinement.Spaces.{first_or, number_of, num
 
 use ms_text_lex::{Token, text_of};
 use std::alloc::{AllocError, Global};
-use std::collections::HashMap;
+use std::collections::BTreeMap;
 use std::marker::Model;
 
 /// An index space of a source while it is filled, at most 2^32 entries. Contracts see the source and the identifiers of the
@@ -15,7 +15,7 @@ use std::marker::Model;
 pub struct Space<'a> {
     source: &'a [u8],
     ids: Vec<Option<Token>>,
-    first: HashMap<&'a [u8], u32>,
+    first: BTreeMap<&'a [u8], u32>,
 }
 
 impl<'a> Model for Space<'a> {
@@ -38,7 +38,7 @@ impl<'a> Space<'a> {
         Space {
             source,
             ids: Vec::new(alloc),
-            first: HashMap::new(alloc),
+            first: BTreeMap::new(alloc),
         }
     }
 
@@ -77,13 +77,13 @@ impl<'a> Space<'a> {
     pub fn find(&self, id: Token) -> Option<u32>
         ensures { result ≡ found self.now.source self.now.ids id 0 }
     {
-        self.first.get(text_of(self.source, id)).copied()
+        self.first.get(&text_of(self.source, id)).copied()
     }
 }
 
 /// Keeps the number of a text where it has none, and tells whether it has one.
 fn name<'a>(
-    first: &mut HashMap<&'a [u8], u32>,
+    first: &mut BTreeMap<&'a [u8], u32>,
     text: &'a [u8],
     number: u32,
 ) -> Result<bool, AllocError>
@@ -91,9 +91,9 @@ fn name<'a>(
     ensures ok { OnOk result ((q : _) → number_of first.new q ≡ first_or (number_of first.old q) (numbered (text.entry).now q.now number)) }
     ensures err { OnErr result ((q : _) → number_of first.new q ≡ number_of first.old q) }
 {
-    if first.contains_key(text) {
+    if first.contains_key(&text) {
         return Ok(true);
     }
-    first.insert(text, number)?;
+    let _ = first.insert(text, number)?;
     Ok(false)
 }

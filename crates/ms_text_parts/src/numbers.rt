@@ -9,7 +9,7 @@ ghost use Rattle.ms_text_grammar.specs.Numbers.{align, behind, constant, exponen
 ghost use Rattle.ms_text_parts.specs.refinement.Readers.{Reads};
 
 use crate::parts::{identifier, next_is_id};
-use crate::words::{Words, bad, is_id, is_keyword, is_number};
+use crate::words::{Words, bad, is_float, is_id, is_keyword, is_number};
 use ms_module::MemArg;
 use ms_text_grammar::{Index, TextFault};
 use ms_text_lex::{Token, constant, index as index_of, is_signed, is_unsigned, text_of};
@@ -159,11 +159,13 @@ fn behind<'a>(source: &'a [u8], front: &[u8], token: Token) -> &'a [u8]
     &text[front.len().min(text.len())..]
 }
 
-/// Whether a token is a keyword with digits behind this front.
+/// Whether a token is a keyword with digits behind this front, and none of floating-point numbers.
 fn is_numbered(source: &[u8], front: &[u8], token: Token) -> bool
     ensures { result ≡ is_numbered source.now front.now token }
 {
-    is_front(source, front, token) && is_unsigned(behind(source, front, token))
+    is_front(source, front, token)
+        && is_unsigned(behind(source, front, token))
+        && !is_float(source, token)
 }
 
 /// The exponent of which a number is the power of two, if it is less than `most`.

@@ -154,7 +154,8 @@ fn is_float_word(text: &[u8]) -> bool
         || has_inside(b"_f64", text)
 }
 
-fn is_float(source: &[u8], token: Token) -> bool
+/// Whether a token is a keyword of floating-point numbers.
+pub fn is_float(source: &[u8], token: Token) -> bool
     ensures { result ≡ is_float source.now token }
 {
     is_keyword(token) && is_float_word(text_of(source, token))

@@ -115,8 +115,9 @@ fn of_tokens(alloc: Global, source: &[u8], tokens: &[Token]) -> Result<Vector<Fi
 /// Reads the fields that these tokens of a source spell, with at most 500 blocks and 1,000 parentheses in one another and
 /// 50,000 declared locals in a function. The tokens are those that `lex` gives for the source.
 ///
-/// Any other tokens have a first fault, and its place is that of the first token behind which no text goes on: `Syntax`,
-/// `Range`, `Float`, or `Limit`. `Memory` where memory ran out.
+/// Any other tokens have a first fault, and its place is that of the first token such that no text begins with the tokens up to it,
+/// or of a type use that differs from its type field and is whole: `Syntax`, `Range`, `Float`, or `Limit`. `Memory` where memory ran
+/// out.
 pub fn fields(alloc: Global, source: &[u8], tokens: &[Token]) -> Result<Vector<Field>, TextFault>
     // What is read is spelled so.
     ensures found { IfOk result (λ f. FieldsSpelled source.now tokens.now f) }

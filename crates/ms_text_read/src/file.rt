@@ -206,7 +206,7 @@ fn ended(c: &mut Words) -> Result<(), TextFault>
 }
 
 /// Takes a whole file: a module in its parentheses, or its fields alone.
-#[tactic(auto, unfolding(ms_text_grammar::specs::Fields::file, ms_text_grammar::specs::Fields::file_within, ms_text_grammar::specs::Fields::file_by))]
+#[tactic(auto, unfolding(ms_text_grammar::specs::Fields::file_within, ms_text_grammar::specs::Fields::file_by))]
 pub fn whole_file(alloc: Global, c: &mut Words) -> Result<Vector<Field>, TextFault>
     ensures { Reads c.old c.new result ((file c.old.source).read (length c.old.source) c.old.left) }
 {

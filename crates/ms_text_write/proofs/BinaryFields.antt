@@ -12,6 +12,7 @@ use Rattle.ms_module.specs.declared.module.Func.{Func}
 use Rattle.ms_module.specs.declared.module.Global.{Global}
 use Rattle.ms_module.specs.declared.module.ExportDesc.{ExportDesc}
 use Rattle.ms_bin_grammar.specs.Bounds.{usual}
+use Rattle.ms_text_grammar.specs.Bounds as text
 use Rattle.ms_bin_grammar.specs.Numbers.{number}
 use Rattle.ms_bin_grammar.specs.Sizes.{sized}
 use Rattle.ms_bin_grammar.specs.Types.{global_type, limits, mutability, table_type}
@@ -132,16 +133,16 @@ export_holds s x t bs h =
 
 -- ---- entries of tables and bytes of memories
 
-pub element_holds : AllSpelled (element usual) (λ e. SayableElement e)
+pub element_holds : AllSpelled (element usual) (λ e. SayableElement text.usual e)
 unfolding element
 element_holds s x t bs h =
     let table = number_holds s h.0 h.1 bs h.2 in
     let offset = body_holds usual.blocks h.1 h.3.0 h.3.1 table.1 h.3.2 in
     let k = h.3.3 in
     let indices = vec_holds number Narrow number_holds h.3.1 k.0 k.1 offset.1 k.2 in
-    ends (λ e. SayableElement e) k.3 (record { table = table.0; offset = offset.0; funcs = indices.0 }) indices.1
+    ends (λ e. SayableElement text.usual e) k.3 (record { table = table.0; offset = offset.0; funcs = indices.0 }) indices.1
 
-pub fill_holds : AllSpelled (fill usual) (λ f. SayableFill f)
+pub fill_holds : AllSpelled (fill usual) (λ f. SayableFill text.usual f)
 unfolding fill
 fill_holds s x t bs h =
     let memory = number_holds s h.0 h.1 bs h.2 in
@@ -150,7 +151,7 @@ fill_holds s x t bs h =
     let count = number_holds h.3.1 k.0 k.1 offset.1 k.2 in
     let content = k.3.0 in
     let all = subst (λ (l : List ℕ). AreBytes l) k.3.2.1 count.1 in
-    ends (λ f. SayableFill f) k.3.3 (record { memory = memory.0; offset = offset.0; bytes = front_bytes content k.3.1 all }) (back_bytes content k.3.1 all)
+    ends (λ f. SayableFill text.usual f) k.3.3 (record { memory = memory.0; offset = offset.0; bytes = front_bytes content k.3.1 all }) (back_bytes content k.3.1 all)
 
 -- ---- functions
 
@@ -174,15 +175,15 @@ locals_hold s x t bs h =
     let count = number_holds s h.0 h.1 bs h.2 in
     repeat_holds (more_locals usual) Few more_locals_hold h.0 [] (omega arith) h.1 x t count.1 h.3
 
-func_holds : (sig : ℕ) → Narrow sig → AllSpelled (func usual sig) (λ f. SayableFunc f)
+func_holds : (sig : ℕ) → Narrow sig → AllSpelled (func usual sig) (λ f. SayableFunc text.usual f)
 unfolding func
 func_holds sig n s x t bs h =
     let declared = locals_hold s h.0 h.1 bs h.2 in
     let instrs = body_holds usual.blocks h.1 h.3.0 h.3.1 declared.1 h.3.2 in
-    ends (λ f. SayableFunc f) h.3.3 (record { sig = n; few = declared.0; body = instrs.0 }) instrs.1
+    ends (λ f. SayableFunc text.usual f) h.3.3 (record { sig = n; few = declared.0; body = instrs.0 }) instrs.1
 
-pub funcs_hold : (sigs : List ℕ) → All Narrow sigs → AllSpelled (funcs usual sigs) (λ (fs : List Func). All (λ f. SayableFunc f) fs)
+pub funcs_hold : (sigs : List ℕ) → All Narrow sigs → AllSpelled (funcs usual sigs) (λ (fs : List Func). All (λ f. SayableFunc text.usual f) fs)
 unfolding funcs
 funcs_hold sigs ns s x t bs h =
     let count = number_holds s h.0 h.1 bs h.2.0 in
-    each_holds (λ sig. sized (func usual sig)) Narrow (λ f. SayableFunc f) (λ sig n. sized_holds (func usual sig) (λ f. SayableFunc f) (func_holds sig n)) sigs ns h.1 x t count.1 h.3
+    each_holds (λ sig. sized (func usual sig)) Narrow (λ f. SayableFunc text.usual f) (λ sig n. sized_holds (func usual sig) (λ f. SayableFunc text.usual f) (func_holds sig n)) sigs ns h.1 x t count.1 h.3

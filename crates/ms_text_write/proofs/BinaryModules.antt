@@ -9,6 +9,7 @@ use Rattle.ms_module.specs.Building.{IsNumbered}
 use Rattle.ms_bin_grammar.specs.declared.fault.ReadFault.TheVariants.{Malformed}
 use Rattle.ms_bin_grammar.specs.declared.sections.Sections.{Sections}
 use Rattle.ms_bin_grammar.specs.Bounds.{usual}
+use Rattle.ms_text_grammar.specs.Bounds as text
 use Rattle.ms_bin_grammar.specs.Faults.{malformed}
 use Rattle.ms_bin_grammar.specs.Numbers.{number, vec}
 use Rattle.ms_bin_grammar.specs.Types.{func_type, limits, table_type}
@@ -25,17 +26,17 @@ use Rattle.ms_text_write.proofs.BinaryFields.{element_holds, export_holds, fill_
 record SaySo (so_far : Sections) : Type 0 where
   indices : All Narrow so_far.indices
   imports : All (λ i. SayableImport i) so_far.imports
-  funcs : All (λ f. SayableFunc f) so_far.funcs
+  funcs : All (λ f. SayableFunc text.usual f) so_far.funcs
   tables : All (λ l. SayableLimits l) so_far.tables
   memories : All (λ l. SayableLimits l) so_far.memories
   globals : All (λ (g : Global). SayableBody usual.blocks g.init) so_far.globals
   exports : All (λ e. SayableExport e) so_far.exports
   start : SayableMax so_far.start
-  elements : All (λ e. SayableElement e) so_far.elements
-  fills : All (λ f. SayableFill f) so_far.fills
+  elements : All (λ e. SayableElement text.usual e) so_far.elements
+  fills : All (λ f. SayableFill text.usual f) so_far.fills
 
-says : {x : Sections} → All Narrow x.indices → All (λ i. SayableImport i) x.imports → All (λ f. SayableFunc f) x.funcs → All (λ l. SayableLimits l) x.tables → All (λ l. SayableLimits l) x.memories
-    → All (λ (g : Global). SayableBody usual.blocks g.init) x.globals → All (λ e. SayableExport e) x.exports → SayableMax x.start → All (λ e. SayableElement e) x.elements → All (λ f. SayableFill f) x.fills → SaySo x
+says : {x : Sections} → All Narrow x.indices → All (λ i. SayableImport i) x.imports → All (λ f. SayableFunc text.usual f) x.funcs → All (λ l. SayableLimits l) x.tables → All (λ l. SayableLimits l) x.memories
+    → All (λ (g : Global). SayableBody usual.blocks g.init) x.globals → All (λ e. SayableExport e) x.exports → SayableMax x.start → All (λ e. SayableElement text.usual e) x.elements → All (λ f. SayableFill text.usual f) x.fills → SaySo x
 says indices imports funcs tables memories globals exports start elements fills = record {
   indices = indices;
   imports = imports;
@@ -53,14 +54,14 @@ nothing_so : SaySo nothing_yet
 nothing_so = record {
   indices = All-nil Narrow;
   imports = All-nil (λ i. SayableImport i);
-  funcs = All-nil (λ f. SayableFunc f);
+  funcs = All-nil (λ f. SayableFunc text.usual f);
   tables = All-nil (λ l. SayableLimits l);
   memories = All-nil (λ l. SayableLimits l);
   globals = All-nil (λ (g : Global). SayableBody usual.blocks g.init);
   exports = All-nil (λ e. SayableExport e);
   start = tt;
-  elements = All-nil (λ e. SayableElement e);
-  fills = All-nil (λ f. SayableFill f);
+  elements = All-nil (λ e. SayableElement text.usual e);
+  fills = All-nil (λ f. SayableFill text.usual f);
 }
 
 abbrev Says : Sections → Type 0
@@ -106,15 +107,15 @@ rows_hold so_far so =
     ends Says k.3 (says so.indices so.imports so.funcs so.tables so.memories so.globals so.exports g.0 so.elements so.fills) g.1)
     & (λ s x t bs h.
     let k = h.1 in
-    let g = sized_holds (vec (element usual)) (λ es. All (λ e. SayableElement e) es) (vec_holds (element usual) (λ e. SayableElement e) element_holds) s k.0 k.1 bs k.2 in
+    let g = sized_holds (vec (element usual)) (λ es. All (λ e. SayableElement text.usual e) es) (vec_holds (element usual) (λ e. SayableElement text.usual e) element_holds) s k.0 k.1 bs k.2 in
     ends Says k.3 (says so.indices so.imports so.funcs so.tables so.memories so.globals so.exports so.start g.0 so.fills) g.1)
     & (λ s x t bs h.
     let k = h.1 in
-    let g = sized_holds (funcs usual so_far.indices) (λ fs. All (λ f. SayableFunc f) fs) (funcs_hold so_far.indices so.indices) s k.0 k.1 bs k.2 in
+    let g = sized_holds (funcs usual so_far.indices) (λ fs. All (λ f. SayableFunc text.usual f) fs) (funcs_hold so_far.indices so.indices) s k.0 k.1 bs k.2 in
     ends Says k.3 (says so.indices so.imports g.0 so.tables so.memories so.globals so.exports so.start so.elements so.fills) g.1)
     & (λ s x t bs h.
     let k = h.1 in
-    let g = sized_holds (vec (fill usual)) (λ fs. All (λ f. SayableFill f) fs) (vec_holds (fill usual) (λ f. SayableFill f) fill_holds) s k.0 k.1 bs k.2 in
+    let g = sized_holds (vec (fill usual)) (λ fs. All (λ f. SayableFill text.usual f) fs) (vec_holds (fill usual) (λ f. SayableFill text.usual f) fill_holds) s k.0 k.1 bs k.2 in
     ends Says k.3 (says so.indices so.imports so.funcs so.tables so.memories so.globals so.exports so.start so.elements g.0) g.1)
     & tt
 
@@ -127,7 +128,7 @@ section_holds so_far so s x t bs h =
 
 -- ---- modules
 
-says_module : (so_far : Sections) → SaySo so_far → Sayable (module_of so_far)
+says_module : (so_far : Sections) → SaySo so_far → Sayable text.usual (module_of so_far)
 says_module so_far so = record {
   imports = so.imports;
   funcs = so.funcs;
@@ -140,32 +141,32 @@ says_module so_far so = record {
   fills = so.fills;
 }
 
-pub sayable : (bytes : List ℕ) (m : Module) → AreBytes bytes → SpellsWithin usual bytes m → Sayable m
+pub sayable : (bytes : List ℕ) (m : Module) → AreBytes bytes → SpellsWithin usual bytes m → Sayable text.usual m
 unfolding module_format
 sayable bytes m bs h =
     let magic = marks_hold (0x00 ∷ 0x61 ∷ 0x73 ∷ 0x6D ∷ []) bytes h.1 bs h.2 in
     let version = marks_hold (0x01 ∷ 0x00 ∷ 0x00 ∷ 0x00 ∷ []) h.1 h.3.1 magic h.3.2 in
     let k = h.3.3 in
     let last = runs_hold (section usual) Says section_holds has_more k.2 nothing_so version in
-    subst (λ (n : Module). Sayable n) (sym k.3.3.0) (says_module k.0 last.0)
+    subst (λ (n : Module). Sayable text.usual n) (sym k.3.3.0) (says_module k.0 last.0)
 
 -- ---- what else holds of a module that can be said
 
-pub can_be_shown : (m : Module) → Sayable m → CanBeShown m
+pub can_be_shown : (m : Module) → Sayable text.usual m → CanBeShown m
 can_be_shown m say = record {
   imports = All-weaker (λ i. SayableImport i) (λ i. HasNames i) (λ i h. record { from = h.from.0; known_as = h.known_as.0 }) m.imports say.imports;
   exports = All-weaker (λ e. SayableExport e) (λ e. AreBytes e.name) (λ e h. h.name.0) m.exports say.exports;
-  fills = All-weaker (λ f. SayableFill f) (λ f. AreBytes f.bytes) (λ f h. h.bytes) m.fills say.fills;
+  fills = All-weaker (λ f. SayableFill text.usual f) (λ f. AreBytes f.bytes) (λ f h. h.bytes) m.fills say.fills;
 }
 
 each_of : {A : Type 0} (P Q : A → Type 0) → ((x : A) → P x → Q x) → (xs : List A) → All P xs → EachOf Q xs
 each_of P Q f [] h = tt
 each_of P Q f (x ∷ xs) h = (f x (All-head P x xs h), each_of P Q f xs (All-tail P x xs h))
 
-pub bodies : (m : Module) → Sayable m → Bodies m
+pub bodies : (m : Module) → Sayable text.usual m → Bodies m
 bodies m say = record {
-  funcs = each_of (λ f. SayableFunc f) (λ f. IsNumbered f.body) (λ f h. h.body.numbered) m.funcs say.funcs;
+  funcs = each_of (λ f. SayableFunc text.usual f) (λ f. IsNumbered f.body) (λ f h. h.body.numbered) m.funcs say.funcs;
   globals = each_of (λ (g : Global). SayableBody usual.blocks g.init) (λ g. IsNumbered g.init) (λ g h. h.numbered) m.globals say.globals;
-  elements = each_of (λ e. SayableElement e) (λ e. IsNumbered e.offset) (λ e h. h.offset.numbered) m.elements say.elements;
-  fills = each_of (λ f. SayableFill f) (λ f. IsNumbered f.offset) (λ f h. h.offset.numbered) m.fills say.fills;
+  elements = each_of (λ e. SayableElement text.usual e) (λ e. IsNumbered e.offset) (λ e h. h.offset.numbered) m.elements say.elements;
+  fills = each_of (λ f. SayableFill text.usual f) (λ f. IsNumbered f.offset) (λ f h. h.offset.numbered) m.fills say.fills;
 }

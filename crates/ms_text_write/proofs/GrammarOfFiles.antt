@@ -12,10 +12,10 @@ use Rattle.ms_module.specs.declared.module.Module.{Module}
 use Rattle.ms_text_lex.specs.declared.token.Token.{Token}
 use Rattle.ms_text_grammar.specs.declared.surface.Field.{Field}
 use Rattle.ms_text_grammar.specs.declared.word.Word.TheVariants as word
-use Rattle.ms_text_grammar.specs.Bounds.{usual}
+use Rattle.ms_text_grammar.specs.Bounds.{Bounds}
 use Rattle.ms_text_grammar.specs.Tokens.{begins}
 use Rattle.ms_text_grammar.specs.Faults.{bad}
-use Rattle.ms_text_grammar.specs.Fields.{File, all_fields, fields_go, file, file_by, file_within, first_file, is_definition, is_start, next_field, with_field}
+use Rattle.ms_text_grammar.specs.Fields.{File, all_fields, fields_go, file_by, file_within, first_file, is_definition, is_start, next_field, with_field}
 use Rattle.ms_text_write.proofs.Pieces as piece
 use Rattle.ms_text_write.proofs.Pieces.{Piece, Shows, element_pieces, export_pieces, fill_pieces, func_pieces, func_type_pieces, global_pieces, import_pieces, indexed_pieces, left, memory_pieces, module_pieces, parts_pieces, right, start_pieces, table_pieces, uses_pieces}
 use Rattle.ms_text_write.proofs.Pieces.Shows.{none, more}
@@ -73,14 +73,14 @@ none_asked [] = All-nil (λ x. Unit {0})
 none_asked (x ∷ xs) = All-cons (λ x. Unit {0}) x xs tt (none_asked xs)
 
 -- the fields that are taken from here on
-abbrev Running : (source : List ℕ) → File → List Piece → (File → Type 0) → List Piece → Type 0
-Running source file P R T = Gives source (λ s x t. Runs (fields_go source usual) (next_field source usual) file s x t) P R T
+abbrev Running : (source : List ℕ) → Bounds → File → List Piece → (File → Type 0) → List Piece → Type 0
+Running source bounds file P R T = Gives source (λ s x t. Runs (fields_go source bounds) (next_field source bounds) file s x t) P R T
 
 -- a list of fields is taken where this holds of the file so far, which goes on to hold
-abbrev Lists : {X : Type 0} → (source : List ℕ) → (X → List Piece) → (Field → X → Type 0) → (X → Type 0) → (File → Type 0) → Type 1
-Lists {X} source pieces SaysIt Fits Stays =
+abbrev Lists : {X : Type 0} → (source : List ℕ) → Bounds → (X → List Piece) → (Field → X → Type 0) → (X → Type 0) → (File → Type 0) → Type 1
+Lists {X} source bounds pieces SaysIt Fits Stays =
     (T : List Piece) (R : File → Type 0) (Q : List Piece) (file : File) (xs : List X) → All Fits xs → Stays file
-    → ((fs : List Field) (g : File) → SaysEach SaysIt fs xs → Stays g → g.fields ≡ file.fields ++ fs → Running source g Q R T) → Running source file (flat_map pieces xs ++ Q) R T
+    → ((fs : List Field) (g : File) → SaysEach SaysIt fs xs → Stays g → g.fields ≡ file.fields ++ fs → Running source bounds g Q R T) → Running source bounds file (flat_map pieces xs ++ Q) R T
 
 -- all fields one behind the other
 pieces_nest : (a b c d e f g h i j z : List Piece) → (a ++ (b ++ (c ++ (d ++ (e ++ f))))) ++ ((g ++ (h ++ (i ++ j))) ++ z) ≡ a ++ (b ++ (c ++ (d ++ (e ++ (f ++ (g ++ (h ++ (i ++ (j ++ z)))))))))
@@ -117,7 +117,18 @@ no_name m =
     (without_id fill_pieces m.fills T (λ x P. refl) refl))))))))))
 
 module _ {source : List ℕ} where
-  goes_on : (file : File) (P : List Piece) → IsBracketed file → (s : List Token) → Shows source s P → fields_go source usual file s ≡ not (starts_close P)
+  is_end : (s : List Token) → Shows source s [] → s ≡ []
+  is_end [] none = refl
+  is_end (t ∷ ts) h = elim h [ ]
+
+  at_end : Gives source (ended {E = Token} (bad source)).spelled [] (λ x. Unit {0}) []
+  at_end = record { takes = λ s h. (tt, [], (is_end s h, refl), tt, none) }
+
+  starts_module : (P : List Piece) (s : List Token) → Shows source s (left ∷ piece.the word.Module ∷ P) → begins source word.Module s ≡ true
+  starts_module P s h = starts_is word.Module s (left ∷ piece.the word.Module ∷ P) h
+
+module _ {source : List ℕ} (bounds : Bounds) where
+  goes_on : (file : File) (P : List Piece) → IsBracketed file → (s : List Token) → Shows source s P → fields_go source bounds file s ≡ not (starts_close P)
   goes_on file [] b [] none = b
   goes_on file (p ∷ ps) b [] h = elim h [ ]
   goes_on file [] b (t ∷ ts) h = elim h [ ]
@@ -127,89 +138,89 @@ module _ {source : List ℕ} where
 
   module _ {X : Type 0} (pieces : X → List Piece) (SaysIt : Field → X → Type 0) (Fits : X → Type 0) (Stays : File → Type 0) (opens : (x : X) (P : List Piece) → starts_close (pieces x ++ P) ≡ false)
       (brackets : (file : File) → Stays file → IsBracketed file) (stays : (x : X) (f : Field) (file : File) → SaysIt f x → Stays file → Stays (with_field f file))
-      (step : (file : File) (x : X) (P : List Piece) → Stays file → Fits x → Gives source (next_field source usual file).spelled (pieces x ++ P) (Adds file (λ f. SaysIt f x)) P) where
+      (step : (file : File) (x : X) (P : List Piece) → Stays file → Fits x → Gives source (next_field source bounds file).spelled (pieces x ++ P) (Adds file (λ f. SaysIt f x)) P) where
     all_given : (T : List Piece) (R : File → Type 0) (Q : List Piece) (file : File) (xs : List X) → All Fits xs → Stays file
-        → ((fs : List Field) (g : File) → SaysEach SaysIt fs xs → Stays g → g.fields ≡ file.fields ++ fs → Gives source (λ s x t. Runs (fields_go source usual) (next_field source usual) g s x t) Q R T)
-        → Gives source (λ s x t. Runs (fields_go source usual) (next_field source usual) file s x t) (flat_map pieces xs ++ Q) R T
+        → ((fs : List Field) (g : File) → SaysEach SaysIt fs xs → Stays g → g.fields ≡ file.fields ++ fs → Gives source (λ s x t. Runs (fields_go source bounds) (next_field source bounds) g s x t) Q R T)
+        → Gives source (λ s x t. Runs (fields_go source bounds) (next_field source bounds) file s x t) (flat_map pieces xs ++ Q) R T
     all_given T R Q file [] h st k = k [] file said.none st (sym (append-nil file.fields))
     all_given T R Q file (x ∷ xs) h st k =
         let rest = flat_map pieces xs ++ Q in
         let fits = All-tail Fits x xs h in
         grouped (pieces x) (flat_map pieces xs) Q
-        (steps (λ g s. fields_go source usual g s) (λ g. next_field source usual g) file (λ s w. goes_on file (pieces x ++ rest) (brackets file st) s w ∙ ap not (opens x rest)) (step file x rest st (All-head Fits x xs h))
+        (steps (λ g s. fields_go source bounds g s) (λ g. next_field source bounds g) file (λ s w. goes_on file (pieces x ++ rest) (brackets file st) s w ∙ ap not (opens x rest)) (step file x rest st (All-head Fits x xs h))
         (λ g r.
         let next = with_field r.0 file in
         let on = all_given T R Q next xs fits (stays x r.0 file r.1 st) (λ fs g' each st' e. k (r.0 ∷ fs) g' (said.more r.0 fs x xs r.1 each) st' (e ∙ append_assoc file.fields (r.0 ∷ []) fs)) in
-        subst (λ z. Gives source (λ s x t. Runs (fields_go source usual) (next_field source usual) z s x t) rest R T) (sym r.2) on))
+        subst (λ z. Gives source (λ s x t. Runs (fields_go source bounds) (next_field source bounds) z s x t) rest R T) (sym r.2) on))
 
-  sigs_given : Lists source func_type_pieces (λ f x. f ≡ sig_field x) (λ x. Unit {0}) IsFirst
+  sigs_given : Lists source bounds func_type_pieces (λ f x. f ≡ sig_field x) (λ x. Unit {0}) IsFirst
   unfolding func_type_pieces
   sigs_given =
       all_given func_type_pieces (λ f x. f ≡ sig_field x) (λ x. Unit {0}) IsFirst (λ x P. refl) (λ file st. st.0) (λ x f file e st. stays_first f file (no_start f (sig_field x) e refl) (no_definition f (sig_field x) e refl) st)
-      (λ file x P st fit. sig_field_given file x P)
+      (λ file x P st fit. sig_field_given bounds file x P)
 
-  imports_given : Lists source import_pieces (λ f x. SaysImport source f x) SayableImport IsFirst
+  imports_given : Lists source bounds import_pieces (λ f x. SaysImport source f x) SayableImport IsFirst
   unfolding import_pieces
   imports_given =
       all_given import_pieces (λ f x. SaysImport source f x) SayableImport IsFirst (λ x P. refl) (λ file st. st.0) (λ x f file e st. stays_first f file (no_start f _ e.is refl) (no_definition f _ e.is refl) st)
-      (λ file x P st fit. import_field_given file x P st.2 fit)
+      (λ file x P st fit. import_field_given bounds file x P st.2 fit)
 
-  funcs_given : Lists source func_pieces (λ f x. f ≡ func_field x) SayableFunc IsNotStarted
+  funcs_given : Lists source bounds func_pieces (λ f x. f ≡ func_field x) (SayableFunc bounds) IsNotStarted
   unfolding func_pieces
   funcs_given =
-      all_given func_pieces (λ f x. f ≡ func_field x) SayableFunc IsNotStarted (λ x P. refl) (λ file st. st.0) (λ x f file e st. stays_not_started f file (no_start f (func_field x) e refl) st)
-      (λ file x P st fit. func_field_given file x P fit)
+      all_given func_pieces (λ f x. f ≡ func_field x) (SayableFunc bounds) IsNotStarted (λ x P. refl) (λ file st. st.0) (λ x f file e st. stays_not_started f file (no_start f (func_field x) e refl) st)
+      (λ file x P st fit. func_field_given bounds file x P fit)
 
-  tables_given : Lists source table_pieces (λ f x. f ≡ table_field x) SayableLimits IsNotStarted
+  tables_given : Lists source bounds table_pieces (λ f x. f ≡ table_field x) SayableLimits IsNotStarted
   unfolding table_pieces
   tables_given =
       all_given table_pieces (λ f x. f ≡ table_field x) SayableLimits IsNotStarted (λ x P. refl) (λ file st. st.0) (λ x f file e st. stays_not_started f file (no_start f (table_field x) e refl) st)
-      (λ file x P st fit. table_field_given file x P fit)
+      (λ file x P st fit. table_field_given bounds file x P fit)
 
-  memories_given : Lists source memory_pieces (λ f x. f ≡ memory_field x) SayableLimits IsNotStarted
+  memories_given : Lists source bounds memory_pieces (λ f x. f ≡ memory_field x) SayableLimits IsNotStarted
   unfolding memory_pieces
   memories_given =
       all_given memory_pieces (λ f x. f ≡ memory_field x) SayableLimits IsNotStarted (λ x P. refl) (λ file st. st.0) (λ x f file e st. stays_not_started f file (no_start f (memory_field x) e refl) st)
-      (λ file x P st fit. memory_field_given file x P fit)
+      (λ file x P st fit. memory_field_given bounds file x P fit)
 
-  globals_given : Lists source global_pieces (λ f x. f ≡ global_field x) (λ x. SayableBody usual.blocks x.init) IsNotStarted
+  globals_given : Lists source bounds global_pieces (λ f x. f ≡ global_field x) (λ x. SayableBody bounds.blocks x.init) IsNotStarted
   unfolding global_pieces
   globals_given =
-      all_given global_pieces (λ f x. f ≡ global_field x) (λ x. SayableBody usual.blocks x.init) IsNotStarted (λ x P. refl) (λ file st. st.0) (λ x f file e st. stays_not_started f file (no_start f (global_field x) e refl) st)
-      (λ file x P st fit. global_field_given file x P fit)
+      all_given global_pieces (λ f x. f ≡ global_field x) (λ x. SayableBody bounds.blocks x.init) IsNotStarted (λ x P. refl) (λ file st. st.0) (λ x f file e st. stays_not_started f file (no_start f (global_field x) e refl) st)
+      (λ file x P st fit. global_field_given bounds file x P fit)
 
-  exports_given : Lists source export_pieces (λ f x. SaysExport source f x) SayableExport IsNotStarted
+  exports_given : Lists source bounds export_pieces (λ f x. SaysExport source f x) SayableExport IsNotStarted
   unfolding export_pieces
   exports_given =
       all_given export_pieces (λ f x. SaysExport source f x) SayableExport IsNotStarted (λ x P. refl) (λ file st. st.0) (λ x f file e st. stays_not_started f file (no_start f (export_field e.token x.desc) e.is (export_starts e.token x.desc)) st)
-      (λ file x P st fit. export_field_given file x P fit)
+      (λ file x P st fit. export_field_given bounds file x P fit)
 
-  elements_given : Lists source element_pieces (λ f x. f ≡ element_field x) SayableElement IsBracketed
+  elements_given : Lists source bounds element_pieces (λ f x. f ≡ element_field x) (SayableElement bounds) IsBracketed
   unfolding element_pieces
   elements_given =
-      all_given element_pieces (λ f x. f ≡ element_field x) SayableElement IsBracketed (λ x P. refl) (λ file st. st) (λ x f file e st. st)
-      (λ file x P st fit. element_field_given file x P fit)
+      all_given element_pieces (λ f x. f ≡ element_field x) (SayableElement bounds) IsBracketed (λ x P. refl) (λ file st. st) (λ x f file e st. st)
+      (λ file x P st fit. element_field_given bounds file x P fit)
 
-  fills_given : Lists source fill_pieces (λ f x. SaysFill source f x) SayableFill IsBracketed
+  fills_given : Lists source bounds fill_pieces (λ f x. SaysFill source f x) (SayableFill bounds) IsBracketed
   unfolding fill_pieces
   fills_given =
-      all_given fill_pieces (λ f x. SaysFill source f x) SayableFill IsBracketed (λ x P. refl) (λ file st. st) (λ x f file e st. st)
-      (λ file x P st fit. fill_field_given file x P fit)
+      all_given fill_pieces (λ f x. SaysFill source f x) (SayableFill bounds) IsBracketed (λ x P. refl) (λ file st. st) (λ x f file e st. st)
+      (λ file x P st fit. fill_field_given bounds file x P fit)
 
-  start_given : (T : List Piece) (R : File → Type 0) (Q : List Piece) (file : File) (o : Option ℕ) → SayableMax o → IsNotStarted file → ((g : File) → IsBracketed g → g.fields ≡ file.fields ++ start_fields o → Running source g Q R T)
-      → Running source file (start_pieces o ++ Q) R T
+  start_given : (T : List Piece) (R : File → Type 0) (Q : List Piece) (file : File) (o : Option ℕ) → SayableMax o → IsNotStarted file → ((g : File) → IsBracketed g → g.fields ≡ file.fields ++ start_fields o → Running source bounds g Q R T)
+      → Running source bounds file (start_pieces o ++ Q) R T
   start_given T R Q file None h st k = k file st.0 (sym (append-nil file.fields))
   start_given T R Q file (Some x) h st k =
       let P = indexed_pieces word.Start x ++ Q in
-      steps (λ g s. fields_go source usual g s) (λ g. next_field source usual g) file (λ s w. goes_on file P st.0 s w) (start_field_given file x Q st.1 h)
+      steps (λ g s. fields_go source bounds g s) (λ g. next_field source bounds g) file (λ s w. goes_on file P st.0 s w) (start_field_given bounds file x Q st.1 h)
       (λ g r.
       let next = with_field r.0 file in
       let fields : next.fields ≡ file.fields ++ start_fields (Some x) = ap (λ (f : Field). file.fields ++ f ∷ []) r.1 in
-      subst (λ z. Running source z Q R T) (sym r.2) (k next st.0 fields))
+      subst (λ z. Running source bounds z Q R T) (sym r.2) (k next st.0 fields))
 
   -- ---- all of them
 
-  all_said : (m : Module) → Sayable m → Running source (first_file true) (parts_pieces m ++ (uses_pieces m ++ right ∷ [])) (λ g. Says source g.fields m) (right ∷ [])
+  all_said : (m : Module) → Sayable bounds m → Running source bounds (first_file true) (parts_pieces m ++ (uses_pieces m ++ right ∷ [])) (λ g. Says source g.fields m) (right ∷ [])
   unfolding parts_pieces uses_pieces
   all_said m h =
       let T = right ∷ [] in
@@ -236,7 +247,7 @@ module _ {source : List ℕ} where
       start_given T R elements g m.start h.start hg (λ i hi ei.
       elements_given T R fills i m.elements h.elements hi (λ fj j sj hj ej.
       fills_given T R T j m.fills h.fills hj (λ fk k sk hk ek.
-      stops (λ g s. fields_go source usual g s) (λ g. next_field source usual g) R k (λ s w. goes_on k T hk s w) (record {
+      stops (λ g s. fields_go source bounds g s) (λ g. next_field source bounds g) R k (λ s w. goes_on k T hk s w) (record {
         imports = fb;
         exports = fg;
         fills = fk;
@@ -253,25 +264,15 @@ module _ {source : List ℕ} where
 
   -- ---- a file
 
-  is_end : (s : List Token) → Shows source s [] → s ≡ []
-  is_end [] none = refl
-  is_end (t ∷ ts) h = elim h [ ]
-
-  at_end : Gives source (ended {E = Token} (bad source)).spelled [] (λ x. Unit {0}) []
-  at_end = record { takes = λ s h. (tt, [], (is_end s h, refl), tt, none) }
-
-  starts_module : (P : List Piece) (s : List Token) → Shows source s (left ∷ piece.the word.Module ∷ P) → begins source word.Module s ≡ true
-  starts_module P s h = starts_is word.Module s (left ∷ piece.the word.Module ∷ P) h
-
-  file_given : (m : Module) → Sayable m → Gives source (file source).spelled (module_pieces m) (λ fields. Says source fields m) []
-  unfolding file file_within file_by all_fields
+  file_given : (m : Module) → Sayable bounds m → Gives source (file_within source bounds).spelled (module_pieces m) (λ fields. Says source fields m) []
+  unfolding file_within file_by all_fields
   file_given m h =
       let P = parts_pieces m ++ (uses_pieces m ++ right ∷ []) in
-      chosen (begins source word.Module) (λ b. (file_by source usual b).spelled) true (λ s w. starts_module P s w)
+      chosen (begins source word.Module) (λ b. (file_by source bounds b).spelled) true (λ s w. starts_module P s w)
       (past opened (λ begin. past (worded word.Module) (λ head. known (no_id (no_name m)) (both (all_said m h) (λ last r. past closed (λ close. past at_end (λ done. gives (λ fields. Says source fields m) r)))))))
 
 -- The tokens of a module as it is written are the fields that are said of it.
-pub fields_said : (source : List ℕ) (tokens : List Token) (m : Module) → Sayable m → Shows source tokens (module_pieces m) → (fields : List Field) × (file source).spelled tokens fields [] × Says source fields m
-fields_said source tokens m h shows =
-    let x = (file_given m h).takes tokens shows in
-    (x.0, subst (λ (t : List Token). (file source).spelled tokens x.0 t) (is_end x.1 x.4) x.2, x.3)
+pub fields_said : (bounds : Bounds) (source : List ℕ) (tokens : List Token) (m : Module) → Sayable bounds m → Shows source tokens (module_pieces m) → (fields : List Field) × (file_within source bounds).spelled tokens fields [] × Says source fields m
+fields_said bounds source tokens m h shows =
+    let x = (file_given bounds m h).takes tokens shows in
+    (x.0, subst (λ (t : List Token). (file_within source bounds).spelled tokens x.0 t) (is_end x.1 x.4) x.2, x.3)

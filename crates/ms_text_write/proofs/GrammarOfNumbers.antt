@@ -1,9 +1,9 @@
 -- What the grammar takes of constants, offsets and alignments as they are written.
 use Rattle.std.proofs.Common.{◌≡◌, ◌++◌, ◌&&◌, ◌^◌, ◌<◌, ◌≤◌, ℕ, zero, suc, Bool, true, false, List, [], ◌∷◌, length, drop, Option, Some, None, refl, sym, ap, subst, ◌∙◌, arith, eqb, ltb}
-use Rattle.std.specs.Prelude.{ℤ, pos, negsuc, decimal, if◌then◌else◌}
+use Rattle.std.specs.Prelude.{ℤ, pos, negsuc, decimal, not, if◌then◌else◌}
 use Rattle.std.proofs.lemmas.Bool.Decides.{nat_tests}
 use Rattle.ms_module.specs.Accesses.{load_bytes, store_bytes}
-use Rattle.ms_module.specs.Instructions.{begins_with}
+use Rattle.ms_module.specs.Instructions.{begins_with, is_float_word}
 use Rattle.ms_module.specs.declared.access.LoadOp.{LoadOp}
 use Rattle.ms_module.specs.declared.access.LoadOp.TheVariants as loads
 use Rattle.ms_module.specs.declared.access.StoreOp.{StoreOp}
@@ -18,6 +18,7 @@ use Rattle.ms_text_grammar.specs.Tokens as tokens
 use Rattle.ms_text_grammar.specs.Tokens.{is_keyword, next}
 use Rattle.ms_text_grammar.specs.Instructions.{natural}
 use Rattle.ms_text_grammar.specs.Numbers.{align, align_by, constant, exponent_in, exponent_of, if_so, is_front, mem_arg, offset, offset_by}
+use Rattle.ms_text_write.proofs.LayoutNumbers.{align_no_float, offset_no_float}
 use Rattle.ms_text_write.proofs.ReadNumbers.{constant_read, decimal_read, wide_constant_read}
 use Rattle.ms_text_write.proofs.Pieces as piece
 use Rattle.ms_text_write.proofs.Pieces.{Piece, Shows, align_pieces, mem_arg_pieces, offset_pieces}
@@ -150,7 +151,7 @@ module _ {source : List ℕ} where
   offset_some n P h =
       let digits = decimal_unsigned n h in
       chosen (next (is_front source offset_is)) (λ b. (offset_by source b).spelled) true (λ s g. first_is (fronted offset_is) s (piece.keyword (offset_is ++ decimal n) ∷ P) g)
-      (single (λ k w. if_so (fronted offset_is k w && is_unsigned (drop (length offset_is) w)) (index_of (drop (length offset_is) w))) n (rw digits (decimal_read n h).1))
+      (single (λ k w. if_so (fronted offset_is k w && is_unsigned (drop (length offset_is) w) && not (is_keyword k && is_float_word w)) (index_of (drop (length offset_is) w))) n (rw (digits, offset_no_float n) (decimal_read n h).1))
 
   offset_given : (n : ℕ) (P : List Piece) → Narrow n → first (fronted offset_is) P ≡ false → Gives source (offset source).spelled (offset_pieces n ++ P) (λ x. x ≡ n) P
   offset_given n P h e = go (eqb n 0) refl where
@@ -169,7 +170,7 @@ module _ {source : List ℕ} where
       let digits = decimal_unsigned (2 ^ k) fits in
       let read = (decimal_read (2 ^ k) fits).1 in
       chosen (next (is_front source align_is)) (λ b. (align_by source n b).spelled) true (λ s g. first_is (fronted align_is) s (piece.keyword (align_is ++ decimal (2 ^ k)) ∷ P) g)
-      (single (λ k w. if_so (fronted align_is k w && is_unsigned (drop (length align_is) w)) (exponent_in (index_of (drop (length align_is) w)))) k (rw (digits, read) (exponent_back k le)))
+      (single (λ k w. if_so (fronted align_is k w && is_unsigned (drop (length align_is) w) && not (is_keyword k && is_float_word w)) (exponent_in (index_of (drop (length align_is) w)))) k (rw (digits, align_no_float (2 ^ k), read) (exponent_back k le)))
 
   align_given : (bytes k : ℕ) (P : List Piece) → IsSize bytes → k ≤ 31 → first (fronted align_is) P ≡ false → Gives source (align source (natural bytes)).spelled (align_pieces bytes k ++ P) (λ x. x ≡ k) P
   align_given bytes k P h le e = go (eqb (2 ^ k) bytes) refl where

@@ -1,5 +1,5 @@
--- What is known of a module that was written and that keeps the limits.
-use Rattle.std.proofs.Common.{◌≡◌, ℕ, zero, suc, ◌<◌, ◌≤◌, Bool, true, false, List, [], ◌∷◌, ◌++◌, length, refl, subst}
+-- What is known of a module that was written, and bounds that it keeps.
+use Rattle.std.proofs.Common.{◌≡◌, ℕ, zero, suc, ◌+◌, ◌<◌, ◌≤◌, Bool, true, false, List, [], ◌∷◌, ◌++◌, length, refl, subst, arith}
 use Rattle.std.specs.Prelude.{Option, Some, None, All}
 use Rattle.std.proofs.lemmas.List.Elements.{All-cons, All-head, All-nil, All-tail}
 use Rattle.ms_types.specs.declared.types.Limits.{Limits}
@@ -27,11 +27,12 @@ use Rattle.ms_module.specs.declared.module.Element.{Element}
 use Rattle.ms_module.specs.declared.module.Fill.{Fill}
 use Rattle.ms_module.specs.Building.{IsNumbered, State, begun, closed, closed_in, current, first_state, is_after_else, placed, put, started, after_else, whole}
 use Rattle.ms_module.specs.refinement.Nesting.{NestsWithin}
+use Rattle.ms_module.proofs.Nesting.{nests}
 use Rattle.ms_flat.specs.Flat.{Item, Plain, Begin, Else, End, flat}
 use Rattle.ms_flat.specs.refinement.Rebuilt.{after}
 use Rattle.ms_flat.proofs.Arriving.{flat_leads}
-use Rattle.ms_text_grammar.specs.Bounds.{usual}
-use Rattle.ms_text_write.specs.refinement.Limits.{KeepsLimits}
+use Rattle.ms_text_grammar.specs.Bounds.{Bounds}
+use Rattle.ms_text_write.specs.refinement.Limits.{KeepsBounds, most_parens}
 use Rattle.ms_text_write.proofs.BinaryParts.{signed_is}
 use Rattle.ms_flat.specs.refinement.Ranges.{AllFit, CodeFits, ElementFits, ExportDescFits, GlobalFits, ImportDescFits, InstrFits, ItemFits, LimitsFit, LinearFits, NumberFits, NumberFitsIf, SegmentFits}
 use Rattle.ms_text_write.specs.refinement.Ranges.{ByteFits, ExportFits, FillFits, FuncFits, ImportFits, NameFits, PartsFit, UsesFit}
@@ -126,8 +127,8 @@ instr_said (instr.Linear i) h = linear_said i h
 instr_said (instr.Segment i) h = segment_said i h
 instr_said _ h = h
 
-body_said : (ss : List (List Instr)) → CodeFits ss → NestsWithin usual.blocks ss 0 → SayableBody usual.blocks ss
-body_said ss h shallow = record {
+body_said : (most : ℕ) (ss : List (List Instr)) → CodeFits ss → NestsWithin most ss 0 → SayableBody most ss
+body_said most ss h shallow = record {
   numbered = h.0;
   shallow = shallow;
   ranges = all_fit (λ is. AllFit InstrFits is) (λ is. All SayableInstr is) (λ is f. all_fit InstrFits SayableInstr instr_said is f) ss (code_fits ss h);
@@ -153,35 +154,35 @@ export_desc_said (exported.Global x) h = h
 export_said : (e : Export) → ExportFits e → SayableExport e
 export_said e h = record { name = name_said e.name h.0; desc = export_desc_said e.desc h.1 }
 
-element_said : (e : Element) → ElementFits e → NestsWithin usual.blocks e.offset 0 → SayableElement e
-element_said e h n = record { table = h.0; offset = body_said e.offset h.1 n; funcs = all_fit NumberFits Narrow number_said e.funcs h.2 }
+element_said : (bounds : Bounds) (e : Element) → ElementFits e → NestsWithin bounds.blocks e.offset 0 → SayableElement bounds e
+element_said bounds e h n = record { table = h.0; offset = body_said bounds.blocks e.offset h.1 n; funcs = all_fit NumberFits Narrow number_said e.funcs h.2 }
 
-fill_said : (f : Fill) → FillFits f → NestsWithin usual.blocks f.offset 0 → SayableFill f
-fill_said f h n = record { memory = h.0; offset = body_said f.offset h.1 n; bytes = all_fit ByteFits (λ b. b < 256) (λ b i. i) f.bytes h.2 }
+fill_said : (bounds : Bounds) (f : Fill) → FillFits f → NestsWithin bounds.blocks f.offset 0 → SayableFill bounds f
+fill_said bounds f h n = record { memory = h.0; offset = body_said bounds.blocks f.offset h.1 n; bytes = all_fit ByteFits (λ b. b < 256) (λ b i. i) f.bytes h.2 }
 
-funcs_said : (fs : List Func) → AllFit FuncFits fs → All (λ f. NestsWithin usual.blocks f.body 0) fs → All (λ f. length f.locals ≤ usual.locals) fs → All SayableFunc fs
-funcs_said [] h n l = All-nil SayableFunc
-funcs_said (f ∷ fs) h n l =
-    let one : SayableFunc f = record {
+funcs_said : (bounds : Bounds) (fs : List Func) → AllFit FuncFits fs → All (λ f. NestsWithin bounds.blocks f.body 0) fs → All (λ f. length f.locals ≤ bounds.locals) fs → All (SayableFunc bounds) fs
+funcs_said bounds [] h n l = All-nil (SayableFunc bounds)
+funcs_said bounds (f ∷ fs) h n l =
+    let one : SayableFunc bounds f = record {
       sig = h.0.0;
-      few = All-head (λ f. length f.locals ≤ usual.locals) f fs l;
-      body = body_said f.body h.0.1 (All-head (λ f. NestsWithin usual.blocks f.body 0) f fs n);
+      few = All-head (λ f. length f.locals ≤ bounds.locals) f fs l;
+      body = body_said bounds.blocks f.body h.0.1 (All-head (λ f. NestsWithin bounds.blocks f.body 0) f fs n);
     } in
-    All-cons SayableFunc f fs one (funcs_said fs h.1 (All-tail (λ f. NestsWithin usual.blocks f.body 0) f fs n) (All-tail (λ f. length f.locals ≤ usual.locals) f fs l))
+    All-cons (SayableFunc bounds) f fs one (funcs_said bounds fs h.1 (All-tail (λ f. NestsWithin bounds.blocks f.body 0) f fs n) (All-tail (λ f. length f.locals ≤ bounds.locals) f fs l))
 
 -- ---- modules
 
-pub sayable : (m : Module) → PartsFit m → UsesFit m → KeepsLimits m → Sayable m
-sayable m parts uses kept = record {
+pub sayable : (bounds : Bounds) (m : Module) → PartsFit m → UsesFit m → KeepsBounds bounds m → Sayable bounds m
+sayable bounds m parts uses kept = record {
   imports = all_fit ImportFits SayableImport import_said m.imports parts.imports;
-  funcs = funcs_said m.funcs parts.funcs kept.blocks.funcs kept.locals;
+  funcs = funcs_said bounds m.funcs parts.funcs kept.blocks.funcs kept.locals;
   tables = all_fit LimitsFit SayableLimits limits_said m.tables parts.tables;
   memories = all_fit LimitsFit SayableLimits limits_said m.memories parts.memories;
-  globals = both_fit GlobalFits (λ g. NestsWithin usual.blocks g.init 0) (λ (g : Global). SayableBody usual.blocks g.init) (λ g h n. body_said g.init h n) m.globals parts.globals kept.blocks.globals;
+  globals = both_fit GlobalFits (λ g. NestsWithin bounds.blocks g.init 0) (λ (g : Global). SayableBody bounds.blocks g.init) (λ g h n. body_said bounds.blocks g.init h n) m.globals parts.globals kept.blocks.globals;
   exports = all_fit ExportFits SayableExport export_said m.exports uses.exports;
   start = if_said m.start uses.start;
-  elements = both_fit ElementFits (λ e. NestsWithin usual.blocks e.offset 0) SayableElement element_said m.elements uses.elements kept.blocks.elements;
-  fills = both_fit FillFits (λ f. NestsWithin usual.blocks f.offset 0) SayableFill fill_said m.fills uses.fills kept.blocks.fills;
+  elements = both_fit ElementFits (λ e. NestsWithin bounds.blocks e.offset 0) (SayableElement bounds) (element_said bounds) m.elements uses.elements kept.blocks.elements;
+  fills = both_fit FillFits (λ f. NestsWithin bounds.blocks f.offset 0) (SayableFill bounds) (fill_said bounds) m.fills uses.fills kept.blocks.fills;
 }
 
 pub can_be_shown : (m : Module) → PartsFit m → UsesFit m → CanBeShown m
@@ -197,4 +198,41 @@ bodies m parts uses = record {
   globals = each_fit GlobalFits (λ g. IsNumbered g.init) (λ g h. h.0) m.globals parts.globals;
   elements = each_fit ElementFits (λ e. IsNumbered e.offset) (λ e h. h.1.0) m.elements uses.elements;
   fills = each_fit FillFits (λ f. IsNumbered f.offset) (λ f h. h.1.0) m.fills uses.fills;
+}
+
+-- ---- bounds that a module keeps
+
+-- how many items all lists have
+total : {A X : Type 0} → (A → List X) → List A → ℕ
+total items [] = 0
+total items (x ∷ xs) = length (items x) + total items xs
+
+all_nest : {A : Type 0} (code : A → List (List Instr)) (xs : List A) → EachOf (λ x. IsNumbered (code x)) xs → (d : ℕ) → total code xs ≤ d → All (λ x. NestsWithin d (code x) 0) xs
+unfolding total
+all_nest code [] h d le = All-nil (λ x. NestsWithin d (code x) 0)
+all_nest code (x ∷ xs) h d le =
+    All-cons (λ x. NestsWithin d (code x) 0) x xs (nests d (code x) h.0 (omega arith)) (all_nest code xs h.1 d (omega arith))
+
+all_few : {A X : Type 0} (items : A → List X) (xs : List A) (n : ℕ) → total items xs ≤ n → All (λ x. length (items x) ≤ n) xs
+unfolding total
+all_few items [] n le = All-nil (λ x. length (items x) ≤ n)
+all_few items (x ∷ xs) n le = All-cons (λ x. length (items x) ≤ n) x xs (omega arith) (all_few items xs n (omega arith))
+
+depth : Module → ℕ
+depth m = total (λ f. f.body) m.funcs + total (λ g. g.init) m.globals + total (λ e. e.offset) m.elements + total (λ f. f.offset) m.fills
+
+pub wide : Module → Bounds
+wide m = record { blocks = depth m; locals = total (λ f. f.locals) m.funcs; parens = most_parens }
+
+pub keeps_wide : (m : Module) → Bodies m → KeepsBounds (wide m) m
+unfolding depth wide
+keeps_wide m b = record {
+  blocks = record {
+    funcs = all_nest (λ f. f.body) m.funcs b.funcs (depth m) (omega arith);
+    globals = all_nest (λ g. g.init) m.globals b.globals (depth m) (omega arith);
+    elements = all_nest (λ e. e.offset) m.elements b.elements (depth m) (omega arith);
+    fills = all_nest (λ f. f.offset) m.fills b.fills (depth m) (omega arith);
+  };
+  locals = all_few (λ f. f.locals) m.funcs (total (λ f. f.locals) m.funcs) (omega arith);
+  parens = omega arith;
 }

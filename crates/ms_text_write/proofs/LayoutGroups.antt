@@ -32,7 +32,7 @@ use Rattle.ms_text_lex.specs.declared.token.Kind.TheVariants.{Keyword, Number, T
 use Rattle.ms_text_lex.specs.declared.token.Token.{Token}
 use Rattle.ms_text_grammar.specs.declared.word.Word.{Word}
 use Rattle.ms_text_grammar.specs.declared.word.Word.TheVariants as word
-use Rattle.ms_text_grammar.specs.Bounds.{usual}
+use Rattle.ms_text_write.specs.refinement.Limits.{most_parens}
 use Rattle.ms_text_grammar.specs.Keywords.{align_is, offset_is, spelling}
 use Rattle.ms_text_grammar.specs.Scans.{mismatch, too_deep, fields_in}
 use Rattle.ms_flat.specs.Flat.{Item, Plain, Begin, Else, End, flat}
@@ -79,26 +79,26 @@ none_of true b c e = absurd (cc)
 none_of false true c e = absurd (cc)
 none_of false false c e = (refl, refl, e)
 
-other_free : {d : ℕ} {qs : List Piece} (w : Word) → begins_type w ≡ false → d < usual.parens → Held (suc d) qs → Free d (left ∷ the w ∷ qs)
+other_free : {d : ℕ} {qs : List Piece} (w : Word) → begins_type w ≡ false → d < most_parens → Held (suc d) qs → Free d (left ∷ the w ∷ qs)
 other_free w other room h =
     let o = none_of (bytes_eq (spelling w) (spelling word.Type)) (bytes_eq (spelling w) (spelling word.Param)) (bytes_eq (spelling w) (spelling word.Result)) other in
     opened_free w o.0 o.1 o.2 room h
 
-indexed_free : {d : ℕ} {qs : List Piece} (w : Word) (x : ℕ) → begins_type w ≡ false → d < usual.parens → Free d qs → Free d (indexed_pieces w x ++ qs)
+indexed_free : {d : ℕ} {qs : List Piece} (w : Word) (x : ℕ) → begins_type w ≡ false → d < most_parens → Free d qs → Free d (indexed_pieces w x ++ qs)
 indexed_free w x other room free = other_free w other room (number_free x (closed free.held).held).held
 
-group_held : {d : ℕ} {qs : List Piece} (w : Word) (tys : List ValType) → bytes_eq (spelling w) (spelling word.Type) ≡ false → d < usual.parens → Held d qs
+group_held : {d : ℕ} {qs : List Piece} (w : Word) (tys : List ValType) → bytes_eq (spelling w) (spelling word.Type) ≡ false → d < most_parens → Held d qs
     → Held d (group_pieces w tys ++ qs)
 group_held w [] o room h = h
 group_held w (ty ∷ tys) o room h = rw append_assoc (opened_held w o room (types_free (ty ∷ tys) (closed h)).held)
 
-locals_free : {d : ℕ} {qs : List Piece} (tys : List ValType) → d < usual.parens → Free d qs → Free d (group_pieces word.Local tys ++ qs)
+locals_free : {d : ℕ} {qs : List Piece} (tys : List ValType) → d < most_parens → Free d qs → Free d (group_pieces word.Local tys ++ qs)
 locals_free [] room free = free
 locals_free (ty ∷ tys) room free = rw append_assoc (other_free word.Local refl room (types_free (ty ∷ tys) (closed free.held)).held)
 
 -- ---- types
 
-func_type_free : {d : ℕ} {qs : List Piece} (ft : FuncType) → d + 3 ≤ usual.parens → Free d qs → Free d (func_type_pieces ft ++ qs)
+func_type_free : {d : ℕ} {qs : List Piece} (ft : FuncType) → d + 3 ≤ most_parens → Free d qs → Free d (func_type_pieces ft ++ qs)
 unfolding func_type_pieces
 func_type_free ft room free =
     simp append_assoc (type_begun word.Func refl (omega arith)
@@ -108,20 +108,20 @@ max_free : {d : ℕ} {qs : List Piece} (max : Option ℕ) → Free d qs → Free
 max_free None free = free
 max_free (Some n) free = number_free n free.held
 
-table_free : {d : ℕ} {qs : List Piece} (l : Limits) → d < usual.parens → Free d qs → Free d (table_pieces l ++ qs)
+table_free : {d : ℕ} {qs : List Piece} (l : Limits) → d < most_parens → Free d qs → Free d (table_pieces l ++ qs)
 unfolding table_pieces
 table_free l room free =
     simp append_assoc (other_free word.Table refl room (number_free l.min (max_free l.max (word_free (spelling word.Funcref) (closed free.held).held)).held).held)
 
-memory_free : {d : ℕ} {qs : List Piece} (l : Limits) → d < usual.parens → Free d qs → Free d (memory_pieces l ++ qs)
+memory_free : {d : ℕ} {qs : List Piece} (l : Limits) → d < most_parens → Free d qs → Free d (memory_pieces l ++ qs)
 unfolding memory_pieces
 memory_free l room free = simp append_assoc (other_free word.Memory refl room (number_free l.min (max_free l.max (closed free.held)).held).held)
 
-mutable_free : {d : ℕ} {qs : List Piece} (mutable : Bool) (ty : ValType) → d < usual.parens → Free d qs → Free d (mutable_pieces mutable (keyword (value_word ty)) ++ qs)
+mutable_free : {d : ℕ} {qs : List Piece} (mutable : Bool) (ty : ValType) → d < most_parens → Free d qs → Free d (mutable_pieces mutable (keyword (value_word ty)) ++ qs)
 mutable_free false ty room free = word_free (value_word ty) free.held
 mutable_free true ty room free = other_free word.Mut refl room (word_free (value_word ty) (closed free.held).held).held
 
-global_type_free : {d : ℕ} {qs : List Piece} (g : GlobalType) → d < usual.parens → Free d qs → Free d (global_type_pieces g ++ qs)
+global_type_free : {d : ℕ} {qs : List Piece} (g : GlobalType) → d < most_parens → Free d qs → Free d (global_type_pieces g ++ qs)
 global_type_free g room free = mutable_free g.mutable g.ty room free
 
 -- ---- instructions
@@ -147,7 +147,7 @@ segment_free (segment.Free kind) free = word_free (kind_word kind) free.held
 segment_free (segment.Add scale) free = number_free scale free.held
 segment_free i free = free
 
-operands_free : {d : ℕ} {qs : List Piece} (i : Instr) → d < usual.parens → Free d qs → Free d (operand_pieces i ++ qs)
+operands_free : {d : ℕ} {qs : List Piece} (i : Instr) → d < most_parens → Free d qs → Free d (operand_pieces i ++ qs)
 operands_free (instr.Br l) room free = number_free l free.held
 operands_free (instr.BrIf l) room free = number_free l free.held
 operands_free (instr.BrTable targets) room free = simp append_assoc (numbers_free targets.labels (number_free targets.default free.held))
@@ -164,75 +164,75 @@ operands_free (instr.Linear i) room free = linear_free i free
 operands_free (instr.Segment i) room free = segment_free i free
 operands_free i room free = free
 
-block_type_held : {d : ℕ} {qs : List Piece} (ty : Option ValType) → d < usual.parens → Held d qs → Held d (block_type_pieces ty ++ qs)
+block_type_held : {d : ℕ} {qs : List Piece} (ty : Option ValType) → d < most_parens → Held d qs → Held d (block_type_pieces ty ++ qs)
 block_type_held None room h = h
 block_type_held (Some ty) room h = group_held word.Result (ty ∷ []) refl room h
 
-item_free : {d : ℕ} {qs : List Piece} (item : Item) → d < usual.parens → Free d qs → Free d (item_pieces item ++ qs)
+item_free : {d : ℕ} {qs : List Piece} (item : Item) → d < most_parens → Free d qs → Free d (item_pieces item ++ qs)
 unfolding item_pieces
 item_free (Plain i) room free = word_free (instr_word i) (operands_free i room free).held
 item_free (Begin opening ty) room free = word_free (opening_word opening) (block_type_held ty room free.held)
 item_free Else room free = word_free else_word free.held
 item_free End room free = word_free end_word free.held
 
-body_free : {d : ℕ} {qs : List Piece} (ss : List (List Instr)) → d < usual.parens → Free d qs → Free d (body_pieces ss ++ qs)
+body_free : {d : ℕ} {qs : List Piece} (ss : List (List Instr)) → d < most_parens → Free d qs → Free d (body_pieces ss ++ qs)
 unfolding body_pieces
 body_free {d} {qs} ss room free = each_free d item_pieces (λ x ps f. item_free x room f) (flat ss) qs free
 
 -- ---- fields
 
-import_desc_free : {d : ℕ} {qs : List Piece} (i : ImportDesc) → d + 2 ≤ usual.parens → Free d qs → Free d (import_desc_pieces i ++ qs)
+import_desc_free : {d : ℕ} {qs : List Piece} (i : ImportDesc) → d + 2 ≤ most_parens → Free d qs → Free d (import_desc_pieces i ++ qs)
 unfolding import_desc_pieces
 import_desc_free (imported.Func x) room free = other_free word.Func refl (omega arith) (type_named x (omega arith) (closed free.held)).held
 import_desc_free (imported.Table l) room free = table_free l (omega arith) free
 import_desc_free (imported.Memory l) room free = memory_free l (omega arith) free
 import_desc_free (imported.Global g) room free = simp append_assoc (other_free word.Global refl (omega arith) (global_type_free g (omega arith) (closed free.held)).held)
 
-import_free : {d : ℕ} {qs : List Piece} (i : Import) → d + 3 ≤ usual.parens → Free d qs → Free d (import_pieces i ++ qs)
+import_free : {d : ℕ} {qs : List Piece} (i : Import) → d + 3 ≤ most_parens → Free d qs → Free d (import_pieces i ++ qs)
 unfolding import_pieces
 import_free i room free =
     simp append_assoc (other_free word.Import refl (omega arith)
     (string_free i.«module» (string_free i.name (import_desc_free i.desc (omega arith) (closed free.held)).held).held).held)
 
-export_desc_free : {d : ℕ} {qs : List Piece} (e : ExportDesc) → d < usual.parens → Free d qs → Free d (export_desc_pieces e ++ qs)
+export_desc_free : {d : ℕ} {qs : List Piece} (e : ExportDesc) → d < most_parens → Free d qs → Free d (export_desc_pieces e ++ qs)
 export_desc_free (exported.Func x) room free = indexed_free word.Func x refl room free
 export_desc_free (exported.Table x) room free = indexed_free word.Table x refl room free
 export_desc_free (exported.Memory x) room free = indexed_free word.Memory x refl room free
 export_desc_free (exported.Global x) room free = indexed_free word.Global x refl room free
 
-export_free : {d : ℕ} {qs : List Piece} (e : Export) → d + 2 ≤ usual.parens → Free d qs → Free d (export_pieces e ++ qs)
+export_free : {d : ℕ} {qs : List Piece} (e : Export) → d + 2 ≤ most_parens → Free d qs → Free d (export_pieces e ++ qs)
 unfolding export_pieces
 export_free e room free = simp append_assoc (other_free word.Export refl (omega arith) (string_free e.name (export_desc_free e.desc (omega arith) (closed free.held)).held).held)
 
-func_free : {d : ℕ} {qs : List Piece} (f : Func) → d + 2 ≤ usual.parens → Free d qs → Free d (func_pieces f ++ qs)
+func_free : {d : ℕ} {qs : List Piece} (f : Func) → d + 2 ≤ most_parens → Free d qs → Free d (func_pieces f ++ qs)
 unfolding func_pieces
 func_free f room free =
     simp append_assoc
     (other_free word.Func refl (omega arith) (type_named f.sig (omega arith) (locals_free f.locals (omega arith) (body_free f.body (omega arith) (closed free.held)))).held)
 
-global_free : {d : ℕ} {qs : List Piece} (g : Global) → d + 2 ≤ usual.parens → Free d qs → Free d (global_pieces g ++ qs)
+global_free : {d : ℕ} {qs : List Piece} (g : Global) → d + 2 ≤ most_parens → Free d qs → Free d (global_pieces g ++ qs)
 unfolding global_pieces
 global_free g room free = simp append_assoc (other_free word.Global refl (omega arith) (global_type_free g.ty (omega arith) (body_free g.init (omega arith) (closed free.held))).held)
 
-place_free : {d : ℕ} {qs : List Piece} (x : ℕ) (ss : List (List Instr)) → d + 2 ≤ usual.parens → Free d qs → Free d (place_pieces x ss ++ qs)
+place_free : {d : ℕ} {qs : List Piece} (x : ℕ) (ss : List (List Instr)) → d + 2 ≤ most_parens → Free d qs → Free d (place_pieces x ss ++ qs)
 unfolding place_pieces
 place_free x ss room free = simp append_assoc (number_free x (other_free word.Offset refl (omega arith) (body_free ss (omega arith) (closed free.held)).held).held)
 
-element_free : {d : ℕ} {qs : List Piece} (e : Element) → d + 3 ≤ usual.parens → Free d qs → Free d (element_pieces e ++ qs)
+element_free : {d : ℕ} {qs : List Piece} (e : Element) → d + 3 ≤ most_parens → Free d qs → Free d (element_pieces e ++ qs)
 unfolding element_pieces
 element_free e room free = simp append_assoc (other_free word.Elem refl (omega arith) (place_free e.table e.offset (omega arith) (numbers_free e.funcs (closed free.held))).held)
 
-fill_free : {d : ℕ} {qs : List Piece} (f : Fill) → d + 3 ≤ usual.parens → Free d qs → Free d (fill_pieces f ++ qs)
+fill_free : {d : ℕ} {qs : List Piece} (f : Fill) → d + 3 ≤ most_parens → Free d qs → Free d (fill_pieces f ++ qs)
 unfolding fill_pieces
 fill_free f room free = simp append_assoc (other_free word.Data refl (omega arith) (place_free f.memory f.offset (omega arith) (string_free f.bytes (closed free.held).held)).held)
 
-start_free : {d : ℕ} {qs : List Piece} (start : Option ℕ) → d < usual.parens → Free d qs → Free d (start_pieces start ++ qs)
+start_free : {d : ℕ} {qs : List Piece} (start : Option ℕ) → d < most_parens → Free d qs → Free d (start_pieces start ++ qs)
 start_free None room free = free
 start_free (Some x) room free = indexed_free word.Start x refl room free
 
 -- ---- all of a module
 
-parts_free : {d : ℕ} {qs : List Piece} (m : Module) → d + 3 ≤ usual.parens → Free d qs → Free d (parts_pieces m ++ qs)
+parts_free : {d : ℕ} {qs : List Piece} (m : Module) → d + 3 ≤ most_parens → Free d qs → Free d (parts_pieces m ++ qs)
 unfolding parts_pieces
 parts_free {d} {qs} m room free =
     let globals = each_free d global_pieces (λ x ps f. global_free x (omega arith) f) m.globals qs free in
@@ -242,7 +242,7 @@ parts_free {d} {qs} m room free =
     let imports = each_free d import_pieces (λ x ps f. import_free x (omega arith) f) m.imports _ funcs in
     simp append_assoc (each_free d func_type_pieces (λ x ps f. func_type_free x (omega arith) f) m.sigs _ imports)
 
-uses_free : {d : ℕ} {qs : List Piece} (m : Module) → d + 3 ≤ usual.parens → Free d qs → Free d (uses_pieces m ++ qs)
+uses_free : {d : ℕ} {qs : List Piece} (m : Module) → d + 3 ≤ most_parens → Free d qs → Free d (uses_pieces m ++ qs)
 unfolding uses_pieces
 uses_free {d} {qs} m room free =
     let fills = each_free d fill_pieces (λ x ps f. fill_free x (omega arith) f) m.fills qs free in
@@ -252,7 +252,7 @@ uses_free {d} {qs} m room free =
 all_free : (m : Module) → Free 0 (module_pieces m)
 all_free m = other_free word.Module refl (omega arith) (parts_free m (omega arith) (uses_free m (omega arith) (closed (ended 0)))).held
 
-pub shallow : (source : List ℕ) (tokens : List Token) (m : Module) → Shows source tokens (module_pieces m) → too_deep usual.parens 0 tokens ≡ None
+pub shallow : (source : List ℕ) (tokens : List Token) (m : Module) → Shows source tokens (module_pieces m) → too_deep most_parens 0 tokens ≡ None
 shallow source tokens m s = (all_free m).held.shallow source tokens s
 
 pub agrees : (source : List ℕ) (tokens : List Token) (m : Module) → Shows source tokens (module_pieces m) → mismatch source tokens ≡ None

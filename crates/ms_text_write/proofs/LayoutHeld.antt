@@ -18,7 +18,7 @@ use Rattle.ms_text_grammar.specs.declared.word.Word.{Word}
 use Rattle.ms_text_grammar.specs.declared.word.Word.TheVariants as word
 use Rattle.ms_text_grammar.specs.Tokens.{begins, is_close, is_id, is_open}
 use Rattle.ms_text_grammar.specs.Keywords.{spelling}
-use Rattle.ms_text_grammar.specs.Bounds.{usual}
+use Rattle.ms_text_write.specs.refinement.Limits.{most_parens}
 use Rattle.ms_text_grammar.specs.Numbers.{index, index_by, number as read_number}
 use Rattle.ms_text_grammar.specs.Parts.{groups}
 use Rattle.ms_text_grammar.specs.Scans.{and_all, differing, field_at, index_in, is_other, ok_value, placed, tail_of, too_deep, uses_in}
@@ -27,7 +27,7 @@ use Rattle.ms_text_grammar.specs.Types.{params, results, type_ref, type_ref_by, 
 use Rattle.ms_text_write.proofs.Pieces.{Piece, Shows, left, more, none, number, right, the}
 
 pub record Held (depth : ℕ) (ps : List Piece) : Type 0 where
-  pub shallow : (source : List ℕ) (ts : List Token) → Shows source ts ps → too_deep usual.parens depth ts ≡ None
+  pub shallow : (source : List ℕ) (ts : List Token) → Shows source ts ps → too_deep most_parens depth ts ≡ None
   pub calm : (source : List ℕ) (ts : List Token) → Shows source ts ps → (fs : List TypeField) → differing source fs (uses_in source ts) ≡ None
 
 -- ... where no parameters or results stand in front
@@ -47,14 +47,14 @@ begins_by source v w t u ts k l x = rw (k, l) (ap (λ (y : List ℕ). bytes_eq y
 
 -- ---- depths
 
-opens_deep : (d : ℕ) (t : Token) (ts : List Token) → t.kind ≡ Open → d < usual.parens → too_deep usual.parens (suc d) ts ≡ None → too_deep usual.parens d (t ∷ ts) ≡ None
-opens_deep d t ts k h e = rw (k, lt-ltb d usual.parens h) e
+opens_deep : (d : ℕ) (t : Token) (ts : List Token) → t.kind ≡ Open → d < most_parens → too_deep most_parens (suc d) ts ≡ None → too_deep most_parens d (t ∷ ts) ≡ None
+opens_deep d t ts k h e = rw (k, lt-ltb d most_parens h) e
 
-closes_deep : (d : ℕ) (t : Token) (ts : List Token) → t.kind ≡ Close → too_deep usual.parens d ts ≡ None → too_deep usual.parens (suc d) (t ∷ ts) ≡ None
+closes_deep : (d : ℕ) (t : Token) (ts : List Token) → t.kind ≡ Close → too_deep most_parens d ts ≡ None → too_deep most_parens (suc d) (t ∷ ts) ≡ None
 closes_deep d t ts k e = let s : suc d - 1 ≡ d = omega arith in rw (k, s) e
 
-stays_deep : (d : ℕ) (t : Token) (ts : List Token) (kind : Kind) → t.kind ≡ kind → is_open kind ≡ false → is_close kind ≡ false → too_deep usual.parens d ts ≡ None
-    → too_deep usual.parens d (t ∷ ts) ≡ None
+stays_deep : (d : ℕ) (t : Token) (ts : List Token) (kind : Kind) → t.kind ≡ kind → is_open kind ≡ false → is_close kind ≡ false → too_deep most_parens d ts ≡ None
+    → too_deep most_parens d (t ∷ ts) ≡ None
 stays_deep d t ts kind k o c e = rw (k, o, c) e
 
 -- ---- type uses
@@ -159,7 +159,7 @@ at_end P none h = h
 
 pub ended : (d : ℕ) → Held d []
 ended d = record {
-  shallow = λ source ts s. at_end (λ l. too_deep usual.parens d l ≡ None) s refl;
+  shallow = λ source ts s. at_end (λ l. too_deep most_parens d l ≡ None) s refl;
   calm = λ source ts s fs. at_end (λ l. differing source fs (uses_in source l) ≡ None) s refl;
 }
 
@@ -167,7 +167,7 @@ ended d = record {
 pub leaf : {d : ℕ} {qs : List Piece} (kind : Kind) (text : List ℕ) → is_open kind ≡ false → is_close kind ≡ false → Held d qs → Free d (record { kind = kind; text = text } ∷ qs)
 leaf {d} {qs} kind text o c h = record {
   held = record {
-    shallow = λ source ts s. by_first (λ l. too_deep usual.parens d l ≡ None) s (λ t us k x r. stays_deep d t us kind k o c (h.shallow source us r));
+    shallow = λ source ts s. by_first (λ l. too_deep most_parens d l ≡ None) s (λ t us k x r. stays_deep d t us kind k o c (h.shallow source us r));
     calm = λ source ts s fs.
         by_first (λ l. differing source fs (uses_in source l) ≡ None) s (λ t us k x r. passed_by source t us fs (begins_no source word.Type t us kind k o) (h.calm source us r fs));
   };
@@ -178,7 +178,7 @@ leaf {d} {qs} kind text o c h = record {
 pub closed : {d : ℕ} {qs : List Piece} → Held d qs → Free (suc d) (right ∷ qs)
 closed {d} {qs} h = record {
   held = record {
-    shallow = λ source ts s. by_first (λ l. too_deep usual.parens (suc d) l ≡ None) s (λ t us k x r. closes_deep d t us k (h.shallow source us r));
+    shallow = λ source ts s. by_first (λ l. too_deep most_parens (suc d) l ≡ None) s (λ t us k x r. closes_deep d t us k (h.shallow source us r));
     calm = λ source ts s fs.
         by_first (λ l. differing source fs (uses_in source l) ≡ None) s (λ t us k x r. passed_by source t us fs (begins_no source word.Type t us Close k refl) (h.calm source us r fs));
   };
@@ -188,18 +188,18 @@ closed {d} {qs} h = record {
 
 -- ---- parentheses
 
-pub opened_held : {d : ℕ} {qs : List Piece} (w : Word) → bytes_eq (spelling w) (spelling word.Type) ≡ false → d < usual.parens → Held (suc d) qs → Held d (left ∷ the w ∷ qs)
+pub opened_held : {d : ℕ} {qs : List Piece} (w : Word) → bytes_eq (spelling w) (spelling word.Type) ≡ false → d < most_parens → Held (suc d) qs → Held d (left ∷ the w ∷ qs)
 opened_held {d} {qs} w no_type room h =
     let inner = (leaf Keyword (spelling w) refl refl h).held in
     record {
-      shallow = λ source ts s. by_first (λ l. too_deep usual.parens d l ≡ None) s (λ t us k x r. opens_deep d t us k room (inner.shallow source us r));
+      shallow = λ source ts s. by_first (λ l. too_deep most_parens d l ≡ None) s (λ t us k x r. opens_deep d t us k room (inner.shallow source us r));
       calm = λ source ts s fs.
           by_first (λ l. differing source fs (uses_in source l) ≡ None) s
           (λ t us k x r. passed_by source t us fs (opens_with source word.Type w t us qs k r ∙ no_type) (inner.calm source us r fs));
     }
 
 pub opened_free : {d : ℕ} {qs : List Piece} (w : Word) → bytes_eq (spelling w) (spelling word.Type) ≡ false → bytes_eq (spelling w) (spelling word.Param) ≡ false
-    → bytes_eq (spelling w) (spelling word.Result) ≡ false → d < usual.parens → Held (suc d) qs → Free d (left ∷ the w ∷ qs)
+    → bytes_eq (spelling w) (spelling word.Result) ≡ false → d < most_parens → Held (suc d) qs → Free d (left ∷ the w ∷ qs)
 opened_free {d} {qs} w no_type no_param no_result room h = record {
   held = opened_held w no_type room h;
   no_param = λ source ts s. by_first (λ l. begins source word.Param l ≡ false) s (λ t us k x r. opens_with source word.Param w t us qs k r ∙ no_param);
@@ -212,12 +212,12 @@ Unwritten qs =
     (source : List ℕ) (t u : Token) (us : List Token) → ((s : List Token) → begins source word.Type (t ∷ u ∷ s) ≡ true) → Shows source us qs
     → (w : TypeUse) (m : List Token) → (type_use source).spelled (t ∷ u ∷ us) w m → is_written w ≡ false
 
-named_free : {d : ℕ} {qs : List Piece} → d < usual.parens → Held (suc d) qs → Unwritten qs → Free d (left ∷ the word.Type ∷ qs)
+named_free : {d : ℕ} {qs : List Piece} → d < most_parens → Held (suc d) qs → Unwritten qs → Free d (left ∷ the word.Type ∷ qs)
 named_free {d} {qs} room h no_type =
     let inner = (leaf Keyword (spelling word.Type) refl refl h).held in
     record {
       held = record {
-        shallow = λ source ts s. by_first (λ l. too_deep usual.parens d l ≡ None) s (λ t us k x r. opens_deep d t us k room (inner.shallow source us r));
+        shallow = λ source ts s. by_first (λ l. too_deep most_parens d l ≡ None) s (λ t us k x r. opens_deep d t us k room (inner.shallow source us r));
         calm = λ source ts s fs.
             by_first (λ l. differing source fs (uses_in source l) ≡ None) s
             (λ t us k x r.
@@ -231,7 +231,7 @@ named_free {d} {qs} room h no_type =
     }
 
 -- a type by its index
-pub type_named : {d : ℕ} {qs : List Piece} (x : ℕ) → d < usual.parens → Free d qs → Free d (left ∷ the word.Type ∷ number x ∷ right ∷ qs)
+pub type_named : {d : ℕ} {qs : List Piece} (x : ℕ) → d < most_parens → Free d qs → Free d (left ∷ the word.Type ∷ number x ∷ right ∷ qs)
 type_named x room free =
     named_free room (leaf Number (decimal x) refl refl (closed free.held).held).held
     (λ source t u us b s w m.
@@ -241,7 +241,7 @@ type_named x room free =
     (λ c rest l z r. by_number source t u b n c rest (ap is_id k) (free.no_param source rest r) (free.no_result source rest r) w m)))
 
 -- a type field
-pub type_begun : {d : ℕ} {qs : List Piece} (w : Word) → bytes_eq (spelling w) (spelling word.Type) ≡ false → d + 1 < usual.parens → Held (suc (suc d)) qs
+pub type_begun : {d : ℕ} {qs : List Piece} (w : Word) → bytes_eq (spelling w) (spelling word.Type) ≡ false → d + 1 < most_parens → Held (suc (suc d)) qs
     → Free d (left ∷ the word.Type ∷ left ∷ the w ∷ qs)
 type_begun w no_type room h =
     named_free (omega arith) (opened_held w no_type (omega arith) h)

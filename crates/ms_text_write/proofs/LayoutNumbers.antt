@@ -1,12 +1,14 @@
 -- What is written of a number is a number token, whatever number it is.
-use Rattle.std.proofs.Common.{◌≡◌, ℕ, zero, suc, ◌/◌, ◌%◌, ◌<◌, ◌≤◌, Bool, true, false, cond, List, [], ◌∷◌, refl, arith, eqb, ltb}
-use Rattle.std.specs.Prelude.{ℤ, pos, negsuc, ◌==◌, decimal}
+use Rattle.std.proofs.Common.{◌≡◌, ℕ, zero, suc, ◌/◌, ◌%◌, ◌<◌, ◌≤◌, Bool, true, false, cond, List, [], ◌∷◌, ◌++◌, refl, arith, eqb, ltb}
+use Rattle.std.specs.Prelude.{ℤ, pos, negsuc, ◌==◌, codes, decimal}
 use Rattle.std.specs.Fmt.{digit_glyph, digits, digits_onto, signed_decimal}
 use Rattle.std.proofs.lemmas.Bool.Decides.{nat_tests}
 use Rattle.ms_bytes.specs.Texts.{all_pass}
 use Rattle.ms_text_lex.specs.declared.token.Kind.TheVariants.{Number}
 use Rattle.ms_text_lex.specs.Classes.{is_decimal, is_idchar}
 use Rattle.ms_text_lex.specs.Words.{are_digits, has_sign, is_hexadecimal, is_id, is_unsigned}
+use Rattle.ms_module.specs.Instructions.{has_inside, is_float_word}
+use Rattle.ms_text_grammar.specs.Keywords.{align_is, offset_is}
 use Rattle.ms_text_write.proofs.LayoutSteps.{IsToken}
 
 -- decimal digits alone, and at least one
@@ -105,3 +107,18 @@ minus_token x d = record { chars = all_idchars x (all_of x d); first = refl; is 
 pub constant_token : (z : ℤ) → IsToken Number (signed_decimal z)
 constant_token (pos n) = decimal_token n
 constant_token (negsuc n) = minus_token (decimal (suc n)) (decimal_digits (suc n))
+
+-- ---- digits behind a front are no word of floating-point numbers
+
+not_underscore : (b : ℕ) → b ≤ 57 → eqb 95 b ≡ false
+not_underscore b h = grind (arith, nat_tests)
+
+no_underscored : (part bs : List ℕ) → AllDigits bs → has_inside (95 ∷ part) bs ≡ false
+no_underscored part [] a = refl
+no_underscored part (b ∷ bs) a = rw (not_underscore b a.1, no_underscored part bs a.2) refl
+
+pub offset_no_float : (n : ℕ) → is_float_word (offset_is ++ decimal n) ≡ false
+offset_no_float n = let a = all_of (decimal n) (decimal_digits n) in rw (no_underscored (codes "f32") (decimal n) a, no_underscored (codes "f64") (decimal n) a) refl
+
+pub align_no_float : (n : ℕ) → is_float_word (align_is ++ decimal n) ≡ false
+align_no_float n = let a = all_of (decimal n) (decimal_digits n) in rw (no_underscored (codes "f32") (decimal n) a, no_underscored (codes "f64") (decimal n) a) refl

@@ -22,7 +22,7 @@ use Rattle.ms_module.specs.declared.module.Fill.{Fill}
 use Rattle.ms_module.specs.declared.module.Module.{Module}
 use Rattle.ms_module.specs.Building.{IsNumbered}
 use Rattle.ms_module.specs.refinement.Nesting.{NestsWithin}
-use Rattle.ms_text_grammar.specs.Bounds.{usual}
+use Rattle.ms_text_grammar.specs.Bounds.{Bounds}
 
 -- ---- numbers
 
@@ -96,10 +96,10 @@ pub record SayableImport (i : Import) : Type 0 where
   pub known_as : SayableName i.name
   pub desc : SayableImportDesc i.desc
 
-pub record SayableFunc (f : Func) : Type 0 where
+pub record SayableFunc (bounds : Bounds) (f : Func) : Type 0 where
   pub sig : Narrow f.sig
-  pub few : length f.locals ≤ usual.locals
-  pub body : SayableBody usual.blocks f.body
+  pub few : length f.locals ≤ bounds.locals
+  pub body : SayableBody bounds.blocks f.body
 
 abbrev pub SayableExportDesc : ExportDesc → Type 0
 SayableExportDesc (exported.Func x) = Narrow x
@@ -111,25 +111,25 @@ pub record SayableExport (e : Export) : Type 0 where
   pub name : SayableName e.name
   pub desc : SayableExportDesc e.desc
 
-pub record SayableElement (e : Element) : Type 0 where
+pub record SayableElement (bounds : Bounds) (e : Element) : Type 0 where
   pub table : Narrow e.table
-  pub offset : SayableBody usual.blocks e.offset
+  pub offset : SayableBody bounds.blocks e.offset
   pub funcs : All Narrow e.funcs
 
-pub record SayableFill (f : Fill) : Type 0 where
+pub record SayableFill (bounds : Bounds) (f : Fill) : Type 0 where
   pub memory : Narrow f.memory
-  pub offset : SayableBody usual.blocks f.offset
+  pub offset : SayableBody bounds.blocks f.offset
   pub bytes : All (λ b. b < 256) f.bytes
 
 -- ---- modules
 
-pub record Sayable (m : Module) : Type 0 where
+pub record Sayable (bounds : Bounds) (m : Module) : Type 0 where
   pub imports : All SayableImport m.imports
-  pub funcs : All SayableFunc m.funcs
+  pub funcs : All (SayableFunc bounds) m.funcs
   pub tables : All SayableLimits m.tables
   pub memories : All SayableLimits m.memories
-  pub globals : All (λ (g : Global). SayableBody usual.blocks g.init) m.globals
+  pub globals : All (λ (g : Global). SayableBody bounds.blocks g.init) m.globals
   pub exports : All SayableExport m.exports
   pub start : SayableMax m.start
-  pub elements : All SayableElement m.elements
-  pub fills : All SayableFill m.fills
+  pub elements : All (SayableElement bounds) m.elements
+  pub fills : All (SayableFill bounds) m.fills

@@ -2,8 +2,9 @@
 
 ghost use Rattle.std.specs.Prelude.{◌≡◌, ◌++◌, OnOk, IfOk};
 ghost use Rattle.ms_module.specs.declared.module.Module.{Module};
-ghost use Rattle.ms_text_grammar.specs.TextSpells.{TextSpells};
-ghost use Rattle.ms_text_write.specs.refinement.Limits.{KeepsLimits};
+ghost use Rattle.ms_text_grammar.specs.Bounds.{Bounds};
+ghost use Rattle.ms_text_grammar.specs.TextSpells.{TextSpellsUnbounded, TextSpellsWithin};
+ghost use Rattle.ms_text_write.specs.refinement.Limits.{KeepsBounds};
 ghost use Rattle.ms_text_write.specs.Types.{memory_text, table_text};
 ghost use Rattle.ms_flat.specs.refinement.Ranges.{AllFit, LimitsFit, NumberFitsIf};
 ghost use Rattle.ms_text_write.specs.refinement.Ranges.{PartsFit, UsesFit};
@@ -98,10 +99,11 @@ const ROOM: usize = 0x20_0000;
 /// With at most 500 blocks in one another in each body, and 50,000 locals in each function, the text is read as the module.
 pub fn write(alloc: Global, module: &Module) -> Result<Vec<u8>, AllocError>
     ensures written { IfOk result (λ text. text.items ≡ shown «module».now) }
-    // Where the module keeps these limits, the text spells it.
-    ensures spelled { IfOk result (λ text. KeepsLimits «module».now → TextSpells text.items «module».now) }
-    // It then spells no other module.
-    ensures only { IfOk result (λ text. (other : Module) → KeepsLimits «module».now → TextSpells text.items other → other ≡ «module».now) }
+    // The text spells the module, and within all bounds that it keeps.
+    ensures spelled { IfOk result (λ text. TextSpellsUnbounded text.items «module».now) }
+    ensures within { IfOk result (λ text. (bounds : Bounds) → KeepsBounds bounds «module».now → TextSpellsWithin bounds text.items «module».now) }
+    // It spells no other module.
+    ensures only { IfOk result (λ text. (other : Module) → TextSpellsUnbounded text.items other → other ≡ «module».now) }
 {
     let mut out = Vec::with_capacity(alloc, ROOM)?;
     write_opened(Word::Module, &mut out)?;

@@ -1,5 +1,8 @@
 -- Function types by keys: types are the same where their keys are.
-use Rattle.std.specs.Prelude.{ℕ, suc, List, [], ◌∷◌, ◌++◌, Option, Some, None, nat_eq, if◌then◌else◌}
+use Rattle.std.specs.Prelude.{ℕ, suc, List, [], ◌∷◌, ◌++◌, Option, Some, None, Vec, nat_eq, if◌then◌else◌}
+use Rattle.std.specs.BTreeMap.{BTreeMap, get}
+use Rattle.std.specs.Cmp.Lexicographic.{slice_cmp}
+use Rattle.std.specs.Ordering.{nat_cmp}
 use lib.Pointwise.{pointwise}
 use Rattle.ms_types.specs.declared.types.ValType.{ValType}
 use Rattle.ms_types.specs.declared.types.ValType.TheVariants.{I32, I64, Handle}
@@ -22,3 +25,8 @@ key_of ty = codes_of ty.params ++ 0 ∷ codes_of ty.results
 abbrev pub first_of : List FuncType → List ℕ → ℕ → Option ℕ
 first_of [] key n = None
 first_of (ty ∷ tys) key n = if pointwise nat_eq (key_of ty) key then Some n else first_of tys key (suc n)
+
+-- ---- the numbers of keys, as they are kept
+
+abbrev pub at_key : {Z : Type 0} → BTreeMap (Vec ℕ Z) ℕ → Vec ℕ Z → Option ℕ
+at_key numbers key = get (λ x y. slice_cmp nat_cmp x.items y.items) numbers key

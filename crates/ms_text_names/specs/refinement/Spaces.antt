@@ -1,7 +1,9 @@
 -- An index space while it is filled: the source, and the identifiers of its entries so far.
 use Rattle.std.specs.Prelude.{ℕ, suc, Bool, List, [], ◌∷◌, Option, Some, None, nat_eq, if◌then◌else◌, false}
 use Rattle.std.proofs.Common.{Bor}
-use Rattle.std.specs.HashMap.{HashMap, get}
+use Rattle.std.specs.BTreeMap.{BTreeMap, get}
+use Rattle.std.specs.Cmp.Lexicographic.{slice_cmp}
+use Rattle.std.specs.Ordering.{is_eq, nat_cmp}
 use lib.Pointwise.{pointwise}
 use Rattle.ms_text_lex.specs.declared.token.Token.{Token}
 use Rattle.ms_text_lex.specs.Tokens.{text_of}
@@ -24,8 +26,8 @@ first_of source (Some id ∷ ids) text n = if pointwise nat_eq (text_of source i
 
 -- ---- the numbers of texts, as they are kept
 
-abbrev pub number_of : {S : Type 0} → HashMap (Bor (List ℕ)) ℕ S → Bor (List ℕ) → Option ℕ
-number_of numbers text = get (λ x y. pointwise nat_eq x.now y.now) numbers text
+abbrev pub number_of : BTreeMap (Bor (List ℕ)) ℕ → Bor (List ℕ) → Option ℕ
+number_of numbers text = get (λ x y. slice_cmp nat_cmp x.now y.now) numbers text
 
 -- the first of two numbers that is there
 abbrev pub first_or : Option ℕ → Option ℕ → Option ℕ
@@ -34,7 +36,7 @@ first_or (Some n) other = Some n
 
 -- the number of a text, for the same text
 abbrev pub numbered : List ℕ → List ℕ → ℕ → Option ℕ
-numbered text other n = if pointwise nat_eq text other then Some n else None
+numbered text other n = if is_eq (slice_cmp nat_cmp text other) then Some n else None
 
 -- with an entry of this identifier in front, if there is one
 abbrev pub entered : Option (Option Token) → List (Option Token) → List (Option Token)

@@ -1,5 +1,5 @@
-use Rattle.ms_text_grammar.proofs.Files.{one_module}
+use Rattle.ms_text_grammar.proofs.Wider.{one_spelled}
 use Rattle.ms_text_grammar.proofs.laws.one_module_is_spelled.Goals as goal
 
 pub returns : goal.returns
-returns c = λ bytes m n h k. one_module bytes m n h k
+returns c = λ a b bytes m n h k. one_spelled a b bytes m n h k
