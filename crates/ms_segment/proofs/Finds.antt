@@ -1,5 +1,5 @@
 -- What `find` gives in a list that has grown or was filtered, and what stands in bytes that were written.
-use Rattle.std.proofs.Common.{◌≡◌, ℕ, ◌+◌, ◌≤◌, ◌⊎◌, inl, inr, Bool, true, false, cond, List, [], ◌∷◌, ◌++◌, Option, None, Some, length, take, drop, refl, ap, subst, arith}
+use Rattle.std.proofs.Common.{◌≡◌, ℕ, ◌+◌, ◌≤◌, ◌⊎◌, inl, inr, Bool, true, false, cond, List, [], ◌∷◌, ◌++◌, None, Some, length, take, drop, refl, ap, subst, arith}
 use Rattle.std.specs.List.{Contains, filter, find}
 use Rattle.std.proofs.lemmas.List.{take-append-drop}
 use Rattle.std.proofs.lemmas.List.Elements.{Contains-append_cases, Contains-append_left, Contains-append_right}
@@ -11,15 +11,6 @@ use Rattle.ms_tagged.specs.Bytes.{Byte, overwritten}
 pub find-push_other : {X : Type 0} (p : X → Bool) (xs : List X) (x : X) → p x ≡ false → find p (xs ++ x ∷ []) ≡ find p xs
 find-push_other p [] x fails = rw fails refl
 find-push_other p (y ∷ ys) x fails = ap (cond (p y) (Some y)) (find-push_other p ys x fails)
-
-push-head : {X : Type 0} (y x : X) (b : Bool) (old new : Option X) → (old ≡ None → new ≡ Some x) → cond b (Some y) old ≡ None → cond b (Some y) new ≡ Some x
-push-head y x true old new rest none = absurd (cc)
-push-head y x false old new rest none = rest none
-
--- one more element, which is the first that passes
-pub find-push_new : {X : Type 0} (p : X → Bool) (xs : List X) (x : X) → find p xs ≡ None → p x ≡ true → find p (xs ++ x ∷ []) ≡ Some x
-find-push_new p [] x none is = rw is refl
-find-push_new p (y ∷ ys) x none is = push-head y x (p y) (find p ys) (find p (ys ++ x ∷ [])) (λ r. find-push_new p ys x r is) none
 
 kept-head : {X : Type 0} (p q : X → Bool) (y : X) (ys : List X) (b c : Bool) → q y ≡ b → p y ≡ c → (p y ≡ true → q y ≡ true) → find p (filter q ys) ≡ find p ys → find p (cond b (y ∷ filter q ys) (filter q ys)) ≡ cond c (Some y) (find p ys)
 kept-head p q y ys true c is_q is_p keeps rest = cc

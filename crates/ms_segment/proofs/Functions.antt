@@ -1,4 +1,5 @@
--- The functions of `Calls.antt` are what the relations of `Memory.antt` hold of, and they hold of nothing else.
+-- What the functions of `Calls.antt` give when a segment is made or a handle loaded, the relations of `Memory.antt` hold of, and of nothing else. Of freeing and
+-- storing that computes.
 use Rattle.std.proofs.Common.{◌≡◌, ◌==◌, ℕ, zero, suc, ◌+◌, ◌≤◌, ◌&&◌, Bool, true, false, cond, inl, inr, List, [], ◌∷◌, Option, Some, None, Result, Ok, length, replicate, refl, sym, ap, ◌∙◌, arith}
 use Rattle.std.specs.Prelude.{nat_lt}
 use Rattle.std.specs.Ordering.{int_eq}
@@ -8,15 +9,15 @@ use Rattle.ms_event.specs.declared.event.Event.{Event}
 use Rattle.ms_handle.specs.declared.handle.Handle.{Handle}
 use Rattle.ms_handle.specs.declared.handle.Handle.TheVariants as handles
 use Rattle.ms_handle.specs.declared.handle.Kind.{Kind}
-use Rattle.ms_tagged.specs.Bytes.{Byte, Data, IsHandleAt, Piece, cleared, data_of, pieces, range, torn, whole}
+use Rattle.ms_tagged.specs.Bytes.{Byte, Data, IsHandleAt, Piece, cleared, pieces, range, torn, whole}
 use Rattle.ms_tagged.specs.refinement.Tags.{pieces_from}
 use Rattle.ms_tagged.proofs.Handles.{IsHandleAt-unique}
 use Rattle.ms_tagged.proofs.Ranges.{length-range}
 use Rattle.ms_segment.specs.declared.trap.SegTrap.{SegTrap}
 use Rattle.ms_event.specs.Monitor.{most_live}
-use Rattle.ms_segment.specs.Memory.{Access, Frees, IsFit, IsSound, LoadsHandle, Makes, Memory, Stores, access, ended, freed, full, handle_access, made, no_room, read, read_event, stopped, stored, writable}
+use Rattle.ms_segment.specs.Memory.{Access, IsFit, IsSound, LoadsHandle, Makes, Memory, full, handle_access, made, no_room, read, read_event, stopped}
 use Rattle.ms_segment.specs.Parts.{IsPlaceIn}
-use Rattle.ms_segment.specs.Calls.{DoesChange, are_pieces, are_zeros, ended_at, free, handle_at, handle_loaded_at, load_handle, make, made_at, place_of, same_handle, same_sort, store, store_handle, stored_at}
+use Rattle.ms_segment.specs.Calls.{are_pieces, are_zeros, handle_at, handle_loaded_at, load_handle, make, made_at, place_of, same_handle, same_sort}
 use Rattle.ms_segment.proofs.Places.{place_of_is}
 use Rattle.ms_segment.proofs.Reach.{handle_access-within}
 
@@ -142,23 +143,3 @@ loaded_at_is m r result within stopped = refl
 pub loads_alone : (m : Memory) (h : Handle) (result : Result (Handle × Event) SegTrap) → IsSound m → IsFit m h → LoadsHandle m (handle_access m h) result → result ≡ load_handle m h
 loads_alone m h result sound fit loads =
     loaded_at_is m (handle_access m h) result (λ a is. (handle_access-within m h a sound fit is).0) loads
-
--- ---- freeing and storing
-
-ended_at_is : (m after : Memory) (r : Result ℕ SegTrap) (result : Result Event SegTrap) → Frees m r result after → DoesChange (ended_at m r) m after result
-ended_at_is m after r result ended = refl
-ended_at_is m after r result stopped = (refl, refl)
-
-pub frees_alone : (m after : Memory) (h : Handle) (kind : Kind) (result : Result Event SegTrap) → Frees m (freed m h kind) result after → DoesChange (free m h kind) m after result
-frees_alone m after h kind result frees = ended_at_is m after (freed m h kind) result frees
-
-stored_at_is : (m after : Memory) (new : List Byte) (width : ℕ) (r : Result Access SegTrap) (result : Result Event SegTrap) → Stores m new width r result after → DoesChange (stored_at m new width r) m after result
-stored_at_is m after new width r result stored = refl
-stored_at_is m after new width r result stopped = (refl, refl)
-
-pub stores_alone : (m after : Memory) (h : Handle) (width value : ℕ) (result : Result Event SegTrap) → Stores m (data_of width value) width (writable (access m h width)) result after → DoesChange (store m h width value) m after result
-stores_alone m after h width value result stores =
-    stored_at_is m after (data_of width value) width (writable (access m h width)) result stores
-
-pub stores_handle_alone : (m after : Memory) (h v : Handle) (result : Result Event SegTrap) → Stores m (pieces v) 16 (writable (handle_access m h)) result after → DoesChange (store_handle m h v) m after result
-stores_handle_alone m after h v result stores = stored_at_is m after (pieces v) 16 (writable (handle_access m h)) result stores

@@ -1,7 +1,6 @@
 -- Live segments stay placed, whatever is done to the memory.
-use Rattle.std.proofs.Common.{◌≡◌, ℕ, ◌+◌, ◌-◌, ◌<◌, ◌≤◌, Bool, true, false, cond, zero, suc, List, [], ◌∷◌, ◌++◌, Option, Some, None, get_or, length, replicate, sym, refl, subst, arith}
+use Rattle.std.proofs.Common.{◌≡◌, ℕ, ◌+◌, ◌-◌, ◌<◌, ◌≤◌, zero, suc, List, [], ◌∷◌, ◌++◌, Some, get_or, length, replicate, sym, refl, subst, arith}
 use Rattle.std.specs.List.{All}
-use Rattle.std.specs.Prelude.{nat_lt}
 use Rattle.std.proofs.lemmas.List.Elements.{All-filter, All-nil, All-push, All-weaker}
 use Rattle.std.proofs.lemmas.List.Kept.{AllPairs-filter}
 use Rattle.std.proofs.lemmas.List.Quantifiers.{all_pairs_push}
@@ -11,11 +10,8 @@ use Rattle.ms_live.specs.declared.gaps.Live.{Live}
 use Rattle.ms_live.specs.Place.{IsOutside, IsPlace, without}
 use Rattle.ms_tagged.specs.Bytes.{Byte, Data, overwritten}
 use Rattle.ms_tagged.proofs.Ranges.{length-overwritten}
-use Rattle.ms_event.specs.Monitor.{most_live}
-use Rattle.ms_segment.specs.Calls.{made_at, make, place_of}
 use Rattle.ms_segment.specs.Memory.{AreApart, IsWithin, Memory, Placed, once_more, with_bytes}
 use Rattle.ms_segment.specs.Parts.{entered}
-use Rattle.ms_segment.proofs.Places.{IsPlace-place_of}
 
 -- ---- a place
 
@@ -64,18 +60,6 @@ Placed-entered m base size kind p placed =
       apart = all_pairs_push AreApart m.live new p.apart (λ k d below. apart_new m.live (length m.bytes) size base (m.made + 1) kind (get_or m.live k d) (λ j under. (placed.1 j under).1 k d below));
       ids = All-push (λ (t : Live). (1 ≤ t.id) × (t.id ≤ m.made + 1)) m.live new (All-weaker (λ (t : Live). (1 ≤ t.id) × (t.id ≤ m.made)) (λ (t : Live). (1 ≤ t.id) × (t.id ≤ m.made + 1)) (λ t id. (id.0, omega arith)) m.live p.ids) (omega arith, omega arith);
     }
-
--- the place that `make` finds, whatever the memory
-pub place_found : (m : Memory) (size base : ℕ) (b : Bool) → cond b (place_of m.live (length m.bytes) size) None ≡ Some base → IsPlace m.live (length m.bytes) size (Some base)
-place_found m size base true is = subst (IsPlace m.live (length m.bytes) size) is (IsPlace-place_of m.live (length m.bytes) size)
-place_found m size base false is = absurd (cc)
-
-made_at_placed : (m : Memory) (size : ℕ) (kind : Kind) (o : Option ℕ) → Placed m → ((base : ℕ) → o ≡ Some base → IsPlace m.live (length m.bytes) size (Some base)) → Placed (made_at m size kind o).memory
-made_at_placed m size kind None p found = p
-made_at_placed m size kind (Some base) p found = Placed-entered m base size kind p (found base refl)
-
-pub make_placed : (m : Memory) (size : ℕ) (kind : Kind) → Placed m → Placed (make m size kind).memory
-make_placed m size kind p = made_at_placed m size kind _ p (λ base is. place_found m size base (nat_lt (length m.live) most_live) is)
 
 -- new memory
 pub Placed-new : (capacity : ℕ) → Placed (record { bytes = replicate capacity (Data 0); live = []; made = 0; accesses = 0 })
