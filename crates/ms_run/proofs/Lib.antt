@@ -2,6 +2,7 @@ pub mod Refusals
 pub mod Once
 pub mod Finding
 pub mod Later
+pub mod Putting
 pub mod Done
 pub mod Printed
 pub mod Written

@@ -2,6 +2,7 @@
 use Rattle.std.specs.Prelude.{◌≡◌}
 use Rattle.ms_event.specs.Monitor.{Accepts}
 use Rattle.ms_job.specs.declared.job.Job.{Job}
+use Rattle.ms_machine.specs.Accesses.{counted_all}
 use Rattle.ms_machine.specs.Crews.{Input, Run, events_of}
 use Rattle.ms_machine.specs.Running.{MayGive}
 use Rattle.ms_run.specs.Answers.{Answer}
@@ -37,3 +38,5 @@ pub record RanSafely (s : Shelved) (r : Report) (f : Flow) (job : Job) (status :
   pub flowed : RunsWhole given f run
   -- its allocations, slices, reads, writes and frees are a trace that the colour monitor accepts
   pub accepted : Accepts job.memory (events_of run.deeds)
+  -- and the segment memory that it leaves has counted exactly the reads and writes among them
+  pub counted : run.crew.store.segments.accesses ≡ counted_all (events_of run.deeds) 0
