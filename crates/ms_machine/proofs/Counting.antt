@@ -18,7 +18,7 @@ use Rattle.ms_segment.specs.Memory.{Access, Memory, access, as_number, freed, ha
 use Rattle.ms_segment.specs.declared.trap.SegTrap.{SegTrap}
 use Rattle.ms_tagged.specs.Bytes.{Byte, data_of, number_at, pieces, range}
 use Rattle.ms_task.specs.Thread.{Thread}
-use Rattle.ms_machine.specs.Accesses.{counted_all}
+use Rattle.ms_machine.specs.refinement.Accesses.{counted_all}
 use Rattle.ms_machine.specs.Hosting as hosting
 use Rattle.ms_machine.specs.Hosting.{host_on, takes}
 use Rattle.ms_machine.specs.Moves.{Goes, hosted, move_for, move_on}

@@ -4,7 +4,6 @@ pub mod Step
 pub mod Hosting
 pub mod Moves
 pub mod Running
-pub mod Accesses
 pub mod Crews
 pub mod Constants
 pub mod Writing

@@ -2,7 +2,7 @@
 
 ghost use Rattle.std.specs.Prelude.{◌≡◌, ◌≢◌, ℕ, ◌+◌, ◌<◌, ◌≤◌, ◌^◌, ◌++◌, List, [], ◌∷◌, length, IfOk, IsTrue, Option, None, Some};
 ghost use Rattle.ms_handle.specs.declared.handle.Handle.{Handle};
-ghost use Rattle.ms_machine.specs.Accesses.{counted_all};
+ghost use Rattle.ms_machine.specs.refinement.Accesses.{counted_all};
 ghost use Rattle.ms_machine.specs.refinement.Doing.{Can, DoesFirst, LeavesStore, with_more};
 ghost use Rattle.ms_machine.specs.refinement.Holding.{Each, Fits, StoreFits, ThreadFits};
 ghost use Rattle.ms_machine.specs.Moves as moves;

@@ -2,7 +2,7 @@
 use Rattle.std.proofs.Common.{◌≡◌, ℕ, List, [], ◌∷◌, ◌++◌, slice_get, Option, Some, None, refl, sym, ap, ◌∙◌}
 use Rattle.ms_event.specs.declared.event.Event.{Event}
 use Rattle.ms_task.specs.Thread.{Thread}
-use Rattle.ms_machine.specs.Accesses.{counted, counted_all}
+use Rattle.ms_machine.specs.refinement.Accesses.{counted, counted_all}
 use Rattle.ms_machine.specs.Crews.{Crew, Deeds, Input, Run, Start, Task, Whose, begun, behind, deed, events_of, is_over, moved, passed, run_entries, run_of, task_turn, turn, with_start, with_task}
 use Rattle.ms_machine.specs.Moves as moves
 use Rattle.ms_machine.specs.Moves.{Goes, Move, first_of, move_of, rest_of}

@@ -3,7 +3,7 @@
 ghost use Rattle.std.specs.Prelude.{◌≡◌, ◌≢◌, ◌+◌, ◌<◌, ◌≤◌, ◌^◌, true, List, [], Some, IfOk, MatchResult, length, slice_get};
 ghost use Rattle.ms_event.specs.declared.event.Event.{Event};
 ghost use Rattle.ms_event.specs.Monitor.{Accepts};
-ghost use Rattle.ms_machine.specs.Accesses.{counted_all};
+ghost use Rattle.ms_machine.specs.refinement.Accesses.{counted_all};
 ghost use Rattle.ms_machine.specs.Crews.{Input, Stuck, events_of, run_of};
 ghost use Rattle.ms_machine.specs.refinement.Holding.{StoreFits};
 ghost use Rattle.ms_machine.specs.Linked.{StartsTyped};

@@ -3,7 +3,7 @@
 ghost use Rattle.std.specs.Prelude.{◌≡◌, ◌≢◌, ℕ, List, [], ◌++◌, length};
 ghost use Rattle.ms_event.specs.declared.event.Event.{Event};
 ghost use Rattle.ms_event.specs.Monitor.{Accepts};
-ghost use Rattle.ms_machine.specs.Accesses.{counted_all};
+ghost use Rattle.ms_machine.specs.refinement.Accesses.{counted_all};
 ghost use Rattle.ms_machine.specs.Crews.{Crew, Input, Stuck, events_of, run_of};
 ghost use Rattle.ms_machine.specs.refinement.Safety.{Sound};
 ghost use Rattle.ms_tasks.specs.refinement.Ready.{IsReady, threads_of};
