@@ -7,6 +7,7 @@ pub mod Done
 pub mod Printed
 pub mod Written
 pub mod Counting
+pub mod Accesses
 pub mod Ending
 pub mod Executed
 pub mod Gathered

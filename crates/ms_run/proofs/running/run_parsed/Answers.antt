@@ -29,10 +29,10 @@ returns-clause-did g c =
     tasks_answered _ _ _ _ _ _ _ _ _ _ _ _ _ _ _ c.args.naming c.args.job _ modules all c.in-Ok.ensures.untouched _ _ _ _ _ c.in-Ok-schedule_of.schedule c.into_vec-tasks.result.items c.into_vec-tasks.ensures e.entries e.untouched c.execute.result c.execute.ensures.reads c.execute.ensures.printed
 
 pub returns-in-Err-clause-safe : goal.returns-in-Err-clause-safe
-returns-in-Err-clause-safe g c = job_did_safely _ _ _ c.args.naming c.args.job c.requires.bounds.memory _ (returns-in-Err-clause-did g c)
+returns-in-Err-clause-safe g c = job_did_safely _ _ _ c.args.naming c.args.job c.requires.bounds _ (returns-in-Err-clause-did g c)
 
 pub returns-in-Err-schedule_of-clause-safe : goal.returns-in-Err-schedule_of-clause-safe
-returns-in-Err-schedule_of-clause-safe g c = job_did_safely _ _ _ c.args.naming c.args.job c.requires.bounds.memory _ (returns-in-Err-schedule_of-clause-did g c)
+returns-in-Err-schedule_of-clause-safe g c = job_did_safely _ _ _ c.args.naming c.args.job c.requires.bounds _ (returns-in-Err-schedule_of-clause-did g c)
 
 pub returns-clause-safe : goal.returns-clause-safe
-returns-clause-safe g c = job_did_safely _ _ _ c.args.naming c.args.job c.requires.bounds.memory _ (returns-clause-did g c)
+returns-clause-safe g c = job_did_safely _ _ _ c.args.naming c.args.job c.requires.bounds _ (returns-clause-did g c)
