@@ -25,11 +25,10 @@ use Rattle.ms_tasks.proofs.Outs.{length_turns}
 use Rattle.ms_tasks.proofs.Counting.{run_counts}
 use Rattle.ms_tasks.proofs.Safe.{run_accepted}
 use Rattle.ms_command_line.specs.Commands as options
-use Rattle.ms_job.specs.Jobs.{job_in}
 use Rattle.ms_job.specs.refinement.Bounds.{IsBounded}
 use Rattle.ms_job.specs.declared.job.Job.{Job}
 use Rattle.ms_job.proofs.Bounded.{job_is_bounded}
-use Rattle.ms_run.specs.Answers.{Answer, Found, HasBytes}
+use Rattle.ms_run.specs.Answers.{Answer, Found}
 use Rattle.ms_run.specs.Executions.{AnswersAs, Execution, NoTask, Ran, Unlinked, execution, if_linked, with_threads}
 use Rattle.ms_run.specs.Flows.{DidRun, FlowsAs, IsUnrun, cut, delivered, input_failed, out_failed, starved_run}
 use Rattle.ms_run.specs.Jobs.{AllLoaded, HasEntries, HasJob, RunOfFile, RunOfJob, RunsFile, RunsJob, executed, in_turns, job as of_file, listed, no_job, no_job_file, no_more, one_more, unloaded, unscheduled}

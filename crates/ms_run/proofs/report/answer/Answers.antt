@@ -1,4 +1,4 @@
-use Rattle.std.proofs.Common.{inl, inr, ◌<◌, length, arith}
+use Rattle.std.proofs.Common.{inl, inr}
 use Rattle.ms_run.proofs.Putting.{all_put, line_cut, line_starved, none_left, none_so_far, one_more, some_left}
 use Rattle.ms_run.proofs.report.answer.Goals as goal
 
