@@ -2,10 +2,12 @@ pub mod Refusals
 pub mod Once
 pub mod Finding
 pub mod Later
+pub mod Putting
 pub mod Done
 pub mod Printed
 pub mod Written
 pub mod Counting
+pub mod Accesses
 pub mod Ending
 pub mod Executed
 pub mod Gathered

@@ -10,14 +10,14 @@ use Rattle.ms_run.specs.Answers.{Assembles, Command, Disassembles, assembled, di
 use Rattle.ms_run.specs.Lines.{fault_words, large_line, refused_line, text_fault_words}
 use Rattle.ms_run.specs.Loading.{Binary, IsOfReading, Refuses, Text}
 use Rattle.ms_run.specs.Observed.{Report, Shelved}
-use Rattle.ms_run.specs.Reporting.{Delivers, IsStarved, KeepsFiles, Makes, Reports, ReportsFault, made, made_none, put}
+use Rattle.ms_run.specs.Reporting.{Delivers, IsSilent, KeepsFiles, Makes, Reports, ReportsFault, made, made_none, put}
 use Rattle.ms_run.specs.declared.loading.LoadFault.{LoadFault}
 use Rattle.ms_run.specs.declared.loading.LoadFault.TheVariants as faults
 use Rattle.ms_run.specs.declared.status.Status.{Status}
 use Rattle.ms_run.specs.declared.status.Status.TheVariants.{Refused}
 use Rattle.ms_run.proofs.Printed.{unread_binary, unread_text}
 
-starved_makes : (Does : Command) (bytes : List ℕ) (s : Shelved) (r : Report) (result : Status) → KeepsFiles s → IsStarved r result → Makes Does bytes s r result
+starved_makes : (Does : Command) (bytes : List ℕ) (s : Shelved) (r : Report) (result : Status) → KeepsFiles s → IsSilent r result → Makes Does bytes s r result
 starved_makes Does bytes s r result kept h = subst (λ (x : Status). Makes Does bytes s r x) (sym h.0) (made_none kept h.1)
 
 module _ (out bytes : List ℕ) (s : Shelved) (r : Report) (result : Status) where

@@ -56,6 +56,12 @@ pub data HasEntries (Has : List ℕ → Found → Type 0) (job : Job) : List ℕ
 pub data Unscheduled (Has : List ℕ → Found → Type 0) (job : Job) : Answer → Type 0 where
   unlisted : (name : List ℕ) {a : Answer} → job.schedule ≡ Some name → Unnumbered Has name a → Unscheduled Has job a
 
+-- ---- jobs
+
+-- the file has this job
+abbrev pub HasJob : (List ℕ → Found → Type 0) → (name : List ℕ) → Job → Type 0
+HasJob Has name job = (bytes : List ℕ) × HasBytes Has name bytes × (job_in bytes ≡ Ok job)
+
 -- ---- the answers, and the run of which each tells, if there was one
 
 pub data RunsJob (Has : List ℕ → Found → Type 0) (naming : Naming) (given : Input) (job : Job) : Option Run → Answer → Type 0 where

@@ -1,5 +1,5 @@
 -- What the objects outside have to do with an answer: the file that is read, the file that is written, and the report.
-use Rattle.std.specs.Prelude.{◌≡◌, ◌⊎◌, ℕ, List, ◌++◌, Option, Some, None, MatchOption}
+use Rattle.std.specs.Prelude.{◌≡◌, ◌⊎◌, ℕ, List, [], ◌++◌, Option, Some, None, MatchOption}
 use Rattle.ms_outside.specs.Faults.{CountsFault, Rose}
 use Rattle.ms_outside.specs.Files.{Files}
 use Rattle.ms_outside.specs.Shelf.{SameCounts, IfKnown, Writes}
@@ -8,7 +8,7 @@ use Rattle.ms_outside.specs.declared.sink.Put.TheVariants as puts
 use Rattle.ms_run.specs.Answers.{Answer, Command, Contents, Fault, File, Found, Verdict, says}
 use Rattle.ms_job.specs.declared.fault.JobFault.{JobFault}
 use Rattle.ms_job.specs.declared.fault.JobFault.TheVariants as job_faults
-use Rattle.ms_run.specs.Lines.{job_line, refused_line}
+use Rattle.ms_run.specs.Lines.{job_line, line, refused_line}
 use Rattle.ms_run.specs.Loading.{load_words}
 use Rattle.ms_run.specs.Observed.{Report, Shelved}
 use Rattle.ms_run.specs.declared.loading.LoadFault.{LoadFault}
@@ -26,18 +26,27 @@ Grows r piece = MatchOption r.old (r.new ≡ None) (λ held. r.new ≡ Some (hel
 abbrev pub IsKept : Report → Type 0
 IsKept r = (r.new ≡ r.old) × (r.puts_new ≡ r.puts_old)
 
--- the line was put for this status, or a first part of it, or nothing
+-- whole lines, or nothing
+abbrev pub AreLines : List ℕ → Type 0
+AreLines text = (text ≡ []) ⊎ ((front : List ℕ) × (text ≡ line front))
+
+-- The lines of an answer were put for this status; or a put failed, and a first part of them stands there; or memory ran out, and
+-- some of the first ones do, or none.
 abbrev pub IsWhole : Status → List ℕ → Report → Status → Type 0
-IsWhole status line r result = (result ≡ status) × Grows r line × (r.puts_new ≡ r.puts_old)
+IsWhole status lines r result = (result ≡ status) × Grows r lines × (r.puts_new ≡ r.puts_old)
 
 abbrev pub IsCut : List ℕ → Report → Status → Type 0
-IsCut line r result = (result ≡ WriteFault) × (front : List ℕ) × IsFront front line × Grows r front × CountsFault r.puts_old r.puts_new
+IsCut lines r result = (result ≡ WriteFault) × (front : List ℕ) × IsFront front lines × Grows r front × CountsFault r.puts_old r.puts_new
 
-abbrev pub IsStarved : Report → Status → Type 0
-IsStarved r result = (result ≡ OutOfMemory) × IsKept r
+abbrev pub IsStarved : List ℕ → Report → Status → Type 0
+IsStarved lines r result = (result ≡ OutOfMemory) × (front : List ℕ) × IsFront front lines × AreLines front × Grows r front × (r.puts_new ≡ r.puts_old)
 
 abbrev pub Reports : Status → List ℕ → Report → Status → Type 0
-Reports status line r result = IsWhole status line r result ⊎ (IsCut line r result ⊎ IsStarved r result)
+Reports status lines r result = IsWhole status lines r result ⊎ (IsCut lines r result ⊎ IsStarved lines r result)
+
+-- memory ran out before anything was put
+abbrev pub IsSilent : Report → Status → Type 0
+IsSilent r result = (result ≡ OutOfMemory) × IsKept r
 
 -- ---- the file that is read
 
@@ -69,7 +78,7 @@ HasFailed s (Some file) = Writes file.name file.bytes puts.Failed s.old s.new ×
 
 -- ---- an answer, and what became of it
 
--- It was written and put whole; or put in part, or not written; or memory ran out before the line was put.
+-- It was written and put whole, or in part; or not written; or memory ran out before that.
 pub data Delivers (a : Answer) (s : Shelved) (r : Report) : Status → Type 0 where
   put : {result : Status} → HasWritten s a.file → Reports a.status a.report r result → Delivers a s r result
   failed : HasFailed s a.file → IsKept r → Delivers a s r WriteFault
@@ -106,12 +115,12 @@ pub data Makes (Does : Command) (bytes : List ℕ) (s : Shelved) (r : Report) : 
 
 -- why there is no module was put, `what` being refused; where memory ran out, nothing
 abbrev pub ReportsFault : (what : List ℕ) → LoadFault → Report → Status → Type 0
-ReportsFault what Memory r result = IsStarved r result
+ReportsFault what Memory r result = IsSilent r result
 ReportsFault what fault r result = Reports Refused (refused_line what (load_words fault)) r result
 
 -- why a text is no job was put; where memory ran out, nothing
 abbrev pub ReportsJobFault : JobFault → Report → Status → Type 0
-ReportsJobFault job_faults.Memory r result = IsStarved r result
+ReportsJobFault job_faults.Memory r result = IsSilent r result
 ReportsJobFault fault r result = Reports Refused (job_line fault) r result
 
 -- the verdict on a trace was put; where memory ran out, nothing

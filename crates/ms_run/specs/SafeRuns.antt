@@ -1,6 +1,8 @@
 -- The run of which an answer tells that came to an end: what was run, what was told of it, and that it was safe.
-use Rattle.std.specs.Prelude.{◌≡◌}
+use Rattle.std.specs.Prelude.{◌≡◌, Bool, true, false, filter, length}
 use Rattle.ms_event.specs.Monitor.{Accepts}
+use Rattle.ms_event.specs.declared.event.Event.{Event}
+use Rattle.ms_event.specs.declared.event.Event.TheVariants.{Read, Write}
 use Rattle.ms_job.specs.declared.job.Job.{Job}
 use Rattle.ms_machine.specs.Crews.{Input, Run, events_of}
 use Rattle.ms_machine.specs.Running.{MayGive}
@@ -21,6 +23,12 @@ IsEnd Trapped = Unit {0}
 IsEnd OutOfBudget = Unit {0}
 IsEnd _ = ⊥
 
+-- bytes of the segment memory are read or written
+abbrev pub is_access : Event → Bool
+is_access (Read sealed id lo hi address width) = true
+is_access (Write id lo hi address width) = true
+is_access _ = false
+
 pub record RanSafely (s : Shelved) (r : Report) (f : Flow) (job : Job) (status : Status) : Type 0 where
   -- the run of the job's modules and tasks by its schedule, over what the input gave
   pub given : Input
@@ -37,3 +45,5 @@ pub record RanSafely (s : Shelved) (r : Report) (f : Flow) (job : Job) (status :
   pub flowed : RunsWhole given f run
   -- its allocations, slices, reads, writes and frees are a trace that the colour monitor accepts
   pub accepted : Accepts job.memory (events_of run.deeds)
+  -- and as many of them are reads and writes as the segment memory that the run leaves has counted accesses
+  pub counted : run.crew.store.segments.accesses ≡ length (filter is_access (events_of run.deeds))

@@ -5,6 +5,7 @@ ghost use Rattle.ms_run.specs.Answers.{Checks};
 ghost use Rattle.ms_run.specs.Reporting.{IsFound, Tells};
 ghost use Rattle.ms_run.specs.Observed.{reported, shelved};
 
+use crate::lines::valid_line;
 use crate::loading::load_file;
 use crate::report::answer;
 use crate::status::Status;
@@ -29,7 +30,7 @@ pub fn check_file<F: Shelf, I: Source, O: Sink, R: Sink>(
     ensures out { (O.held _out.new ≡ O.held _out.old) × (O.faults _out.new ≡ O.faults _out.old) }
 {
     match load_file(alloc, "", file, shelf, report) {
-        Ok(_valid) => answer(report, Status::Done, b"valid\n"),
+        Ok(_valid) => answer(report, Status::Done, valid_line()),
         Err(status) => status,
     }
 }

@@ -10,7 +10,7 @@ ghost use Rattle.ms_run.specs.declared.status.Status.{Status};
 ghost use Rattle.ms_run.specs.Observed.{reported, shelved};
 
 use crate::fetch::fetch;
-use crate::lines::written_line;
+use crate::lines::{large_line, written_line};
 use crate::loading::{LoadFault, read_binary, read_text};
 use crate::report::{answer, answer_fault, write_and_answer};
 use crate::status::Status;
@@ -66,7 +66,7 @@ fn asm_bytes<F: Shelf, R: Sink>(
     };
     match ms_bin_write::write(alloc, &module) {
         Ok(binary) => deliver(alloc, target, binary.as_slice(), shelf, report),
-        Err(BinFault::Large) => answer(report, Status::Refused, b"refused large\n"),
+        Err(BinFault::Large) => answer(report, Status::Refused, large_line()),
         Err(BinFault::Memory) => Status::OutOfMemory,
     }
 }

@@ -17,7 +17,7 @@ ghost use Rattle.ms_tasks.specs.refinement.Ready.{IsReady};
 ghost use Rattle.ms_tasks.specs.refinement.Schedules.{HasTurns, entries_of};
 
 use crate::dump::dump_all;
-use crate::lines::{budget_line, link_line, result_line, task_line, trap_line};
+use crate::lines::{budget_line, input_fault_line, link_line, result_line, task_line, trap_line};
 use crate::report::{answer, answer_line, write_and_answer};
 use crate::status::Status;
 use crate::telling::Telling;
@@ -174,7 +174,7 @@ fn run_crew<G: Gaps, T: Tagged, F: Shelf, I: Source, O: Sink, R: Sink>(
                 report,
             )
         }
-        Ran::ReadFault => answer(report, Status::ReadFault, b"read fault\n"),
+        Ran::ReadFault => answer(report, Status::ReadFault, input_fault_line()),
         Ran::WriteFault => Status::WriteFault,
         Ran::Memory => Status::OutOfMemory,
     }

@@ -1,9 +1,9 @@
-//! The lines of the report that name a place, a part or a number.
+//! The lines of the report.
 
 ghost use Rattle.std.specs.Prelude.{◌≡◌, ◌++◌, IfOk, codes, string_bytes};
 ghost use Rattle.std.specs.Fmt.{decimal};
 ghost use Rattle.ms_num.specs.Integers.{signed};
-ghost use Rattle.ms_run.specs.Lines.{accepted_line, budget_line, counted_word, fault_words, job_line, lexing_words, line, link_line, part_words, refused_line, rejected_line, result_line, schedule_line, task_line, text_counted_word, text_fault_words, trace_line, trap_line, why_word, written_line};
+ghost use Rattle.ms_run.specs.Lines.{accepted_line, budget_line, counted_word, fault_words, input_fault_line, job_line, large_line, lexing_words, line, link_line, part_words, refused_line, rejected_line, result_line, schedule_line, task_line, text_counted_word, text_fault_words, trace_line, trap_line, valid_line, why_word, written_line};
 ghost use Rattle.ms_run.specs.Loading.{load_words, refusal_words};
 
 use crate::loading::LoadFault;
@@ -16,6 +16,27 @@ use ms_text_grammar::{Counted as TextCounted, TextFault};
 use ms_text_lex::LexFault;
 use ms_valid::{Part, Refusal};
 use std::alloc::{AllocError, Global};
+
+/// The input of a program failed.
+pub fn input_fault_line() -> &'static [u8]
+    ensures { result.now ≡ input_fault_line }
+{
+    b"read fault\n"
+}
+
+/// A module is valid.
+pub fn valid_line() -> &'static [u8]
+    ensures { result.now ≡ valid_line }
+{
+    b"valid\n"
+}
+
+/// A section or a body of what is written would have 2^32 bytes or more.
+pub fn large_line() -> &'static [u8]
+    ensures { result.now ≡ large_line }
+{
+    b"refused large\n"
+}
 
 /// What happened to a file.
 pub fn file_line(alloc: Global, what: &str, file: &str) -> Result<String, AllocError>

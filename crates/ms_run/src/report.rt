@@ -1,8 +1,8 @@
-//! Putting an answer into the report.
+//! Putting an answer into the report, line by line.
 
-ghost use Rattle.std.specs.Prelude.{◌≡◌, ℕ, List, IfOk, Some, string_bytes};
+ghost use Rattle.std.specs.Prelude.{◌≡◌, ◌⊎◌, ◌<◌, ◌++◌, ℕ, List, [], IfOk, Some, length, string_bytes};
 ghost use Rattle.ms_outside.specs.Shelf.{SameCounts};
-ghost use Rattle.ms_run.specs.Reporting.{Delivers, Reports, ReportsFault, ReportsJobFault};
+ghost use Rattle.ms_run.specs.Reporting.{AreLines, Delivers, Reports, ReportsFault, ReportsJobFault};
 ghost use Rattle.ms_run.specs.Observed.{reported, shelved};
 
 use crate::lines::{job_line, load_line};
@@ -12,17 +12,36 @@ use ms_job::JobFault;
 use ms_outside::{Put, Shelf, Sink};
 use std::alloc::{AllocError, Global};
 
-/// Puts the text, and gives the status, or that of a fault.
+/// The first line of a text, with the line feed that ends it, and what stands behind it. Where no line ends, it is all of the text.
+fn split_line(text: &[u8]) -> (&[u8], &[u8])
+    requires some { 0 < length text.now }
+    ensures parts { text.now ≡ result.0.now ++ result.1.now }
+    ensures shorter { length result.1.now < length text.now }
+    ensures line { AreLines result.0.now ⊎ (result.1.now ≡ []) }
+{
+    match text.iter().position(|byte| *byte == b'\n') {
+        Some(at) => text.split_at(at + 1),
+        None => (text, &[]),
+    }
+}
+
+/// Puts the lines of a text, each by one put, and gives the status, or that of a fault. Behind a put that isn't done there is none.
 pub fn answer<R: Sink>(report: &mut R, status: Status, text: &[u8]) -> Status
     ensures { Reports status text.now
         (reported R.held R.faults report.old report.new)
         result }
 {
-    match report.put(text) {
-        Put::Done => status,
-        Put::Failed => Status::WriteFault,
-        Put::Memory => Status::OutOfMemory,
+    let mut left = text;
+    while !left.is_empty() {
+        let (line, behind) = split_line(left);
+        match report.put(line) {
+            Put::Done => {}
+            Put::Failed => return Status::WriteFault,
+            Put::Memory => return Status::OutOfMemory,
+        }
+        left = behind;
     }
+    status
 }
 
 /// Puts a line, if there was memory for it, and gives the status, or that of a fault.
@@ -41,7 +60,8 @@ pub fn answer_line<R: Sink>(
     }
 }
 
-/// Writes a file, puts the text, and gives the status, or that of a fault. Where the file isn't written whole nothing is put.
+/// Writes a file, puts the lines of the text, and gives the status, or that of a fault. Where the file isn't written whole nothing is
+/// put.
 pub fn write_and_answer<F: Shelf, R: Sink>(
     alloc: Global,
     name: &str,

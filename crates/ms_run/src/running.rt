@@ -3,12 +3,14 @@
 ghost use Rattle.std.specs.Prelude.{◌≡◌, ◌≤◌, ◌<◌, ◌^◌, IfOk};
 ghost use Rattle.ms_command_line.specs.Commands as options;
 ghost use Rattle.ms_job.specs.refinement.Bounds.{IsBounded};
+ghost use Rattle.ms_job.specs.declared.job.Job.{Job};
 ghost use Rattle.ms_machine.specs.Crews.{Input};
 ghost use Rattle.ms_machine.specs.Running.{MayGive};
 ghost use Rattle.ms_run.specs.Flows.{DidRun, Flows};
-ghost use Rattle.ms_run.specs.Jobs.{RunOfFile, RunOfJob, RunsFile, RunsJob, exec_job};
+ghost use Rattle.ms_run.specs.Jobs.{HasJob, RunOfFile, RunOfJob, RunsFile, RunsJob, exec_job};
 ghost use Rattle.ms_run.specs.Observed.{flowed, reported, shelved};
 ghost use Rattle.ms_run.specs.Reporting.{Holds, IsFound};
+ghost use Rattle.ms_run.specs.SafeRuns.{IsEnd, RanSafely};
 ghost use Rattle.ms_run.specs.declared.gathering.Naming.TheVariants.{Only};
 
 use crate::execution::execute;
@@ -43,7 +45,7 @@ pub fn run_parsed<G: Gaps, T: Tagged, F: Shelf, I: Source, O: Sink, R: Sink>(
     report: &mut R,
 ) -> Status
     requires bounds { IsBounded job }
-    ensures { (given : Input) × MayGive (I.left input.old) given × DidRun
+    ensures did { (given : Input) × MayGive (I.left input.old) given × DidRun
         (RunsJob (IsFound (shelved F.files F.read_faults F.write_faults shelf.old shelf.new)) naming given job) given
         (shelved F.files F.read_faults F.write_faults shelf.old shelf.new)
         (reported R.held R.faults report.old report.new)
@@ -52,6 +54,12 @@ pub fn run_parsed<G: Gaps, T: Tagged, F: Shelf, I: Source, O: Sink, R: Sink>(
         × Flows given (RunOfJob (Holds (F.files shelf.old)) given job)
         (flowed I.left I.faults O.held O.faults input.old input.new out.old out.new)
         result }
+    // A run that has come to an end is that of the job, and was safe.
+    ensures safe { IsEnd result → RanSafely
+        (shelved F.files F.read_faults F.write_faults shelf.old shelf.new)
+        (reported R.held R.faults report.old report.new)
+        (flowed I.left I.faults O.held O.faults input.old input.new out.old out.new)
+        job result }
 {
     let modules = match load_all(alloc, naming, job.modules.as_slice(), shelf, report) {
         Ok(modules) => modules,
@@ -111,7 +119,7 @@ pub fn exec<F: Shelf, I: Source, O: Sink, R: Sink>(
 ) -> Status
     requires budget { budget ≤ options.budget.most }
     requires memory { memory ≤ options.memory.most }
-    ensures { (given : Input) × MayGive (I.left input.old) given × DidRun
+    ensures did { (given : Input) × MayGive (I.left input.old) given × DidRun
         (RunsJob (IsFound (shelved F.files F.read_faults F.write_faults shelf.old shelf.new)) Only given (exec_job file.now budget memory)) given
         (shelved F.files F.read_faults F.write_faults shelf.old shelf.new)
         (reported R.held R.faults report.old report.new)
@@ -120,6 +128,12 @@ pub fn exec<F: Shelf, I: Source, O: Sink, R: Sink>(
         × Flows given (RunOfJob (Holds (F.files shelf.old)) given (exec_job file.now budget memory))
         (flowed I.left I.faults O.held O.faults input.old input.new out.old out.new)
         result }
+    // A run that has come to an end is that of the job, and was safe.
+    ensures safe { IsEnd result → RanSafely
+        (shelved F.files F.read_faults F.write_faults shelf.old shelf.new)
+        (reported R.held R.faults report.old report.new)
+        (flowed I.left I.faults O.held O.faults input.old input.new out.old out.new)
+        (exec_job file.now budget memory) result }
 {
     match exec_job(alloc, file, budget, memory) {
         Ok(job) => run_parsed::<TreeGaps, Granules, F, I, O, R>(
@@ -148,7 +162,7 @@ pub fn run_job<F: Shelf, I: Source, O: Sink, R: Sink>(
     out: &mut O,
     report: &mut R,
 ) -> Status
-    ensures { (given : Input) × MayGive (I.left input.old) given × DidRun
+    ensures did { (given : Input) × MayGive (I.left input.old) given × DidRun
         (RunsFile (IsFound (shelved F.files F.read_faults F.write_faults shelf.old shelf.new)) given job.now) given
         (shelved F.files F.read_faults F.write_faults shelf.old shelf.new)
         (reported R.held R.faults report.old report.new)
@@ -157,6 +171,12 @@ pub fn run_job<F: Shelf, I: Source, O: Sink, R: Sink>(
         × Flows given (RunOfFile (Holds (F.files shelf.old)) given job.now)
         (flowed I.left I.faults O.held O.faults input.old input.new out.old out.new)
         result }
+    // A run that has come to an end is that of the job that the file has, and was safe.
+    ensures safe { IsEnd result → (asked : Job) × HasJob (Holds (F.files shelf.old)) job.now asked × RanSafely
+        (shelved F.files F.read_faults F.write_faults shelf.old shelf.new)
+        (reported R.held R.faults report.old report.new)
+        (flowed I.left I.faults O.held O.faults input.old input.new out.old out.new)
+        asked result }
 {
     let bytes = match fetch(alloc, job, shelf, report) {
         Ok(bytes) => bytes,

@@ -19,7 +19,7 @@ use Rattle.ms_machine.specs.Running.{MayGive}
 use Rattle.ms_run.specs.Answers.{Answer, Assembles, Checks, Disassembles, File, Found, Judges, OnFile, Unfound, Unloaded, Verdict, says}
 use Rattle.ms_run.specs.Answers as table
 use Rattle.ms_run.specs.Flows.{DidRun, Flowed, Flows, FlowsAs, IsQuiet, cut, delivered, input_failed, out_failed, quiet, ran, starved_run}
-use Rattle.ms_run.specs.Jobs.{FirstUnloaded, RunOfFile, RunOfJob, RunsFile, RunsJob, Unnumbered, Unscheduled, exec_job}
+use Rattle.ms_run.specs.Jobs.{FirstUnloaded, HasJob, RunOfFile, RunOfJob, RunsFile, RunsJob, Unnumbered, Unscheduled, exec_job}
 use Rattle.ms_run.specs.Jobs as jobs
 use Rattle.ms_run.specs.Lines.{input_fault_line}
 use Rattle.ms_run.specs.Observed.{Flow, Report, Shelved}
@@ -29,7 +29,7 @@ use Rattle.ms_run.specs.declared.gathering.Naming.TheVariants.{Numbered, Only}
 use Rattle.ms_run.specs.declared.status.Status.{Status}
 use Rattle.ms_run.specs.declared.status.Status.TheVariants as statuses
 use Rattle.ms_run.proofs.Jobs.{flows_more}
-use Rattle.ms_run.proofs.Safe.{file_safely, job_safely, run_is_accepted}
+use Rattle.ms_run.proofs.Safe.{run_is_accepted}
 use Rattle.ms_run.proofs.Once.{IsOrdinary, RunsOne, assembles_once, assembles_ordinary, checks_known, checks_once, checks_ordinary, disassembles_once, disassembles_ordinary, file_known, file_once, file_ordinary, found_held, holds_one, judges_known, judges_once, judges_ordinary, runs_file_known, runs_file_once, runs_file_ordinary, runs_job_known, runs_job_once, runs_job_ordinary}
 use Rattle.ms_run.proofs.Targets.{assembled_target, checks_target, disassembled_target, file_target, job_target, judges_target, unfound_target, wrote_none}
 use Rattle.ms_tool.specs.Outside.{Outside, flow_of, report_of, shelf_of}
@@ -239,14 +239,15 @@ module _ (words : List (List ℕ)) (given : Input) (before after : Outside) wher
   memory_clause result may (gave which a gives counts flow (put written (inl h)) u v) e =
       absurd (subst IsUnfaulty (sym h.0 ∙ e) (unfaulty (IsFound s) given (asked_of words) which a gives))
   memory_clause result may (gave which a gives counts flow (put written (inr (inl h))) u v) e = absurd (let both = sym h.0 ∙ e in cc)
-  memory_clause result may (gave which a gives counts flow (put written (inr (inr h))) u v) e = (h.1.0, inr (given, a, may, inl (which, gives, flow), written))
+  memory_clause result may (gave which a gives counts flow (put written (inr (inr h))) u v) e = inr (given, a, h.1, may, inl (which, gives, flow), h.2, h.3, h.4, written)
   memory_clause result may (gave which a gives counts flow (failed part kept) u v) e = absurd cc
-  memory_clause result may (gave which a gives counts flow (starved files kept) u v) e = (kept.0, inl files)
+  memory_clause result may (gave which a gives counts flow (starved files kept) u v) e = inl (kept.0, files)
   memory_clause result may (stopped asks same files (input_failed rose (inl h))) e = absurd (let both = sym h.0 ∙ e in cc)
   memory_clause result may (stopped asks same files (input_failed rose (inr (inl h)))) e = absurd (let both = sym h.0 ∙ e in cc)
-  memory_clause result may (stopped asks same files (input_failed rose (inr (inr h)))) e = (h.1.0, inl files)
+  memory_clause result may (stopped asks same files (input_failed rose (inr (inr h)))) e =
+      inr (given, says statuses.ReadFault input_fault_line, h.1, may, inr (asks, refl, rose), h.2, h.3, h.4, files)
   memory_clause result may (stopped asks same files (out_failed rose kept)) e = absurd cc
-  memory_clause result may (nothing same files kept) e = (kept.0, inl files)
+  memory_clause result may (nothing same files kept) e = inl (kept.0, files)
 
   -- ---- an answer that is a read fault
 
@@ -452,20 +453,21 @@ module _ (words : List (List ℕ)) (s : Shelved) (r : Report) (f : Flow) where
         (given, may, responds, flows_as s given f words (Some asked) result e flows, subst (λ (o : Option Asked). Safely o result) (sym e) safely)
 
     pub exec_responded : (file : List ℕ) (budget memory : ℕ) (result : Status) → memory ≤ options.memory.most → asked_of words ≡ Some (Exec file budget memory) → DidRun (RunsJob (IsFound s) Only given (exec_job file budget memory)) given s r f result
-        → Flows given (RunOfJob (Holds s.old) given (exec_job file budget memory)) f result → Responded words s r f result
-    exec_responded file budget memory result small e done flows =
+        → Flows given (RunOfJob (Holds s.old) given (exec_job file budget memory)) f result → (IsEnd result → RanSafely s r f (exec_job file budget memory) result) → Responded words s r f result
+    exec_responded file budget memory result small e done flows safe =
         let asked = Exec file budget memory in
         let job = exec_job file budget memory in
         responded_as asked result e (run_gave words given s r f asked e (RunsJob (IsFound s) Only given job) (λ which a gives. gives) tt result done)
         (flows_more given (RunOfJob (Holds s.old) given job) _ (λ run h. (h, run_is_accepted (Holds s.old) given job run small h)) f result flows)
-        (λ asks end. (job, refl, job_safely s r f given may Only job small result end done))
+        (λ asks end. (job, refl, safe end))
 
-    pub run_responded : (name : List ℕ) (result : Status) → asked_of words ≡ Some (Run name) → DidRun (RunsFile (IsFound s) given name) given s r f result → Flows given (RunOfFile (Holds s.old) given name) f result → Responded words s r f result
-    run_responded name result e done flows =
+    pub run_responded : (name : List ℕ) (result : Status) → asked_of words ≡ Some (Run name) → DidRun (RunsFile (IsFound s) given name) given s r f result → Flows given (RunOfFile (Holds s.old) given name) f result
+        → (IsEnd result → (job : Job) × HasJob (Holds s.old) name job × RanSafely s r f job result) → Responded words s r f result
+    run_responded name result e done flows safe =
         let asked = Run name in
         responded_as asked result e (run_gave words given s r f asked e (RunsFile (IsFound s) given name) (λ which a gives. gives) tt result done)
         (flows_more given (RunOfFile (Holds s.old) given name) _ (λ run h. (h, run_is_accepted (Holds s.old) given h.job run (job_is_bounded h.bytes h.job h.is_job).memory h.runs)) f result flows)
-        (λ asks end. file_safely s r f given may name result end done)
+        (λ asks end. safe end)
 
     pub check_responded : (file : List ℕ) (result : Status) → asked_of words ≡ Some (Check file) → Tells (Checks (IsFound s) file) s r result → IsQuiet f → Responded words s r f result
     check_responded file result e done still =

@@ -1,6 +1,6 @@
 -- What the program answers, and what it does to the objects outside: `Keeps`, at the end, is the whole contract of `tool`. It stands
 -- on what the words ask for (`Asked` of `ms_command_line`) and on each command's table of answers (`Answers` and `Jobs` of `ms_run`).
-use Rattle.std.specs.Prelude.{◌≡◌, ◌⊎◌, ◌<◌, ℕ, List, Option, Some, None, MatchOption, IsSomeAnd, Ok, false}
+use Rattle.std.specs.Prelude.{◌≡◌, ◌⊎◌, ◌<◌, ℕ, List, Option, Some, None, MatchOption, IsSomeAnd, false}
 use Rattle.std.specs.FinMap.{get}
 use Rattle.ms_outside.specs.Faults.{Rose}
 use Rattle.ms_outside.specs.Files.{Files}
@@ -8,16 +8,15 @@ use Rattle.ms_outside.specs.Sink.{IsFront}
 use Rattle.ms_command_line.specs.Asked.{Asked, Asm, Check, Dis, Exec, Judge, Run, asked_of, is_taken}
 use Rattle.ms_command_line.specs.Commands.{usage_lines}
 use Rattle.ms_event.specs.Monitor.{Accepts}
-use Rattle.ms_job.specs.Jobs.{job_in}
 use Rattle.ms_job.specs.declared.job.Job.{Job}
-use Rattle.ms_run.specs.Answers.{Answer, Assembles, Checks, Disassembles, Finds, HasBytes, Judges, OnFile, says}
+use Rattle.ms_run.specs.Answers.{Answer, Assembles, Checks, Disassembles, Finds, Judges, OnFile, says}
 use Rattle.ms_machine.specs.Crews.{Input, Run as MachineRun, events_of}
 use Rattle.ms_machine.specs.Running.{MayGive}
 use Rattle.ms_run.specs.Flows.{Flows, FlowsAs, IsQuiet}
-use Rattle.ms_run.specs.Jobs.{RunOfFile, RunOfJob, RunsFile, RunsJob, exec_job}
+use Rattle.ms_run.specs.Jobs.{HasJob, RunOfFile, RunOfJob, RunsFile, RunsJob, exec_job}
 use Rattle.ms_run.specs.Lines.{input_fault_line}
 use Rattle.ms_run.specs.Observed.{Flow}
-use Rattle.ms_run.specs.Reporting.{Grows, HasFailed, HasWritten, Holds, IsFound, KeepsFiles}
+use Rattle.ms_run.specs.Reporting.{AreLines, Grows, HasFailed, HasWritten, Holds, IsFound, KeepsFiles}
 use Rattle.ms_run.specs.SafeRuns.{IsEnd, RanSafely}
 use Rattle.ms_run.specs.declared.gathering.Naming.TheVariants.{Only}
 use Rattle.ms_run.specs.declared.status.Status.{Status}
@@ -56,7 +55,7 @@ AsksRun (Some (Judge name memory)) = ⊥
 -- of this job
 abbrev pub AsksJob : Finds → Option Asked → Job → Type 0
 AsksJob Has (Some (Exec name budget memory)) job = job ≡ exec_job name budget memory
-AsksJob Has (Some (Run name)) job = (bytes : List ℕ) × HasBytes Has name bytes × (job_in bytes ≡ Ok job)
+AsksJob Has (Some (Run name)) job = HasJob Has name job
 AsksJob Has _ job = ⊥
 
 -- A run whose input failed has an answer of its own, only where the count of the input rose.
@@ -118,12 +117,14 @@ IsOutFault words before after =
     AsksRun (asked_of words) × Rose before.put_faults after.put_faults
     × (after.report ≡ before.report) × KeepsFiles (shelf_of before after)
 
--- Memory ran out: nothing was put to the report, and no file was written but that of an answer.
+-- Memory ran out: nothing was put to the report, and no file was written; or an answer's file was, and of its lines some of the
+-- first ones were put, or none.
 abbrev pub IsStarved : List (List ℕ) → (before after : Outside) → Type 0
 IsStarved words before after =
-    (after.report ≡ before.report)
-    × (KeepsFiles (shelf_of before after) ⊎ ((given : Input) × (answer : Answer)
-    × MayGive before.left given × GivesOver words before after given answer × HasWritten (shelf_of before after) answer.file))
+    ((after.report ≡ before.report) × KeepsFiles (shelf_of before after))
+    ⊎ ((given : Input) × (answer : Answer) × (front : List ℕ)
+    × MayGive before.left given × GivesOver words before after given answer
+    × IsFront front answer.report × AreLines front × Grows (report_of before after) front × HasWritten (shelf_of before after) answer.file)
 
 -- The status is a fault of writing, or want of memory.
 abbrev pub IsPutFault : Status → Type 0
@@ -160,7 +161,8 @@ pub record Keeps (words : List (List ℕ)) (before after : Outside) (status : St
   -- A write fault has its cause: the report broke off, or the answer's file, or the output of the run.
   pub write_fault : status ≡ WriteFault
       → IsCutOff words before after ⊎ (IsUnwritten words before after ⊎ IsOutFault words before after)
-  -- Where memory ran out the report is as before, and no file was written but that of an answer.
+  -- Where memory ran out the report has grown by some of an answer's first lines, or by none, and no file was written but that of an
+  -- answer.
   pub memory : status ≡ OutOfMemory → IsStarved words before after
   -- What the table gives for known files, whatever the input may give, is the answer, unless a fault is met or memory runs out.
   pub complete : (known : Files) (ran : Input → Option MachineRun) (answer : Answer) → before.files ≡ Some known
@@ -169,7 +171,7 @@ pub record Keeps (words : List (List ℕ)) (before after : Outside) (status : St
       ⊎ IsFaulty status
   -- Where the words ask for a run and it has come to an end, this is a run of all modules that link, by the job's tasks, schedule and
   -- budget: status, report, the trace's file, input and output are its own; and its allocations, slices, reads, writes and frees
-  -- are a trace that the colour monitor accepts.
+  -- are a trace that the colour monitor accepts, and its reads and writes are the accesses that were counted.
   pub safe : AsksRun (asked_of words) → IsEnd status
       → (job : Job) × AsksJob (Holds before.files) (asked_of words) job
       × RanSafely (shelf_of before after) (report_of before after) (flow_of before after) job status

@@ -25,6 +25,12 @@ const SEVEN_SHOWN: &str = "(module
   (export \"main\" (func 0)))
 ";
 
+/// A module that puts what it takes, up to the end.
+const ECHO: &str = "(import \"env\" \"getchar\" (func $take (result i32)))
+   (import \"env\" \"putchar\" (func $put (param i32) (result i32)))
+   (func (export \"main\") (result i32) (local $c i32)
+   block loop call $take local.tee $c i32.const -1 i32.eq br_if 1 local.get $c call $put drop br 0 end end i32.const 0)";
+
 /// A module that puts two bytes, and one whose task is the function of the host that takes one.
 const PUTS: &str = "(import \"env\" \"putchar\" (func $p (param i32) (result i32)))
    (func (export \"main\") i32.const 65 call $p drop i32.const 66 call $p drop)";
@@ -35,6 +41,14 @@ const TAKES: &str = "(import \"env\" \"getchar\" (func (result i32))) (export \"
 const SLICE: &str =
     "(func (export \"main\") (result i32) i32.const 8 segment.new heap i32.const 4 i32.const 4
    handle.slice i64.const -1 handle.add 4 i32.segload)";
+
+/// One that makes a segment, frees it, makes another, and writes into that.
+const REMAKES: &str = "(func (export \"main\") i32.const 8 segment.new heap segment.free heap
+   i32.const 8 segment.new heap i32.const 1 i32.segstore)";
+
+/// One that keeps a handle in its segment.
+const KEEPS: &str = "(func (export \"main\") (local $h handle)
+   i32.const 20 segment.new heap local.tee $h local.get $h handle.store)";
 
 /// One whose start function keeps a handle, which takes three steps, and whose exports read through it and end it.
 const HANDLE: &str =
@@ -76,7 +90,7 @@ usage: mswasm judge FILE [--memory N]
 ";
 
 /// No output, and the first byte of the input is still there.
-const QUIET: (&str, u8) = ("", b'i');
+const QUIET: (&str, Got) = ("", Got::Byte(b'h'));
 
 /// What is outside.
 #[derive(Drop)]
@@ -117,7 +131,7 @@ fn world(alloc: Global, name: &str, bytes: &[u8]) -> Result<Outside, Fail> {
     add_files(alloc, &mut shelf, &JOBS)?;
     Ok(Outside {
         shelf,
-        input: MemSource::new(alloc, Vec::from_slice(alloc, b"in")?),
+        input: MemSource::new(alloc, Vec::from_slice(alloc, b"hi")?),
         out: MemSink::new(alloc, 16)?,
         report: MemSink::new(alloc, 256)?,
     })
@@ -150,15 +164,15 @@ fn answer_to_line(alloc: Global, line: &str, world: &mut Outside) -> Result<Stat
     Ok(answer_to(alloc, words.as_slice(), world))
 }
 
-/// Runs the program on the words of a line, and compares its status, its report, its output, the byte that the input gives
-/// next, and what it wrote to the file `o`.
+/// Runs the program on the words of a line, and compares its status, its report, its output, what the input gives next, and what
+/// it wrote to the file `o`.
 fn expect<R: Abort + AllocGlobal>(
     rt: &R,
     line: &str,
     mut world: Outside,
     status: Status,
     report: &str,
-    flow: (&str, u8),
+    flow: (&str, Got),
     written: Option<&[u8]>,
 ) -> Result<(), Fail> {
     let (output, next) = flow;
@@ -170,10 +184,7 @@ fn expect<R: Abort + AllocGlobal>(
         "the report of {line}"
     );
     assert_eq!(rt; world.out.held(), output.as_bytes(), "the output of {line}");
-    assert!(rt;
-        world.input.take() == Got::Byte(next),
-        "the input of {line}"
-    );
+    assert!(rt; world.input.take() == next, "the input of {line}");
     assert!(rt;
         world.shelf.get("o") == written,
         "the file that {line} writes"
@@ -181,7 +192,7 @@ fn expect<R: Abort + AllocGlobal>(
     Ok(())
 }
 
-/// Words, the file `a.wat`, and what is wanted: the status, the report, the output, and the byte that the input gives next.
+/// Words, the file `a.wat`, and what is wanted: the status, the report, the output, and what the input gives next.
 #[derive(Clone, Copy)]
 struct Row {
     words: &'static str,
@@ -189,7 +200,7 @@ struct Row {
     status: Status,
     report: &'static str,
     output: &'static str,
-    next: u8,
+    next: Got,
 }
 
 const ROWS: [Row; 43] = [
@@ -199,7 +210,7 @@ const ROWS: [Row; 43] = [
         status: Status::Trapped,
         report: "rejected 2\n",
         output: "",
-        next: b'i',
+        next: Got::Byte(b'h'),
     },
     Row {
         words: "judge a.wat",
@@ -207,7 +218,7 @@ const ROWS: [Row; 43] = [
         status: Status::Done,
         report: "accepted 3\n",
         output: "",
-        next: b'i',
+        next: Got::Byte(b'h'),
     },
     Row {
         words: "judge a.wat",
@@ -215,7 +226,7 @@ const ROWS: [Row; 43] = [
         status: Status::Done,
         report: "accepted 0\n",
         output: "",
-        next: b'i',
+        next: Got::Byte(b'h'),
     },
     Row {
         words: "judge a.wat",
@@ -223,7 +234,7 @@ const ROWS: [Row; 43] = [
         status: Status::Trapped,
         report: "rejected 3\n",
         output: "",
-        next: b'i',
+        next: Got::Byte(b'h'),
     },
     Row {
         words: "judge a.wat",
@@ -231,7 +242,7 @@ const ROWS: [Row; 43] = [
         status: Status::Trapped,
         report: "rejected 1\n",
         output: "",
-        next: b'i',
+        next: Got::Byte(b'h'),
     },
     Row {
         words: "judge a.wat",
@@ -239,7 +250,7 @@ const ROWS: [Row; 43] = [
         status: Status::Refused,
         report: "refused trace line 1\n",
         output: "",
-        next: b'i',
+        next: Got::Byte(b'h'),
     },
     Row {
         words: "judge a.wat",
@@ -247,7 +258,7 @@ const ROWS: [Row; 43] = [
         status: Status::Trapped,
         report: "rejected 1\n",
         output: "",
-        next: b'i',
+        next: Got::Byte(b'h'),
     },
     Row {
         words: "judge a.wat --memory 8",
@@ -255,15 +266,15 @@ const ROWS: [Row; 43] = [
         status: Status::Usage,
         report: USAGE,
         output: "",
-        next: b'i',
+        next: Got::Byte(b'h'),
     },
     Row {
         words: "run dumped",
-        text: "(func (export \"main\") (local $h handle) i32.const 20 segment.new heap local.tee $h local.get $h handle.store)",
+        text: KEEPS,
         status: Status::Done,
         report: "done\ndump 1 0 20 heap --------------------------------00000000\n",
         output: "",
-        next: b'i',
+        next: Got::Byte(b'h'),
     },
     Row {
         words: "exec a.wat",
@@ -271,7 +282,7 @@ const ROWS: [Row; 43] = [
         status: Status::Done,
         report: "result 7\n",
         output: "",
-        next: b'i',
+        next: Got::Byte(b'h'),
     },
     Row {
         words: "check a.wat",
@@ -279,7 +290,7 @@ const ROWS: [Row; 43] = [
         status: Status::Done,
         report: "valid\n",
         output: "",
-        next: b'i',
+        next: Got::Byte(b'h'),
     },
     Row {
         words: "exec a.wat",
@@ -287,7 +298,7 @@ const ROWS: [Row; 43] = [
         status: Status::Trapped,
         report: "trap null\n",
         output: "",
-        next: b'i',
+        next: Got::Byte(b'h'),
     },
     // A segment keeps a handle to itself, and a number is stored over one byte of it.
     Row {
@@ -299,7 +310,7 @@ const ROWS: [Row; 43] = [
         status: Status::Trapped,
         report: "trap invalid\n",
         output: "",
-        next: b'i',
+        next: Got::Byte(b'h'),
     },
     Row {
         words: "exec a.wat",
@@ -308,7 +319,7 @@ const ROWS: [Row; 43] = [
         status: Status::Trapped,
         report: "trap provenance\n",
         output: "",
-        next: b'i',
+        next: Got::Byte(b'h'),
     },
     Row {
         words: "exec a.wat",
@@ -316,7 +327,7 @@ const ROWS: [Row; 43] = [
         status: Status::Trapped,
         report: "trap bounds\n",
         output: "",
-        next: b'i',
+        next: Got::Byte(b'h'),
     },
     Row {
         words: "exec a.wat --budget 2",
@@ -324,7 +335,7 @@ const ROWS: [Row; 43] = [
         status: Status::Done,
         report: "result 7\n",
         output: "",
-        next: b'i',
+        next: Got::Byte(b'h'),
     },
     Row {
         words: "exec a.wat --budget 0",
@@ -332,7 +343,7 @@ const ROWS: [Row; 43] = [
         status: Status::OutOfBudget,
         report: "out of budget\n",
         output: "",
-        next: b'i',
+        next: Got::Byte(b'h'),
     },
     Row {
         words: "exec a.wat",
@@ -340,7 +351,7 @@ const ROWS: [Row; 43] = [
         status: Status::Refused,
         report: "refused task 0\n",
         output: "",
-        next: b'i',
+        next: Got::Byte(b'h'),
     },
     Row {
         words: "exec a.wat",
@@ -348,7 +359,7 @@ const ROWS: [Row; 43] = [
         status: Status::Refused,
         report: "refused link 0 0 noexport\n",
         output: "",
-        next: b'i',
+        next: Got::Byte(b'h'),
     },
     Row {
         words: "check a.wat",
@@ -356,7 +367,7 @@ const ROWS: [Row; 43] = [
         status: Status::Refused,
         report: "refused invalid function 0\n",
         output: "",
-        next: b'i',
+        next: Got::Byte(b'h'),
     },
     Row {
         words: "check a.wat",
@@ -364,7 +375,7 @@ const ROWS: [Row; 43] = [
         status: Status::Done,
         report: "valid\n",
         output: "",
-        next: b'i',
+        next: Got::Byte(b'h'),
     },
     Row {
         words: "check a.wat",
@@ -372,7 +383,7 @@ const ROWS: [Row; 43] = [
         status: Status::Refused,
         report: "refused invalid function 0\n",
         output: "",
-        next: b'i',
+        next: Got::Byte(b'h'),
     },
     Row {
         words: "check a.wat",
@@ -380,7 +391,7 @@ const ROWS: [Row; 43] = [
         status: Status::Refused,
         report: "refused name 11\n",
         output: "",
-        next: b'i',
+        next: Got::Byte(b'h'),
     },
     Row {
         words: "check a.wat",
@@ -388,7 +399,7 @@ const ROWS: [Row; 43] = [
         status: Status::Refused,
         report: "refused float 6\n",
         output: "",
-        next: b'i',
+        next: Got::Byte(b'h'),
     },
     Row {
         words: "asm a.wat o",
@@ -396,7 +407,7 @@ const ROWS: [Row; 43] = [
         status: Status::Refused,
         report: "refused syntax 10\n",
         output: "",
-        next: b'i',
+        next: Got::Byte(b'h'),
     },
     Row {
         words: "dis a.wat o",
@@ -404,7 +415,7 @@ const ROWS: [Row; 43] = [
         status: Status::Refused,
         report: "refused malformed 0\n",
         output: "",
-        next: b'i',
+        next: Got::Byte(b'h'),
     },
     Row {
         words: "exec b.wat",
@@ -412,7 +423,7 @@ const ROWS: [Row; 43] = [
         status: Status::ReadFault,
         report: "read fault b.wat\n",
         output: "",
-        next: b'i',
+        next: Got::Byte(b'h'),
     },
     Row {
         words: "exec a.wat --memory 8",
@@ -420,7 +431,7 @@ const ROWS: [Row; 43] = [
         status: Status::Usage,
         report: USAGE,
         output: "",
-        next: b'i',
+        next: Got::Byte(b'h'),
     },
     Row {
         words: "mswasm",
@@ -428,7 +439,7 @@ const ROWS: [Row; 43] = [
         status: Status::Usage,
         report: USAGE,
         output: "",
-        next: b'i',
+        next: Got::Byte(b'h'),
     },
     Row {
         words: "exec a.wat",
@@ -437,7 +448,7 @@ const ROWS: [Row; 43] = [
         status: Status::Trapped,
         report: "trap unreachable\n",
         output: "A",
-        next: b'i',
+        next: Got::Byte(b'h'),
     },
     Row {
         words: "exec a.wat",
@@ -445,15 +456,15 @@ const ROWS: [Row; 43] = [
         status: Status::Done,
         report: "done\n",
         output: "AB",
-        next: b'i',
+        next: Got::Byte(b'h'),
     },
     Row {
         words: "exec a.wat",
         text: TAKES,
         status: Status::Done,
-        report: "result 105\n",
+        report: "result 104\n",
         output: "",
-        next: b'n',
+        next: Got::Byte(b'i'),
     },
     Row {
         words: "run in-order",
@@ -461,7 +472,7 @@ const ROWS: [Row; 43] = [
         status: Status::Done,
         report: "result 0\ndone\n",
         output: "",
-        next: b'i',
+        next: Got::Byte(b'h'),
     },
     Row {
         words: "run freed",
@@ -469,7 +480,7 @@ const ROWS: [Row; 43] = [
         status: Status::Trapped,
         report: "trap freed\n",
         output: "",
-        next: b'i',
+        next: Got::Byte(b'h'),
     },
     Row {
         words: "run between",
@@ -477,7 +488,7 @@ const ROWS: [Row; 43] = [
         status: Status::Trapped,
         report: "trap freed\n",
         output: "",
-        next: b'i',
+        next: Got::Byte(b'h'),
     },
     Row {
         words: "run short",
@@ -485,7 +496,7 @@ const ROWS: [Row; 43] = [
         status: Status::OutOfBudget,
         report: "out of budget\n",
         output: "",
-        next: b'i',
+        next: Got::Byte(b'h'),
     },
     Row {
         words: "run in-order",
@@ -493,7 +504,7 @@ const ROWS: [Row; 43] = [
         status: Status::Refused,
         report: "refused module 0 syntax 5\n",
         output: "",
-        next: b'i',
+        next: Got::Byte(b'h'),
     },
     Row {
         words: "run in-order",
@@ -501,7 +512,7 @@ const ROWS: [Row; 43] = [
         status: Status::Refused,
         report: "refused task 0\n",
         output: "",
-        next: b'i',
+        next: Got::Byte(b'h'),
     },
     Row {
         words: "run task",
@@ -509,7 +520,7 @@ const ROWS: [Row; 43] = [
         status: Status::Refused,
         report: "refused job line 1\n",
         output: "",
-        next: b'i',
+        next: Got::Byte(b'h'),
     },
     Row {
         words: "run empty",
@@ -517,7 +528,7 @@ const ROWS: [Row; 43] = [
         status: Status::Refused,
         report: "refused job task\n",
         output: "",
-        next: b'i',
+        next: Got::Byte(b'h'),
     },
     Row {
         words: "run 0011",
@@ -525,7 +536,7 @@ const ROWS: [Row; 43] = [
         status: Status::Refused,
         report: "refused job line 1\n",
         output: "",
-        next: b'i',
+        next: Got::Byte(b'h'),
     },
     Row {
         words: "run missing",
@@ -533,7 +544,7 @@ const ROWS: [Row; 43] = [
         status: Status::ReadFault,
         report: "read fault none.wasm\n",
         output: "",
-        next: b'i',
+        next: Got::Byte(b'h'),
     },
     Row {
         words: "run a b",
@@ -541,7 +552,7 @@ const ROWS: [Row; 43] = [
         status: Status::Usage,
         report: USAGE,
         output: "",
-        next: b'i',
+        next: Got::Byte(b'h'),
     },
 ];
 

@@ -13,7 +13,7 @@ returns-in-Ok-clause-printed g c =
     let s = shelved g.F.Shelf.files g.F.Shelf.read_faults g.F.Shelf.write_faults c.args.shelf.now c.load_file.new.shelf in
     let before = c.in-Ok.ensures.untouched in
     printed Done valid_line (checked c.in-Ok._valid (module_more (Holds s.old) (IsFound s) (held_found s) c.args.file.now c.in-Ok._valid c.in-Ok.ensures.module)) (inr before.counts) before.files
-    (over_report (λ (r : Report). Reports Done valid_line r c.answer.result) _ _ _ _ _ _ before.report c.answer.ensures)
+    (over_report (λ (r : Report). Reports Done valid_line r c.answer.result) _ _ _ _ _ _ before.report (rw c.valid_line.ensures at c.answer.ensures))
 
 pub returns-in-Err-clause-printed : goal.returns-in-Err-clause-printed
 returns-in-Err-clause-printed g c =

@@ -15,7 +15,7 @@ returns-in-Ok-write-clause-makes g c =
 
 pub returns-in-Err-Large-clause-makes : goal.returns-in-Err-Large-clause-makes
 returns-in-Err-Large-clause-makes g c =
-    large_makes c.args.target.now c.args.bytes.now _ _ c.answer.result c.in-Ok.module c.in-Ok.ensures.reads (c.in-Err-Large.ensures.large (ap Err c.in-Err-Large.field-0-is)) (refl, refl) c.answer.ensures
+    large_makes c.args.target.now c.args.bytes.now _ _ c.answer.result c.in-Ok.module c.in-Ok.ensures.reads (c.in-Err-Large.ensures.large (ap Err c.in-Err-Large.field-0-is)) (refl, refl) (rw c.large_line.ensures at c.answer.ensures)
 
 pub returns-clause-makes : goal.returns-clause-makes
 returns-clause-makes g c = made_none (refl, refl) (refl, refl)

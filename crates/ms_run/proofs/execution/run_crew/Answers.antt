@@ -40,7 +40,7 @@ returns-in-Budget-clause-printed g c =
 pub returns-in-ReadFault-clause-printed : goal.returns-in-ReadFault-clause-printed
 returns-in-ReadFault-clause-printed g c =
     let e = c.in-ReadFault.ensures in
-    read_fault_printed c.args.telling.now _ c.run.new.self _ _ _ c.new-log.result _ c.answer.result e.input_faults e.out_faults e.run (refl, refl) c.answer.ensures
+    read_fault_printed c.args.telling.now _ c.run.new.self _ _ _ c.new-log.result _ c.answer.result e.input_faults e.out_faults e.run (refl, refl) (rw c.input_fault_line.ensures at c.answer.ensures)
 
 pub returns-in-WriteFault-clause-printed : goal.returns-in-WriteFault-clause-printed
 returns-in-WriteFault-clause-printed g c =

@@ -14,7 +14,7 @@ returns-in-Ok-Exec g c =
     let asked = it.ensures.answers ∙ ap (λ (r : Request). Some (view r)) it.field-0-is in
     let range = subst IsInRange it.field-0-is it.ensures.ranges in
     let e = c.exec.ensures in
-    exec_responded words _ _ _ e.0 e.1 it.file.now it.budget it.memory c.exec.result range.1.1 asked e.2 e.3
+    exec_responded words _ _ _ e.did.0 e.did.1 it.file.now it.budget it.memory c.exec.result range.1.1 asked e.did.2 e.did.3 e.safe
 
 pub returns-in-Ok-Run : goal.returns-in-Ok-Run
 returns-in-Ok-Run g c =
@@ -22,7 +22,7 @@ returns-in-Ok-Run g c =
     let words = map (λ w. w.now) c.args.words.now in
     let asked = it.ensures.answers ∙ ap (λ (r : Request). Some (view r)) it.field-0-is in
     let e = c.run_job.ensures in
-    run_responded words _ _ _ e.0 e.1 it.job.now c.run_job.result asked e.2 e.3
+    run_responded words _ _ _ e.did.0 e.did.1 it.job.now c.run_job.result asked e.did.2 e.did.3 e.safe
 
 pub returns-in-Ok-Check : goal.returns-in-Ok-Check
 returns-in-Ok-Check g c =
