@@ -1,0 +1,4 @@
+pub mod Typing
+pub mod Names
+pub mod Steps
+pub mod Parts
