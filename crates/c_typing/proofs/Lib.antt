@@ -2,3 +2,5 @@ pub mod Typing
 pub mod Names
 pub mod Steps
 pub mod Parts
+pub mod Sound
+pub mod Exprs

@@ -67,11 +67,11 @@ pub record Fits (c : Context) (t : Target) (globals slots functions : List Ty) (
   pub objects : (v : Variable) (ty : Ty) → TypeOf globals slots v ty → under v ≡ true → t.is_object v ≡ true
   pub least : d + n ≤ waits
 
-or_left : (a b : Bool) → a ≡ true → a || b ≡ true
+pub or_left : (a b : Bool) → a ≡ true → a || b ≡ true
 or_left true b e = Rattle.std.proofs.Common.refl
 or_left false b e = absurd cc
 
-or_right : (a b : Bool) → b ≡ true → a || b ≡ true
+pub or_right : (a b : Bool) → b ≡ true → a || b ≡ true
 or_right true b e = Rattle.std.proofs.Common.refl
 or_right false b e = e
 

@@ -75,8 +75,8 @@ mutual
   sound_of_types table (ty.types t ts) h = (scalar_has t h.0, sound_of_type table t h.1, sound_of_types table ts h.2)
 
 module _ (k : well.Context) (names : AreSoundNames k.structs k.globals k.slots k.functions) where
-  as : (t u : Ty) → t ≡ u → Sound u → Sound t
-  as t u e h = subst (λ (q : Ty). Sound q) (sym e) h
+  by_type : (t u : Ty) → t ≡ u → Sound u → Sound t
+  by_type t u e h = subst (λ (q : Ty). Sound q) (sym e) h
 
   mutual
     pub sound_place : (p : Place) (t : Ty) → IsPlace k p t → IsSoundObject t
@@ -86,43 +86,43 @@ module _ (k : well.Context) (names : AreSoundNames k.structs k.globals k.slots k
     sound_place (member p n m) t h = names.member n m t h.1
 
     pub sound_expr : (e : Expr) (t : Ty) → HasType k e t → Sound t
-    sound_expr (tree.number u n) t h = as t (integer u) h.0 tt
+    sound_expr (tree.number u n) t h = by_type t (integer u) h.0 tt
     sound_expr tree.null t h = sound_of_type k.structs t h.3
     sound_expr tree.no_function t h = sound_of_type k.structs t h.3
-    sound_expr (tree.function n) t h = as t (pointer h.0) h.1 ((names.function n h.0 h.2).1)
-    sound_expr (tree.literal n) t h = as t (pointer (integer Char)) h.0 tt
+    sound_expr (tree.function n) t h = by_type t (pointer h.0) h.1 ((names.function n h.0 h.2).1)
+    sound_expr (tree.literal n) t h = by_type t (pointer (integer Char)) h.0 tt
     sound_expr (tree.read s p) t h = (sound_place p t h.1).1
-    sound_expr (tree.decay u n p) t h = as t (pointer u) h.0 ((sound_place p (array u n) h.1).2)
-    sound_expr (tree.address p) t h = as t (pointer h.0) h.1 ((sound_place p h.0 h.2).1)
-    sound_expr (tree.convert u v a) t h = as t (integer v) h.0 tt
-    sound_expr (tree.truth s a) t h = as t (integer Int) h.1 tt
-    sound_expr (tree.not a) t h = as t (integer Int) h.1 tt
-    sound_expr (tree.unary o u a) t h = as t (integer u) h.0 tt
-    sound_expr (tree.binary o u a b) t h = as t (integer u) h.0 tt
-    sound_expr (tree.compare o u a b) t h = as t (integer Int) h.0 tt
-    sound_expr (tree.compare_pointers o a b) t h = as t (integer Int) h.1 tt
-    sound_expr (tree.same_function is a b) t h = as t (integer Int) h.1 tt
-    sound_expr (tree.difference u a b) t h = as t (integer LongLong) h.0 tt
-    sound_expr (tree.move u back a b) t h = as t (pointer u) h.0 (sound_expr a (pointer u) h.2)
-    sound_expr (tree.move_by u a b) t h = as t (pointer u) h.0 (sound_expr b (pointer u) h.3)
-    sound_expr (tree.and a b) t h = as t (integer Int) h.2 tt
-    sound_expr (tree.or a b) t h = as t (integer Int) h.2 tt
+    sound_expr (tree.decay u n p) t h = by_type t (pointer u) h.0 ((sound_place p (array u n) h.1).1.1)
+    sound_expr (tree.address p) t h = by_type t (pointer h.0) h.1 ((sound_place p h.0 h.2).1)
+    sound_expr (tree.convert u v a) t h = by_type t (integer v) h.0 tt
+    sound_expr (tree.truth s a) t h = by_type t (integer Int) h.1 tt
+    sound_expr (tree.not a) t h = by_type t (integer Int) h.1 tt
+    sound_expr (tree.unary o u a) t h = by_type t (integer u) h.0 tt
+    sound_expr (tree.binary o u a b) t h = by_type t (integer u) h.0 tt
+    sound_expr (tree.compare o u a b) t h = by_type t (integer Int) h.0 tt
+    sound_expr (tree.compare_pointers o a b) t h = by_type t (integer Int) h.1 tt
+    sound_expr (tree.same_function is a b) t h = by_type t (integer Int) h.1 tt
+    sound_expr (tree.difference u a b) t h = by_type t (integer LongLong) h.0 tt
+    sound_expr (tree.move u back a b) t h = by_type t (pointer u) h.0 (sound_expr a (pointer u) h.2)
+    sound_expr (tree.move_by u a b) t h = by_type t (pointer u) h.0 (sound_expr b (pointer u) h.3)
+    sound_expr (tree.and a b) t h = by_type t (integer Int) h.2 tt
+    sound_expr (tree.or a b) t h = by_type t (integer Int) h.2 tt
     sound_expr (tree.choose s e a b) t h = sound_expr a t h.4
     sound_expr (tree.comma a b) t h = sound_expr b t h.2
     sound_expr (tree.assign s p e) t h = (sound_place p t h.1).1
-    sound_expr (tree.update old u o v p e) t h = as t (integer u) h.0 tt
-    sound_expr (tree.advance old u back p e) t h = as t (pointer u) h.0 ((sound_place p (pointer u) h.2).1)
-    sound_expr (tree.copy n p q) t h = as t void h.0 tt
-    sound_expr (tree.call n s es) t h = (names.function n (function t h.0) h.1).1
+    sound_expr (tree.update old u o v p e) t h = by_type t (integer u) h.0 tt
+    sound_expr (tree.advance old u back p e) t h = by_type t (pointer u) h.0 ((sound_place p (pointer u) h.2).1)
+    sound_expr (tree.copy n p q) t h = by_type t void h.0 tt
+    sound_expr (tree.call n s es) t h = (names.function n (function t h.0) h.1).1.0
     sound_expr (tree.call_through f s e es) t h = (subst (λ (q : Ty). Sound q) h.1 (sound_expr e (pointer f) h.3)).0
-    sound_expr (tree.putchar e) t h = as t (integer Int) h.0 tt
-    sound_expr tree.getchar t h = as t (integer Int) h tt
-    sound_expr tree.abort t h = as t void h tt
-    sound_expr (tree.malloc u e) t h = as t (pointer u) h.0 (sound_of_type k.structs u h.1)
-    sound_expr (tree.calloc u a b) t h = as t (pointer u) h.0 (sound_of_type k.structs u h.1)
-    sound_expr (tree.free e) t h = as t void h.1 tt
-    sound_expr (tree.discard e) t h = as t void h.1 tt
-    sound_expr (tree.visit p) t h = as t void h.1 tt
-    sound_expr (tree.size_of_place n p) t h = as t (integer UnsignedInt) h.2 tt
-    sound_expr (tree.size_of_value n e) t h = as t (integer UnsignedInt) h.2 tt
-    sound_expr (tree.size_of_type n) t h = as t (integer UnsignedInt) h tt
+    sound_expr (tree.putchar e) t h = by_type t (integer Int) h.0 tt
+    sound_expr tree.getchar t h = by_type t (integer Int) h tt
+    sound_expr tree.abort t h = by_type t void h tt
+    sound_expr (tree.malloc u e) t h = by_type t (pointer u) h.0 (sound_of_type k.structs u h.1)
+    sound_expr (tree.calloc u a b) t h = by_type t (pointer u) h.0 (sound_of_type k.structs u h.1)
+    sound_expr (tree.free e) t h = by_type t void h.1 tt
+    sound_expr (tree.discard e) t h = by_type t void h.1 tt
+    sound_expr (tree.visit p) t h = by_type t void h.1 tt
+    sound_expr (tree.size_of_place n p) t h = by_type t (integer UnsignedInt) h.2 tt
+    sound_expr (tree.size_of_value n e) t h = by_type t (integer UnsignedInt) h.2 tt
+    sound_expr (tree.size_of_type n) t h = by_type t (integer UnsignedInt) h tt
