@@ -4,3 +4,4 @@ pub mod Steps
 pub mod Parts
 pub mod Sound
 pub mod Exprs
+pub mod Stmts
