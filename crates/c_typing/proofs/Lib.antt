@@ -5,3 +5,4 @@ pub mod Parts
 pub mod Sound
 pub mod Exprs
 pub mod Stmts
+pub mod Bodies
