@@ -6,3 +6,5 @@ pub mod Sound
 pub mod Exprs
 pub mod Stmts
 pub mod Bodies
+pub mod Lists
+pub mod Indices
