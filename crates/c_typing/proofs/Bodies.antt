@@ -41,7 +41,7 @@ use Rattle.c_typing.proofs.Typing.{Goes, Labels, none, does, end, stands, ◌▸
 body_is : (c : Context) (code : Code) (k : Option ValType) → Goes c (inner (code 1)) (k ∷ []) code [] (types k) → Typed c (inner (code 1)) (k ∷ []) 0 k
 body_is c code k g = let b = inner (code 1) in let st = stands [] b in (suc (length b), g.typed 1 (length b) (omega arith) st.2)
 
-each_below : (m n : ℕ) → m ≤ n → Each (λ x. x < n) (numbers m)
+pub each_below : (m n : ℕ) → m ≤ n → Each (λ x. x < n) (numbers m)
 each_below zero n le = tt
 each_below (suc m) n le = Rattle.c_typing.proofs.Names.each_append (λ x. x < n) (numbers m) (m ∷ []) (each_below m n (omega (arith, le))) (omega (arith, le), tt)
 

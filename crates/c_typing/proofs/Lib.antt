@@ -8,3 +8,4 @@ pub mod Stmts
 pub mod Bodies
 pub mod Lists
 pub mod Indices
+pub mod Functions
