@@ -97,7 +97,7 @@ module _ (t : Target) where
   slots_length k [] = refl
   slots_length k (w ∷ us) = ap suc (slots_length (suc k) us)
 
-  waiting_in : (m n : ℕ) → n < m → slice_get (replicate m vals.I32) n ≡ Some vals.I32
+  pub waiting_in : (m n : ℕ) → n < m → slice_get (replicate m vals.I32) n ≡ Some vals.I32
   waiting_in zero n lt = absurd (omega (arith, lt))
   waiting_in (suc m) zero lt = refl
   waiting_in (suc m) (suc n) lt = waiting_in m n (omega (arith, lt))
@@ -125,13 +125,13 @@ not_zero (suc k) p e = grind arith
 
 -- where the slots stand among the locals
 module _ (u : Typed) (f : Function) (s : Stmt) (us more : List Ty) (waits : ℕ) where
-  abbrev Slots : List Ty
+  abbrev pub Slots : List Ty
   Slots = us ++ more
 
-  abbrev Is : Variable → Bool
+  abbrev pub Is : Variable → Bool
   Is = is_object_in u s Slots
 
-  abbrev To : ℕ → Target
+  abbrev pub To : ℕ → Target
   To first = Rattle.c_code.specs.Modules.target u Is first (first + length Slots)
 
   abbrev Ends : Target → List ValType
@@ -203,10 +203,10 @@ scalars_of (ty.types t ts) h = (h.0, scalars_of ts h.2)
 -- ---- what uses name, and what types are
 
 module _ (u : Typed) where
-  abbrev C0 : Context
+  abbrev pub C0 : Context
   C0 = context_of (compiled u)
 
-  abbrev Fs : List Ty
+  abbrev pub Fs : List Ty
   Fs = map (λ (f : Function). f.ty) u.functions
 
   pub funcs_at : (i n : ℕ) (sig : FuncType) → slice_get (sigs_of_funcs (compiled u)) i ≡ Some n → slice_get (compiled u).sigs n ≡ Some sig → slice_get C0.funcs i ≡ Some (Some sig)
@@ -236,7 +236,7 @@ module _ (u : Typed) where
   uses_named = named_from [] (uses.uses u) refl
 
   -- the same in any function
-  in_function : (locals : List ValType) (k : Option ValType) (p : Variable → Bool) (a b : ℕ) (us : List Use) → Each (IsNamed C0 (start_target u) Fs) us → Each (IsNamed (inside C0 locals k) (Rattle.c_code.specs.Modules.target u p a b) Fs) us
+  pub in_function : (locals : List ValType) (k : Option ValType) (p : Variable → Bool) (a b : ℕ) (us : List Use) → Each (IsNamed C0 (start_target u) Fs) us → Each (IsNamed (inside C0 locals k) (Rattle.c_code.specs.Modules.target u p a b) Fs) us
   in_function locals k p a b [] h = tt
   in_function locals k p a b (calls n ∷ us) h = (h.0, in_function locals k p a b us h.1)
   in_function locals k p a b (through n ∷ us) h = (h.0, in_function locals k p a b us h.1)

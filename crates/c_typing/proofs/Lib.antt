@@ -9,3 +9,4 @@ pub mod Bodies
 pub mod Lists
 pub mod Indices
 pub mod Functions
+pub mod Bodied
