@@ -107,10 +107,10 @@ rank_is ms n e =
 
 -- ---- the types of all functions, by their indices
 
-abbrev third : ℕ → ℕ
+abbrev pub third : ℕ → ℕ
 third n = 3 + n
 
-abbrev defined_from : ℕ → List Function → List ℕ
+abbrev pub defined_from : ℕ → List Function → List ℕ
 defined_from k [] = []
 defined_from k (f ∷ fs) = cond (is_some f.body) (k ∷ defined_from (suc k) fs) (defined_from (suc k) fs)
 
@@ -139,7 +139,7 @@ module _ (u : Typed) where
     by None e = e
     by (Some s) e = ap (λ (l : List ℕ). (3 + k) ∷ l) e
 
-  defined_is : (k : ℕ) (fs : List Function) → ((i : ℕ) → slice_get u.functions (k + i) ≡ slice_get fs i) → filter (is_defined_at u) (upto k (length fs)) ≡ defined_from k fs
+  pub defined_is : (k : ℕ) (fs : List Function) → ((i : ℕ) → slice_get u.functions (k + i) ≡ slice_get fs i) → filter (is_defined_at u) (upto k (length fs)) ≡ defined_from k fs
   defined_is k [] h = refl
   defined_is k (f ∷ fs) h =
       let z : k ≡ k + 0 = omega arith in

@@ -10,3 +10,4 @@ pub mod Lists
 pub mod Indices
 pub mod Functions
 pub mod Bodied
+pub mod Heads
