@@ -4,33 +4,31 @@ use Rattle.std.specs.List.{All}
 use Rattle.std.proofs.lemmas.List.Elements.{All-head, All-tail}
 use Rattle.std.proofs.lemmas.Option.{none-some}
 use Rattle.std.specs.Prelude.{slice_get, get_or, map, ◌||◌}
-use Rattle.ms_types.specs.declared.types.FuncType.{FuncType}
 use Rattle.ms_types.specs.declared.types.ValType.{ValType}
 use Rattle.ms_types.specs.declared.types.ValType.TheVariants as vals
 use Rattle.ms_module.specs.declared.module.Func.{Func}
-use Rattle.ms_rules.specs.Context.{Context, context_of, inside}
+use Rattle.ms_rules.specs.Context.{Context, inside}
 use Rattle.ms_rules.specs.Modules.{FuncTyped}
 use Rattle.c_types.specs.Types.{Ty, void, function, Tys}
 use Rattle.c_typed.specs.declared.ops.Variable.{Variable}
 use Rattle.c_typed.specs.declared.ops.Variable.TheVariants.{Local, Global}
 use Rattle.c_typed.specs.Objects as objects
-use Rattle.c_typed.specs.Tree.{Function, Made, Stmt, Typed}
+use Rattle.c_typed.specs.Tree.{Function, Stmt, Typed}
 use Rattle.c_well_typed.specs.Statements.{IsStatement, no_jumps}
 use Rattle.c_well_typed.specs.Types.{IsObject}
 use Rattle.c_well_typed.specs.Units as units
 use Rattle.c_well_typed.specs.Units.{IsBody, IsFunction, IsMade, IsWellTyped, list_of, literals_in, variables_in}
 use Rattle.c_meaning.specs.Units as meaning
 use Rattle.c_code.specs.Functions.{body, held_as, locals, params_in, scratch_locals}
-use Rattle.c_code.specs.Modules.{compiled, func_of, funcs_from, is_object_in, no_slots, start_func, start_target, target, target_of, waits_made}
+use Rattle.c_code.specs.Modules.{compiled, func_of, funcs_from, is_object_in, no_slots, start_func, start_target, target_of, waits_made}
 use Rattle.c_code.specs.Operations.{val_of}
-use Rattle.c_code.specs.Targets.{Target}
 use Rattle.c_code.specs.Uses as uses
 use Rattle.c_typing.proofs.Bodies.{FitsValues, body_typed, each_below, start_typed}
 use Rattle.c_typing.proofs.Exprs.{listed_is}
 use Rattle.c_typing.proofs.Functions.{C0, First, Fs, L, at_first, at_param, at_scratch, at_slot, at_waiting, global_at, in_function, literal_at, one_table, params_held, scalars_of, sound_with, uses_named, waiting_in}
 use Rattle.c_typing.proofs.Indices.{sig_at}
 use Rattle.c_typing.proofs.Lists.{slice_left}
-use Rattle.c_typing.proofs.Names.{Each, Fits, Holds, IsNamed, Names, TypeOf, each_append, each_back, each_front, or_left, or_right}
+use Rattle.c_typing.proofs.Names.{Each, Holds, IsNamed, Names, TypeOf, each_append, each_back, each_front, or_left, or_right}
 use Rattle.c_typing.proofs.Sound.{sound_of_type}
 
 module _ (u : Typed) (w : IsWellTyped u) where
@@ -55,33 +53,38 @@ module _ (u : Typed) (w : IsWellTyped u) where
 
     names : Names Here (target_of u G s) u.globals (Us ++ more) (literals_in u.made) W
     names = record {
-        variable = v;
-        literal = literal_at u;
-        i32 = at_first u G s Us more W;
-        i64 = at_scratch u G s Us more W 1 vals.I64 refl;
-        handle = at_scratch u G s Us more W 2 vals.Handle refl;
-        place = at_scratch u G s Us more W 3 vals.Handle refl;
-        waiting = at_waiting u G s Us more W;
-        putchar = refl;
-        getchar = refl;
-        abort = refl;
-        table = one_table u;
-      } where
+      variable = v;
+      literal = literal_at u;
+      i32 = at_first u G s Us more W;
+      i64 = at_scratch u G s Us more W 1 vals.I64 refl;
+      handle = at_scratch u G s Us more W 2 vals.Handle refl;
+      place = at_scratch u G s Us more W 3 vals.Handle refl;
+      waiting = at_waiting u G s Us more W;
+      putchar = refl;
+      getchar = refl;
+      abort = refl;
+      table = one_table u;
+    } where
       v : (x : Variable) (q : Ty) → TypeOf u.globals (Us ++ more) x q → Holds Here (target_of u G s) x (held_as ((target_of u G s).is_object x) q)
       v (Local n) q e = at_slot u G s Us more W n q e
       v (Global n) q e = global_at u n q e
 
     core : (n : ℕ) → slice_get u.functions n ≡ Some G → All (IsObject u.structs) (Us ++ more) → IsStatement (units.context_of u (Us ++ more) (length Us)) r no_jumps s
         → Rattle.c_typing.proofs.Sound.AreSound ps → Each (IsNamed (C0 u) (start_target u) (Fs u)) (uses.in_stmt s) → ((m : ℕ) → objects.in_stmt (Global m) s ≡ true → meaning.in_functions m u.functions ≡ true) → FuncTyped (C0 u) (Func' n G s)
-    core n at all well sc named under =
-        (record { params = map (held_as false) Us; results = Rattle.c_code.specs.Functions.listed (val_of r) }, val_of r, sig_at u n G at, listed_is (val_of r),
-        body_typed Here (target_of u G s) W u.structs u.globals (Us ++ more) (Fs u) (literals_in u.made) names (sound_with u w (Us ++ more) all) G s r ps refl refl
-        (let l = Rattle.std.proofs.Common.length-append Us more in omega (arith, l)) refl held well
-        (record { uses = in_function u (L u G s Us more W) (val_of r) (is_object_in u s (Us ++ more)) (First u G s Us more W) (First u G s Us more W + length (Us ++ more)) (uses.in_stmt s) named; objects = obj; least = omega arith }))
+    core n at all well sc named under = (
+      record { params = map (held_as false) Us; results = Rattle.c_code.specs.Functions.listed (val_of r) },
+      val_of r,
+      sig_at u n G at,
+      listed_is (val_of r),
+      body_typed Here (target_of u G s) W u.structs u.globals (Us ++ more) (Fs u) (literals_in u.made) names (sound_with u w (Us ++ more) all) G s r ps refl refl
+          (let l = Rattle.std.proofs.Common.length-append Us more in omega (arith, l)) refl held well
+          (record { uses = in_function u (L u G s Us more W) (val_of r) (is_object_in u s (Us ++ more)) (First u G s Us more W) (First u G s Us more W + length (Us ++ more)) (uses.in_stmt s) named; objects = obj; least = omega arith }),
+    )
       where
         obj : (x : Variable) (q : Ty) → TypeOf u.globals (Us ++ more) x q → objects.in_stmt x s ≡ true → (target_of u G s).is_object x ≡ true
         obj (Local m) q e i = or_right (objects.is_whole (get_or (Us ++ more) m void)) (objects.in_stmt (Local m) s) i
         obj (Global m) q e i = or_right (objects.is_whole (get_or u.globals m void)) (meaning.in_made m u.made || meaning.in_functions m u.functions) (or_right (meaning.in_made m u.made) (meaning.in_functions m u.functions) (under m i))
+
         held : Rattle.c_typing.proofs.Bodies.ParamsHeld Here (target_of u G s) 0 Us
         held = params_held Here (target_of u G s) 0 Us (λ n q e.
             let z : n ≡ 0 + n = omega arith in
@@ -97,7 +100,7 @@ module _ (u : Typed) (w : IsWellTyped u) where
       let more = b.0.0 in
       let sc = sound_of_type u.structs (function r ps) (subst (λ (q : Ty). Rattle.c_well_typed.specs.Types.IsType u.structs q) h.2 h.3) in
       let both : Goal (function r ps) (list_of ps ++ more) = λ a. core f s r ps more n a (subst (λ (l : List Ty). All (IsObject u.structs) l) b.0.1 b.1)
-        (subst (λ (l : List Ty). IsStatement (units.context_of u l (length (list_of ps))) r no_jumps s) b.0.1 b.2) sc.1 named under in
+      (subst (λ (l : List Ty). IsStatement (units.context_of u l (length (list_of ps))) r no_jumps s) b.0.1 b.2) sc.1 named under in
       subst (λ (l : List Ty). Goal f.ty l) (sym b.0.1) (subst (λ (q : Ty). Goal q (list_of ps ++ more)) (sym h.2) both) at
     where
       Goal : Ty → List Ty → Type 0
@@ -123,30 +126,36 @@ module _ (u : Typed) (w : IsWellTyped u) where
 
   start_names : Names (inside (C0 u) StartLocals None) (start_target u) u.globals [] (literals_in u.made) (waits_made u u.made)
   start_names = record {
-      variable = v;
-      literal = literal_at u;
-      i32 = refl;
-      i64 = refl;
-      handle = refl;
-      place = refl;
-      waiting = λ d lt. let z : 0 + 4 + d ≡ suc (suc (suc (suc d))) = omega arith in ap (slice_get StartLocals) z ∙ waiting_in (start_target u) (waits_made u u.made) d lt;
-      putchar = refl;
-      getchar = refl;
-      abort = refl;
-      table = one_table u;
-    } where
+    variable = v;
+    literal = literal_at u;
+    i32 = refl;
+    i64 = refl;
+    handle = refl;
+    place = refl;
+    waiting = λ d lt. let z : 0 + 4 + d ≡ suc (suc (suc (suc d))) = omega arith in ap (slice_get StartLocals) z ∙ waiting_in (start_target u) (waits_made u u.made) d lt;
+    putchar = refl;
+    getchar = refl;
+    abort = refl;
+    table = one_table u;
+  } where
     v : (x : Variable) (q : Ty) → TypeOf u.globals [] x q → Holds (inside (C0 u) StartLocals None) (start_target u) x (held_as ((start_target u).is_object x) q)
     v (Local n) q e = absurd (none-some q e)
     v (Global n) q e = global_at u n q e
 
   pub start_is_typed : FuncTyped (C0 u) (start_func u)
-  start_is_typed =
-      (record { params = []; results = [] }, None, refl, refl,
-      start_typed u (inside (C0 u) StartLocals None) (start_target u) (waits_made u u.made) refl u.structs u.globals (Fs u) (literals_in u.made) start_names (sound_with u w [] (Rattle.std.proofs.lemmas.List.Elements.All-nil (IsObject u.structs))) u.made w.made
-      (omega arith) (subst (λ (l : List ℕ). Each (λ n. n < length u.globals) l) (sym w.variables) (each_below (length u.globals) (length u.globals) (omega arith)))
-      (record { uses = in_function u StartLocals None (no_slots u) 0 0 (uses.in_made u.made) (each_front (IsNamed (C0 u) (start_target u) (Fs u)) (uses.in_made u.made) (uses.in_functions u.functions) (uses_named u));
-        objects = λ m e. or_right (objects.is_whole (get_or u.globals m void)) (meaning.in_made m u.made || meaning.in_functions m u.functions) (or_left (meaning.in_made m u.made) (meaning.in_functions m u.functions) e);
-        least = omega arith }))
+  start_is_typed = (
+    record { params = []; results = [] },
+    None,
+    refl,
+    refl,
+    start_typed u (inside (C0 u) StartLocals None) (start_target u) (waits_made u u.made) refl u.structs u.globals (Fs u) (literals_in u.made) start_names (sound_with u w [] (Rattle.std.proofs.lemmas.List.Elements.All-nil (IsObject u.structs))) u.made w.made
+        (omega arith) (subst (λ (l : List ℕ). Each (λ n. n < length u.globals) l) (sym w.variables) (each_below (length u.globals) (length u.globals) (omega arith)))
+        (record {
+          uses = in_function u StartLocals None (no_slots u) 0 0 (uses.in_made u.made) (each_front (IsNamed (C0 u) (start_target u) (Fs u)) (uses.in_made u.made) (uses.in_functions u.functions) (uses_named u));
+          objects = λ m e. or_right (objects.is_whole (get_or u.globals m void)) (meaning.in_made m u.made || meaning.in_functions m u.functions) (or_left (meaning.in_made m u.made) (meaning.in_functions m u.functions) e);
+          least = omega arith;
+        }),
+  )
 
   pub all_typed : Each (FuncTyped (C0 u)) (compiled u).funcs
   all_typed =

@@ -1,16 +1,14 @@
 -- The bodies of functions are typed, and so is that of the start function.
-use Rattle.std.proofs.Common.{◌≡◌, ℕ, zero, suc, ◌+◌, ◌<◌, ◌≤◌, List, [], ◌∷◌, ◌++◌, length, Bool, true, false, Option, Some, None, refl, sym, ap, ◌∙◌, arith, subst}
+use Rattle.std.proofs.Common.{◌≡◌, ℕ, zero, suc, ◌+◌, ◌<◌, ◌≤◌, List, [], ◌∷◌, ◌++◌, length, Bool, true, false, Option, Some, None, sym, arith, subst}
 use Rattle.std.specs.List.{All}
 use Rattle.std.proofs.lemmas.List.Elements.{All-head, All-tail}
 use Rattle.std.proofs.lemmas.Option.{slice_get-get_or}
 use Rattle.std.specs.Prelude.{slice_get, get_or, cond, max, ◌||◌, ◌==◌}
 use Rattle.ms_types.specs.declared.types.ValType.{ValType}
-use Rattle.ms_types.specs.declared.types.ValType.TheVariants as vals
 use Rattle.ms_module.specs.declared.access.Segment.TheVariants as segment
 use Rattle.ms_module.specs.declared.instr.Instr.{Instr}
 use Rattle.ms_rules.specs.Context.{Context}
 use Rattle.ms_rules.specs.Typing.{Typed, types}
-use Rattle.c_types.specs.declared.integers.IntType.{IntType}
 use Rattle.c_types.specs.declared.types.Scalar.{Scalar}
 use Rattle.c_types.specs.declared.types.Scalar.TheVariants as scalars
 use Rattle.c_types.specs.Layout.{size}
@@ -25,16 +23,16 @@ use Rattle.c_well_typed.specs.Statements.{IsStatement, no_jumps}
 use Rattle.c_well_typed.specs.Units.{IsGiven, IsMade, list_of, literals_in, numbers, variables_in}
 use Rattle.c_meaning.specs.Units.{in_made, in_values, string}
 use Rattle.ms_emit.specs.Codes.{Code, inner, no_code, ◌⨾◌}
-use Rattle.c_code.specs.Functions.{body, gives, held_as, makes, param, params, params_from, params_in, result, result_in, start, values}
+use Rattle.c_code.specs.Functions.{body, gives, held_as, makes, param, params, params_from, result, start, values}
 use Rattle.c_code.specs.Modules.{waits_made, waits_values}
-use Rattle.c_code.specs.Operations.{val_of, val_option, val_type, width_of}
+use Rattle.c_code.specs.Operations.{val_of, val_option}
 use Rattle.c_code.specs.Statements.{at_body, made, objects_in, stmt}
 use Rattle.c_code.specs.Targets.{Target}
 use Rattle.c_code.specs.Uses as uses
 use Rattle.c_typing.proofs.Names.{Each, Fits, Holds, IsNamed, Names, each_back, each_front, or_left, or_right}
 use Rattle.c_typing.proofs.Sound.{AreSoundNames, HasScalar}
 use Rattle.c_typing.proofs.Steps.{get_step, local_get, segment_step, set_step, store_step, zero_step}
-use Rattle.c_typing.proofs.Stmts.{At, Fit, HasHandle, Leaves, filled_goes, freed_goes, made_goes, objects_hold, stmt_goes}
+use Rattle.c_typing.proofs.Stmts.{HasHandle, Leaves, filled_goes, freed_goes, made_goes, objects_hold, stmt_goes}
 use Rattle.c_typing.proofs.Typing.{Goes, Labels, none, does, end, stands, ◌▸◌, ◌▹◌}
 
 -- code that leaves its result is a body that is typed

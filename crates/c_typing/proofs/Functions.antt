@@ -1,41 +1,33 @@
 -- The functions of a unit's module are typed.
-use Rattle.std.proofs.Common.{◌≡◌, ℕ, zero, suc, ◌+◌, ◌<◌, ◌≤◌, List, [], ◌∷◌, ◌++◌, length, Bool, true, false, Option, Some, None, refl, sym, ap, ◌∙◌, arith, subst, ◌⊎◌, inl, inr, append_assoc}
+use Rattle.std.proofs.Common.{◌≡◌, ℕ, zero, suc, ◌+◌, ◌<◌, List, [], ◌∷◌, ◌++◌, length, Bool, true, false, Option, Some, None, refl, sym, ap, ◌∙◌, arith, subst, inr, append_assoc}
 use Rattle.std.specs.List.{All, list_any}
-use Rattle.std.proofs.lemmas.List.Elements.{All-cons, All-head, All-nil, All-tail}
+use Rattle.std.proofs.lemmas.List.Elements.{All-cons, All-nil}
 use Rattle.std.proofs.lemmas.Option.{get_or_from_slice_get, none-some, same_Some, slice_get-map, slice_get_within}
-use Rattle.std.specs.Prelude.{slice_get, get_or, cond, drop, map, max, option_map, replicate, ◌||◌, ◌==◌}
+use Rattle.std.specs.Prelude.{slice_get, cond, drop, map, option_map, replicate, ◌||◌, ◌==◌}
 use Rattle.ms_types.specs.declared.types.FuncType.{FuncType}
 use Rattle.ms_types.specs.declared.types.GlobalType.{GlobalType}
 use Rattle.ms_types.specs.declared.types.Limits.{Limits}
 use Rattle.ms_types.specs.declared.types.ValType.{ValType}
 use Rattle.ms_types.specs.declared.types.ValType.TheVariants as vals
-use Rattle.ms_module.specs.declared.module.Func.{Func}
 use Rattle.ms_module.specs.declared.module.Global.{Global as GlobalEntry}
 use Rattle.ms_rules.specs.Context.{Context, all_globals, all_tables, context_of, inside, sigs_of_funcs}
-use Rattle.ms_rules.specs.Modules.{FuncTyped}
-use Rattle.c_types.specs.declared.types.Scalar.{Scalar}
-use Rattle.c_types.specs.Layout.{Layout, Table, layout_at, members_in}
+use Rattle.c_types.specs.Layout.{Layout, layout_at, members_in}
 use Rattle.c_types.specs.Types.{Ty, void, function, struct, Tys, no_types, is_function, scalar_of}
 use Rattle.c_types.specs.Types as ty
 use Rattle.c_typed.specs.declared.ops.Variable.{Variable}
 use Rattle.c_typed.specs.declared.ops.Variable.TheVariants.{Local, Global}
-use Rattle.c_typed.specs.Objects as objects
-use Rattle.c_typed.specs.Tree.{Function, Made, Stmt, Typed}
-use Rattle.c_well_typed.specs.Statements.{IsStatement, no_jumps}
+use Rattle.c_typed.specs.Tree.{Function, Stmt, Typed}
 use Rattle.c_well_typed.specs.Types.{IsObject}
-use Rattle.c_well_typed.specs.Units.{IsBody, IsFunction, IsWellTyped, list_of, literals_in, numbers, variables_in}
-use Rattle.c_meaning.specs.Units as meaning
+use Rattle.c_well_typed.specs.Units.{IsFunction, IsWellTyped, list_of, literals_in, numbers}
 use Rattle.c_code.specs.Functions.{held_as, locals, scratch_locals, signature, slots_from}
 use Rattle.c_code.specs.Modules.{compiled, defined, first_of, func_of, funcs_from, global_of, globals_from, imported, is_object_in, literal_globals, no_slots, start_func, start_target, target_of, waits_made}
-use Rattle.c_code.specs.Operations.{val_of}
 use Rattle.c_code.specs.Targets.{Target}
 use Rattle.c_code.specs.Uses as uses
 use Rattle.c_code.specs.Uses.{Use, calls, copies, names, through}
-use Rattle.c_typing.proofs.Bodies.{FitsValues, ParamsHeld, body_typed, each_below, start_typed}
-use Rattle.c_typing.proofs.Exprs.{listed_is}
+use Rattle.c_typing.proofs.Bodies.{ParamsHeld}
 use Rattle.c_typing.proofs.Indices.{called, index_at, no_imported_globals, no_imported_tables, sig_at, sig_through}
 use Rattle.c_typing.proofs.Lists.{numbers_is, slice_left, slice_right, upto}
-use Rattle.c_typing.proofs.Names.{Each, Fits, Holds, IsNamed, Names, TypeOf, each_append, each_back, each_front, or_left, or_right, var}
+use Rattle.c_typing.proofs.Names.{Each, Holds, IsNamed, TypeOf, var}
 use Rattle.c_typing.proofs.Sound.{AreSound, AreSoundNames, HasScalar, IsSoundObject, sized_is, sound_of_type}
 
 pub each_all : {A : Type 0} (P : A → Type 0) (xs : List A) → Each P xs → All P xs
@@ -141,6 +133,7 @@ module _ (u : Typed) (f : Function) (s : Stmt) (us more : List Ty) (waits : ℕ)
   laid = by (list_any (λ n. Is (Local n)) (numbers (length us))) refl where
     l : length (map (held_as false) us) ≡ length us
     l = Rattle.std.proofs.lemmas.List.length-map us (held_as false)
+
     by : (b : Bool) → list_any (λ n. Is (Local n)) (numbers (length us)) ≡ b
         → (pre : List ValType) × (length pre ≡ cond b (length us) 0) × (map (held_as false) us ++ locals (To (cond b (length us) 0)) (length us) Slots waits ≡ pre ++ Ends (To (cond b (length us) 0)))
     by true e =
@@ -149,9 +142,12 @@ module _ (u : Typed) (f : Function) (s : Stmt) (us more : List Ty) (waits : ℕ)
     by false e =
         let t = To 0 in
         let eq = front t 0 us more (ap (list_any (λ n. Is (Local n))) (sym (numbers_is (length us))) ∙ e) in
-        let cut : drop (length us) (slots_from t 0 Slots) ≡ slots_from t (0 + length us) more = ap (λ (n : ℕ). drop n (slots_from t 0 Slots)) (sym l) ∙ ap (drop (length (map (held_as false) us))) eq ∙ drop_front (map (held_as false) us) (slots_from t (0 + length us) more) in
-        ([], refl, ap (λ (x : List ValType). map (held_as false) us ++ (x ++ scratch_locals t waits)) cut ∙ sym (append_assoc (map (held_as false) us) (slots_from t (0 + length us) more) (scratch_locals t waits))
-        ∙ ap (λ (x : List ValType). x ++ scratch_locals t waits) (sym eq))
+        let cut : drop (length us) (slots_from t 0 Slots) ≡ slots_from t (0 + length us) more = ap (λ (n : ℕ). drop n (slots_from t 0 Slots)) (sym l) ∙ ap (drop (length (map (held_as false) us))) eq ∙ drop_front (map (held_as false) us) (slots_from t (0 + length us) more) in (
+          [],
+          refl,
+          ap (λ (x : List ValType). map (held_as false) us ++ (x ++ scratch_locals t waits)) cut ∙ sym (append_assoc (map (held_as false) us) (slots_from t (0 + length us) more) (scratch_locals t waits))
+              ∙ ap (λ (x : List ValType). x ++ scratch_locals t waits) (sym eq),
+        )
 
   abbrev pub First : ℕ
   First = first_of u Is (length us)
@@ -191,10 +187,13 @@ pub params_held : (c : Context) (t : Target) (k : ℕ) (us : List Ty) → ((n : 
 params_held c t k [] h s = tt
 params_held c t k (w ∷ us) h s =
     let z : k + 0 ≡ k = omega arith in
-    let a = h 0 w refl in
-    (subst (λ (m : ℕ). slice_get c.locals m ≡ Some (held_as false w)) z a.0, subst (λ (m : ℕ). Holds c t (Local m) (held_as (t.is_object (Local m)) w)) z a.1, s.0,
-    params_held c t (suc k) us (λ n q e. let y : k + suc n ≡ suc k + n = omega arith in
-      subst (λ (m : ℕ). (slice_get c.locals m ≡ Some (held_as false q)) × Holds c t (Local m) (held_as (t.is_object (Local m)) q)) y (h (suc n) q e)) s.1)
+    let a = h 0 w refl in (
+      subst (λ (m : ℕ). slice_get c.locals m ≡ Some (held_as false w)) z a.0,
+      subst (λ (m : ℕ). Holds c t (Local m) (held_as (t.is_object (Local m)) w)) z a.1,
+      s.0,
+      params_held c t (suc k) us (λ n q e. let y : k + suc n ≡ suc k + n = omega arith in
+          subst (λ (m : ℕ). (slice_get c.locals m ≡ Some (held_as false q)) × Holds c t (Local m) (held_as (t.is_object (Local m)) q)) y (h (suc n) q e)) s.1,
+    )
 
 pub scalars_of : (ps : Tys) → AreSound ps → Each HasScalar (list_of ps)
 scalars_of no_types h = tt
@@ -252,11 +251,13 @@ module _ (u : Typed) where
       v : (x : Variable) (q : Ty) → TypeOf u.globals slots x q → IsSoundObject q
       v (Local n) q e = object_sound q (all_at (IsObject u.structs) slots n q e all)
       v (Global n) q e = object_sound q (all_at (IsObject u.structs) u.globals n q e w.globals)
+
       m : (n i : ℕ) (q : Ty) → Rattle.c_well_typed.specs.Expressions.IsMember u.structs n i q → IsSoundObject q
       m n i q e = by (layout_at u.structs n) refl e where
         by : (o : Option Layout) → layout_at u.structs n ≡ o → slice_get (members_in o) i ≡ Some q → IsSoundObject q
         by None a b = absurd (none-some q b)
         by (Some l) a b = object_sound q (all_at (IsObject u.structs) l.members i q b (w.structs n l a).1)
+
       g : (n : ℕ) (q : Ty) → slice_get Fs n ≡ Some q → (is_function q ≡ true) × Rattle.c_typing.proofs.Sound.Sound q
       g n q e =
           let f = function_at n q e in

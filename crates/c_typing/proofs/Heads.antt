@@ -1,9 +1,9 @@
 -- The module of a unit is well typed.
-use Rattle.std.proofs.Common.{◌≡◌, ℕ, zero, suc, ◌+◌, ◌<◌, ◌≤◌, List, [], ◌∷◌, ◌++◌, length, Bool, true, false, Option, Some, None, refl, sym, ap, ◌∙◌, arith, subst, ◌⊎◌, inl, inr}
+use Rattle.std.proofs.Common.{◌≡◌, ℕ, zero, suc, ◌+◌, ◌<◌, ◌≤◌, List, [], ◌∷◌, ◌++◌, length, Bool, true, false, Option, Some, None, refl, sym, ap, ◌∙◌, arith, subst, inl, inr}
 use Rattle.std.specs.List.{All, list_any}
 use Rattle.std.proofs.lemmas.List.{length-map, length-append}
 use Rattle.std.proofs.lemmas.List.Elements.{All-head, All-nil, All-tail}
-use Rattle.std.proofs.lemmas.Option.{slice_get-map, slice_get_within}
+use Rattle.std.proofs.lemmas.Option.{slice_get_within}
 use Rattle.std.specs.Prelude.{slice_get, cond, filter, is_some, map, nat_lt, not, option_map, ◌≢◌, ◌||◌, ◌&&◌, ◌==◌}
 use Rattle.ms_types.specs.declared.types.FuncType.{FuncType}
 use Rattle.ms_types.specs.declared.types.Limits.{Limits}
@@ -12,12 +12,11 @@ use Rattle.ms_types.specs.declared.types.ValType.TheVariants as vals
 use Rattle.ms_module.specs.declared.instr.Instr.TheVariants.{I32Const}
 use Rattle.ms_module.specs.declared.module.Export.{Export}
 use Rattle.ms_module.specs.declared.module.Func.{Func}
-use Rattle.ms_module.specs.declared.module.Global.{Global as GlobalEntry}
 use Rattle.ms_module.specs.declared.module.Import.{Import}
 use Rattle.ms_rules.specs.Context.{all_memories, all_tables, context_of, sigs_of_funcs}
 use Rattle.ms_rules.specs.Modules.{AreDistinct, ElementTyped, ExportTyped, FuncTyped, GlobalTyped, Head, ImportTyped, IsNotAmong, SigTyped, StartTyped, TableTyped, WellTyped}
 use Rattle.c_types.specs.Types.{Ty}
-use Rattle.c_typed.specs.Tree.{Function, Stmt, Typed}
+use Rattle.c_typed.specs.Tree.{Function, Typed}
 use Rattle.c_well_typed.specs.Units.{HaveNames, IsWellTyped, literals_in, numbers}
 use Rattle.c_code.specs.Functions.{listed, signature}
 use Rattle.c_code.specs.Limits.{Limit, first_true, has_many_slots, is_long_copy, limit_of}
@@ -28,7 +27,7 @@ use Rattle.c_typing.proofs.Bodied.{all_typed}
 use Rattle.c_typing.proofs.Bodies.{each_below}
 use Rattle.c_typing.proofs.Functions.{C0, each_all, funcs_at, one_table}
 use Rattle.c_typing.proofs.Indices.{IsPresent, defined_from, defined_is, index_at, no_imported_memories, no_imported_tables, sigs_are, third}
-use Rattle.c_typing.proofs.Lists.{either, filter_all, numbers_is, slice_right, upto}
+use Rattle.c_typing.proofs.Lists.{either, filter_all, numbers_is, slice_right}
 use Rattle.c_typing.proofs.Names.{Each, each_append, or_left, or_right}
 
 each_with : {A : Type 0} (P Q : A → Type 0) → ((x : A) → P x → Q x) → (xs : List A) → Each P xs → Each Q xs
@@ -112,11 +111,18 @@ module _ (u : Typed) where
 
   imports_typed : Each (λ (i : Import). ImportTyped (compiled u) i.desc) (compiled u).imports
   imports_typed =
-      let l = sigs_length in
-      (omega (arith, l), (omega (arith, l), (omega (arith, l),
-      each_map (λ (i : Import). ImportTyped (compiled u) i.desc) (import_from_c u) (imported u)
-      (each_with (λ n. (n < length u.functions) × (not (is_defined_at u n) && list_any (is_call_of n) (uses u) ≡ true)) (λ n. ImportTyped (compiled u) (import_from_c u n).desc) (λ n h. let lt = h.0 in omega (arith, l, lt)) (imported u)
-      (numbered (λ n. not (is_defined_at u n) && list_any (is_call_of n) (uses u)))))))
+      let l = sigs_length in (
+        omega (arith, l),
+        (
+          omega (arith, l),
+          (
+            omega (arith, l),
+            each_map (λ (i : Import). ImportTyped (compiled u) i.desc) (import_from_c u) (imported u)
+                (each_with (λ n. (n < length u.functions) × (not (is_defined_at u n) && list_any (is_call_of n) (uses u) ≡ true)) (λ n. ImportTyped (compiled u) (import_from_c u n).desc) (λ n h. let lt = h.0 in omega (arith, l, lt)) (imported u)
+                (numbered (λ n. not (is_defined_at u n) && list_any (is_call_of n) (uses u)))),
+          ),
+        ),
+      )
 
   global_typed : (v : ValType) → GlobalTyped (compiled u) (global_of u v)
   global_typed v = (first_of_type u v, refl, by v) where
@@ -143,11 +149,13 @@ module _ (u : Typed) where
       let front = 0 ∷ 1 ∷ 2 ∷ map third (imported u) in
       let l : length front ≡ suc (suc (suc (length (map third (imported u))))) = refl in
       let z : i ≡ length front + length (map third (defined u)) = omega (arith, a, b, l) in
-      let y : length (map third (defined u)) ≡ length (map third (defined u)) + 0 = omega arith in
-      (record { params = []; results = [] },
-      funcs_at u i 2 (record { params = []; results = [] }) (ap (λ (q : List ℕ). slice_get q i) (sigs_are u) ∙ slice_right front (map third (defined u) ++ 2 ∷ []) i (length (map third (defined u))) z
-      ∙ slice_right (map third (defined u)) (2 ∷ []) (length (map third (defined u))) 0 y) refl,
-      refl, refl)
+      let y : length (map third (defined u)) ≡ length (map third (defined u)) + 0 = omega arith in (
+        record { params = []; results = [] },
+        funcs_at u i 2 (record { params = []; results = [] }) (ap (λ (q : List ℕ). slice_get q i) (sigs_are u) ∙ slice_right front (map third (defined u) ++ 2 ∷ []) i (length (map third (defined u))) z
+            ∙ slice_right (map third (defined u)) (2 ∷ []) (length (map third (defined u))) 0 y) refl,
+        refl,
+        refl,
+      )
 
   -- ---- exports
 
@@ -174,6 +182,7 @@ module _ (u : Typed) where
         → IsNotAmong name (map (λ (e : Export). e.name) ((cond b (record { name = f.name; desc = Rattle.ms_module.specs.declared.module.ExportDesc.TheVariants.Func (index_of u k) } ∷ []) []) ++ es))
     here true es g = (λ e. All-head (λ (g : Function). g.name ≡ name → ⊥) f fs h (sym e), g)
     here false es g = g
+
     by : (b : Bool) → IsNotAmong name (names_of (defined_from (suc k) fs)) → IsNotAmong name (names_of (cond b (k ∷ defined_from (suc k) fs) (defined_from (suc k) fs)))
     by false g = g
     by true g =
@@ -187,16 +196,17 @@ module _ (u : Typed) where
       let next : (i : ℕ) → slice_get u.functions (suc k + i) ≡ slice_get fs i = λ i. let z : suc k + i ≡ k + suc i = omega arith in ap (slice_get u.functions) z ∙ at (suc i) in
       by (is_some f.body) (distinct_names (suc k) fs next h.1) (not_among f.name (suc k) fs next h.0)
     where
-    here : (b : Bool) (es : List Export) → AreDistinct (map (λ (e : Export). e.name) es) → IsNotAmong f.name (map (λ (e : Export). e.name) es)
-        → AreDistinct (map (λ (e : Export). e.name) ((cond b (record { name = f.name; desc = Rattle.ms_module.specs.declared.module.ExportDesc.TheVariants.Func (index_of u k) } ∷ []) []) ++ es))
-    here true es g n = (n, g)
-    here false es g n = g
-    by : (b : Bool) → AreDistinct (names_of (defined_from (suc k) fs)) → IsNotAmong f.name (names_of (defined_from (suc k) fs)) → AreDistinct (names_of (cond b (k ∷ defined_from (suc k) fs) (defined_from (suc k) fs)))
-    by false g n = g
-    by true g n =
-        let z : k ≡ k + 0 = omega arith in
-        let is : function_at u k ≡ Some f = ap (slice_get u.functions) z ∙ at 0 in
-        subst (λ (o : Option Function). AreDistinct (map (λ (e : Export). e.name) (export_of u k o ++ exports_of u (defined_from (suc k) fs)))) (sym is) (here (is_exported u f) (exports_of u (defined_from (suc k) fs)) g n)
+      here : (b : Bool) (es : List Export) → AreDistinct (map (λ (e : Export). e.name) es) → IsNotAmong f.name (map (λ (e : Export). e.name) es)
+          → AreDistinct (map (λ (e : Export). e.name) ((cond b (record { name = f.name; desc = Rattle.ms_module.specs.declared.module.ExportDesc.TheVariants.Func (index_of u k) } ∷ []) []) ++ es))
+      here true es g n = (n, g)
+      here false es g n = g
+
+      by : (b : Bool) → AreDistinct (names_of (defined_from (suc k) fs)) → IsNotAmong f.name (names_of (defined_from (suc k) fs)) → AreDistinct (names_of (cond b (k ∷ defined_from (suc k) fs) (defined_from (suc k) fs)))
+      by false g n = g
+      by true g n =
+          let z : k ≡ k + 0 = omega arith in
+          let is : function_at u k ≡ Some f = ap (slice_get u.functions) z ∙ at 0 in
+          subst (λ (o : Option Function). AreDistinct (map (λ (e : Export). e.name) (export_of u k o ++ exports_of u (defined_from (suc k) fs)))) (sym is) (here (is_exported u f) (exports_of u (defined_from (suc k) fs)) g n)
 
   -- ---- the whole
 
@@ -208,16 +218,30 @@ module _ (u : Typed) where
       let named_sigs = every (λ (f : Function). SigTyped (signature f.ty)) (λ f. signature_typed f.ty) u.functions in
       let defined_are : defined u ≡ defined_from 0 u.functions = ap (filter (is_defined_at u)) (numbers_is (length u.functions)) ∙ defined_is u 0 u.functions first in
       record {
-        sigs = each_all SigTyped m.sigs (omega arith, (omega arith, (omega arith,
-          each_append SigTyped (map (λ (f : Function). signature f.ty) u.functions) (sigs_through u) (each_map SigTyped (λ (f : Function). signature f.ty) u.functions named_sigs) (distinct_each SigTyped [] (through_in (uses u)) tt (through_typed (uses u))))));
+        sigs = each_all SigTyped m.sigs (
+          omega arith,
+          (
+            omega arith,
+            (
+              omega arith,
+              each_append SigTyped (map (λ (f : Function). signature f.ty) u.functions) (sigs_through u) (each_map SigTyped (λ (f : Function). signature f.ty) u.functions named_sigs) (distinct_each SigTyped [] (through_in (uses u)) tt (through_typed (uses u))),
+            ),
+          ),
+        );
         imports = each_all (λ (i : Import). ImportTyped m i.desc) m.imports imports_typed;
         funcs = each_all (λ (f : Func). f.sig < length m.sigs) m.funcs (each_with (FuncTyped (C0 u)) (λ (f : Func). f.sig < length m.sigs) (λ f h. slice_get_within m.sigs f.sig h.0 h.2) m.funcs (all_typed u w));
         tables = each_all TableTyped m.tables ((omega (arith, few), (omega (arith, few), omega arith)), tt);
         memories = All-nil Rattle.ms_rules.specs.Modules.MemoryTyped;
         globals = each_all (GlobalTyped m) m.globals (each_append (GlobalTyped m) (globals_from u 0 u.globals) (literal_globals u (literals_in u.made)) (globals_typed 0 u.globals) (literals_typed (literals_in u.made)));
-        elements = each_all (ElementTyped m) m.elements ((one_table u, (I32Const (Rattle.std.specs.Prelude.pos 1), refl, refl),
-          each_all (λ f. f < length (sigs_of_funcs m)) (map (index_of u) (named u)) (each_map (λ f. f < length (sigs_of_funcs m)) (index_of u) (named u)
-          (each_with (λ n. (n < length u.functions) × (list_any (is_name_of n) (uses u) ≡ true)) (λ n. index_of u n < length (sigs_of_funcs m)) (λ n h. index_within n h.0 (inr (name_is_call n (uses u) h.1))) (named u) (numbered (λ n. list_any (is_name_of n) (uses u)))))), tt);
+        elements = each_all (ElementTyped m) m.elements (
+          (
+            one_table u,
+            (I32Const (Rattle.std.specs.Prelude.pos 1), refl, refl),
+            each_all (λ f. f < length (sigs_of_funcs m)) (map (index_of u) (named u)) (each_map (λ f. f < length (sigs_of_funcs m)) (index_of u) (named u)
+                (each_with (λ n. (n < length u.functions) × (list_any (is_name_of n) (uses u) ≡ true)) (λ n. index_of u n < length (sigs_of_funcs m)) (λ n h. index_within n h.0 (inr (name_is_call n (uses u) h.1))) (named u) (numbered (λ n. list_any (is_name_of n) (uses u))))),
+          ),
+          tt,
+        );
         fills = All-nil (Rattle.ms_rules.specs.Modules.FillTyped m);
         start = start_typed;
         exports = each_all (λ (e : Export). ExportTyped m e.desc) m.exports (exports_typed (defined u) (numbered (is_defined_at u)));

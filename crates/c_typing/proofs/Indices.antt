@@ -1,22 +1,22 @@
 -- What the indices in a unit's code name: types of functions, and functions.
-use Rattle.std.proofs.Common.{◌≡◌, ℕ, zero, suc, ◌+◌, ◌<◌, ◌≤◌, List, [], ◌∷◌, ◌++◌, length, Bool, true, false, Option, Some, None, refl, sym, ap, ◌∙◌, arith, subst, ◌⊎◌, inl, inr}
+use Rattle.std.proofs.Common.{◌≡◌, ℕ, suc, ◌+◌, ◌<◌, List, [], ◌∷◌, ◌++◌, length, Bool, true, false, Option, Some, None, refl, sym, ap, ◌∙◌, arith, subst, ◌⊎◌, inl, inr}
 use Rattle.std.specs.Prelude.{slice_get, cond, filter, map, not, is_some, position, ◌||◌, ◌&&◌, ◌==◌}
 use Rattle.std.specs.List.{list_any}
-use Rattle.std.proofs.lemmas.Option.{slice_get-map, slice_get_within}
+use Rattle.std.proofs.lemmas.Option.{slice_get-map}
 use Rattle.ms_types.specs.declared.types.FuncType.{FuncType}
 use Rattle.ms_types.specs.declared.types.ValType.{ValType}
 use Rattle.ms_types.specs.declared.types.ValType.TheVariants.{I32, I64, Handle}
 use Rattle.ms_linear.specs.Table.{same_sig, same_type, same_types}
 use Rattle.ms_module.specs.declared.module.Func.{Func}
 use Rattle.ms_rules.specs.Context.{imported_funcs, imported_globals, imported_memories, imported_tables, sigs_of_funcs}
-use Rattle.c_types.specs.Types.{Ty, function, Tys}
+use Rattle.c_types.specs.Types.{Ty}
 use Rattle.c_typed.specs.Tree.{Function, Stmt, Typed}
 use Rattle.c_well_typed.specs.Units.{numbers}
 use Rattle.c_code.specs.Functions.{signature}
 use Rattle.c_code.specs.Modules.{compiled, defined, distinct_behind, func_of, funcs_from, host_sigs, import_from_c, imported, index_of, is_call_of, is_defined_at, place_of, rank_in, sig_of, sigs_through, through_in}
 use Rattle.c_code.specs.Uses.{Use, calls, copies, names, through, uses}
 use Rattle.c_typing.proofs.Lists.{any_left, any_right, either, equal_is, equal_itself, filter_has, has_number, numbers_is, position_finds, slice_left, slice_right, upto}
-use Rattle.c_typing.proofs.Names.{Each, or_left, or_right}
+use Rattle.c_typing.proofs.Names.{or_left, or_right}
 
 -- ---- equal types of functions
 
@@ -157,7 +157,7 @@ module _ (u : Typed) where
   pub sigs_are : sigs_of_funcs (compiled u) ≡ all_sigs
   sigs_are =
       let d : map (λ (f : Func). f.sig) (funcs_from u 0 u.functions) ≡ map third (defined u) =
-        sigs_from 0 u.functions ∙ ap (map third) (sym (ap (filter (is_defined_at u)) (numbers_is (length u.functions)) ∙ defined_is 0 u.functions (λ i. let z : 0 + i ≡ i = omega arith in ap (slice_get u.functions) z))) in
+      sigs_from 0 u.functions ∙ ap (map third) (sym (ap (filter (is_defined_at u)) (numbers_is (length u.functions)) ∙ defined_is 0 u.functions (λ i. let z : 0 + i ≡ i = omega arith in ap (slice_get u.functions) z))) in
       ap (λ (l : List ℕ). (0 ∷ 1 ∷ 2 ∷ l) ++ map (λ (f : Func). f.sig) (compiled u).funcs) (imports_are (imported u))
       ∙ ap (λ (l : List ℕ). (0 ∷ 1 ∷ 2 ∷ map third (imported u)) ++ l) (map_more (funcs_from u 0 u.functions) (Rattle.c_code.specs.Modules.start_func u) ∙ ap (λ (l : List ℕ). l ++ 2 ∷ []) d)
 
@@ -190,8 +190,10 @@ module _ (u : Typed) where
   index_at n lt present = ap (λ (l : List ℕ). slice_get l (index_of u n)) (sigs_are u) ∙ by (is_defined_at u n) refl present where
     named : list_any (λ x. x == n) (numbers (length u.functions)) ≡ true
     named = has_number (length u.functions) n lt
+
     front : List ℕ
     front = 0 ∷ 1 ∷ 2 ∷ map third (imported u)
+
     by : (b : Bool) → is_defined_at u n ≡ b → (is_defined_at u n ≡ true) ⊎ (list_any (is_call_of n) (uses u) ≡ true)
         → slice_get ((0 ∷ 1 ∷ 2 ∷ map third (imported u)) ++ (map third (defined u) ++ 2 ∷ [])) (index_of u n) ≡ Some (3 + n)
     by true e p =

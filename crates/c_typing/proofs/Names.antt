@@ -4,14 +4,13 @@ use Rattle.std.specs.Prelude.{max, ◌||◌, slice_get}
 use Rattle.ms_types.specs.declared.types.ValType.{ValType}
 use Rattle.ms_types.specs.declared.types.ValType.TheVariants as vals
 use Rattle.ms_types.specs.declared.types.GlobalType.{GlobalType}
-use Rattle.ms_types.specs.declared.types.FuncType.{FuncType}
 use Rattle.ms_rules.specs.Context.{Context}
 use Rattle.c_types.specs.Types.{Ty, function, Tys}
 use Rattle.c_typed.specs.declared.ops.Variable.{Variable}
 use Rattle.c_typed.specs.declared.ops.Variable.TheVariants.{Local, Global}
 use Rattle.c_code.specs.Functions.{held_as, signature}
 use Rattle.c_code.specs.Targets.{Target}
-use Rattle.c_code.specs.Uses.{Use, calls, names, through, copies}
+use Rattle.c_code.specs.Uses.{Use, calls, through}
 
 abbrev pub var : ValType → GlobalType
 var v = record { ty = v; mutable = true }
@@ -79,14 +78,14 @@ module _ {c : Context} {t : Target} {globals slots functions : List Ty} {waits d
   -- of two parts, the first and the second
   pub first : (us vs : List Use) (f g : Variable → Bool) (m n : ℕ) → Fits c t globals slots functions waits d (us ++ vs) (λ v. f v || g v) (max m n) → Fits c t globals slots functions waits d us f m
   first us vs f g m n h = record {
-      uses = each_front (IsNamed c t functions) us vs h.uses;
-      objects = λ v ty at e. h.objects v ty at (or_left (f v) (g v) e);
-      least = let l = h.least in omega (Rattle.std.proofs.Common.arith, l);
-    }
+    uses = each_front (IsNamed c t functions) us vs h.uses;
+    objects = λ v ty at e. h.objects v ty at (or_left (f v) (g v) e);
+    least = let l = h.least in omega (Rattle.std.proofs.Common.arith, l);
+  }
 
   pub second : (us vs : List Use) (f g : Variable → Bool) (m n : ℕ) → Fits c t globals slots functions waits d (us ++ vs) (λ v. f v || g v) (max m n) → Fits c t globals slots functions waits d vs g n
   second us vs f g m n h = record {
-      uses = each_back (IsNamed c t functions) us vs h.uses;
-      objects = λ v ty at e. h.objects v ty at (or_right (f v) (g v) e);
-      least = let l = h.least in omega (Rattle.std.proofs.Common.arith, l);
-    }
+    uses = each_back (IsNamed c t functions) us vs h.uses;
+    objects = λ v ty at e. h.objects v ty at (or_right (f v) (g v) e);
+    least = let l = h.least in omega (Rattle.std.proofs.Common.arith, l);
+  }

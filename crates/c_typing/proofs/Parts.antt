@@ -1,6 +1,6 @@
 -- The parts of code that several nodes share.
-use Rattle.std.proofs.Common.{◌≡◌, ℕ, zero, suc, ◌+◌, ◌<◌, ◌≤◌, List, [], ◌∷◌, ◌++◌, length, Bool, true, false, Option, Some, None, refl, sym, ap, ◌∙◌, arith, subst}
-use Rattle.std.specs.Prelude.{ℤ, pos, negsuc, slice_get, nat_lt, cond}
+use Rattle.std.proofs.Common.{◌≡◌, ℕ, ◌+◌, List, [], ◌∷◌, ◌++◌, Bool, true, false, Option, Some, None, sym, subst}
+use Rattle.std.specs.Prelude.{ℤ, pos, slice_get, nat_lt, cond}
 use Rattle.ms_handle.specs.declared.handle.Kind.TheVariants as kinds
 use Rattle.ms_types.specs.declared.types.ValType.{ValType}
 use Rattle.ms_types.specs.declared.types.ValType.TheVariants as vals
@@ -20,14 +20,14 @@ use Rattle.c_types.specs.Layout.{size}
 use Rattle.c_typed.specs.declared.ops.RelOp.{RelOp}
 use Rattle.c_typed.specs.declared.ops.RelOp.TheVariants as relations
 use Rattle.c_typed.specs.declared.ops.Variable.{Variable}
-use Rattle.ms_emit.specs.Codes.{Code, plain, one, no_code, ◌⨾◌, choice}
+use Rattle.ms_emit.specs.Codes.{Code, one, no_code}
 use Rattle.c_code.specs.Expressions.{allocated, as_bit, begun, begun_over_old, begun_with_old, converted, copied, decayed, ended, fetched, freed, leaf_copied, leaf_handle, leaves_copied, left, moved, moved_by, pointers_compared, product_allocated, put, updated, written}
 use Rattle.c_code.specs.Leaves.{Leaf, leaves}
-use Rattle.c_code.specs.Operations.{by_width, constant, convert, eqz, integer_type, narrow, new_frame, new_heap, slice, to_type, truth, val_of, val_option, val_type, width_of}
-use Rattle.c_code.specs.Targets.{Target, get, set, tee, scratch_of, scratch_of_width}
+use Rattle.c_code.specs.Operations.{by_width, convert, integer_type, narrow, new_frame, new_heap, slice, to_type, truth, val_of, val_option, val_type, width_of}
+use Rattle.c_code.specs.Targets.{Target, scratch_of, scratch_of_width}
 use Rattle.c_typing.proofs.Names.{Names, Holds}
-use Rattle.c_typing.proofs.Steps.{call_step, constant_step, drop_step, get_step, i32_step, i64_step, load_step, local_get, local_set, local_tee, numeric_step, op_step, rel_step, segment_step, set_step, store_step, tee_goes}
-use Rattle.c_typing.proofs.Typing.{Goes, Labels, Step, Steps, none, does, end, in_choice, ◌▸◌, ◌▹◌}
+use Rattle.c_typing.proofs.Steps.{constant_step, drop_step, get_step, i32_step, i64_step, load_step, local_get, local_set, local_tee, numeric_step, op_step, rel_step, segment_step, set_step, store_step, tee_goes}
+use Rattle.c_typing.proofs.Typing.{Goes, Labels, none, does, end, in_choice, ◌▸◌, ◌▹◌}
 
 -- what is left of a value
 abbrev pub kept_types : (kept : Bool) → Option ValType → List ValType

@@ -1,10 +1,10 @@
 -- The types of expressions and places are types that may stand in a unit: places are of objects, functions take scalars.
-use Rattle.std.proofs.Common.{◌≡◌, ℕ, ◌<◌, ◌≤◌, List, [], ◌∷◌, Bool, true, false, Option, Some, None, refl, sym, ap, ◌∙◌, subst}
+use Rattle.std.proofs.Common.{◌≡◌, ℕ, List, true, false, Some, refl, sym, subst}
 use Rattle.std.specs.Prelude.{slice_get}
 use Rattle.c_types.specs.declared.types.Scalar.{Scalar}
 use Rattle.c_types.specs.declared.types.Scalar.TheVariants as scalars
 use Rattle.c_types.specs.declared.integers.IntType.TheVariants.{Int, Char, UnsignedInt, LongLong}
-use Rattle.c_types.specs.Layout.{Table, HasSize, IsSmall}
+use Rattle.c_types.specs.Layout.{Table, HasSize}
 use Rattle.c_types.specs.Types.{Ty, void, integer, struct, pointer, array, function, Tys, no_types, is_function, scalar_of}
 use Rattle.c_types.specs.Types as ty
 use Rattle.c_typed.specs.declared.ops.Variable.{Variable}

@@ -1,9 +1,8 @@
 -- The instructions of code, each from the operands that it takes to those that it leaves.
-use Rattle.std.proofs.Common.{◌≡◌, ℕ, zero, suc, ◌+◌, ◌<◌, ◌≤◌, List, [], ◌∷◌, ◌++◌, length, reverse, Option, Some, None, refl, sym, ap, ◌∙◌, arith, subst}
+use Rattle.std.proofs.Common.{◌≡◌, ℕ, ◌<◌, List, ◌∷◌, ◌++◌, length, reverse, Option, Some, None, refl}
 use Rattle.std.specs.Prelude.{ℤ, pos, slice_get}
 use Rattle.ms_types.specs.declared.types.ValType.{ValType}
 use Rattle.ms_types.specs.declared.types.ValType.TheVariants as vals
-use Rattle.ms_types.specs.declared.types.FuncType.{FuncType}
 use Rattle.ms_module.specs.declared.access.Segment.{Segment as SegmentInstr}
 use Rattle.ms_module.specs.declared.instr.Instr.{Instr}
 use Rattle.ms_module.specs.declared.instr.Instr.TheVariants.{Br, BrIf, Call, CallIndirect, Drop, GlobalGet, GlobalSet, I32Const, I64Const, LocalGet, LocalSet, LocalTee, Numeric, Return, Segment, Select, Unreachable}
@@ -15,17 +14,15 @@ use Rattle.ms_module.specs.declared.numeric.Width.TheVariants.{W32, W64}
 use Rattle.ms_rules.specs.Context.{Context}
 use Rattle.ms_rules.specs.Instructions.{numeric_type, segment_type}
 use Rattle.ms_rules.specs.Typing.{types}
-use Rattle.c_types.specs.declared.integers.IntType.{IntType}
 use Rattle.c_types.specs.declared.integers.IntType.TheVariants.{Char, SignedChar, UnsignedChar, Short, UnsignedShort, Int, UnsignedInt, Long, UnsignedLong, LongLong, UnsignedLongLong}
 use Rattle.c_types.specs.declared.types.Scalar.{Scalar}
 use Rattle.c_types.specs.declared.types.Scalar.TheVariants as scalars
 use Rattle.c_typed.specs.declared.ops.Variable.{Variable}
 use Rattle.c_typed.specs.declared.ops.Variable.TheVariants.{Local, Global}
-use Rattle.ms_emit.specs.Codes.{plain}
 use Rattle.c_code.specs.Operations.{constant, integer_type, load, op, rel, store, val_type, width_of, zero_of}
 use Rattle.c_code.specs.Targets.{Target, get, set, tee}
 use Rattle.c_typing.proofs.Names.{Holds, var}
-use Rattle.c_typing.proofs.Typing.{Goes, Labels, Step, Steps, does, end, ◌▸◌}
+use Rattle.c_typing.proofs.Typing.{Goes, Labels, Step, does, end, ◌▸◌}
 
 module _ {c : Context} {ls : Labels} where
   pub constant_step : (w : Width) (z : ℤ) {ts : List ValType} → Step c ls (constant w z) ts (integer_type w ∷ ts)

@@ -1,7 +1,7 @@
 -- The code of well-typed statements is well typed, and leaves the operands as they were.
-use Rattle.std.proofs.Common.{◌≡◌, ℕ, zero, suc, ◌+◌, ◌*◌, ◌<◌, ◌≤◌, List, [], ◌∷◌, ◌++◌, length, Bool, true, false, Option, Some, None, refl, sym, ap, ◌∙◌, arith, subst}
+use Rattle.std.proofs.Common.{◌≡◌, ℕ, zero, suc, ◌<◌, List, [], ◌∷◌, ◌++◌, length, Bool, true, false, Option, Some, None, refl, ap, ◌∙◌, arith}
 use Rattle.std.proofs.lemmas.Option.{slice_get-get_or}
-use Rattle.std.specs.Prelude.{ℤ, pos, negsuc, slice_get, get_or, cond, map, max, filter, take, ◌||◌}
+use Rattle.std.specs.Prelude.{slice_get, get_or, cond, map, max, filter, take, ◌||◌}
 use Rattle.ms_handle.specs.declared.handle.Kind.TheVariants as kinds
 use Rattle.ms_types.specs.declared.types.ValType.{ValType}
 use Rattle.ms_types.specs.declared.types.ValType.TheVariants as vals
@@ -30,14 +30,14 @@ use Rattle.c_well_typed.specs.Statements as well_stmts
 use Rattle.c_well_typed.specs.Statements.{AreNew, AreStatements, IsStatement, IsStep, count}
 use Rattle.c_meaning.specs.Integers.{value_of}
 use Rattle.ms_emit.specs.Codes.{Code}
-use Rattle.c_code.specs.Expressions.{decayed, expr, is_deref, place, step}
+use Rattle.c_code.specs.Expressions.{expr, is_deref, step}
 use Rattle.c_code.specs.Functions.{held_as, val_or_handle}
-use Rattle.c_code.specs.Operations.{integer_type, val_of, val_option, val_type, width_of}
-use Rattle.c_code.specs.Statements.{Exits, bytes_put, chosen, continues, entered, enters, filled, freed, group_from, groups, in_group, in_loop, iterated, made, objects_in, selected, stmt, stmts, with_objects, within, zeroed}
+use Rattle.c_code.specs.Operations.{integer_type, val_of, val_option, width_of}
+use Rattle.c_code.specs.Statements.{Exits, bytes_put, chosen, continues, entered, enters, filled, freed, groups, in_group, in_loop, iterated, made, objects_in, stmt, stmts, with_objects, within, zeroed}
 use Rattle.c_code.specs.Targets.{Target, scratch_of_width, waiting}
 use Rattle.c_code.specs.Uses as uses
-use Rattle.c_typing.proofs.Exprs.{FitE, FitP, FitsIn, as_narrow, expr_goes, memory_of, place_goes}
-use Rattle.c_typing.proofs.Names.{Each, Fits, Holds, IsNamed, Names, each_append, each_back, each_front, first, or_left, or_right, second}
+use Rattle.c_typing.proofs.Exprs.{FitE, FitsIn, as_narrow, expr_goes, memory_of, place_goes}
+use Rattle.c_typing.proofs.Names.{Each, Holds, IsNamed, Names, each_append, each_back, each_front, first, or_left, or_right, second}
 use Rattle.c_typing.proofs.Parts.{decayed_goes, new_frame_goes}
 use Rattle.c_typing.proofs.Sound.{AreSoundNames}
 use Rattle.c_typing.proofs.Steps.{br_if_step, br_step, constant_step, get_step, i32_step, i64_step, local_get, local_set, rel_step, return_step, segment_step, select_step, set_step, tee_goes, unreachable_step, zero_step}
@@ -86,6 +86,7 @@ module _ (c : Context) (body : List (List Instr)) (ls : Labels) (t : Target) {gl
   objects_hold (n ∷ ns) h = by (t.is_object (Local n)) (names.variable (Local n) (get_or slots n void) (slice_get-get_or slots n void h.0)) (objects_hold ns h.1) where
     rest : List ℕ
     rest = filter (λ m. t.is_object (Local m)) ns
+
     by : (b : Bool) → Holds c t (Local n) (held_as b (get_or slots n void)) → Each (HasHandle c t) (map Local rest) → Each (HasHandle c t) (map Local (cond b (n ∷ rest) rest))
     by true q g = (q, g)
     by false q g = g
@@ -156,10 +157,11 @@ module _ (c : Context) (body : List (List Instr)) (t : Target) (waits : ℕ) (r 
       let y : FitsIn c t k waits d (uses.in_expr e ++ uses.in_stmt s) (λ v. objects.in_expr v e || objects.in_stmt v s) (max (uses.waits e) (uses.waits_stmt s)) = record { uses = x.uses; objects = x.objects; least = let l = x.least in omega (arith, l) } in
       (first (uses.in_expr e) (uses.in_stmt s) (λ v. objects.in_expr v e) (λ v. objects.in_stmt v s) (uses.waits e) (uses.waits_stmt s) y, tt, second (uses.in_expr e) (uses.in_stmt s) (λ v. objects.in_expr v e) (λ v. objects.in_stmt v s) (uses.waits e) (uses.waits_stmt s) y)
   in_loop_fits k d e (Some a) s x =
-      let y = second (uses.in_expr e) (uses.in_expr a ++ uses.in_stmt s) (λ v. objects.in_expr v e) (λ v. objects.in_expr v a || objects.in_stmt v s) (uses.waits e) (max (uses.waits a) (uses.waits_stmt s)) x in
-      (first (uses.in_expr e) (uses.in_expr a ++ uses.in_stmt s) (λ v. objects.in_expr v e) (λ v. objects.in_expr v a || objects.in_stmt v s) (uses.waits e) (max (uses.waits a) (uses.waits_stmt s)) x,
-      first (uses.in_expr a) (uses.in_stmt s) (λ v. objects.in_expr v a) (λ v. objects.in_stmt v s) (uses.waits a) (uses.waits_stmt s) y,
-      second (uses.in_expr a) (uses.in_stmt s) (λ v. objects.in_expr v a) (λ v. objects.in_stmt v s) (uses.waits a) (uses.waits_stmt s) y)
+      let y = second (uses.in_expr e) (uses.in_expr a ++ uses.in_stmt s) (λ v. objects.in_expr v e) (λ v. objects.in_expr v a || objects.in_stmt v s) (uses.waits e) (max (uses.waits a) (uses.waits_stmt s)) x in (
+        first (uses.in_expr e) (uses.in_expr a ++ uses.in_stmt s) (λ v. objects.in_expr v e) (λ v. objects.in_expr v a || objects.in_stmt v s) (uses.waits e) (max (uses.waits a) (uses.waits_stmt s)) x,
+        first (uses.in_expr a) (uses.in_stmt s) (λ v. objects.in_expr v a) (λ v. objects.in_stmt v s) (uses.waits a) (uses.waits_stmt s) y,
+        second (uses.in_expr a) (uses.in_stmt s) (λ v. objects.in_expr v a) (λ v. objects.in_stmt v s) (uses.waits a) (uses.waits_stmt s) y,
+      )
 
   module _ (structs : Rattle.c_types.specs.Layout.Table) (globals slots functions : List Ty) (literals : ℕ) (names : Names c t globals slots literals waits) (sound : AreSoundNames structs globals slots functions) where
     -- where these variables are visible

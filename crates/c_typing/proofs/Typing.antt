@@ -6,7 +6,7 @@ use Rattle.ms_module.specs.Numbered.{sequence_at}
 use Rattle.ms_module.specs.declared.instr.Instr.{Instr}
 use Rattle.ms_rules.specs.Context.{Context}
 use Rattle.ms_rules.specs.Typing.{Derived, InstrTyped, Known, OtherTyped, SequenceTyped, types}
-use Rattle.ms_emit.specs.Codes.{Code, Coded, coded, plain, one, no_code, ◌⨾◌, block, repeat, choice, inner, second, second_seqs}
+use Rattle.ms_emit.specs.Codes.{Code, coded, plain, no_code, ◌⨾◌, block, repeat, choice, inner, second, second_seqs}
 
 abbrev pub Labels : Type 0
 Labels = List (Option ValType)
@@ -23,7 +23,6 @@ pub end : {c : Context} {ls : Labels} {t : List ValType} → Steps c ls [] t t
 end = record { by = λ known. refl }
 
 infixr 5 ◌▸◌
-
 pub ◌▸◌ : {c : Context} {ls : Labels} {i : Instr} {is : List Instr} {t1 t2 t3 : List ValType} → Step c ls i t1 t2 → Steps c ls is t2 t3 → Steps c ls (i ∷ is) t1 t3
 ◌▸◌ {t2 = t2} s r = record { by = λ known. (t2, s.by known, r.by known) }
 
@@ -106,17 +105,16 @@ module _ {c : Context} {body : List (List Instr)} {ls : Labels} where
   does s = record { whole = λ n e. refl; typed = λ n h le st. s.by (Derived h c body) }
 
   infixr 4 ◌▹◌
-
   -- one code behind the other
   pub ◌▹◌ : {a b : Code} {t1 t2 t3 : List ValType} → Goes c body ls a t1 t2 → Goes c body ls b t2 t3 → Goes c body ls (a ⨾ b) t1 t3
   ◌▹◌ {a} {b} {t1} {t2} {t3} ga gb = record {
-      whole = λ n e. let x = a n in let y = b (n + length x.seqs) in
+    whole = λ n e. let x = a n in let y = b (n + length x.seqs) in
         ap (λ (l : List (List Instr)). l ++ y.seqs) (ga.whole n (nil_left x.instrs y.instrs e)) ∙ gb.whole (n + length x.seqs) (nil_right x.instrs y.instrs e);
-      typed = λ n h le s. let x = a n in let m = n + length x.seqs in
+    typed = λ n h le s. let x = a n in let m = n + length x.seqs in
         sequence_append (Derived h c body) c ls x.instrs (b m).instrs t1 t2 t3
         (ga.typed n h le (stand_front body n x.seqs (b m).seqs s))
         (gb.typed m h (omega (arith, le)) (stand_back body n x.seqs (b m).seqs s));
-    }
+  }
 
   pub in_block : {k : Option ValType} {a : Code} {ts : List ValType} → Goes c body (k ∷ ls) a [] (types k) → Goes c body ls (block k a) ts (types k ++ ts)
   in_block {k} {a} {ts} g = record { whole = λ n e. absurd cc; typed = λ n h le s. (types k ++ ts, (derived c body (k ∷ ls) a k g n h le s, refl), refl) }
@@ -126,14 +124,23 @@ module _ {c : Context} {body : List (List Instr)} {ls : Labels} where
 
   pub in_choice : {k : Option ValType} {a b : Code} {ts : List ValType} → Goes c body (k ∷ ls) a [] (types k) → Goes c body (k ∷ ls) b [] (types k)
       → Goes c body ls (choice k a b) (vals.I32 ∷ ts) (types k ++ ts)
-  in_choice {k} {a} {b} {ts} ga gb = record { whole = λ n e. absurd cc; typed = λ n h le s.
-      let x = a (suc n) in
-      let m = suc n + length x.seqs in
-      let y = b (suc m) in
-      let same : n + suc (length x.seqs) ≡ m = omega arith in
-      (types k ++ ts,
-      (ts, refl, derived c body (k ∷ ls) a k ga n h le (stand_front body n (inner x) (second_seqs y) s),
-      other_typed c body ls k m h (omega (arith, le)) y.instrs y.seqs (λ h' le' s'. gb.typed (suc m) h' le' s')
-      (λ e. subst (λ (ss : List (List Instr)). Stand body (suc m) ss) (sym (gb.whole (suc m) e)) tt)
-      (subst (λ (q : ℕ). Stand body q (second_seqs y)) same (stand_back body n (inner x) (second_seqs y) s)), refl),
-      refl) }
+  in_choice {k} {a} {b} {ts} ga gb = record {
+    whole = λ n e. absurd cc;
+    typed = λ n h le s.
+        let x = a (suc n) in
+        let m = suc n + length x.seqs in
+        let y = b (suc m) in
+        let same : n + suc (length x.seqs) ≡ m = omega arith in (
+          types k ++ ts,
+          (
+            ts,
+            refl,
+            derived c body (k ∷ ls) a k ga n h le (stand_front body n (inner x) (second_seqs y) s),
+            other_typed c body ls k m h (omega (arith, le)) y.instrs y.seqs (λ h' le' s'. gb.typed (suc m) h' le' s')
+                (λ e. subst (λ (ss : List (List Instr)). Stand body (suc m) ss) (sym (gb.whole (suc m) e)) tt)
+                (subst (λ (q : ℕ). Stand body q (second_seqs y)) same (stand_back body n (inner x) (second_seqs y) s)),
+            refl,
+          ),
+          refl,
+        );
+  }
