@@ -29,7 +29,7 @@ use Rattle.c_code.specs.Operations.{val_of, val_option}
 use Rattle.c_code.specs.Statements.{at_body, made, objects_in, stmt}
 use Rattle.c_code.specs.Targets.{Target}
 use Rattle.c_code.specs.Uses as uses
-use Rattle.c_typing.proofs.Names.{Each, Fits, Holds, IsNamed, Names, each_back, each_front, or_left, or_right}
+use Rattle.c_typing.proofs.Names.{Each, Fits, Holds, of_stmt, IsNamed, Names, each_back, each_front, or_left, or_right}
 use Rattle.c_typing.proofs.Sound.{AreSoundNames, HasScalar}
 use Rattle.c_typing.proofs.Steps.{get_step, local_get, segment_step, set_step, store_step, zero_step}
 use Rattle.c_typing.proofs.Stmts.{HasHandle, Leaves, filled_goes, freed_goes, made_goes, objects_hold, stmt_goes}
@@ -86,7 +86,7 @@ module _ {c : Context} {body : List (List Instr)} {ls : Labels} (t : Target) whe
 module _ (c : Context) (t : Target) (waits : ℕ) (structs : Rattle.c_types.specs.Layout.Table) (globals slots functions : List Ty) (literals : ℕ) (names : Names c t globals slots literals waits) (sound : AreSoundNames structs globals slots functions) where
   pub body_typed : (f : Function) (s : Stmt) (r : Ty) (ps : Tys) → f.ty ≡ function r ps → f.slots ≡ slots → length (list_of ps) ≤ length slots → c.returns ≡ Some (val_of r) → ParamsHeld c t 0 (list_of ps)
       → IsStatement (record { structs = structs; globals = globals; literals = literals; functions = functions; slots = slots; visible = numbers (length (list_of ps)) }) r no_jumps s
-      → Fits c t globals slots functions waits 0 (uses.in_stmt s) (λ v. objects.in_stmt v s) (uses.waits_stmt s) → Typed c (body t f s) (val_of r ∷ []) 0 (val_of r)
+      → Fits c t globals slots functions waits 0 (of_stmt s) → Typed c (body t f s) (val_of r ∷ []) 0 (val_of r)
   body_typed f s r ps is_ty is_slots le returns held well fit =
       let k = length (list_of ps) in
       let vs = objects_in t slots (numbers k) in
@@ -129,7 +129,7 @@ module _ (u : tree.Typed) (c : Context) (t : Target) (waits : ℕ) (returns : c.
   abbrev Here : well.Context
   Here = record { structs = structs; globals = globals; literals = literals; functions = functions; slots = []; visible = [] }
 
-  fits_alone : (s : Stmt) → FitsValues c t functions waits (uses.in_stmt s) (λ n. objects.in_stmt (Global n) s) (uses.waits_stmt s) → Fits c t globals [] functions waits 0 (uses.in_stmt s) (λ v. objects.in_stmt v s) (uses.waits_stmt s)
+  fits_alone : (s : Stmt) → FitsValues c t functions waits (uses.in_stmt s) (λ n. objects.in_stmt (Global n) s) (uses.waits_stmt s) → Fits c t globals [] functions waits 0 (of_stmt s)
   fits_alone s h = record { uses = h.uses; objects = by; least = let l = h.least in omega (arith, l) } where
     by : (v : Variable) (u : Ty) → Rattle.c_typing.proofs.Names.TypeOf globals [] v u → objects.in_stmt v s ≡ true → t.is_object v ≡ true
     by (Local n) u at e = absurd cc

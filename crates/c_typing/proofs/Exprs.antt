@@ -34,7 +34,7 @@ use Rattle.c_code.specs.Functions.{held_as, listed, signature, val_or_handle}
 use Rattle.c_code.specs.Operations.{integer_type, val_of, val_option, val_type, width_of}
 use Rattle.c_code.specs.Targets.{Target, plain_in}
 use Rattle.c_code.specs.Uses as uses
-use Rattle.c_typing.proofs.Names.{Fits, Holds, Names, TypeOf, first, second, or_left, or_right, each_front, each_back, IsNamed}
+use Rattle.c_typing.proofs.Names.{Fits, Holds, Names, Needs, TypeOf, of_expr, of_exprs, of_place, ◌⊕◌, first, second, or_left, or_right, each_front, each_back, IsNamed}
 use Rattle.c_typing.proofs.Parts.{Accesses, allocated_goes, as_bit_goes, begun_goes, convert_goes, converted_goes, copied_goes, decayed_goes, ended_goes, fetched_goes, freed_goes, kept_types, leaves_it, moved_by_goes, moved_goes, pointers_compared_goes, product_goes, slice_goes, truth_goes, under, updated_goes}
 use Rattle.c_typing.proofs.Sound.{AreSound, AreSoundNames, Sound, sized_is, sound_expr, sound_place}
 use Rattle.c_typing.proofs.Steps.{call_indirect_step, call_step, constant_step, drop_step, get_step, global_get, i32_step, i64_step, local_get, local_set, numeric_step, op_step, rel_step, segment_step}
@@ -108,17 +108,17 @@ module _ {c : Context} {body : List (List Instr)} where
     by false = g
 
 module _ (c : Context) (t : Target) (k : well.Context) (waits : ℕ) where
-  abbrev pub FitsIn : ℕ → List uses.Use → (Variable → Bool) → ℕ → Type 0
-  FitsIn d us f n = Fits c t k.globals k.slots k.functions waits d us f n
+  abbrev pub FitsIn : ℕ → Needs → Type 0
+  FitsIn d a = Fits c t k.globals k.slots k.functions waits d a
 
   abbrev pub FitP : ℕ → Place → Type 0
-  FitP d p = FitsIn d (uses.in_place p) (λ v. objects.in_place v p) (uses.waits_place p)
+  FitP d p = FitsIn d (of_place p)
 
   abbrev pub FitE : ℕ → Expr → Type 0
-  FitE d e = FitsIn d (uses.in_expr e) (λ v. objects.in_expr v e) (uses.waits e)
+  FitE d e = FitsIn d (of_expr e)
 
   abbrev pub FitEs : ℕ → Exprs → Type 0
-  FitEs d es = FitsIn d (uses.in_exprs es) (λ v. objects.in_exprs v es) (uses.waits_all es)
+  FitEs d es = FitsIn d (of_exprs es)
 
 module _ (c : Context) (body : List (List Instr)) (t : Target) (k : well.Context) (waits : ℕ) (names : Names c t k.globals k.slots k.literals waits) (sound : AreSoundNames k.structs k.globals k.slots k.functions) where
   -- ---- of two parts, each
@@ -129,17 +129,17 @@ module _ (c : Context) (body : List (List Instr)) (t : Target) (k : well.Context
   abbrev P : ℕ → Place → Type 0
   P d p = FitP c t k waits d p
 
-  fst : (d : ℕ) (a b : Expr) → FitsIn c t k waits d (uses.in_expr a ++ uses.in_expr b) (λ v. objects.in_expr v a || objects.in_expr v b) (max (uses.waits a) (uses.waits b)) → E d a
-  fst d a b x = first (uses.in_expr a) (uses.in_expr b) (λ v. objects.in_expr v a) (λ v. objects.in_expr v b) (uses.waits a) (uses.waits b) x
+  fst : (d : ℕ) (a b : Expr) → FitsIn c t k waits d (of_expr a ⊕ of_expr b) → E d a
+  fst d a b x = first (of_expr a) (of_expr b) x
 
-  snd : (d : ℕ) (a b : Expr) → FitsIn c t k waits d (uses.in_expr a ++ uses.in_expr b) (λ v. objects.in_expr v a || objects.in_expr v b) (max (uses.waits a) (uses.waits b)) → E d b
-  snd d a b x = second (uses.in_expr a) (uses.in_expr b) (λ v. objects.in_expr v a) (λ v. objects.in_expr v b) (uses.waits a) (uses.waits b) x
+  snd : (d : ℕ) (a b : Expr) → FitsIn c t k waits d (of_expr a ⊕ of_expr b) → E d b
+  snd d a b x = second (of_expr a) (of_expr b) x
 
-  fst_place : (d : ℕ) (p : Place) (b : Expr) → FitsIn c t k waits d (uses.in_place p ++ uses.in_expr b) (λ v. objects.in_place v p || objects.in_expr v b) (max (uses.waits_place p) (uses.waits b)) → P d p
-  fst_place d p b x = first (uses.in_place p) (uses.in_expr b) (λ v. objects.in_place v p) (λ v. objects.in_expr v b) (uses.waits_place p) (uses.waits b) x
+  fst_place : (d : ℕ) (p : Place) (b : Expr) → FitsIn c t k waits d (of_place p ⊕ of_expr b) → P d p
+  fst_place d p b x = first (of_place p) (of_expr b) x
 
-  snd_place : (d : ℕ) (p : Place) (b : Expr) → FitsIn c t k waits d (uses.in_place p ++ uses.in_expr b) (λ v. objects.in_place v p || objects.in_expr v b) (max (uses.waits_place p) (uses.waits b)) → E d b
-  snd_place d p b x = second (uses.in_place p) (uses.in_expr b) (λ v. objects.in_place v p) (λ v. objects.in_expr v b) (uses.waits_place p) (uses.waits b) x
+  snd_place : (d : ℕ) (p : Place) (b : Expr) → FitsIn c t k waits d (of_place p ⊕ of_expr b) → E d b
+  snd_place d p b x = second (of_place p) (of_expr b) x
 
   pub type_of : (v : Variable) (u : Ty) → IsVariable k v u → TypeOf k.globals k.slots v u
   type_of (Local n) u h = h.0
@@ -238,8 +238,8 @@ module _ (c : Context) (body : List (List Instr)) (t : Target) (k : well.Context
         leaves_it kept (Some (scalars.Int Int)) u (ap scalar_of h.2) (as_narrow ls h.0 h.3 (expr_goes ls true d a (integer h.0) h.5 (fst d a b x) ts) ▹
         in_choice {k = Some vals.I32} (does (i32_step ▸ end)) (as_bit_goes (is_bit b) (as_narrow (Some vals.I32 ∷ ls) h.1 h.4 (expr_goes (Some vals.I32 ∷ ls) true d b (integer h.1) h.6 (snd d a b x) []))))
     expr_goes ls kept d (tree.choose s e a b) u h x ts =
-        let q = second (uses.in_expr e) (uses.in_expr a ++ uses.in_expr b) (λ v. objects.in_expr v e) (λ v. objects.in_expr v a || objects.in_expr v b) (uses.waits e) (max (uses.waits a) (uses.waits b)) x in
-        let y = first (uses.in_expr e) (uses.in_expr a ++ uses.in_expr b) (λ v. objects.in_expr v e) (λ v. objects.in_expr v a || objects.in_expr v b) (uses.waits e) (max (uses.waits a) (uses.waits b)) x in
+        let q = second (of_expr e) (of_expr a ⊕ of_expr b) x in
+        let y = first (of_expr e) (of_expr a ⊕ of_expr b) x in
         leaves_it kept s u h.1 (as_narrow ls h.0 h.2 (expr_goes ls true d e (integer h.0) h.3 y ts) ▹
         in_choice {k = val_option s} (alone (val_option s ∷ ls) u s h.1 (expr_goes (val_option s ∷ ls) true d a u h.4 (fst d a b q) [])) (alone (val_option s ∷ ls) u s h.1 (expr_goes (val_option s ∷ ls) true d b u h.5 (snd d a b q) [])))
     expr_goes ls kept d (tree.comma a b) u h x ts = expr_goes ls false d a h.0 h.1 (fst d a b x) ts ▹ expr_goes ls kept d b u h.2 (snd d a b x) ts
@@ -257,8 +257,8 @@ module _ (c : Context) (body : List (List Instr)) (t : Target) (k : well.Context
         keeps ls kept u scalars.Pointer (pointer_is u v h.0 f) (updated_goes t names kept old (plain_in t p) (place t d p) scalars.Pointer ts acc
         (λ us. moved_goes (size t.structs v) back us (λ ws. expr_goes ls true d e (integer LongLong) h.3 (snd_place d p e x) ws)))
     expr_goes ls kept d (tree.copy n p q) u h x ts =
-        let y = first (uses.in_place p) (uses.in_place q) (λ v. objects.in_place v p) (λ v. objects.in_place v q) (uses.waits_place p) (uses.waits_place q) (record { uses = x.uses.1; objects = x.objects; least = x.least }) in
-        let z = second (uses.in_place p) (uses.in_place q) (λ v. objects.in_place v p) (λ v. objects.in_place v q) (uses.waits_place p) (uses.waits_place q) (record { uses = x.uses.1; objects = x.objects; least = x.least }) in
+        let y = first (of_place p) (of_place q) (record { uses = x.uses.1; objects = x.objects; least = x.least }) in
+        let z = second (of_place p) (of_place q) (record { uses = x.uses.1; objects = x.objects; least = x.least }) in
         nothing ls kept u h.0 (copied_goes t names n ts (place_goes ls d p (struct n) h.2 (memory_of p (struct n) refl) y ts) (place_goes ls d q (struct n) h.3 (memory_of q (struct n) refl) z (vals.Handle ∷ ts)))
     expr_goes ls kept d (tree.call n s es) u h x ts =
         let ps = map (held_as false) (list_of h.0) in
@@ -297,8 +297,8 @@ module _ (c : Context) (body : List (List Instr)) (t : Target) (k : well.Context
         let vs = map (held_as false) (list_of us) in
         let v = val_type sc.0.0 in
         let is : held_as false u ∷ vs ≡ v ∷ vs = ap (λ (o : Option Scalar). val_or_handle (val_option o) ∷ vs) sc.0.1 in
-        let y = first (uses.in_expr e) (uses.in_exprs es) (λ q. objects.in_expr q e) (λ q. objects.in_exprs q es) (uses.waits e) (uses.waits_all es) x in
-        let z = second (uses.in_expr e) (uses.in_exprs es) (λ q. objects.in_expr q e) (λ q. objects.in_exprs q es) (uses.waits e) (uses.waits_all es) x in
+        let y = first (of_expr e) (of_exprs es) x in
+        let z = second (of_expr e) (of_exprs es) x in
         subst (λ (l : List ValType). Goes c body ls (exprs t d (more e es)) ts (reverse l ++ ts)) (sym is)
         (subst (λ (l : List ValType). Goes c body ls (exprs t d (more e es)) ts l) (sym (ap (λ (l : List ValType). l ++ ts) (reverse-append (v ∷ []) vs) ∙ append_assoc (reverse vs) (v ∷ []) ts))
         (as_scalar ls u sc.0.0 sc.0.1 (expr_goes ls true d e u h.0 y ts) ▹ exprs_goes ls d es us h.1 sc.2 z (v ∷ ts)))

@@ -1,5 +1,5 @@
 -- What the indices in a function's code have to name.
-use Rattle.std.proofs.Common.{◌≡◌, ℕ, ◌+◌, ◌<◌, ◌≤◌, List, [], ◌∷◌, ◌++◌, length, Bool, true, false, Option, Some, None}
+use Rattle.std.proofs.Common.{◌≡◌, ℕ, ◌+◌, ◌<◌, ◌≤◌, List, [], ◌∷◌, ◌++◌, length, Bool, true, false, Some, refl, arith}
 use Rattle.std.specs.Prelude.{max, ◌||◌, slice_get}
 use Rattle.ms_types.specs.declared.types.ValType.{ValType}
 use Rattle.ms_types.specs.declared.types.ValType.TheVariants as vals
@@ -8,9 +8,11 @@ use Rattle.ms_rules.specs.Context.{Context}
 use Rattle.c_types.specs.Types.{Ty, function, Tys}
 use Rattle.c_typed.specs.declared.ops.Variable.{Variable}
 use Rattle.c_typed.specs.declared.ops.Variable.TheVariants.{Local, Global}
+use Rattle.c_typed.specs.Objects as objects
+use Rattle.c_typed.specs.Tree.{Place, Expr, Exprs, Stmt, Stmts}
 use Rattle.c_code.specs.Functions.{held_as, signature}
 use Rattle.c_code.specs.Targets.{Target}
-use Rattle.c_code.specs.Uses.{Use, calls, through}
+use Rattle.c_code.specs.Uses.{Use, calls, names, through, in_place, in_expr, in_exprs, in_stmt, in_stmts, waits, waits_place, waits_all, waits_stmt, waits_stmts}
 
 abbrev pub var : ValType → GlobalType
 var v = record { ty = v; mutable = true }
@@ -60,32 +62,59 @@ pub each_append : {A : Type 0} (P : A → Type 0) (xs ys : List A) → Each P xs
 each_append P [] ys h g = g
 each_append P (x ∷ xs) ys h g = (h.0, each_append P xs ys h.1 g)
 
--- Of a part of a body: its uses are named, the variables under its `&` are objects, and so many values wait beside d others.
-pub record Fits (c : Context) (t : Target) (globals slots functions : List Ty) (waits d : ℕ) (us : List Use) (under : Variable → Bool) (n : ℕ) : Type 0 where
-  pub uses : Each (IsNamed c t functions) us
-  pub objects : (v : Variable) (ty : Ty) → TypeOf globals slots v ty → under v ≡ true → t.is_object v ≡ true
-  pub least : d + n ≤ waits
-
 pub or_left : (a b : Bool) → a ≡ true → a || b ≡ true
-or_left true b e = Rattle.std.proofs.Common.refl
+or_left true b e = refl
 or_left false b e = absurd cc
 
 pub or_right : (a b : Bool) → b ≡ true → a || b ≡ true
-or_right true b e = Rattle.std.proofs.Common.refl
+or_right true b e = refl
 or_right false b e = e
 
-module _ {c : Context} {t : Target} {globals slots functions : List Ty} {waits d : ℕ} where
-  -- of two parts, the first and the second
-  pub first : (us vs : List Use) (f g : Variable → Bool) (m n : ℕ) → Fits c t globals slots functions waits d (us ++ vs) (λ v. f v || g v) (max m n) → Fits c t globals slots functions waits d us f m
-  first us vs f g m n h = record {
-    uses = each_front (IsNamed c t functions) us vs h.uses;
-    objects = λ v ty at e. h.objects v ty at (or_left (f v) (g v) e);
-    least = let l = h.least in omega (Rattle.std.proofs.Common.arith, l);
+-- ---- what a part of a body needs: its uses, the variables under an `&` in it, and how many values wait in it at once
+
+pub record Needs : Type 0 where
+  pub uses : List Use
+  pub under : Variable → Bool
+  pub waits : ℕ
+
+abbrev pub of_place : Place → Needs
+of_place p = record { uses = in_place p; under = λ v. objects.in_place v p; waits = waits_place p }
+
+abbrev pub of_expr : Expr → Needs
+of_expr e = record { uses = in_expr e; under = λ v. objects.in_expr v e; waits = waits e }
+
+abbrev pub of_exprs : Exprs → Needs
+of_exprs es = record { uses = in_exprs es; under = λ v. objects.in_exprs v es; waits = waits_all es }
+
+abbrev pub of_stmt : Stmt → Needs
+of_stmt s = record { uses = in_stmt s; under = λ v. objects.in_stmt v s; waits = waits_stmt s }
+
+abbrev pub of_stmts : Stmts → Needs
+of_stmts ss = record { uses = in_stmts ss; under = λ v. objects.in_stmts v ss; waits = waits_stmts ss }
+
+infixr 20 ◌⊕◌
+
+-- of two parts
+abbrev pub ◌⊕◌ : Needs → Needs → Needs
+◌⊕◌ a b = record { uses = a.uses ++ b.uses; under = λ v. a.under v || b.under v; waits = max a.waits b.waits }
+
+-- The uses are named, the variables are objects, and there is a local for each value that waits beside d others.
+pub record Fits (c : Context) (t : Target) (globals slots functions : List Ty) (locals d : ℕ) (a : Needs) : Type 0 where
+  pub uses : Each (IsNamed c t functions) a.uses
+  pub objects : (v : Variable) (ty : Ty) → TypeOf globals slots v ty → a.under v ≡ true → t.is_object v ≡ true
+  pub least : d + a.waits ≤ locals
+
+module _ {c : Context} {t : Target} {globals slots functions : List Ty} {locals d : ℕ} where
+  pub first : (a b : Needs) → Fits c t globals slots functions locals d (a ⊕ b) → Fits c t globals slots functions locals d a
+  first a b h = record {
+    uses = each_front (IsNamed c t functions) a.uses b.uses h.uses;
+    objects = λ v ty at e. h.objects v ty at (or_left (a.under v) (b.under v) e);
+    least = let l = h.least in omega (arith, l);
   }
 
-  pub second : (us vs : List Use) (f g : Variable → Bool) (m n : ℕ) → Fits c t globals slots functions waits d (us ++ vs) (λ v. f v || g v) (max m n) → Fits c t globals slots functions waits d vs g n
-  second us vs f g m n h = record {
-    uses = each_back (IsNamed c t functions) us vs h.uses;
-    objects = λ v ty at e. h.objects v ty at (or_right (f v) (g v) e);
-    least = let l = h.least in omega (Rattle.std.proofs.Common.arith, l);
+  pub second : (a b : Needs) → Fits c t globals slots functions locals d (a ⊕ b) → Fits c t globals slots functions locals d b
+  second a b h = record {
+    uses = each_back (IsNamed c t functions) a.uses b.uses h.uses;
+    objects = λ v ty at e. h.objects v ty at (or_right (a.under v) (b.under v) e);
+    least = let l = h.least in omega (arith, l);
   }

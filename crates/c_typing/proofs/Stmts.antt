@@ -37,7 +37,7 @@ use Rattle.c_code.specs.Statements.{Exits, bytes_put, chosen, continues, entered
 use Rattle.c_code.specs.Targets.{Target, scratch_of_width, waiting}
 use Rattle.c_code.specs.Uses as uses
 use Rattle.c_typing.proofs.Exprs.{FitE, FitsIn, as_narrow, expr_goes, memory_of, place_goes}
-use Rattle.c_typing.proofs.Names.{Each, Holds, IsNamed, Names, each_append, each_back, each_front, first, or_left, or_right, second}
+use Rattle.c_typing.proofs.Names.{Each, Holds, of_expr, of_stmt, of_stmts, ◌⊕◌, IsNamed, Names, each_append, each_back, each_front, first, or_left, or_right, second}
 use Rattle.c_typing.proofs.Parts.{decayed_goes, new_frame_goes}
 use Rattle.c_typing.proofs.Sound.{AreSoundNames}
 use Rattle.c_typing.proofs.Steps.{br_if_step, br_step, constant_step, get_step, i32_step, i64_step, local_get, local_set, rel_step, return_step, segment_step, select_step, set_step, tee_goes, unreachable_step, zero_step}
@@ -143,10 +143,10 @@ module _ {c : Context} {body : List (List Instr)} {t : Target} {ls : Labels} {x 
 
 module _ (c : Context) (body : List (List Instr)) (t : Target) (waits : ℕ) (r : Ty) (returns : c.returns ≡ Some (val_of r)) where
   abbrev pub Fit : well.Context → ℕ → Stmt → Type 0
-  Fit k d s = FitsIn c t k waits d (uses.in_stmt s) (λ v. objects.in_stmt v s) (uses.waits_stmt s)
+  Fit k d s = FitsIn c t k waits d (of_stmt s)
 
   abbrev pub Fits' : well.Context → ℕ → Stmts → Type 0
-  Fits' k d ss = FitsIn c t k waits d (uses.in_stmts ss) (λ v. objects.in_stmts v ss) (uses.waits_stmts ss)
+  Fits' k d ss = FitsIn c t k waits d (of_stmts ss)
 
   abbrev FitStep : well.Context → ℕ → Option Expr → Type 0
   FitStep k d None = Unit {0}
@@ -154,13 +154,13 @@ module _ (c : Context) (body : List (List Instr)) (t : Target) (waits : ℕ) (r 
 
   in_loop_fits : (k : well.Context) (d : ℕ) (e : Expr) (after : Option Expr) (s : Stmt) → Fit k d (loop e after s) → FitE c t k waits d e × FitStep k d after × Fit k d s
   in_loop_fits k d e None s x =
-      let y : FitsIn c t k waits d (uses.in_expr e ++ uses.in_stmt s) (λ v. objects.in_expr v e || objects.in_stmt v s) (max (uses.waits e) (uses.waits_stmt s)) = record { uses = x.uses; objects = x.objects; least = let l = x.least in omega (arith, l) } in
-      (first (uses.in_expr e) (uses.in_stmt s) (λ v. objects.in_expr v e) (λ v. objects.in_stmt v s) (uses.waits e) (uses.waits_stmt s) y, tt, second (uses.in_expr e) (uses.in_stmt s) (λ v. objects.in_expr v e) (λ v. objects.in_stmt v s) (uses.waits e) (uses.waits_stmt s) y)
+      let y : FitsIn c t k waits d (of_expr e ⊕ of_stmt s) = record { uses = x.uses; objects = x.objects; least = let l = x.least in omega (arith, l) } in
+      (first (of_expr e) (of_stmt s) y, tt, second (of_expr e) (of_stmt s) y)
   in_loop_fits k d e (Some a) s x =
-      let y = second (uses.in_expr e) (uses.in_expr a ++ uses.in_stmt s) (λ v. objects.in_expr v e) (λ v. objects.in_expr v a || objects.in_stmt v s) (uses.waits e) (max (uses.waits a) (uses.waits_stmt s)) x in (
-        first (uses.in_expr e) (uses.in_expr a ++ uses.in_stmt s) (λ v. objects.in_expr v e) (λ v. objects.in_expr v a || objects.in_stmt v s) (uses.waits e) (max (uses.waits a) (uses.waits_stmt s)) x,
-        first (uses.in_expr a) (uses.in_stmt s) (λ v. objects.in_expr v a) (λ v. objects.in_stmt v s) (uses.waits a) (uses.waits_stmt s) y,
-        second (uses.in_expr a) (uses.in_stmt s) (λ v. objects.in_expr v a) (λ v. objects.in_stmt v s) (uses.waits a) (uses.waits_stmt s) y,
+      let y = second (of_expr e) (of_expr a ⊕ of_stmt s) x in (
+        first (of_expr e) (of_expr a ⊕ of_stmt s) x,
+        first (of_expr a) (of_stmt s) y,
+        second (of_expr a) (of_stmt s) y,
       )
 
   module _ (structs : Rattle.c_types.specs.Layout.Table) (globals slots functions : List Ty) (literals : ℕ) (names : Names c t globals slots literals waits) (sound : AreSoundNames structs globals slots functions) where
@@ -187,10 +187,10 @@ module _ (c : Context) (body : List (List Instr)) (t : Target) (waits : ℕ) (r 
           filled_goes c body ls t names bytes ts (decayed_goes (is_deref p) n ts
           (place_goes c body t (At v) waits names sound ls d p (array (integer Char) n) h.1 (memory_of c body t (At v) waits names sound p (array (integer Char) n) refl) fit ts))
       stmt_goes ls v d x j out (if_else e a b) h fit ts =
-          let y = first (uses.in_expr e) (uses.in_stmt a ++ uses.in_stmt b) (λ q. objects.in_expr q e) (λ q. objects.in_stmt q a || objects.in_stmt q b) (uses.waits e) (max (uses.waits_stmt a) (uses.waits_stmt b)) fit in
-          let z = second (uses.in_expr e) (uses.in_stmt a ++ uses.in_stmt b) (λ q. objects.in_expr q e) (λ q. objects.in_stmt q a || objects.in_stmt q b) (uses.waits e) (max (uses.waits_stmt a) (uses.waits_stmt b)) fit in
-          let za = first (uses.in_stmt a) (uses.in_stmt b) (λ q. objects.in_stmt q a) (λ q. objects.in_stmt q b) (uses.waits_stmt a) (uses.waits_stmt b) z in
-          let zb = second (uses.in_stmt a) (uses.in_stmt b) (λ q. objects.in_stmt q a) (λ q. objects.in_stmt q b) (uses.waits_stmt a) (uses.waits_stmt b) z in
+          let y = first (of_expr e) (of_stmt a ⊕ of_stmt b) fit in
+          let z = second (of_expr e) (of_stmt a ⊕ of_stmt b) fit in
+          let za = first (of_stmt a) (of_stmt b) z in
+          let zb = second (of_stmt a) (of_stmt b) z in
           condition_goes ls v d e h.0 y ts ▹ in_choice {k = None} (stmt_goes (None ∷ ls) v d (within x) j (leaves_within out) a h.1 za []) (stmt_goes (None ∷ ls) v d (within x) j (leaves_within out) b h.2 zb [])
       stmt_goes ls v d x j out (loop e after s) h fit ts =
           let y = in_loop_fits (At v) d e after s fit in
@@ -199,8 +199,8 @@ module _ (c : Context) (body : List (List Instr)) (t : Target) (waits : ℕ) (r 
           (stmt_goes (inside_loop b (None ∷ ls)) v d (in_loop b x) well_stmts.in_loop (leaves_in_loop out b) s h.2 y.2 [])
           (step_goes (None ∷ None ∷ ls) v d after h.1 y.1 []) (condition_goes (None ∷ None ∷ ls) v d e h.0 y.0 [])) none
       stmt_goes ls v d x j out (do_while s e) h fit ts =
-          let y = first (uses.in_stmt s) (uses.in_expr e) (λ q. objects.in_stmt q s) (λ q. objects.in_expr q e) (uses.waits_stmt s) (uses.waits e) fit in
-          let z = second (uses.in_stmt s) (uses.in_expr e) (λ q. objects.in_stmt q s) (λ q. objects.in_expr q e) (uses.waits_stmt s) (uses.waits e) fit in
+          let y = first (of_stmt s) (of_expr e) fit in
+          let z = second (of_stmt s) (of_expr e) fit in
           let b = continues s in
           in_block {k = None} (iterated_goes t b [] (stmt_goes (inside_loop b (None ∷ ls)) v d (in_loop b x) well_stmts.in_loop (leaves_in_loop out b) s h.0 y []) none (condition_goes (None ∷ None ∷ ls) v d e h.1 z []))
       stmt_goes ls v d x j out (switch u e ns cases ss) h fit ts =
@@ -232,14 +232,14 @@ module _ (c : Context) (body : List (List Instr)) (t : Target) (waits : ℕ) (r 
       pub stmts_goes : (ls : Labels) (v : List ℕ) (d : ℕ) (x : Exits) (j : Jumps) → Leaves c body t ls x j → (ss : Stmts) → AreStatements (At v) r j ss → Fits' (At v) d ss → (ts : List ValType) → Goes c body ls (stmts t slots d x ss) ts ts
       stmts_goes ls v d x j out done h fit ts = none
       stmts_goes ls v d x j out (seq s ss) h fit ts =
-          let y = first (uses.in_stmt s) (uses.in_stmts ss) (λ q. objects.in_stmt q s) (λ q. objects.in_stmts q ss) (uses.waits_stmt s) (uses.waits_stmts ss) fit in
-          let z = second (uses.in_stmt s) (uses.in_stmts ss) (λ q. objects.in_stmt q s) (λ q. objects.in_stmts q ss) (uses.waits_stmt s) (uses.waits_stmts ss) fit in
+          let y = first (of_stmt s) (of_stmts ss) fit in
+          let z = second (of_stmt s) (of_stmts ss) fit in
           stmt_goes ls v d x j out s h.0 y ts ▹ stmts_goes ls v d x j out ss h.1 z ts
 
       groups_goes : (ls : Labels) (v : List ℕ) (d : ℕ) (x : Exits) (j : Jumps) → Leaves c body t (None ∷ ls) x j → (i : ℕ) (ss : Stmts) → AreStatements (At v) r j ss → Fits' (At v) (suc d) ss → slice_get c.locals (waiting t d) ≡ Some vals.I32
           → (ts : List ValType) → Goes c body ls (groups t slots d x i ss) ts ts
       groups_goes ls v d x j out i done h fit w ts = none
       groups_goes ls v d x j out i (seq s ss) h fit w ts =
-          let y = first (uses.in_stmt s) (uses.in_stmts ss) (λ q. objects.in_stmt q s) (λ q. objects.in_stmts q ss) (uses.waits_stmt s) (uses.waits_stmts ss) fit in
-          let z = second (uses.in_stmt s) (uses.in_stmts ss) (λ q. objects.in_stmt q s) (λ q. objects.in_stmts q ss) (uses.waits_stmt s) (uses.waits_stmts ss) fit in
+          let y = first (of_stmt s) (of_stmts ss) fit in
+          let z = second (of_stmt s) (of_stmts ss) fit in
           (does (local_get w ▸ i32_step ▸ rel_step W32 ▸ end) ▹ in_choice {k = None} (stmt_goes (None ∷ ls) v (suc d) x j out s h.0 y []) none) ▹ groups_goes ls v d x j out (suc i) ss h.1 z w ts
