@@ -33,7 +33,11 @@ use Rattle.c_typing.proofs.Sound.{sound_of_type}
 
 module _ (u : Typed) (w : IsWellTyped u) where
   abbrev Func' : ℕ → Function → Stmt → Func
-  Func' n f s = record { sig = 3 + n; locals = locals (target_of u f s) (length (params_in f.ty)) f.slots (uses.waits_stmt s); body = body (target_of u f s) f s }
+  Func' n f s = record {
+    sig = 3 + n;
+    locals = locals (target_of u f s) (length (params_in f.ty)) f.slots (uses.waits_stmt s);
+    body = body (target_of u f s) f s;
+  }
 
   abbrev With : Function → Ty → List Ty → Function
   With f q ss = record f { ty = q; slots = ss }
@@ -65,59 +69,89 @@ module _ (u : Typed) (w : IsWellTyped u) where
       abort = refl;
       table = one_table u;
     } where
-      v : (x : Variable) (q : Ty) → TypeOf u.globals (Us ++ more) x q → Holds Here (target_of u G s) x (held_as ((target_of u G s).is_object x) q)
+      v : (x : Variable) (q : Ty) → TypeOf u.globals (Us ++ more) x q
+          → Holds Here (target_of u G s) x (held_as ((target_of u G s).is_object x) q)
       v (Local n) q e = at_slot u G s Us more W n q e
       v (Global n) q e = global_at u n q e
 
-    core : (n : ℕ) → slice_get u.functions n ≡ Some G → All (IsObject u.structs) (Us ++ more) → IsStatement (units.context_of u (Us ++ more) (length Us)) r no_jumps s
-        → Rattle.c_typing.proofs.Sound.AreSound ps → Each (IsNamed (C0 u) (start_target u) (Fs u)) (uses.in_stmt s) → ((m : ℕ) → objects.in_stmt (Global m) s ≡ true → meaning.in_functions m u.functions ≡ true) → FuncTyped (C0 u) (Func' n G s)
+    core : (n : ℕ) → slice_get u.functions n ≡ Some G → All (IsObject u.structs) (Us ++ more)
+        → IsStatement (units.context_of u (Us ++ more) (length Us)) r no_jumps s
+        → Rattle.c_typing.proofs.Sound.AreSound ps → Each (IsNamed (C0 u) (start_target u) (Fs u)) (uses.in_stmt s)
+        → ((m : ℕ) → objects.in_stmt (Global m) s ≡ true → meaning.in_functions m u.functions ≡ true)
+        → FuncTyped (C0 u) (Func' n G s)
     core n at all well sc named under = (
       record { params = map (held_as false) Us; results = Rattle.c_code.specs.Functions.listed (val_of r) },
       val_of r,
       sig_at u n G at,
       listed_is (val_of r),
-      body_typed Here (target_of u G s) W u.structs u.globals (Us ++ more) (Fs u) (literals_in u.made) names (sound_with u w (Us ++ more) all) G s r ps refl refl
+      body_typed Here (target_of u G s) W u.structs u.globals (Us ++ more) (Fs u) (literals_in u.made) names
+          (sound_with u w (Us ++ more) all) G s r ps refl refl
           (let l = Rattle.std.proofs.Common.length-append Us more in omega (arith, l)) refl held well
-          (record { uses = in_function u (L u G s Us more W) (val_of r) (is_object_in u s (Us ++ more)) (First u G s Us more W) (First u G s Us more W + length (Us ++ more)) (uses.in_stmt s) named; objects = obj; least = omega arith }),
+          (record {
+            uses = in_function u (L u G s Us more W) (val_of r) (is_object_in u s (Us ++ more)) (First u G s Us more W)
+                (First u G s Us more W + length (Us ++ more)) (uses.in_stmt s) named;
+            objects = obj;
+            least = omega arith;
+          }),
     )
       where
-        obj : (x : Variable) (q : Ty) → TypeOf u.globals (Us ++ more) x q → objects.in_stmt x s ≡ true → (target_of u G s).is_object x ≡ true
+        obj : (x : Variable) (q : Ty) → TypeOf u.globals (Us ++ more) x q → objects.in_stmt x s ≡ true
+            → (target_of u G s).is_object x ≡ true
         obj (Local m) q e i = or_right (objects.is_whole (get_or (Us ++ more) m void)) (objects.in_stmt (Local m) s) i
-        obj (Global m) q e i = or_right (objects.is_whole (get_or u.globals m void)) (meaning.in_made m u.made || meaning.in_functions m u.functions) (or_right (meaning.in_made m u.made) (meaning.in_functions m u.functions) (under m i))
+        obj (Global m) q e i = or_right (objects.is_whole (get_or u.globals m void))
+            (meaning.in_made m u.made || meaning.in_functions m u.functions)
+            (or_right (meaning.in_made m u.made) (meaning.in_functions m u.functions) (under m i))
 
         held : Rattle.c_typing.proofs.Bodies.ParamsHeld Here (target_of u G s) 0 Us
         held = params_held Here (target_of u G s) 0 Us (λ n q e.
             let z : n ≡ 0 + n = omega arith in
-            subst (λ (m : ℕ). (slice_get (L u G s Us more W) m ≡ Some (held_as false q)) × Holds Here (target_of u G s) (Local m) (held_as ((target_of u G s).is_object (Local m)) q)) z
+            subst (λ (m : ℕ). (slice_get (L u G s Us more W) m ≡ Some (held_as false q)) × Holds Here (target_of u G s) (Local m)
+            (held_as ((target_of u G s).is_object (Local m)) q)) z
             (at_param u G s Us more W n q e, at_slot u G s Us more W n q (slice_left Us more n q e))) (scalars_of ps sc)
 
-  one_typed : (n : ℕ) (f : Function) (s : Stmt) → slice_get u.functions n ≡ Some f → IsFunction u f → f.body ≡ Some s → Each (IsNamed (C0 u) (start_target u) (Fs u)) (uses.in_stmt s)
-      → ((m : ℕ) → objects.in_stmt (Global m) s ≡ true → meaning.in_functions m u.functions ≡ true) → FuncTyped (C0 u) (Func' n f s)
+  one_typed : (n : ℕ) (f : Function) (s : Stmt) → slice_get u.functions n ≡ Some f → IsFunction u f → f.body ≡ Some s
+      → Each (IsNamed (C0 u) (start_target u) (Fs u)) (uses.in_stmt s)
+      → ((m : ℕ) → objects.in_stmt (Global m) s ≡ true → meaning.in_functions m u.functions ≡ true)
+      → FuncTyped (C0 u) (Func' n f s)
   one_typed n f s at h is named under =
       let r = h.0 in
       let ps = h.1 in
       let b : IsBody u r ps f.slots (Some s) = subst (λ (o : Option Stmt). IsBody u r ps f.slots o) is h.4 in
       let more = b.0.0 in
-      let sc = sound_of_type u.structs (function r ps) (subst (λ (q : Ty). Rattle.c_well_typed.specs.Types.IsType u.structs q) h.2 h.3) in
-      let both : Goal (function r ps) (list_of ps ++ more) = λ a. core f s r ps more n a (subst (λ (l : List Ty). All (IsObject u.structs) l) b.0.1 b.1)
-      (subst (λ (l : List Ty). IsStatement (units.context_of u l (length (list_of ps))) r no_jumps s) b.0.1 b.2) sc.1 named under in
+      let sc = sound_of_type u.structs (function r ps) (subst
+      (λ (q : Ty). Rattle.c_well_typed.specs.Types.IsType u.structs q) h.2 h.3) in
+      let both : Goal (function r ps) (list_of ps ++ more) =
+      λ a. core f s r ps more n a (subst (λ (l : List Ty). All (IsObject u.structs) l) b.0.1 b.1)
+      (subst (λ (l : List Ty). IsStatement (units.context_of u l
+      (length (list_of ps))) r no_jumps s) b.0.1 b.2) sc.1 named under in
       subst (λ (l : List Ty). Goal f.ty l) (sym b.0.1) (subst (λ (q : Ty). Goal q (list_of ps ++ more)) (sym h.2) both) at
     where
       Goal : Ty → List Ty → Type 0
       Goal q ss = slice_get u.functions n ≡ Some (With f q ss) → FuncTyped (C0 u) (Func' n (With f q ss) s)
 
-  pub funcs_typed : (k : ℕ) (fs : List Function) → ((i : ℕ) → slice_get u.functions (k + i) ≡ slice_get fs i) → All (IsFunction u) fs → Each (IsNamed (C0 u) (start_target u) (Fs u)) (uses.in_functions fs)
-      → ((m : ℕ) → meaning.in_functions m fs ≡ true → meaning.in_functions m u.functions ≡ true) → Each (FuncTyped (C0 u)) (funcs_from u k fs)
+  pub funcs_typed : (k : ℕ) (fs : List Function) → ((i : ℕ) → slice_get u.functions (k + i) ≡ slice_get fs i)
+      → All (IsFunction u) fs → Each (IsNamed (C0 u) (start_target u) (Fs u)) (uses.in_functions fs)
+      → ((m : ℕ) → meaning.in_functions m fs ≡ true → meaning.in_functions m u.functions ≡ true)
+      → Each (FuncTyped (C0 u)) (funcs_from u k fs)
   funcs_typed k [] at h named under = tt
   funcs_typed k (f ∷ fs) at h named under =
       each_append (FuncTyped (C0 u)) (func_of u k f f.body) (funcs_from u (suc k) fs)
-      (by f.body refl (each_front (IsNamed (C0 u) (start_target u) (Fs u)) (uses.in_body f.body) (uses.in_functions fs) named) (λ m e. under m (or_left (meaning.in_body m f.body) (meaning.in_functions m fs) e)))
-      (funcs_typed (suc k) fs (λ i. let z : suc k + i ≡ k + suc i = omega arith in ap (slice_get u.functions) z ∙ at (suc i)) (All-tail (IsFunction u) f fs h)
-      (each_back (IsNamed (C0 u) (start_target u) (Fs u)) (uses.in_body f.body) (uses.in_functions fs) named) (λ m e. under m (or_right (meaning.in_body m f.body) (meaning.in_functions m fs) e)))
+      (by f.body refl (each_front (IsNamed (C0 u) (start_target u) (Fs u)) (uses.in_body f.body) (uses.in_functions fs) named)
+      (λ m e. under m (or_left (meaning.in_body m f.body) (meaning.in_functions m fs) e)))
+      (funcs_typed (suc k) fs (λ i. let z : suc k + i ≡ k + suc i = omega arith in ap (slice_get u.functions) z ∙ at (suc i))
+      (All-tail (IsFunction u) f fs h)
+      (each_back (IsNamed (C0 u) (start_target u) (Fs u)) (uses.in_body f.body) (uses.in_functions fs) named)
+      (λ m e. under m (or_right (meaning.in_body m f.body) (meaning.in_functions m fs) e)))
     where
-      by : (o : Option Stmt) → f.body ≡ o → Each (IsNamed (C0 u) (start_target u) (Fs u)) (uses.in_body o) → ((m : ℕ) → meaning.in_body m o ≡ true → meaning.in_functions m u.functions ≡ true) → Each (FuncTyped (C0 u)) (func_of u k f o)
+      by : (o : Option Stmt) → f.body ≡ o → Each (IsNamed (C0 u) (start_target u) (Fs u)) (uses.in_body o)
+          → ((m : ℕ) → meaning.in_body m o ≡ true → meaning.in_functions m u.functions ≡ true)
+          → Each (FuncTyped (C0 u)) (func_of u k f o)
       by None is nm un = tt
-      by (Some s) is nm un = (one_typed k f s (let z : k ≡ k + 0 = omega arith in ap (slice_get u.functions) z ∙ at 0) (All-head (IsFunction u) f fs h) is nm un, tt)
+      by (Some s) is nm un = (
+        one_typed k f s (let z : k ≡ k + 0 = omega arith in ap (slice_get u.functions) z ∙ at 0)
+            (All-head (IsFunction u) f fs h) is nm un,
+        tt,
+      )
 
   -- ---- before `main`
 
@@ -132,13 +166,15 @@ module _ (u : Typed) (w : IsWellTyped u) where
     i64 = refl;
     handle = refl;
     place = refl;
-    waiting = λ d lt. let z : 0 + 4 + d ≡ suc (suc (suc (suc d))) = omega arith in ap (slice_get StartLocals) z ∙ waiting_in (start_target u) (waits_made u u.made) d lt;
+    waiting = λ d lt. let z : 0 + 4 + d ≡ suc (suc (suc (suc d))) = omega arith in
+        ap (slice_get StartLocals) z ∙ waiting_in (start_target u) (waits_made u u.made) d lt;
     putchar = refl;
     getchar = refl;
     abort = refl;
     table = one_table u;
   } where
-    v : (x : Variable) (q : Ty) → TypeOf u.globals [] x q → Holds (inside (C0 u) StartLocals None) (start_target u) x (held_as ((start_target u).is_object x) q)
+    v : (x : Variable) (q : Ty) → TypeOf u.globals [] x q → Holds (inside (C0 u) StartLocals None) (start_target u) x
+        (held_as ((start_target u).is_object x) q)
     v (Local n) q e = absurd (none-some q e)
     v (Global n) q e = global_at u n q e
 
@@ -148,11 +184,18 @@ module _ (u : Typed) (w : IsWellTyped u) where
     None,
     refl,
     refl,
-    start_typed u (inside (C0 u) StartLocals None) (start_target u) (waits_made u u.made) refl u.structs u.globals (Fs u) (literals_in u.made) start_names (sound_with u w [] (Rattle.std.proofs.lemmas.List.Elements.All-nil (IsObject u.structs))) u.made w.made
-        (omega arith) (subst (λ (l : List ℕ). Each (λ n. n < length u.globals) l) (sym w.variables) (each_below (length u.globals) (length u.globals) (omega arith)))
+    start_typed u (inside (C0 u) StartLocals None) (start_target u) (waits_made u u.made) refl u.structs u.globals (Fs u)
+        (literals_in u.made) start_names (sound_with u w []
+        (Rattle.std.proofs.lemmas.List.Elements.All-nil (IsObject u.structs))) u.made w.made
+        (omega arith) (subst (λ (l : List ℕ). Each (λ n. n < length u.globals) l) (sym w.variables)
+        (each_below (length u.globals) (length u.globals) (omega arith)))
         (record {
-          uses = in_function u StartLocals None (no_slots u) 0 0 (uses.in_made u.made) (each_front (IsNamed (C0 u) (start_target u) (Fs u)) (uses.in_made u.made) (uses.in_functions u.functions) (uses_named u));
-          objects = λ m e. or_right (objects.is_whole (get_or u.globals m void)) (meaning.in_made m u.made || meaning.in_functions m u.functions) (or_left (meaning.in_made m u.made) (meaning.in_functions m u.functions) e);
+          uses = in_function u StartLocals None (no_slots u) 0 0 (uses.in_made u.made)
+              (each_front (IsNamed (C0 u) (start_target u) (Fs u)) (uses.in_made u.made) (uses.in_functions u.functions)
+              (uses_named u));
+          objects = λ m e. or_right (objects.is_whole (get_or u.globals m void))
+              (meaning.in_made m u.made || meaning.in_functions m u.functions)
+              (or_left (meaning.in_made m u.made) (meaning.in_functions m u.functions) e);
           least = omega arith;
         }),
   )
@@ -161,5 +204,6 @@ module _ (u : Typed) (w : IsWellTyped u) where
   all_typed =
       each_append (FuncTyped (C0 u)) (funcs_from u 0 u.functions) (start_func u ∷ [])
       (funcs_typed 0 u.functions (λ i. let z : 0 + i ≡ i = omega arith in ap (slice_get u.functions) z) w.functions
-      (each_back (IsNamed (C0 u) (start_target u) (Fs u)) (uses.in_made u.made) (uses.in_functions u.functions) (uses_named u)) (λ m e. e))
+      (each_back (IsNamed (C0 u) (start_target u) (Fs u)) (uses.in_made u.made) (uses.in_functions u.functions) (uses_named u))
+      (λ m e. e))
       (start_is_typed, tt)

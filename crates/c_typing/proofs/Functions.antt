@@ -46,10 +46,14 @@ module _ (u : Typed) where
   globals_are : all_globals (compiled u) ≡ Own
   globals_are = ap (λ (l : List GlobalType). l ++ Own) (no_imported_globals u (imported u))
 
-  own_at : (k : ℕ) (ts : List Ty) (n : ℕ) (t : Ty) → slice_get ts n ≡ Some t → slice_get (globals_from u k ts) n ≡ Some (global_of u (held_as (no_slots u (Global (k + n))) t))
+  own_at : (k : ℕ) (ts : List Ty) (n : ℕ) (t : Ty) → slice_get ts n ≡ Some t
+      → slice_get (globals_from u k ts) n ≡ Some (global_of u (held_as (no_slots u (Global (k + n))) t))
   own_at k [] n t e = absurd (none-some t e)
-  own_at k (q ∷ ts) zero t e = let z : k ≡ k + 0 = omega arith in ap (λ (m : ℕ). Some (global_of u (held_as (no_slots u (Global m)) q))) z ∙ ap (λ (w : Ty). Some (global_of u (held_as (no_slots u (Global (k + 0))) w))) (same_Some q t e)
-  own_at k (q ∷ ts) (suc n) t e = let z : suc k + n ≡ k + suc n = omega arith in own_at (suc k) ts n t e ∙ ap (λ (m : ℕ). Some (global_of u (held_as (no_slots u (Global m)) t))) z
+  own_at k (q ∷ ts) zero t e = let z : k ≡ k + 0 = omega arith in
+      ap (λ (m : ℕ). Some (global_of u (held_as (no_slots u (Global m)) q))) z
+      ∙ ap (λ (w : Ty). Some (global_of u (held_as (no_slots u (Global (k + 0))) w))) (same_Some q t e)
+  own_at k (q ∷ ts) (suc n) t e = let z : suc k + n ≡ k + suc n = omega arith in
+      own_at (suc k) ts n t e ∙ ap (λ (m : ℕ). Some (global_of u (held_as (no_slots u (Global m)) t))) z
 
   own_length : (k : ℕ) (ts : List Ty) → length (globals_from u k ts) ≡ length ts
   own_length k [] = refl
@@ -60,30 +64,42 @@ module _ (u : Typed) where
   literal_in (suc m) zero lt = refl
   literal_in (suc m) (suc n) lt = literal_in m n (omega (arith, lt))
 
-  pub global_at : (n : ℕ) (t : Ty) → slice_get u.globals n ≡ Some t → slice_get (all_globals (compiled u)) n ≡ Some (var (held_as (no_slots u (Global n)) t))
+  pub global_at : (n : ℕ) (t : Ty) → slice_get u.globals n ≡ Some t
+      → slice_get (all_globals (compiled u)) n ≡ Some (var (held_as (no_slots u (Global n)) t))
   global_at n t e =
       let z : 0 + n ≡ n = omega arith in
       ap (λ (l : List GlobalType). slice_get l n) globals_are
       ∙ slice_get-map (λ (g : GlobalEntry). g.ty) (globals_from u 0 u.globals ++ literal_globals u (literals_in u.made)) n
-      ∙ ap (option_map (λ (g : GlobalEntry). g.ty)) (slice_left (globals_from u 0 u.globals) (literal_globals u (literals_in u.made)) n (global_of u (held_as (no_slots u (Global (0 + n))) t)) (own_at 0 u.globals n t e))
+      ∙ ap (option_map (λ (g : GlobalEntry). g.ty)) (slice_left (globals_from u 0 u.globals)
+      (literal_globals u (literals_in u.made)) n (global_of u (held_as (no_slots u (Global (0 + n))) t))
+      (own_at 0 u.globals n t e))
       ∙ ap (λ (m : ℕ). Some (var (held_as (no_slots u (Global m)) t))) z
 
-  pub literal_at : (n : ℕ) → n < literals_in u.made → slice_get (all_globals (compiled u)) (length u.globals + n) ≡ Some (var vals.Handle)
+  pub literal_at : (n : ℕ) → n < literals_in u.made → slice_get (all_globals (compiled u)) (length u.globals + n) ≡ Some
+      (var vals.Handle)
   literal_at n lt =
       ap (λ (l : List GlobalType). slice_get l (length u.globals + n)) globals_are
-      ∙ slice_get-map (λ (g : GlobalEntry). g.ty) (globals_from u 0 u.globals ++ literal_globals u (literals_in u.made)) (length u.globals + n)
-      ∙ ap (option_map (λ (g : GlobalEntry). g.ty)) (slice_right (globals_from u 0 u.globals) (literal_globals u (literals_in u.made)) (length u.globals + n) n (ap (λ (m : ℕ). m + n) (sym (own_length 0 u.globals))) ∙ literal_in (literals_in u.made) n lt)
+      ∙ slice_get-map (λ (g : GlobalEntry). g.ty) (globals_from u 0 u.globals ++ literal_globals u (literals_in u.made))
+      (length u.globals + n)
+      ∙ ap (option_map (λ (g : GlobalEntry). g.ty)) (slice_right (globals_from u 0 u.globals)
+      (literal_globals u (literals_in u.made)) (length u.globals + n) n (ap (λ (m : ℕ). m + n) (sym (own_length 0 u.globals)))
+      ∙ literal_in (literals_in u.made) n lt)
 
   pub one_table : 0 < length (all_tables (compiled u))
-  one_table = let e = ap (λ (l : List Limits). length (l ++ (compiled u).tables)) (no_imported_tables u (imported u)) in omega (arith, e)
+  one_table = let e = ap (λ (l : List Limits). length (l ++ (compiled u).tables)) (no_imported_tables u (imported u)) in
+      omega (arith, e)
 
 -- ---- locals
 
 module _ (t : Target) where
-  slots_at : (k : ℕ) (us : List Ty) (n : ℕ) (q : Ty) → slice_get us n ≡ Some q → slice_get (slots_from t k us) n ≡ Some (held_as (t.is_object (Local (k + n))) q)
+  slots_at : (k : ℕ) (us : List Ty) (n : ℕ) (q : Ty) → slice_get us n ≡ Some q
+      → slice_get (slots_from t k us) n ≡ Some (held_as (t.is_object (Local (k + n))) q)
   slots_at k [] n q e = absurd (none-some q e)
-  slots_at k (w ∷ us) zero q e = let z : k ≡ k + 0 = omega arith in ap (λ (m : ℕ). Some (held_as (t.is_object (Local m)) w)) z ∙ ap (λ (v : Ty). Some (held_as (t.is_object (Local (k + 0))) v)) (same_Some w q e)
-  slots_at k (w ∷ us) (suc n) q e = let z : suc k + n ≡ k + suc n = omega arith in slots_at (suc k) us n q e ∙ ap (λ (m : ℕ). Some (held_as (t.is_object (Local m)) q)) z
+  slots_at k (w ∷ us) zero q e = let z : k ≡ k + 0 = omega arith in
+      ap (λ (m : ℕ). Some (held_as (t.is_object (Local m)) w)) z
+      ∙ ap (λ (v : Ty). Some (held_as (t.is_object (Local (k + 0))) v)) (same_Some w q e)
+  slots_at k (w ∷ us) (suc n) q e = let z : suc k + n ≡ k + suc n = omega arith in
+      slots_at (suc k) us n q e ∙ ap (λ (m : ℕ). Some (held_as (t.is_object (Local m)) q)) z
 
   slots_length : (k : ℕ) (us : List Ty) → length (slots_from t k us) ≡ length us
   slots_length k [] = refl
@@ -99,12 +115,14 @@ module _ (t : Target) where
   neither false b e = (refl, e)
 
   -- no parameter is an object: the first slots are the parameters
-  front : (k : ℕ) (us more : List Ty) → list_any (λ n. t.is_object (Local n)) (upto k (length us)) ≡ false → slots_from t k (us ++ more) ≡ map (held_as false) us ++ slots_from t (k + length us) more
+  front : (k : ℕ) (us more : List Ty) → list_any (λ n. t.is_object (Local n)) (upto k (length us)) ≡ false
+      → slots_from t k (us ++ more) ≡ map (held_as false) us ++ slots_from t (k + length us) more
   front k [] more e = let z : k ≡ k + 0 = omega arith in ap (λ (m : ℕ). slots_from t m more) z
   front k (w ∷ us) more e =
       let p = neither (t.is_object (Local k)) (list_any (λ n. t.is_object (Local n)) (upto (suc k) (length us))) e in
       let z : suc k + length us ≡ k + suc (length us) = omega arith in
-      ap (λ (b : Bool). held_as b w ∷ slots_from t (suc k) (us ++ more)) p.0 ∙ ap (λ (l : List ValType). held_as false w ∷ l) (front (suc k) us more p.1)
+      ap (λ (b : Bool). held_as b w ∷ slots_from t (suc k) (us ++ more)) p.0
+      ∙ ap (λ (l : List ValType). held_as false w ∷ l) (front (suc k) us more p.1)
       ∙ ap (λ (m : ℕ). held_as false w ∷ (map (held_as false) us ++ slots_from t m more)) z
 
 drop_front : {A : Type 0} (xs ys : List A) → drop (length xs) (xs ++ ys) ≡ ys
@@ -129,23 +147,36 @@ module _ (u : Typed) (f : Function) (s : Stmt) (us more : List Ty) (waits : ℕ)
   abbrev Ends : Target → List ValType
   Ends t = slots_from t 0 Slots ++ scratch_locals t waits
 
-  laid : (pre : List ValType) × (length pre ≡ first_of u Is (length us)) × (map (held_as false) us ++ locals (To (first_of u Is (length us))) (length us) Slots waits ≡ pre ++ Ends (To (first_of u Is (length us))))
+  laid : (pre : List ValType) × (length pre ≡ first_of u Is (length us)) ×
+      (map (held_as false) us ++ locals (To (first_of u Is (length us))) (length us) Slots waits ≡ pre ++ Ends
+      (To (first_of u Is (length us))))
   laid = by (list_any (λ n. Is (Local n)) (numbers (length us))) refl where
     l : length (map (held_as false) us) ≡ length us
     l = Rattle.std.proofs.lemmas.List.length-map us (held_as false)
 
     by : (b : Bool) → list_any (λ n. Is (Local n)) (numbers (length us)) ≡ b
-        → (pre : List ValType) × (length pre ≡ cond b (length us) 0) × (map (held_as false) us ++ locals (To (cond b (length us) 0)) (length us) Slots waits ≡ pre ++ Ends (To (cond b (length us) 0)))
+        → (pre : List ValType) × (length pre ≡ cond b (length us) 0) ×
+        (map (held_as false) us ++ locals (To (cond b (length us) 0)) (length us) Slots waits ≡ pre ++ Ends
+        (To (cond b (length us) 0)))
     by true e =
-        let t = To (length us) in
-        (map (held_as false) us, l, ap (λ (z : Bool). map (held_as false) us ++ ((cond z (drop (length us) (slots_from t 0 Slots)) (slots_from t 0 Slots)) ++ scratch_locals t waits)) (not_zero (length us) (λ n. Is (Local n)) e))
+        let t = To (length us) in (
+          map (held_as false) us,
+          l,
+          ap
+              (λ (z : Bool). map (held_as false) us ++
+              ((cond z (drop (length us) (slots_from t 0 Slots)) (slots_from t 0 Slots)) ++ scratch_locals t waits))
+              (not_zero (length us) (λ n. Is (Local n)) e),
+        )
     by false e =
         let t = To 0 in
         let eq = front t 0 us more (ap (list_any (λ n. Is (Local n))) (sym (numbers_is (length us))) ∙ e) in
-        let cut : drop (length us) (slots_from t 0 Slots) ≡ slots_from t (0 + length us) more = ap (λ (n : ℕ). drop n (slots_from t 0 Slots)) (sym l) ∙ ap (drop (length (map (held_as false) us))) eq ∙ drop_front (map (held_as false) us) (slots_from t (0 + length us) more) in (
+        let cut : drop (length us) (slots_from t 0 Slots) ≡ slots_from t (0 + length us) more =
+        ap (λ (n : ℕ). drop n (slots_from t 0 Slots)) (sym l) ∙ ap (drop (length (map (held_as false) us))) eq
+        ∙ drop_front (map (held_as false) us) (slots_from t (0 + length us) more) in (
           [],
           refl,
-          ap (λ (x : List ValType). map (held_as false) us ++ (x ++ scratch_locals t waits)) cut ∙ sym (append_assoc (map (held_as false) us) (slots_from t (0 + length us) more) (scratch_locals t waits))
+          ap (λ (x : List ValType). map (held_as false) us ++ (x ++ scratch_locals t waits)) cut
+              ∙ sym (append_assoc (map (held_as false) us) (slots_from t (0 + length us) more) (scratch_locals t waits))
               ∙ ap (λ (x : List ValType). x ++ scratch_locals t waits) (sym eq),
         )
 
@@ -160,30 +191,40 @@ module _ (u : Typed) (f : Function) (s : Stmt) (us more : List Ty) (waits : ℕ)
       let pre = laid.0 in
       let t = To First in
       let z : 0 + n ≡ n = omega arith in
-      ap (λ (l : List ValType). slice_get l (First + n)) laid.2 ∙ slice_right pre (Ends t) (First + n) n (ap (λ (m : ℕ). m + n) (sym laid.1))
-      ∙ slice_left (slots_from t 0 Slots) (scratch_locals t waits) n (held_as (Is (Local (0 + n))) q) (slots_at t 0 Slots n q e) ∙ ap (λ (m : ℕ). Some (held_as (Is (Local m)) q)) z
+      ap (λ (l : List ValType). slice_get l (First + n)) laid.2
+      ∙ slice_right pre (Ends t) (First + n) n (ap (λ (m : ℕ). m + n) (sym laid.1))
+      ∙ slice_left (slots_from t 0 Slots) (scratch_locals t waits) n (held_as (Is (Local (0 + n))) q) (slots_at t 0 Slots n q e)
+      ∙ ap (λ (m : ℕ). Some (held_as (Is (Local m)) q)) z
 
-  pub at_scratch : (i : ℕ) (v : ValType) → slice_get (scratch_locals (To First) waits) i ≡ Some v → slice_get L (First + length Slots + i) ≡ Some v
+  pub at_scratch : (i : ℕ) (v : ValType) → slice_get (scratch_locals (To First) waits) i ≡ Some v
+      → slice_get L (First + length Slots + i) ≡ Some v
   at_scratch i v e =
       let pre = laid.0 in
       let t = To First in
       let z : First + length Slots + i ≡ length pre + (length Slots + i) = let l = laid.1 in omega (arith, l) in
-      ap (λ (l : List ValType). slice_get l (First + length Slots + i)) laid.2 ∙ slice_right pre (Ends t) (First + length Slots + i) (length Slots + i) z
-      ∙ slice_right (slots_from t 0 Slots) (scratch_locals t waits) (length Slots + i) i (ap (λ (m : ℕ). m + i) (sym (slots_length t 0 Slots))) ∙ e
+      ap (λ (l : List ValType). slice_get l (First + length Slots + i)) laid.2
+      ∙ slice_right pre (Ends t) (First + length Slots + i) (length Slots + i) z
+      ∙ slice_right (slots_from t 0 Slots) (scratch_locals t waits) (length Slots + i) i
+      (ap (λ (m : ℕ). m + i) (sym (slots_length t 0 Slots))) ∙ e
 
   pub at_param : (n : ℕ) (q : Ty) → slice_get us n ≡ Some q → slice_get L n ≡ Some (held_as false q)
-  at_param n q e = slice_left (map (held_as false) us) (locals (To First) (length us) Slots waits) n (held_as false q) (slice_get-map (held_as false) us n ∙ ap (option_map (held_as false)) e)
+  at_param n q e = slice_left (map (held_as false) us) (locals (To First) (length us) Slots waits) n (held_as false q)
+      (slice_get-map (held_as false) us n ∙ ap (option_map (held_as false)) e)
 
   pub at_waiting : (d : ℕ) → d < waits → slice_get L (First + length Slots + 4 + d) ≡ Some vals.I32
   at_waiting d lt =
       let z : First + length Slots + 4 + d ≡ First + length Slots + (4 + d) = omega arith in
       let y : 4 + d ≡ suc (suc (suc (suc d))) = omega arith in
-      ap (slice_get L) z ∙ at_scratch (4 + d) vals.I32 (ap (slice_get (scratch_locals (To First) waits)) y ∙ waiting_in (To First) waits d lt)
+      ap (slice_get L) z ∙ at_scratch (4 + d) vals.I32 (ap (slice_get (scratch_locals (To First) waits)) y ∙ waiting_in
+      (To First) waits d lt)
 
   pub at_first : slice_get L (First + length Slots) ≡ Some vals.I32
-  at_first = let z : First + length Slots ≡ First + length Slots + 0 = omega arith in ap (slice_get L) z ∙ at_scratch 0 vals.I32 refl
+  at_first = let z : First + length Slots ≡ First + length Slots + 0 = omega arith in
+      ap (slice_get L) z ∙ at_scratch 0 vals.I32 refl
 
-pub params_held : (c : Context) (t : Target) (k : ℕ) (us : List Ty) → ((n : ℕ) (q : Ty) → slice_get us n ≡ Some q → (slice_get c.locals (k + n) ≡ Some (held_as false q)) × Holds c t (Local (k + n)) (held_as (t.is_object (Local (k + n))) q)) → Each HasScalar us → ParamsHeld c t k us
+pub params_held : (c : Context) (t : Target) (k : ℕ) (us : List Ty)
+    → ((n : ℕ) (q : Ty) → slice_get us n ≡ Some q → (slice_get c.locals (k + n) ≡ Some (held_as false q)) × Holds c t
+    (Local (k + n)) (held_as (t.is_object (Local (k + n))) q)) → Each HasScalar us → ParamsHeld c t k us
 params_held c t k [] h s = tt
 params_held c t k (w ∷ us) h s =
     let z : k + 0 ≡ k = omega arith in
@@ -192,7 +233,8 @@ params_held c t k (w ∷ us) h s =
       subst (λ (m : ℕ). Holds c t (Local m) (held_as (t.is_object (Local m)) w)) z a.1,
       s.0,
       params_held c t (suc k) us (λ n q e. let y : k + suc n ≡ suc k + n = omega arith in
-          subst (λ (m : ℕ). (slice_get c.locals m ≡ Some (held_as false q)) × Holds c t (Local m) (held_as (t.is_object (Local m)) q)) y (h (suc n) q e)) s.1,
+          subst (λ (m : ℕ). (slice_get c.locals m ≡ Some (held_as false q)) × Holds c t (Local m)
+          (held_as (t.is_object (Local m)) q)) y (h (suc n) q e)) s.1,
     )
 
 pub scalars_of : (ps : Tys) → AreSound ps → Each HasScalar (list_of ps)
@@ -208,20 +250,25 @@ module _ (u : Typed) where
   abbrev pub Fs : List Ty
   Fs = map (λ (f : Function). f.ty) u.functions
 
-  pub funcs_at : (i n : ℕ) (sig : FuncType) → slice_get (sigs_of_funcs (compiled u)) i ≡ Some n → slice_get (compiled u).sigs n ≡ Some sig → slice_get C0.funcs i ≡ Some (Some sig)
-  funcs_at i n sig e g = slice_get-map (λ (j : ℕ). slice_get (compiled u).sigs j) (sigs_of_funcs (compiled u)) i ∙ ap (option_map (λ (j : ℕ). slice_get (compiled u).sigs j)) e ∙ ap Some g
+  pub funcs_at : (i n : ℕ) (sig : FuncType) → slice_get (sigs_of_funcs (compiled u)) i ≡ Some n
+      → slice_get (compiled u).sigs n ≡ Some sig → slice_get C0.funcs i ≡ Some (Some sig)
+  funcs_at i n sig e g = slice_get-map (λ (j : ℕ). slice_get (compiled u).sigs j) (sigs_of_funcs (compiled u)) i ∙ ap
+      (option_map (λ (j : ℕ). slice_get (compiled u).sigs j)) e ∙ ap Some g
 
   -- the function of a number whose type is known
   function_at : (n : ℕ) (q : Ty) → slice_get Fs n ≡ Some q → (f : Function) × (slice_get u.functions n ≡ Some f) × (f.ty ≡ q)
   function_at n q e = by (slice_get u.functions n) refl (sym (slice_get-map (λ (f : Function). f.ty) u.functions n) ∙ e) where
-    by : (o : Option Function) → slice_get u.functions n ≡ o → option_map (λ (f : Function). f.ty) (slice_get u.functions n) ≡ Some q → (f : Function) × (slice_get u.functions n ≡ Some f) × (f.ty ≡ q)
+    by : (o : Option Function) → slice_get u.functions n ≡ o
+        → option_map (λ (f : Function). f.ty) (slice_get u.functions n) ≡ Some q
+        → (f : Function) × (slice_get u.functions n ≡ Some f) × (f.ty ≡ q)
     by None a b = absurd (none-some q (ap (option_map (λ (f : Function). f.ty)) (sym a) ∙ b))
     by (Some f) a b = (f, a, same_Some f.ty q (ap (option_map (λ (f : Function). f.ty)) (sym a) ∙ b))
 
   use_named : (pre rest : List Use) (x : Use) → uses.uses u ≡ pre ++ x ∷ rest → IsNamed C0 (start_target u) Fs x
   use_named pre rest (calls n) e = λ r ps at.
       let f = function_at n (function r ps) at in
-      funcs_at (Rattle.c_code.specs.Modules.index_of u n) (3 + n) (signature (function r ps)) (index_at u n (slice_get_within u.functions n f.0 f.1) (inr (called u n pre rest e)))
+      funcs_at (Rattle.c_code.specs.Modules.index_of u n) (3 + n) (signature (function r ps))
+      (index_at u n (slice_get_within u.functions n f.0 f.1) (inr (called u n pre rest e)))
       (sig_at u n f.0 f.1 ∙ ap (λ (q : Ty). Some (signature q)) f.2)
   use_named pre rest (through f) e = sig_through u f pre rest e
   use_named pre rest (names n) e = tt
@@ -229,13 +276,16 @@ module _ (u : Typed) where
 
   named_from : (pre rest : List Use) → uses.uses u ≡ pre ++ rest → Each (IsNamed C0 (start_target u) Fs) rest
   named_from pre [] e = tt
-  named_from pre (x ∷ rest) e = (use_named pre rest x e, named_from (pre ++ x ∷ []) rest (e ∙ sym (append_assoc pre (x ∷ []) rest)))
+  named_from pre (x ∷ rest) e =
+      (use_named pre rest x e, named_from (pre ++ x ∷ []) rest (e ∙ sym (append_assoc pre (x ∷ []) rest)))
 
   pub uses_named : Each (IsNamed C0 (start_target u) Fs) (uses.uses u)
   uses_named = named_from [] (uses.uses u) refl
 
   -- the same in any function
-  pub in_function : (locals : List ValType) (k : Option ValType) (p : Variable → Bool) (a b : ℕ) (us : List Use) → Each (IsNamed C0 (start_target u) Fs) us → Each (IsNamed (inside C0 locals k) (Rattle.c_code.specs.Modules.target u p a b) Fs) us
+  pub in_function : (locals : List ValType) (k : Option ValType) (p : Variable → Bool) (a b : ℕ) (us : List Use)
+      → Each (IsNamed C0 (start_target u) Fs) us → Each
+      (IsNamed (inside C0 locals k) (Rattle.c_code.specs.Modules.target u p a b) Fs) us
   in_function locals k p a b [] h = tt
   in_function locals k p a b (calls n ∷ us) h = (h.0, in_function locals k p a b us h.1)
   in_function locals k p a b (through n ∷ us) h = (h.0, in_function locals k p a b us h.1)
@@ -261,5 +311,8 @@ module _ (u : Typed) where
       g : (n : ℕ) (q : Ty) → slice_get Fs n ≡ Some q → (is_function q ≡ true) × Rattle.c_typing.proofs.Sound.Sound q
       g n q e =
           let f = function_at n q e in
-          let h = all_at (IsFunction u) u.functions n f.0 f.1 w.functions in
-          (ap is_function (sym f.2 ∙ h.2), subst (λ (x : Ty). Rattle.c_typing.proofs.Sound.Sound x) f.2 (sound_of_type u.structs f.0.ty h.3))
+          let h = all_at (IsFunction u) u.functions n f.0 f.1 w.functions in (
+            ap is_function (sym f.2 ∙ h.2),
+            subst (λ (x : Ty). Rattle.c_typing.proofs.Sound.Sound x) f.2
+                (sound_of_type u.structs f.0.ty h.3),
+          )

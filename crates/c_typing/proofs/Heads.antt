@@ -53,10 +53,12 @@ signature_typed t = listed_short _
 
 distinct_each : (P : FuncType → Type 0) (seen ts : List FuncType) → Each P seen → Each P ts → Each P (distinct_behind seen ts)
 distinct_each P seen [] h g = h
-distinct_each P seen (t ∷ ts) h g = distinct_each P (cond (list_any (Rattle.ms_linear.specs.Table.same_sig t) seen) seen (seen ++ t ∷ [])) ts (by (list_any (Rattle.ms_linear.specs.Table.same_sig t) seen)) g.1 where
-  by : (b : Bool) → Each P (cond b seen (seen ++ t ∷ []))
-  by true = h
-  by false = each_append P seen (t ∷ []) h (g.0, tt)
+distinct_each P seen (t ∷ ts) h g = distinct_each P
+    (cond (list_any (Rattle.ms_linear.specs.Table.same_sig t) seen) seen (seen ++ t ∷ [])) ts
+    (by (list_any (Rattle.ms_linear.specs.Table.same_sig t) seen)) g.1 where
+      by : (b : Bool) → Each P (cond b seen (seen ++ t ∷ []))
+      by true = h
+      by false = each_append P seen (t ∷ []) h (g.0, tt)
 
 through_typed : (us : List Use) → Each SigTyped (through_in us)
 through_typed [] = tt
@@ -83,8 +85,11 @@ is_use n (copies m) e = absurd cc
 module _ (u : Typed) where
   few_named : limit_of u ≡ None → length (named u) ≤ 65535
   few_named e =
-      let a = no_limit (list_any has_many_slots u.functions) limits.locals (first_true (list_any (is_long_copy u.structs) (uses u)) limits.copy (first_true (nat_lt 65535 (length (named u))) limits.functions None)) e in
-      let b = no_limit (list_any (is_long_copy u.structs) (uses u)) limits.copy (first_true (nat_lt 65535 (length (named u))) limits.functions None) a.1 in
+      let a = no_limit (list_any has_many_slots u.functions) limits.locals
+      (first_true (list_any (is_long_copy u.structs) (uses u)) limits.copy
+      (first_true (nat_lt 65535 (length (named u))) limits.functions None)) e in
+      let b = no_limit (list_any (is_long_copy u.structs) (uses u)) limits.copy
+      (first_true (nat_lt 65535 (length (named u))) limits.functions None) a.1 in
       not_below 65535 (length (named u)) ((no_limit (nat_lt 65535 (length (named u))) limits.functions None b.1).0)
 
   sigs_length : 3 + length u.functions ≤ length (compiled u).sigs
@@ -98,11 +103,16 @@ module _ (u : Typed) where
   -- ---- lists of functions
 
   numbered : (p : ℕ → Bool) → Each (λ n. (n < length u.functions) × (p n ≡ true)) (filter p (numbers (length u.functions)))
-  numbered p = filter_all p (λ n. n < length u.functions) (numbers (length u.functions)) (each_below (length u.functions) (length u.functions) (omega arith))
+  numbered p = filter_all p (λ n. n < length u.functions) (numbers (length u.functions))
+      (each_below (length u.functions) (length u.functions) (omega arith))
 
   name_is_call : (n : ℕ) (us : List Use) → list_any (is_name_of n) us ≡ true → list_any (is_call_of n) us ≡ true
   name_is_call n [] e = absurd cc
-  name_is_call n (x ∷ us) e = elim (either (is_name_of n x) (list_any (is_name_of n) us) e) [ inl h ↦ or_left (is_call_of n x) (list_any (is_call_of n) us) (is_use n x h) | inr h ↦ or_right (is_call_of n x) (list_any (is_call_of n) us) (name_is_call n us h) ]
+  name_is_call n (x ∷ us) e = elim (either (is_name_of n x) (list_any (is_name_of n) us) e) [
+    | inl h ↦ or_left (is_call_of n x) (list_any (is_call_of n) us) (is_use n x h)
+    | inr h ↦ or_right (is_call_of n x)
+        (list_any (is_call_of n) us) (name_is_call n us h)
+  ]
 
   index_within : (n : ℕ) → n < length u.functions → IsPresent u n → index_of u n < length (sigs_of_funcs (compiled u))
   index_within n lt p = slice_get_within (sigs_of_funcs (compiled u)) (index_of u n) (3 + n) (index_at u n lt p)
@@ -118,7 +128,9 @@ module _ (u : Typed) where
           (
             omega (arith, l),
             each_map (λ (i : Import). ImportTyped (compiled u) i.desc) (import_from_c u) (imported u)
-                (each_with (λ n. (n < length u.functions) × (not (is_defined_at u n) && list_any (is_call_of n) (uses u) ≡ true)) (λ n. ImportTyped (compiled u) (import_from_c u n).desc) (λ n h. let lt = h.0 in omega (arith, l, lt)) (imported u)
+                (each_with (λ n. (n < length u.functions) × (not (is_defined_at u n) && list_any (is_call_of n) (uses u) ≡ true))
+                (λ n. ImportTyped (compiled u) (import_from_c u n).desc) (λ n h. let lt = h.0 in omega (arith, l, lt))
+                (imported u)
                 (numbered (λ n. not (is_defined_at u n) && list_any (is_call_of n) (uses u)))),
           ),
         ),
@@ -126,7 +138,8 @@ module _ (u : Typed) where
 
   global_typed : (v : ValType) → GlobalTyped (compiled u) (global_of u v)
   global_typed v = (first_of_type u v, refl, by v) where
-    by : (v : ValType) → Rattle.ms_rules.specs.Modules.ConstantTyped (Rattle.ms_rules.specs.Context.imported_globals (compiled u).imports) v (first_of_type u v)
+    by : (v : ValType) → Rattle.ms_rules.specs.Modules.ConstantTyped
+        (Rattle.ms_rules.specs.Context.imported_globals (compiled u).imports) v (first_of_type u v)
     by vals.I32 = refl
     by vals.I64 = refl
     by vals.Handle = refl
@@ -151,7 +164,9 @@ module _ (u : Typed) where
       let z : i ≡ length front + length (map third (defined u)) = omega (arith, a, b, l) in
       let y : length (map third (defined u)) ≡ length (map third (defined u)) + 0 = omega arith in (
         record { params = []; results = [] },
-        funcs_at u i 2 (record { params = []; results = [] }) (ap (λ (q : List ℕ). slice_get q i) (sigs_are u) ∙ slice_right front (map third (defined u) ++ 2 ∷ []) i (length (map third (defined u))) z
+        funcs_at u i 2 (record { params = []; results = [] })
+            (ap (λ (q : List ℕ). slice_get q i) (sigs_are u)
+            ∙ slice_right front (map third (defined u) ++ 2 ∷ []) i (length (map third (defined u))) z
             ∙ slice_right (map third (defined u)) (2 ∷ []) (length (map third (defined u))) 0 y) refl,
         refl,
         refl,
@@ -159,64 +174,96 @@ module _ (u : Typed) where
 
   -- ---- exports
 
-  export_typed : (n : ℕ) (o : Option Function) → index_of u n < length (sigs_of_funcs (compiled u)) → Each (λ (e : Export). ExportTyped (compiled u) e.desc) (export_of u n o)
+  export_typed : (n : ℕ) (o : Option Function) → index_of u n < length (sigs_of_funcs (compiled u))
+      → Each (λ (e : Export). ExportTyped (compiled u) e.desc) (export_of u n o)
   export_typed n None h = tt
   export_typed n (Some f) h = by (is_exported u f) where
-    by : (b : Bool) → Each (λ (e : Export). ExportTyped (compiled u) e.desc) (cond b (record { name = f.name; desc = Rattle.ms_module.specs.declared.module.ExportDesc.TheVariants.Func (index_of u n) } ∷ []) [])
+    by : (b : Bool) → Each (λ (e : Export). ExportTyped (compiled u) e.desc)
+        (cond b (record {
+          name = f.name;
+          desc = Rattle.ms_module.specs.declared.module.ExportDesc.TheVariants.Func
+              (index_of u n);
+        } ∷ []) [])
     by true = (h, tt)
     by false = tt
 
-  exports_typed : (ns : List ℕ) → Each (λ n. (n < length u.functions) × (is_defined_at u n ≡ true)) ns → Each (λ (e : Export). ExportTyped (compiled u) e.desc) (exports_of u ns)
+  exports_typed : (ns : List ℕ) → Each (λ n. (n < length u.functions) × (is_defined_at u n ≡ true)) ns
+      → Each (λ (e : Export). ExportTyped (compiled u) e.desc) (exports_of u ns)
   exports_typed [] h = tt
   exports_typed (n ∷ ns) h =
-      each_append (λ (e : Export). ExportTyped (compiled u) e.desc) (export_of u n (function_at u n)) (exports_of u ns) (export_typed n (function_at u n) (index_within n h.0.0 (inl h.0.1))) (exports_typed ns h.1)
+      each_append (λ (e : Export). ExportTyped (compiled u) e.desc) (export_of u n (function_at u n)) (exports_of u ns)
+      (export_typed n (function_at u n) (index_within n h.0.0 (inl h.0.1))) (exports_typed ns h.1)
 
   abbrev names_of : List ℕ → List (List ℕ)
   names_of ns = map (λ (e : Export). e.name) (exports_of u ns)
 
   -- of these functions, from number k on, none has this name
-  not_among : (name : List ℕ) (k : ℕ) (fs : List Function) → ((i : ℕ) → slice_get u.functions (k + i) ≡ slice_get fs i) → All (λ (g : Function). g.name ≡ name → ⊥) fs → IsNotAmong name (names_of (defined_from k fs))
+  not_among : (name : List ℕ) (k : ℕ) (fs : List Function) → ((i : ℕ) → slice_get u.functions (k + i) ≡ slice_get fs i)
+      → All (λ (g : Function). g.name ≡ name → ⊥) fs → IsNotAmong name (names_of (defined_from k fs))
   not_among name k [] at h = tt
-  not_among name k (f ∷ fs) at h = by (is_some f.body) (not_among name (suc k) fs (λ i. let z : suc k + i ≡ k + suc i = omega arith in ap (slice_get u.functions) z ∙ at (suc i)) (All-tail (λ (g : Function). g.name ≡ name → ⊥) f fs h)) where
-    here : (b : Bool) (es : List Export) → IsNotAmong name (map (λ (e : Export). e.name) es)
-        → IsNotAmong name (map (λ (e : Export). e.name) ((cond b (record { name = f.name; desc = Rattle.ms_module.specs.declared.module.ExportDesc.TheVariants.Func (index_of u k) } ∷ []) []) ++ es))
-    here true es g = (λ e. All-head (λ (g : Function). g.name ≡ name → ⊥) f fs h (sym e), g)
-    here false es g = g
+  not_among name k (f ∷ fs) at h = by (is_some f.body)
+      (not_among name (suc k) fs (λ i. let z : suc k + i ≡ k + suc i = omega arith in ap (slice_get u.functions) z ∙ at (suc i))
+      (All-tail (λ (g : Function). g.name ≡ name → ⊥) f fs h)) where
+        here : (b : Bool) (es : List Export) → IsNotAmong name (map (λ (e : Export). e.name) es)
+            → IsNotAmong name (map (λ (e : Export). e.name)
+            ((cond b (record {
+              name = f.name;
+              desc = Rattle.ms_module.specs.declared.module.ExportDesc.TheVariants.Func
+                  (index_of u k);
+            } ∷ []) []) ++ es))
+        here true es g = (λ e. All-head (λ (g : Function). g.name ≡ name → ⊥) f fs h (sym e), g)
+        here false es g = g
 
-    by : (b : Bool) → IsNotAmong name (names_of (defined_from (suc k) fs)) → IsNotAmong name (names_of (cond b (k ∷ defined_from (suc k) fs) (defined_from (suc k) fs)))
-    by false g = g
-    by true g =
-        let z : k ≡ k + 0 = omega arith in
-        let is : function_at u k ≡ Some f = ap (slice_get u.functions) z ∙ at 0 in
-        subst (λ (o : Option Function). IsNotAmong name (map (λ (e : Export). e.name) (export_of u k o ++ exports_of u (defined_from (suc k) fs)))) (sym is) (here (is_exported u f) (exports_of u (defined_from (suc k) fs)) g)
+        by : (b : Bool) → IsNotAmong name (names_of (defined_from (suc k) fs))
+            → IsNotAmong name (names_of (cond b (k ∷ defined_from (suc k) fs) (defined_from (suc k) fs)))
+        by false g = g
+        by true g =
+            let z : k ≡ k + 0 = omega arith in
+            let is : function_at u k ≡ Some f = ap (slice_get u.functions) z ∙ at 0 in
+            subst (λ (o : Option Function). IsNotAmong name (map (λ (e : Export). e.name)
+            (export_of u k o ++ exports_of u (defined_from (suc k) fs)))) (sym is)
+            (here (is_exported u f) (exports_of u (defined_from (suc k) fs)) g)
 
-  distinct_names : (k : ℕ) (fs : List Function) → ((i : ℕ) → slice_get u.functions (k + i) ≡ slice_get fs i) → HaveNames fs → AreDistinct (names_of (defined_from k fs))
+  distinct_names : (k : ℕ) (fs : List Function) → ((i : ℕ) → slice_get u.functions (k + i) ≡ slice_get fs i) → HaveNames fs
+      → AreDistinct (names_of (defined_from k fs))
   distinct_names k [] at h = tt
   distinct_names k (f ∷ fs) at h =
-      let next : (i : ℕ) → slice_get u.functions (suc k + i) ≡ slice_get fs i = λ i. let z : suc k + i ≡ k + suc i = omega arith in ap (slice_get u.functions) z ∙ at (suc i) in
+      let next : (i : ℕ) → slice_get u.functions (suc k + i) ≡ slice_get fs i = λ i. let z : suc k + i ≡ k + suc i =
+      omega arith in ap (slice_get u.functions) z ∙ at (suc i) in
       by (is_some f.body) (distinct_names (suc k) fs next h.1) (not_among f.name (suc k) fs next h.0)
     where
-      here : (b : Bool) (es : List Export) → AreDistinct (map (λ (e : Export). e.name) es) → IsNotAmong f.name (map (λ (e : Export). e.name) es)
-          → AreDistinct (map (λ (e : Export). e.name) ((cond b (record { name = f.name; desc = Rattle.ms_module.specs.declared.module.ExportDesc.TheVariants.Func (index_of u k) } ∷ []) []) ++ es))
+      here : (b : Bool) (es : List Export) → AreDistinct (map (λ (e : Export). e.name) es)
+          → IsNotAmong f.name (map (λ (e : Export). e.name) es)
+          → AreDistinct (map (λ (e : Export). e.name)
+          ((cond b (record {
+            name = f.name;
+            desc = Rattle.ms_module.specs.declared.module.ExportDesc.TheVariants.Func
+                (index_of u k);
+          } ∷ []) []) ++ es))
       here true es g n = (n, g)
       here false es g n = g
 
-      by : (b : Bool) → AreDistinct (names_of (defined_from (suc k) fs)) → IsNotAmong f.name (names_of (defined_from (suc k) fs)) → AreDistinct (names_of (cond b (k ∷ defined_from (suc k) fs) (defined_from (suc k) fs)))
+      by : (b : Bool) → AreDistinct (names_of (defined_from (suc k) fs)) → IsNotAmong f.name (names_of (defined_from (suc k) fs))
+          → AreDistinct (names_of (cond b (k ∷ defined_from (suc k) fs) (defined_from (suc k) fs)))
       by false g n = g
       by true g n =
           let z : k ≡ k + 0 = omega arith in
           let is : function_at u k ≡ Some f = ap (slice_get u.functions) z ∙ at 0 in
-          subst (λ (o : Option Function). AreDistinct (map (λ (e : Export). e.name) (export_of u k o ++ exports_of u (defined_from (suc k) fs)))) (sym is) (here (is_exported u f) (exports_of u (defined_from (suc k) fs)) g n)
+          subst (λ (o : Option Function). AreDistinct (map (λ (e : Export). e.name)
+          (export_of u k o ++ exports_of u (defined_from (suc k) fs)))) (sym is)
+          (here (is_exported u f) (exports_of u (defined_from (suc k) fs)) g n)
 
   -- ---- the whole
 
   head : IsWellTyped u → limit_of u ≡ None → Head (compiled u)
   head w limit =
       let m = compiled u in
-      let first : (i : ℕ) → slice_get u.functions (0 + i) ≡ slice_get u.functions i = λ i. let z : 0 + i ≡ i = omega arith in ap (slice_get u.functions) z in
+      let first : (i : ℕ) → slice_get u.functions (0 + i) ≡ slice_get u.functions i = λ i. let z : 0 + i ≡ i = omega arith in
+      ap (slice_get u.functions) z in
       let few = few_named limit in
       let named_sigs = every (λ (f : Function). SigTyped (signature f.ty)) (λ f. signature_typed f.ty) u.functions in
-      let defined_are : defined u ≡ defined_from 0 u.functions = ap (filter (is_defined_at u)) (numbers_is (length u.functions)) ∙ defined_is u 0 u.functions first in
+      let defined_are : defined u ≡ defined_from 0 u.functions =
+      ap (filter (is_defined_at u)) (numbers_is (length u.functions)) ∙ defined_is u 0 u.functions first in
       record {
         sigs = each_all SigTyped m.sigs (
           omega arith,
@@ -224,30 +271,43 @@ module _ (u : Typed) where
             omega arith,
             (
               omega arith,
-              each_append SigTyped (map (λ (f : Function). signature f.ty) u.functions) (sigs_through u) (each_map SigTyped (λ (f : Function). signature f.ty) u.functions named_sigs) (distinct_each SigTyped [] (through_in (uses u)) tt (through_typed (uses u))),
+              each_append SigTyped (map (λ (f : Function). signature f.ty) u.functions) (sigs_through u)
+                  (each_map SigTyped (λ (f : Function). signature f.ty) u.functions named_sigs)
+                  (distinct_each SigTyped [] (through_in (uses u)) tt (through_typed (uses u))),
             ),
           ),
         );
         imports = each_all (λ (i : Import). ImportTyped m i.desc) m.imports imports_typed;
-        funcs = each_all (λ (f : Func). f.sig < length m.sigs) m.funcs (each_with (FuncTyped (C0 u)) (λ (f : Func). f.sig < length m.sigs) (λ f h. slice_get_within m.sigs f.sig h.0 h.2) m.funcs (all_typed u w));
+        funcs = each_all (λ (f : Func). f.sig < length m.sigs) m.funcs
+            (each_with (FuncTyped (C0 u)) (λ (f : Func). f.sig < length m.sigs)
+            (λ f h. slice_get_within m.sigs f.sig h.0 h.2) m.funcs (all_typed u w));
         tables = each_all TableTyped m.tables ((omega (arith, few), (omega (arith, few), omega arith)), tt);
         memories = All-nil Rattle.ms_rules.specs.Modules.MemoryTyped;
-        globals = each_all (GlobalTyped m) m.globals (each_append (GlobalTyped m) (globals_from u 0 u.globals) (literal_globals u (literals_in u.made)) (globals_typed 0 u.globals) (literals_typed (literals_in u.made)));
+        globals = each_all (GlobalTyped m) m.globals (each_append (GlobalTyped m) (globals_from u 0 u.globals)
+            (literal_globals u (literals_in u.made)) (globals_typed 0 u.globals) (literals_typed (literals_in u.made)));
         elements = each_all (ElementTyped m) m.elements (
           (
             one_table u,
             (I32Const (Rattle.std.specs.Prelude.pos 1), refl, refl),
-            each_all (λ f. f < length (sigs_of_funcs m)) (map (index_of u) (named u)) (each_map (λ f. f < length (sigs_of_funcs m)) (index_of u) (named u)
-                (each_with (λ n. (n < length u.functions) × (list_any (is_name_of n) (uses u) ≡ true)) (λ n. index_of u n < length (sigs_of_funcs m)) (λ n h. index_within n h.0 (inr (name_is_call n (uses u) h.1))) (named u) (numbered (λ n. list_any (is_name_of n) (uses u))))),
+            each_all (λ f. f < length (sigs_of_funcs m)) (map (index_of u) (named u))
+                (each_map (λ f. f < length (sigs_of_funcs m)) (index_of u) (named u)
+                (each_with (λ n. (n < length u.functions) × (list_any (is_name_of n) (uses u) ≡ true))
+                (λ n. index_of u n < length (sigs_of_funcs m))
+                (λ n h. index_within n h.0 (inr (name_is_call n (uses u) h.1))) (named u)
+                (numbered (λ n. list_any (is_name_of n) (uses u))))),
           ),
           tt,
         );
         fills = All-nil (Rattle.ms_rules.specs.Modules.FillTyped m);
         start = start_typed;
-        exports = each_all (λ (e : Export). ExportTyped m e.desc) m.exports (exports_typed (defined u) (numbered (is_defined_at u)));
-        names = subst (λ (ns : List ℕ). AreDistinct (names_of ns)) (sym defined_are) (distinct_names 0 u.functions first w.distinct);
-        one_table = let e = ap (λ (l : List Limits). length (l ++ m.tables)) (no_imported_tables u (imported u)) in omega (arith, e);
-        one_memory = let e = ap (λ (l : List Limits). length (l ++ m.memories)) (no_imported_memories u (imported u)) in omega (arith, e);
+        exports = each_all (λ (e : Export). ExportTyped m e.desc) m.exports
+            (exports_typed (defined u) (numbered (is_defined_at u)));
+        names = subst (λ (ns : List ℕ). AreDistinct (names_of ns)) (sym defined_are)
+            (distinct_names 0 u.functions first w.distinct);
+        one_table = let e = ap (λ (l : List Limits). length (l ++ m.tables)) (no_imported_tables u (imported u)) in
+            omega (arith, e);
+        one_memory = let e = ap (λ (l : List Limits). length (l ++ m.memories)) (no_imported_memories u (imported u)) in
+            omega (arith, e);
       }
 
   pub valid : IsWellTyped u → limit_of u ≡ None → WellTyped (compiled u)

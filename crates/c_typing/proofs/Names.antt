@@ -12,7 +12,7 @@ use Rattle.c_typed.specs.Objects as objects
 use Rattle.c_typed.specs.Tree.{Place, Expr, Exprs, Stmt, Stmts}
 use Rattle.c_code.specs.Functions.{held_as, signature}
 use Rattle.c_code.specs.Targets.{Target}
-use Rattle.c_code.specs.Uses.{Use, calls, names, through, in_place, in_expr, in_exprs, in_stmt, in_stmts, waits, waits_place, waits_all, waits_stmt, waits_stmts}
+use Rattle.c_code.specs.Uses.{Use, calls, through, in_place, in_expr, in_exprs, in_stmt, in_stmts, waits, waits_place, waits_all, waits_stmt, waits_stmts}
 
 abbrev pub var : ValType → GlobalType
 var v = record { ty = v; mutable = true }
@@ -42,7 +42,8 @@ pub record Names (c : Context) (t : Target) (globals slots : List Ty) (literals 
 
 -- what a use has to name
 abbrev pub IsNamed : Context → Target → (functions : List Ty) → Use → Type 0
-IsNamed c t fs (calls n) = (r : Ty) (ps : Tys) → slice_get fs n ≡ Some (function r ps) → slice_get c.funcs (t.index n) ≡ Some (Some (signature (function r ps)))
+IsNamed c t fs (calls n) = (r : Ty) (ps : Tys) → slice_get fs n ≡ Some (function r ps) → slice_get c.funcs (t.index n) ≡ Some
+    (Some (signature (function r ps)))
 IsNamed c t fs (through f) = slice_get c.sigs (t.sig f) ≡ Some (signature f)
 IsNamed c t fs _ = Unit {0}
 
@@ -93,7 +94,6 @@ abbrev pub of_stmts : Stmts → Needs
 of_stmts ss = record { uses = in_stmts ss; under = λ v. objects.in_stmts v ss; waits = waits_stmts ss }
 
 infixr 20 ◌⊕◌
-
 -- of two parts
 abbrev pub ◌⊕◌ : Needs → Needs → Needs
 ◌⊕◌ a b = record { uses = a.uses ++ b.uses; under = λ v. a.under v || b.under v; waits = max a.waits b.waits }

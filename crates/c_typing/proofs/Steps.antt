@@ -35,17 +35,21 @@ module _ {c : Context} {ls : Labels} where
   pub i64_step : {z : ℤ} {ts : List ValType} → Step c ls (I64Const z) ts (vals.I64 ∷ ts)
   i64_step = record { by = λ known. refl }
 
-  pub segment_step : (i : SegmentInstr) (ts : List ValType) → Step c ls (Segment i) (reverse (segment_type i).params ++ ts) (types (segment_type i).result ++ ts)
+  pub segment_step : (i : SegmentInstr) (ts : List ValType)
+      → Step c ls (Segment i) (reverse (segment_type i).params ++ ts) (types (segment_type i).result ++ ts)
   segment_step i ts = record { by = λ known. (ts, refl, refl) }
 
-  pub numeric_step : (i : NumericInstr) (ts : List ValType) → Step c ls (Numeric i) (reverse (numeric_type i).params ++ ts) (types (numeric_type i).result ++ ts)
+  pub numeric_step : (i : NumericInstr) (ts : List ValType)
+      → Step c ls (Numeric i) (reverse (numeric_type i).params ++ ts) (types (numeric_type i).result ++ ts)
   numeric_step i ts = record { by = λ known. (ts, refl, refl) }
 
-  pub op_step : (w : Width) {o : BinOp} {ts : List ValType} → Step c ls (op w o) (integer_type w ∷ integer_type w ∷ ts) (integer_type w ∷ ts)
+  pub op_step : (w : Width) {o : BinOp} {ts : List ValType}
+      → Step c ls (op w o) (integer_type w ∷ integer_type w ∷ ts) (integer_type w ∷ ts)
   op_step W32 {ts = ts} = record { by = λ known. (ts, refl, refl) }
   op_step W64 {ts = ts} = record { by = λ known. (ts, refl, refl) }
 
-  pub rel_step : (w : Width) {r : Relation} {ts : List ValType} → Step c ls (rel w r) (integer_type w ∷ integer_type w ∷ ts) (vals.I32 ∷ ts)
+  pub rel_step : (w : Width) {r : Relation} {ts : List ValType}
+      → Step c ls (rel w r) (integer_type w ∷ integer_type w ∷ ts) (vals.I32 ∷ ts)
   rel_step W32 {ts = ts} = record { by = λ known. (ts, refl, refl) }
   rel_step W64 {ts = ts} = record { by = λ known. (ts, refl, refl) }
 
@@ -101,13 +105,16 @@ module _ {c : Context} {ls : Labels} where
   pub local_set : {x : ℕ} {w : ValType} {ts : List ValType} → slice_get c.locals x ≡ Some w → Step c ls (LocalSet x) (w ∷ ts) ts
   local_set {w = w} e = record { by = λ known. (w, e, refl) }
 
-  pub local_tee : {x : ℕ} {w : ValType} {ts : List ValType} → slice_get c.locals x ≡ Some w → Step c ls (LocalTee x) (w ∷ ts) (w ∷ ts)
+  pub local_tee : {x : ℕ} {w : ValType} {ts : List ValType} → slice_get c.locals x ≡ Some w
+      → Step c ls (LocalTee x) (w ∷ ts) (w ∷ ts)
   local_tee {w = w} {ts = ts} e = record { by = λ known. (w, ts, e, refl, refl) }
 
-  pub global_get : {x : ℕ} {w : ValType} {ts : List ValType} → slice_get c.globals x ≡ Some (var w) → Step c ls (GlobalGet x) ts (w ∷ ts)
+  pub global_get : {x : ℕ} {w : ValType} {ts : List ValType} → slice_get c.globals x ≡ Some (var w)
+      → Step c ls (GlobalGet x) ts (w ∷ ts)
   global_get {w = w} e = record { by = λ known. (var w, e, refl) }
 
-  pub global_set : {x : ℕ} {w : ValType} {ts : List ValType} → slice_get c.globals x ≡ Some (var w) → Step c ls (GlobalSet x) (w ∷ ts) ts
+  pub global_set : {x : ℕ} {w : ValType} {ts : List ValType} → slice_get c.globals x ≡ Some (var w)
+      → Step c ls (GlobalSet x) (w ∷ ts) ts
   global_set {w = w} e = record { by = λ known. (var w, e, refl, refl) }
 
   pub get_step : (t : Target) (v : Variable) {w : ValType} {ts : List ValType} → Holds c t v w → Step c ls (get t v) ts (w ∷ ts)
@@ -126,18 +133,23 @@ module _ {c : Context} {ls : Labels} where
   pub br_if_step : {l : ℕ} {ts : List ValType} → slice_get ls l ≡ Some None → Step c ls (BrIf l) (vals.I32 ∷ ts) ts
   br_if_step {ts = ts} e = record { by = λ known. (None, ts, e, refl, refl) }
 
-  pub return_step : (k : Option ValType) (ts : List ValType) {t2 : List ValType} → c.returns ≡ Some k → Step c ls Return (types k ++ ts) t2
+  pub return_step : (k : Option ValType) (ts : List ValType) {t2 : List ValType} → c.returns ≡ Some k
+      → Step c ls Return (types k ++ ts) t2
   return_step k ts e = record { by = λ known. (k, ts, e, refl) }
 
-  pub call_step : {n : ℕ} (ps : List ValType) (k : Option ValType) (ts : List ValType) → slice_get c.funcs n ≡ Some (Some (record { params = ps; results = types k }))
+  pub call_step : {n : ℕ} (ps : List ValType) (k : Option ValType) (ts : List ValType)
+      → slice_get c.funcs n ≡ Some (Some (record { params = ps; results = types k }))
       → Step c ls (Call n) (reverse ps ++ ts) (types k ++ ts)
   call_step ps k ts e = record { by = λ known. (record { params = ps; results = types k }, e, (k, ts, refl, refl, refl)) }
 
-  pub call_indirect_step : {n : ℕ} (ps : List ValType) (k : Option ValType) (ts : List ValType) → 0 < length c.tables → slice_get c.sigs n ≡ Some (record { params = ps; results = types k })
+  pub call_indirect_step : {n : ℕ} (ps : List ValType) (k : Option ValType) (ts : List ValType) → 0 < length c.tables
+      → slice_get c.sigs n ≡ Some (record { params = ps; results = types k })
       → Step c ls (CallIndirect n) (vals.I32 ∷ (reverse ps ++ ts)) (types k ++ ts)
-  call_indirect_step ps k ts one e = record { by = λ known. (record { params = ps; results = types k }, reverse ps ++ ts, one, e, refl, (k, ts, refl, refl, refl)) }
+  call_indirect_step ps k ts one e = record
+      { by = λ known. (record { params = ps; results = types k }, reverse ps ++ ts, one, e, refl, (k, ts, refl, refl, refl)) }
 
 module _ {c : Context} {body : List (List Instr)} {ls : Labels} where
-  pub tee_goes : (t : Target) (v : Variable) {w : ValType} {ts : List ValType} → Holds c t v w → Goes c body ls (tee t v) (w ∷ ts) (w ∷ ts)
+  pub tee_goes : (t : Target) (v : Variable) {w : ValType} {ts : List ValType} → Holds c t v w
+      → Goes c body ls (tee t v) (w ∷ ts) (w ∷ ts)
   tee_goes t (Local n) h = does (local_tee h ▸ end)
   tee_goes t (Global n) h = does (global_set h ▸ global_get h ▸ end)

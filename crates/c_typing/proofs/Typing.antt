@@ -23,7 +23,8 @@ pub end : {c : Context} {ls : Labels} {t : List ValType} → Steps c ls [] t t
 end = record { by = λ known. refl }
 
 infixr 5 ◌▸◌
-pub ◌▸◌ : {c : Context} {ls : Labels} {i : Instr} {is : List Instr} {t1 t2 t3 : List ValType} → Step c ls i t1 t2 → Steps c ls is t2 t3 → Steps c ls (i ∷ is) t1 t3
+pub ◌▸◌ : {c : Context} {ls : Labels} {i : Instr} {is : List Instr} {t1 t2 t3 : List ValType} → Step c ls i t1 t2
+    → Steps c ls is t2 t3 → Steps c ls (i ∷ is) t1 t3
 ◌▸◌ {t2 = t2} s r = record { by = λ known. (t2, s.by known, r.by known) }
 
 -- ---- the sequences of a body from a number on
@@ -36,19 +37,26 @@ pub stand_front : (body : List (List Instr)) (n : ℕ) (a b : List (List Instr))
 stand_front body n [] b h = tt
 stand_front body n (is ∷ a) b h = (h.0, h.1, stand_front body (suc n) a b h.2)
 
-pub stand_back : (body : List (List Instr)) (n : ℕ) (a b : List (List Instr)) → Stand body n (a ++ b) → Stand body (n + length a) b
+pub stand_back : (body : List (List Instr)) (n : ℕ) (a b : List (List Instr)) → Stand body n (a ++ b)
+    → Stand body (n + length a) b
 stand_back body n [] b h = let e : n ≡ n + 0 = omega arith in subst (λ (m : ℕ). Stand body m b) e h
 stand_back body n (is ∷ a) b h =
-    let e : suc n + length a ≡ n + length (is ∷ a) = omega arith in subst (λ (m : ℕ). Stand body m b) e (stand_back body (suc n) a b h.2)
+    let e : suc n + length a ≡ n + length (is ∷ a) = omega arith in
+    subst (λ (m : ℕ). Stand body m b) e (stand_back body (suc n) a b h.2)
 
 -- every sequence of a body stands in it
 pub stands : (pre ss : List (List Instr)) → Stand (pre ++ ss) (length pre) ss
 stands pre [] = tt
 stands pre (is ∷ ss) =
     let more : (pre ++ is ∷ []) ++ ss ≡ pre ++ is ∷ ss = Rattle.std.proofs.Common.append_assoc pre (is ∷ []) ss in
-    let next : length (pre ++ is ∷ []) ≡ suc (length pre) = let l = Rattle.std.proofs.Common.length-append pre (is ∷ []) in omega (arith, l) in
-    let l = Rattle.std.proofs.Common.length-append pre (is ∷ ss) in
-    (omega (arith, l), here pre is ss, subst (λ (n : ℕ). Stand (pre ++ is ∷ ss) n ss) next (subst (λ (b : List (List Instr)). Stand b (length (pre ++ is ∷ [])) ss) more (stands (pre ++ is ∷ []) ss)))
+    let next : length (pre ++ is ∷ []) ≡ suc (length pre) = let l = Rattle.std.proofs.Common.length-append pre (is ∷ []) in
+    omega (arith, l) in
+    let l = Rattle.std.proofs.Common.length-append pre (is ∷ ss) in (
+      omega (arith, l),
+      here pre is ss,
+      subst (λ (n : ℕ). Stand (pre ++ is ∷ ss) n ss) next
+          (subst (λ (b : List (List Instr)). Stand b (length (pre ++ is ∷ [])) ss) more (stands (pre ++ is ∷ []) ss)),
+    )
   where
     here : (pre : List (List Instr)) (is : List Instr) (ss : List (List Instr)) → sequence_at (pre ++ is ∷ ss) (length pre) ≡ is
     here [] is ss = refl
@@ -83,19 +91,24 @@ nothing_left (Some t) e = absurd cc
 
 module _ (c : Context) (body : List (List Instr)) where
   -- a sequence that stands there is derived
-  derived : (labels : Labels) (a : Code) (k : Option ValType) → Goes c body labels a [] (types k) → (n h : ℕ) → length body ≤ n + h → Stand body n (inner (a (suc n))) → Derived h c body labels n k
+  derived : (labels : Labels) (a : Code) (k : Option ValType) → Goes c body labels a [] (types k) → (n h : ℕ)
+      → length body ≤ n + h → Stand body n (inner (a (suc n))) → Derived h c body labels n k
   derived labels a k g n zero le s = absurd (let lt = s.0 in omega (arith, le, lt))
   derived labels a k g n (suc h) le s =
-      subst (λ (is : List Instr). SequenceTyped (Derived h c body) c labels is [] (types k)) (sym s.1) (g.typed (suc n) h (omega (arith, le)) s.2)
+      subst (λ (is : List Instr). SequenceTyped (Derived h c body) c labels is [] (types k)) (sym s.1)
+      (g.typed (suc n) h (omega (arith, le)) s.2)
 
   -- where the second sequence has no instruction it isn't there, and nothing is left
   other_typed : (ls : Labels) (k : Option ValType) (m h : ℕ) → length body ≤ m + h → (is : List Instr) (ss : List (List Instr))
-      → ((h' : ℕ) → length body ≤ suc m + h' → Stand body (suc m) ss → SequenceTyped (Derived h' c body) c (k ∷ ls) is [] (types k))
-      → (is ≡ [] → Stand body (suc m) ss) → Stand body m (second_seqs (coded is ss)) → OtherTyped (Derived h c body) ls k (second m (coded is ss))
+      → ((h' : ℕ) → length body ≤ suc m + h' → Stand body (suc m) ss
+      → SequenceTyped (Derived h' c body) c (k ∷ ls) is [] (types k))
+      → (is ≡ [] → Stand body (suc m) ss) → Stand body m (second_seqs (coded is ss))
+      → OtherTyped (Derived h c body) ls k (second m (coded is ss))
   other_typed ls k m h le [] ss g empty s = nothing_left k (g (length body) (omega arith) (empty refl))
   other_typed ls k m zero le (i ∷ is) ss g empty s = absurd (let lt = s.0 in omega (arith, le, lt))
   other_typed ls k m (suc h) le (i ∷ is) ss g empty s =
-      subst (λ (js : List Instr). SequenceTyped (Derived h c body) c (k ∷ ls) js [] (types k)) (sym s.1) (g h (omega (arith, le)) s.2)
+      subst (λ (js : List Instr). SequenceTyped (Derived h c body) c (k ∷ ls) js [] (types k)) (sym s.1)
+      (g h (omega (arith, le)) s.2)
 
 module _ {c : Context} {body : List (List Instr)} {ls : Labels} where
   pub none : {t : List ValType} → Goes c body ls no_code t t
@@ -106,23 +119,30 @@ module _ {c : Context} {body : List (List Instr)} {ls : Labels} where
 
   infixr 4 ◌▹◌
   -- one code behind the other
-  pub ◌▹◌ : {a b : Code} {t1 t2 t3 : List ValType} → Goes c body ls a t1 t2 → Goes c body ls b t2 t3 → Goes c body ls (a ⨾ b) t1 t3
+  pub ◌▹◌ : {a b : Code} {t1 t2 t3 : List ValType} → Goes c body ls a t1 t2 → Goes c body ls b t2 t3
+      → Goes c body ls (a ⨾ b) t1 t3
   ◌▹◌ {a} {b} {t1} {t2} {t3} ga gb = record {
     whole = λ n e. let x = a n in let y = b (n + length x.seqs) in
-        ap (λ (l : List (List Instr)). l ++ y.seqs) (ga.whole n (nil_left x.instrs y.instrs e)) ∙ gb.whole (n + length x.seqs) (nil_right x.instrs y.instrs e);
+        ap (λ (l : List (List Instr)). l ++ y.seqs) (ga.whole n (nil_left x.instrs y.instrs e))
+        ∙ gb.whole (n + length x.seqs) (nil_right x.instrs y.instrs e);
     typed = λ n h le s. let x = a n in let m = n + length x.seqs in
         sequence_append (Derived h c body) c ls x.instrs (b m).instrs t1 t2 t3
         (ga.typed n h le (stand_front body n x.seqs (b m).seqs s))
         (gb.typed m h (omega (arith, le)) (stand_back body n x.seqs (b m).seqs s));
   }
 
-  pub in_block : {k : Option ValType} {a : Code} {ts : List ValType} → Goes c body (k ∷ ls) a [] (types k) → Goes c body ls (block k a) ts (types k ++ ts)
-  in_block {k} {a} {ts} g = record { whole = λ n e. absurd cc; typed = λ n h le s. (types k ++ ts, (derived c body (k ∷ ls) a k g n h le s, refl), refl) }
+  pub in_block : {k : Option ValType} {a : Code} {ts : List ValType} → Goes c body (k ∷ ls) a [] (types k)
+      → Goes c body ls (block k a) ts (types k ++ ts)
+  in_block {k} {a} {ts} g = record
+      { whole = λ n e. absurd cc; typed = λ n h le s. (types k ++ ts, (derived c body (k ∷ ls) a k g n h le s, refl), refl) }
 
-  pub in_repeat : {k : Option ValType} {a : Code} {ts : List ValType} → Goes c body (None ∷ ls) a [] (types k) → Goes c body ls (repeat k a) ts (types k ++ ts)
-  in_repeat {k} {a} {ts} g = record { whole = λ n e. absurd cc; typed = λ n h le s. (types k ++ ts, (derived c body (None ∷ ls) a k g n h le s, refl), refl) }
+  pub in_repeat : {k : Option ValType} {a : Code} {ts : List ValType} → Goes c body (None ∷ ls) a [] (types k)
+      → Goes c body ls (repeat k a) ts (types k ++ ts)
+  in_repeat {k} {a} {ts} g = record
+      { whole = λ n e. absurd cc; typed = λ n h le s. (types k ++ ts, (derived c body (None ∷ ls) a k g n h le s, refl), refl) }
 
-  pub in_choice : {k : Option ValType} {a b : Code} {ts : List ValType} → Goes c body (k ∷ ls) a [] (types k) → Goes c body (k ∷ ls) b [] (types k)
+  pub in_choice : {k : Option ValType} {a b : Code} {ts : List ValType} → Goes c body (k ∷ ls) a [] (types k)
+      → Goes c body (k ∷ ls) b [] (types k)
       → Goes c body ls (choice k a b) (vals.I32 ∷ ts) (types k ++ ts)
   in_choice {k} {a} {b} {ts} ga gb = record {
     whole = λ n e. absurd cc;
