@@ -171,8 +171,8 @@ module _ (c : Context) (body : List (List Instr)) (t : Target) (waits : ℕ) (r 
   abbrev pub Fit : well.Context → ℕ → Stmt → Type 0
   Fit k d s = FitsIn c t k waits d (of_stmt s)
 
-  abbrev pub Fits' : well.Context → ℕ → Stmts → Type 0
-  Fits' k d ss = FitsIn c t k waits d (of_stmts ss)
+  abbrev pub FitAll : well.Context → ℕ → Stmts → Type 0
+  FitAll k d ss = FitsIn c t k waits d (of_stmts ss)
 
   abbrev FitStep : well.Context → ℕ → Option Expr → Type 0
   FitStep k d None = Unit {0}
@@ -255,7 +255,7 @@ module _ (c : Context) (body : List (List Instr)) (t : Target) (waits : ℕ) (r 
             least =
                 omega (arith, least);
           } in
-          let z : Fits' (opened (At v) ns) (suc d) ss = record {
+          let z : FitAll (opened (At v) ns) (suc d) ss = record {
             uses = each_back (IsNamed c t functions) (uses.in_expr e) (uses.in_stmts ss) fit.uses;
             objects = λ q w a b. fit.objects q w a (or_right (objects.in_expr q e) (objects.in_stmts q ss) b);
             least =
@@ -291,7 +291,7 @@ module _ (c : Context) (body : List (List Instr)) (t : Target) (waits : ℕ) (r 
           ▹ does (br_step (out.continues h) ▸ end)
 
       pub stmts_goes : (ls : Labels) (v : List ℕ) (d : ℕ) (x : Exits) (j : Jumps) → Leaves c body t ls x j → (ss : Stmts)
-          → AreStatements (At v) r j ss → Fits' (At v) d ss → (ts : List ValType) → Goes c body ls (stmts t slots d x ss) ts ts
+          → AreStatements (At v) r j ss → FitAll (At v) d ss → (ts : List ValType) → Goes c body ls (stmts t slots d x ss) ts ts
       stmts_goes ls v d x j out done h fit ts = none
       stmts_goes ls v d x j out (seq s ss) h fit ts =
           let y = first (of_stmt s) (of_stmts ss) fit in
@@ -299,7 +299,7 @@ module _ (c : Context) (body : List (List Instr)) (t : Target) (waits : ℕ) (r 
           stmt_goes ls v d x j out s h.0 y ts ▹ stmts_goes ls v d x j out ss h.1 z ts
 
       groups_goes : (ls : Labels) (v : List ℕ) (d : ℕ) (x : Exits) (j : Jumps) → Leaves c body t (None ∷ ls) x j
-          → (i : ℕ) (ss : Stmts) → AreStatements (At v) r j ss → Fits' (At v) (suc d) ss
+          → (i : ℕ) (ss : Stmts) → AreStatements (At v) r j ss → FitAll (At v) (suc d) ss
           → slice_get c.locals (waiting t d) ≡ Some vals.I32
           → (ts : List ValType) → Goes c body ls (groups t slots d x i ss) ts ts
       groups_goes ls v d x j out i done h fit w ts = none
