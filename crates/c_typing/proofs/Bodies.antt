@@ -11,7 +11,7 @@ use Rattle.ms_rules.specs.Context.{Context}
 use Rattle.ms_rules.specs.Typing.{Typed, types}
 use Rattle.c_types.specs.declared.types.Scalar.{Scalar}
 use Rattle.c_types.specs.declared.types.Scalar.TheVariants as scalars
-use Rattle.c_types.specs.Layout.{size}
+use Rattle.c_types.specs.Layout.{size, Table}
 use Rattle.c_types.specs.Types.{Ty, void, integer, struct, pointer, array, function, Tys, is_function, scalar_of}
 use Rattle.c_typed.specs.declared.ops.Variable.{Variable}
 use Rattle.c_typed.specs.declared.ops.Variable.TheVariants.{Local, Global}
@@ -26,10 +26,10 @@ use Rattle.ms_emit.specs.Codes.{Code, inner, no_code, ◌⨾◌}
 use Rattle.c_code.specs.Functions.{body, gives, held_as, makes, param, params, params_from, result, start, values}
 use Rattle.c_code.specs.Modules.{waits_made, waits_values}
 use Rattle.c_code.specs.Operations.{val_of, val_option}
-use Rattle.c_code.specs.Statements.{at_body, made, objects_in, stmt}
+use Rattle.c_code.specs.Statements.{at_body, made, objects_in, stmt, freed}
 use Rattle.c_code.specs.Targets.{Target}
 use Rattle.c_code.specs.Uses as uses
-use Rattle.c_typing.proofs.Names.{Each, Fits, Holds, of_stmt, IsNamed, Names, each_back, each_front, or_left, or_right}
+use Rattle.c_typing.proofs.Names.{Each, Fits, Holds, of_stmt, IsNamed, Names, each_back, each_front, or_left, or_right, each_append, TypeOf}
 use Rattle.c_typing.proofs.Sound.{AreSoundNames, HasScalar}
 use Rattle.c_typing.proofs.Steps.{get_step, local_get, segment_step, set_step, store_step, zero_step}
 use Rattle.c_typing.proofs.Stmts.{HasHandle, Leaves, filled_goes, freed_goes, made_goes, objects_hold, stmt_goes}
@@ -42,7 +42,7 @@ body_is c code k g = let b = inner (code 1) in let st = stands [] b in (suc (len
 
 pub each_below : (m n : ℕ) → m ≤ n → Each (λ x. x < n) (numbers m)
 each_below zero n le = tt
-each_below (suc m) n le = Rattle.c_typing.proofs.Names.each_append (λ x. x < n) (numbers m) (m ∷ [])
+each_below (suc m) n le = each_append (λ x. x < n) (numbers m) (m ∷ [])
     (each_below m n (omega (arith, le))) (omega (arith, le), tt)
 
 -- where nothing can be left
@@ -91,7 +91,7 @@ module _ {c : Context} {body : List (List Instr)} {ls : Labels} (t : Target) whe
 
 -- ---- the body of a function
 
-module _ (c : Context) (t : Target) (waits : ℕ) (structs : Rattle.c_types.specs.Layout.Table) (globals slots functions : List Ty)
+module _ (c : Context) (t : Target) (waits : ℕ) (structs : Table) (globals slots functions : List Ty)
     (literals : ℕ) (names : Names c t globals slots literals waits) (sound : AreSoundNames structs globals slots functions) where
   pub body_typed : (f : Function) (s : Stmt) (r : Ty) (ps : Tys) → f.ty ≡ function r ps → f.slots ≡ slots
       → length (list_of ps) ≤ length slots → c.returns ≡ Some (val_of r) → ParamsHeld c t 0 (list_of ps)
@@ -108,7 +108,7 @@ module _ (c : Context) (t : Target) (waits : ℕ) (structs : Rattle.c_types.spec
       let k = length (list_of ps) in
       let vs = objects_in t slots (numbers k) in
       let code : Code = params t (list_of ps) ⨾ stmt t slots 0
-      (at_body vs) s ⨾ Rattle.c_code.specs.Statements.freed t vs ⨾ result t (scalar_of r) in
+      (at_body vs) s ⨾ freed t vs ⨾ result t (scalar_of r) in
       let below = each_below k (length slots) le in
       let ls = val_of r ∷ [] in
       let b = inner (code 1) in
@@ -161,7 +161,7 @@ module _ (c : Context) (t : Target) (functions : List Ty) (waits : ℕ) where
   }
 
 module _ (u : tree.Typed) (c : Context) (t : Target) (waits : ℕ) (returns : c.returns ≡ Some None)
-    (structs : Rattle.c_types.specs.Layout.Table) (globals functions : List Ty) (literals : ℕ)
+    (structs : Table) (globals functions : List Ty) (literals : ℕ)
     (names : Names c t globals [] literals waits) (sound : AreSoundNames structs globals [] functions) where
   abbrev Here : well.Context
   Here = record { structs = structs; globals = globals; literals = literals; functions = functions; slots = []; visible = [] }
@@ -169,7 +169,7 @@ module _ (u : tree.Typed) (c : Context) (t : Target) (waits : ℕ) (returns : c.
   fits_alone : (s : Stmt) → FitsValues c t functions waits (uses.in_stmt s) (λ n. objects.in_stmt (Global n) s)
       (uses.waits_stmt s) → Fits c t globals [] functions waits 0 (of_stmt s)
   fits_alone s h = record { uses = h.uses; objects = by; least = let l = h.least in omega (arith, l) } where
-    by : (v : Variable) (u : Ty) → Rattle.c_typing.proofs.Names.TypeOf globals [] v u → objects.in_stmt v s ≡ true
+    by : (v : Variable) (u : Ty) → TypeOf globals [] v u → objects.in_stmt v s ≡ true
         → t.is_object v ≡ true
     by (Local n) u at e = absurd cc
     by (Global n) u at e = h.objects n e

@@ -1,6 +1,6 @@
 -- What the indices in a unit's code name: types of functions, and functions.
 use Rattle.std.proofs.Common.{◌≡◌, ℕ, suc, ◌+◌, ◌<◌, List, [], ◌∷◌, ◌++◌, length, Bool, true, false, Option, Some, None, refl, sym, ap, ◌∙◌, arith, subst, ◌⊎◌, inl, inr}
-use Rattle.std.specs.Prelude.{slice_get, cond, filter, map, not, is_some, position, ◌||◌, ◌&&◌, ◌==◌}
+use Rattle.std.specs.Prelude.{slice_get, cond, filter, map, not, is_some, ◌&&◌, ◌==◌, option_map}
 use Rattle.std.specs.List.{list_any}
 use Rattle.std.proofs.lemmas.Option.{slice_get-map}
 use Rattle.ms_types.specs.declared.types.FuncType.{FuncType}
@@ -13,10 +13,11 @@ use Rattle.c_types.specs.Types.{Ty}
 use Rattle.c_typed.specs.Tree.{Function, Stmt, Typed}
 use Rattle.c_well_typed.specs.Units.{numbers}
 use Rattle.c_code.specs.Functions.{signature}
-use Rattle.c_code.specs.Modules.{compiled, defined, distinct_behind, func_of, funcs_from, host_sigs, import_from_c, imported, index_of, is_call_of, is_defined_at, place_of, rank_in, sig_of, sigs_through, through_in}
+use Rattle.c_code.specs.Modules.{compiled, defined, distinct_behind, func_of, funcs_from, import_from_c, imported, index_of, is_call_of, is_defined_at, place_of, rank_in, sig_of, sigs_through, through_in, start_func, is_defined}
 use Rattle.c_code.specs.Uses.{Use, calls, copies, names, through, uses}
 use Rattle.c_typing.proofs.Lists.{any_left, any_right, either, equal_is, equal_itself, filter_has, has_number, numbers_is, position_finds, slice_left, slice_right, upto}
 use Rattle.c_typing.proofs.Names.{or_left, or_right}
+use Rattle.std.proofs.lemmas.List.{length-map}
 
 -- ---- equal types of functions
 
@@ -162,7 +163,7 @@ module _ (u : Typed) where
   defined_is k [] h = refl
   defined_is k (f ∷ fs) h =
       let z : k ≡ k + 0 = omega arith in
-      let at : is_defined_at u k ≡ is_some f.body = ap (λ (o : Option Function). Rattle.c_code.specs.Modules.is_defined o)
+      let at : is_defined_at u k ≡ is_some f.body = ap (λ (o : Option Function). is_defined o)
       (ap (slice_get u.functions) z ∙ h 0) in
       ap (λ (b : Bool). cond b (k ∷ filter (is_defined_at u) (upto (suc k) (length fs)))
       (filter (is_defined_at u) (upto (suc k) (length fs)))) at
@@ -184,7 +185,7 @@ module _ (u : Typed) where
       ∙ defined_is 0 u.functions (λ i. let z : 0 + i ≡ i = omega arith in ap (slice_get u.functions) z))) in
       ap (λ (l : List ℕ). (0 ∷ 1 ∷ 2 ∷ l) ++ map (λ (f : Func). f.sig) (compiled u).funcs) (imports_are (imported u))
       ∙ ap (λ (l : List ℕ). (0 ∷ 1 ∷ 2 ∷ map third (imported u)) ++ l)
-      (map_more (funcs_from u 0 u.functions) (Rattle.c_code.specs.Modules.start_func u) ∙ ap (λ (l : List ℕ). l ++ 2 ∷ []) d)
+      (map_more (funcs_from u 0 u.functions) (start_func u) ∙ ap (λ (l : List ℕ). l ++ 2 ∷ []) d)
 
 -- ---- what each index names
 
@@ -198,14 +199,14 @@ module _ (u : Typed) where
       let z : 3 + n ≡ suc (suc (suc n)) = omega arith in
       ap (slice_get Sigs) z ∙ slice_left fs (sigs_through u) n (signature f.ty)
       (slice_get-map (λ (g : Function). signature g.ty) u.functions n
-      ∙ ap (Rattle.std.specs.Prelude.option_map (λ (g : Function). signature g.ty)) e)
+      ∙ ap (option_map (λ (g : Function). signature g.ty)) e)
 
   pub sig_through : (t : Ty) (pre rest : List Use) → uses u ≡ pre ++ through t ∷ rest
       → slice_get Sigs (sig_of u t) ≡ Some (signature t)
   sig_through t pre rest e =
       let fs = map (λ (g : Function). signature g.ty) u.functions in
       let i = place_of (signature t) (sigs_through u) in
-      let l : length fs ≡ length u.functions = Rattle.std.proofs.lemmas.List.length-map u.functions
+      let l : length fs ≡ length u.functions = length-map u.functions
       (λ (g : Function). signature g.ty) in
       let z : 3 + length u.functions + i ≡ suc (suc (suc (length fs + i))) = omega (arith, l) in
       ap (slice_get Sigs) z ∙ slice_right fs (sigs_through u) (length fs + i) i refl
@@ -233,13 +234,13 @@ module _ (u : Typed) where
         let at : slice_get (defined u) r ≡ Some n = rank_is (defined u) n
         (filter_has (is_defined_at u) n (numbers (length u.functions)) named e) in
         let l : length (map third (imported u)) ≡ length (imported u) =
-        Rattle.std.proofs.lemmas.List.length-map (imported u) third in
+        length-map (imported u) third in
         let z : 3 + length (imported u) + r ≡ suc (suc (suc (length (map third (imported u))))) + r = omega (arith, l) in
         let is : index_of u n ≡ 3 + length (imported u) + r =
         ap (λ (b : Bool). cond b (3 + length (imported u) + r) (3 + rank_in (imported u) n)) e in
         slice_right (0 ∷ 1 ∷ 2 ∷ map third (imported u)) (map third (defined u) ++ 2 ∷ []) (index_of u n) r (is ∙ z)
         ∙ slice_left (map third (defined u)) (2 ∷ []) r (3 + n)
-        (slice_get-map third (defined u) r ∙ ap (Rattle.std.specs.Prelude.option_map third) at)
+        (slice_get-map third (defined u) r ∙ ap (option_map third) at)
     by false e p =
         let r = rank_in (imported u) n in
         let used : list_any (is_call_of n) (uses u) ≡ true = elim p [ inl h ↦ absurd cc | inr h ↦ h ] in
@@ -252,7 +253,7 @@ module _ (u : Typed) where
         let z : 3 + r ≡ suc (suc (suc r)) = omega arith in
         slice_left (0 ∷ 1 ∷ 2 ∷ map third (imported u)) (map third (defined u) ++ 2 ∷ []) (index_of u n) (3 + n)
         (ap (slice_get (0 ∷ 1 ∷ 2 ∷ map third (imported u))) (is ∙ z)
-        ∙ (slice_get-map third (imported u) r ∙ ap (Rattle.std.specs.Prelude.option_map third) at))
+        ∙ (slice_get-map third (imported u) r ∙ ap (option_map third) at))
 
   call_present : (n : ℕ) (x : Use) (pre rest : List Use) → is_call_of n x ≡ true → uses u ≡ pre ++ x ∷ rest
       → list_any (is_call_of n) (uses u) ≡ true

@@ -8,6 +8,6 @@ pub mod Stmts
 pub mod Bodies
 pub mod Lists
 pub mod Indices
-pub mod Functions
-pub mod Bodied
-pub mod Heads
+pub mod Frames
+pub mod Funcs
+pub mod Modules

@@ -28,6 +28,7 @@ use Rattle.c_code.specs.Targets.{Target, scratch_of, scratch_of_width}
 use Rattle.c_typing.proofs.Names.{Names, Holds}
 use Rattle.c_typing.proofs.Steps.{constant_step, drop_step, get_step, i32_step, i64_step, load_step, local_get, local_set, local_tee, numeric_step, op_step, rel_step, segment_step, set_step, store_step, tee_goes}
 use Rattle.c_typing.proofs.Typing.{Goes, Labels, none, does, end, in_choice, ◌▸◌, ◌▹◌}
+use Rattle.ms_module.specs.declared.instr.Instr.TheVariants.{Numeric}
 
 -- what is left of a value
 abbrev pub kept_types : (kept : Bool) → Option ValType → List ValType
@@ -72,7 +73,7 @@ module _ {c : Context} {body : List (List Instr)} {ls : Labels} where
     by W32 W32 = to_type_goes u
     by W32 W64 = extends (is_signed t) where
       extends : (b : Bool) → Goes c body ls
-          (one (Rattle.ms_module.specs.declared.instr.Instr.TheVariants.Numeric (cond b ExtendS ExtendU))) (vals.I32 ∷ ts)
+          (one (Numeric (cond b ExtendS ExtendU))) (vals.I32 ∷ ts)
           (vals.I64 ∷ ts)
       extends true = does (numeric_step ExtendS ts ▸ end)
       extends false = does (numeric_step ExtendU ts ▸ end)

@@ -15,7 +15,7 @@ use Rattle.ms_rules.specs.Typing.{types}
 use Rattle.c_types.specs.declared.integers.IntType.{IntType}
 use Rattle.c_types.specs.declared.integers.IntType.TheVariants.{Char}
 use Rattle.c_types.specs.declared.types.Scalar.{Scalar}
-use Rattle.c_types.specs.Layout.{size}
+use Rattle.c_types.specs.Layout.{size, Table}
 use Rattle.c_types.specs.Types.{Ty, void, integer, array, scalar_of}
 use Rattle.c_typed.specs.declared.ops.Variable.{Variable}
 use Rattle.c_typed.specs.declared.ops.Variable.TheVariants.{Local}
@@ -191,7 +191,7 @@ module _ (c : Context) (body : List (List Instr)) (t : Target) (waits : ℕ) (r 
         second (of_expr a) (of_stmt s) y,
       )
 
-  module _ (structs : Rattle.c_types.specs.Layout.Table) (globals slots functions : List Ty) (literals : ℕ)
+  module _ (structs : Table) (globals slots functions : List Ty) (literals : ℕ)
       (names : Names c t globals slots literals waits) (sound : AreSoundNames structs globals slots functions) where
     -- where these variables are visible
     abbrev pub At : List ℕ → well.Context

@@ -1,5 +1,5 @@
 -- Code is well typed: it goes from any operands to these with what it leaves on top.
-use Rattle.std.proofs.Common.{◌≡◌, ℕ, zero, suc, ◌+◌, ◌<◌, ◌≤◌, List, [], ◌∷◌, ◌++◌, length, Option, Some, None, refl, sym, ap, ◌∙◌, arith, subst}
+use Rattle.std.proofs.Common.{◌≡◌, ℕ, zero, suc, ◌+◌, ◌<◌, ◌≤◌, List, [], ◌∷◌, ◌++◌, length, Option, Some, None, refl, sym, ap, ◌∙◌, arith, subst, length-append, append_assoc}
 use Rattle.ms_types.specs.declared.types.ValType.{ValType}
 use Rattle.ms_types.specs.declared.types.ValType.TheVariants as vals
 use Rattle.ms_module.specs.Numbered.{sequence_at}
@@ -48,10 +48,10 @@ stand_back body n (is ∷ a) b h =
 pub stands : (pre ss : List (List Instr)) → Stand (pre ++ ss) (length pre) ss
 stands pre [] = tt
 stands pre (is ∷ ss) =
-    let more : (pre ++ is ∷ []) ++ ss ≡ pre ++ is ∷ ss = Rattle.std.proofs.Common.append_assoc pre (is ∷ []) ss in
-    let next : length (pre ++ is ∷ []) ≡ suc (length pre) = let l = Rattle.std.proofs.Common.length-append pre (is ∷ []) in
+    let more : (pre ++ is ∷ []) ++ ss ≡ pre ++ is ∷ ss = append_assoc pre (is ∷ []) ss in
+    let next : length (pre ++ is ∷ []) ≡ suc (length pre) = let l = length-append pre (is ∷ []) in
     omega (arith, l) in
-    let l = Rattle.std.proofs.Common.length-append pre (is ∷ ss) in (
+    let l = length-append pre (is ∷ ss) in (
       omega (arith, l),
       here pre is ss,
       subst (λ (n : ℕ). Stand (pre ++ is ∷ ss) n ss) next

@@ -1,4 +1,4 @@
-use Rattle.c_typing.proofs.Heads.{valid}
+use Rattle.c_typing.proofs.Modules.{valid}
 use Rattle.c_typing.proofs.laws.compiled_is_valid.Goals as goal
 
 pub returns : goal.returns

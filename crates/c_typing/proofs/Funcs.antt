@@ -1,7 +1,7 @@
 -- Each function of a unit's module has a typed body.
-use Rattle.std.proofs.Common.{◌≡◌, ℕ, zero, suc, ◌+◌, ◌<◌, ◌≤◌, List, [], ◌∷◌, ◌++◌, length, Bool, true, false, Option, Some, None, refl, sym, ap, ◌∙◌, arith, subst}
+use Rattle.std.proofs.Common.{◌≡◌, ℕ, suc, ◌+◌, ◌<◌, List, [], ◌∷◌, ◌++◌, length, true, false, Option, Some, None, refl, sym, ap, ◌∙◌, arith, subst, length-append}
 use Rattle.std.specs.List.{All}
-use Rattle.std.proofs.lemmas.List.Elements.{All-head, All-tail}
+use Rattle.std.proofs.lemmas.List.Elements.{All-head, All-tail, All-nil}
 use Rattle.std.proofs.lemmas.Option.{none-some}
 use Rattle.std.specs.Prelude.{slice_get, get_or, map, ◌||◌}
 use Rattle.ms_types.specs.declared.types.ValType.{ValType}
@@ -15,21 +15,21 @@ use Rattle.c_typed.specs.declared.ops.Variable.TheVariants.{Local, Global}
 use Rattle.c_typed.specs.Objects as objects
 use Rattle.c_typed.specs.Tree.{Function, Stmt, Typed}
 use Rattle.c_well_typed.specs.Statements.{IsStatement, no_jumps}
-use Rattle.c_well_typed.specs.Types.{IsObject}
+use Rattle.c_well_typed.specs.Types.{IsObject, IsType}
 use Rattle.c_well_typed.specs.Units as units
 use Rattle.c_well_typed.specs.Units.{IsBody, IsFunction, IsMade, IsWellTyped, list_of, literals_in, variables_in}
 use Rattle.c_meaning.specs.Units as meaning
-use Rattle.c_code.specs.Functions.{body, held_as, locals, params_in, scratch_locals}
+use Rattle.c_code.specs.Functions.{body, held_as, locals, params_in, listed}
 use Rattle.c_code.specs.Modules.{compiled, func_of, funcs_from, is_object_in, no_slots, start_func, start_target, target_of, waits_made}
 use Rattle.c_code.specs.Operations.{val_of}
 use Rattle.c_code.specs.Uses as uses
-use Rattle.c_typing.proofs.Bodies.{FitsValues, body_typed, each_below, start_typed}
+use Rattle.c_typing.proofs.Bodies.{body_typed, each_below, start_typed, ParamsHeld}
 use Rattle.c_typing.proofs.Exprs.{listed_is}
-use Rattle.c_typing.proofs.Functions.{C0, First, Fs, L, at_first, at_param, at_scratch, at_slot, at_waiting, global_at, in_function, literal_at, one_table, params_held, scalars_of, sound_with, uses_named, waiting_in}
+use Rattle.c_typing.proofs.Frames.{C0, First, Fs, L, at_first, at_param, at_scratch, at_slot, at_waiting, global_at, in_function, literal_at, one_table, params_held, scalars_of, sound_with, uses_named, waiting_in}
 use Rattle.c_typing.proofs.Indices.{sig_at}
 use Rattle.c_typing.proofs.Lists.{slice_left}
 use Rattle.c_typing.proofs.Names.{Each, Holds, IsNamed, Names, TypeOf, each_append, each_back, each_front, or_left, or_right}
-use Rattle.c_typing.proofs.Sound.{sound_of_type}
+use Rattle.c_typing.proofs.Sound.{sound_of_type, AreSound}
 
 module _ (u : Typed) (w : IsWellTyped u) where
   abbrev Func' : ℕ → Function → Stmt → Func
@@ -76,17 +76,17 @@ module _ (u : Typed) (w : IsWellTyped u) where
 
     core : (n : ℕ) → slice_get u.functions n ≡ Some G → All (IsObject u.structs) (Us ++ more)
         → IsStatement (units.context_of u (Us ++ more) (length Us)) r no_jumps s
-        → Rattle.c_typing.proofs.Sound.AreSound ps → Each (IsNamed (C0 u) (start_target u) (Fs u)) (uses.in_stmt s)
+        → AreSound ps → Each (IsNamed (C0 u) (start_target u) (Fs u)) (uses.in_stmt s)
         → ((m : ℕ) → objects.in_stmt (Global m) s ≡ true → meaning.in_functions m u.functions ≡ true)
         → FuncTyped (C0 u) (Func' n G s)
     core n at all well sc named under = (
-      record { params = map (held_as false) Us; results = Rattle.c_code.specs.Functions.listed (val_of r) },
+      record { params = map (held_as false) Us; results = listed (val_of r) },
       val_of r,
       sig_at u n G at,
       listed_is (val_of r),
       body_typed Here (target_of u G s) W u.structs u.globals (Us ++ more) (Fs u) (literals_in u.made) names
           (sound_with u w (Us ++ more) all) G s r ps refl refl
-          (let l = Rattle.std.proofs.Common.length-append Us more in omega (arith, l)) refl held well
+          (let l = length-append Us more in omega (arith, l)) refl held well
           (record {
             uses = in_function u (L u G s Us more W) (val_of r) (is_object_in u s (Us ++ more)) (First u G s Us more W)
                 (First u G s Us more W + length (Us ++ more)) (uses.in_stmt s) named;
@@ -102,7 +102,7 @@ module _ (u : Typed) (w : IsWellTyped u) where
             (meaning.in_made m u.made || meaning.in_functions m u.functions)
             (or_right (meaning.in_made m u.made) (meaning.in_functions m u.functions) (under m i))
 
-        held : Rattle.c_typing.proofs.Bodies.ParamsHeld Here (target_of u G s) 0 Us
+        held : ParamsHeld Here (target_of u G s) 0 Us
         held = params_held Here (target_of u G s) 0 Us (λ n q e.
             let z : n ≡ 0 + n = omega arith in
             subst (λ (m : ℕ). (slice_get (L u G s Us more W) m ≡ Some (held_as false q)) × Holds Here (target_of u G s) (Local m)
@@ -119,7 +119,7 @@ module _ (u : Typed) (w : IsWellTyped u) where
       let b : IsBody u r ps f.slots (Some s) = subst (λ (o : Option Stmt). IsBody u r ps f.slots o) is h.4 in
       let more = b.0.0 in
       let sc = sound_of_type u.structs (function r ps) (subst
-      (λ (q : Ty). Rattle.c_well_typed.specs.Types.IsType u.structs q) h.2 h.3) in
+      (λ (q : Ty). IsType u.structs q) h.2 h.3) in
       let both : Goal (function r ps) (list_of ps ++ more) =
       λ a. core f s r ps more n a (subst (λ (l : List Ty). All (IsObject u.structs) l) b.0.1 b.1)
       (subst (λ (l : List Ty). IsStatement (units.context_of u l
@@ -186,7 +186,7 @@ module _ (u : Typed) (w : IsWellTyped u) where
     refl,
     start_typed u (inside (C0 u) StartLocals None) (start_target u) (waits_made u u.made) refl u.structs u.globals (Fs u)
         (literals_in u.made) start_names (sound_with u w []
-        (Rattle.std.proofs.lemmas.List.Elements.All-nil (IsObject u.structs))) u.made w.made
+        (All-nil (IsObject u.structs))) u.made w.made
         (omega arith) (subst (λ (l : List ℕ). Each (λ n. n < length u.globals) l) (sym w.variables)
         (each_below (length u.globals) (length u.globals) (omega arith)))
         (record {

@@ -1,4 +1,4 @@
--- The functions of a unit's module are typed.
+-- What the indices in the code of each function of a module name: globals, locals, and what is used.
 use Rattle.std.proofs.Common.{◌≡◌, ℕ, zero, suc, ◌+◌, ◌<◌, List, [], ◌∷◌, ◌++◌, length, Bool, true, false, Option, Some, None, refl, sym, ap, ◌∙◌, arith, subst, inr, append_assoc}
 use Rattle.std.specs.List.{All, list_any}
 use Rattle.std.proofs.lemmas.List.Elements.{All-cons, All-nil}
@@ -20,7 +20,7 @@ use Rattle.c_typed.specs.Tree.{Function, Stmt, Typed}
 use Rattle.c_well_typed.specs.Types.{IsObject}
 use Rattle.c_well_typed.specs.Units.{IsFunction, IsWellTyped, list_of, literals_in, numbers}
 use Rattle.c_code.specs.Functions.{held_as, locals, scratch_locals, signature, slots_from}
-use Rattle.c_code.specs.Modules.{compiled, defined, first_of, func_of, funcs_from, global_of, globals_from, imported, is_object_in, literal_globals, no_slots, start_func, start_target, target_of, waits_made}
+use Rattle.c_code.specs.Modules.{compiled, first_of, global_of, globals_from, imported, is_object_in, literal_globals, no_slots, start_target, index_of, target}
 use Rattle.c_code.specs.Targets.{Target}
 use Rattle.c_code.specs.Uses as uses
 use Rattle.c_code.specs.Uses.{Use, calls, copies, names, through}
@@ -28,7 +28,9 @@ use Rattle.c_typing.proofs.Bodies.{ParamsHeld}
 use Rattle.c_typing.proofs.Indices.{called, index_at, no_imported_globals, no_imported_tables, sig_at, sig_through}
 use Rattle.c_typing.proofs.Lists.{numbers_is, slice_left, slice_right, upto}
 use Rattle.c_typing.proofs.Names.{Each, Holds, IsNamed, TypeOf, var}
-use Rattle.c_typing.proofs.Sound.{AreSound, AreSoundNames, HasScalar, IsSoundObject, sized_is, sound_of_type}
+use Rattle.c_typing.proofs.Sound.{AreSound, AreSoundNames, HasScalar, IsSoundObject, sized_is, sound_of_type, Sound}
+use Rattle.std.proofs.lemmas.List.{length-map}
+use Rattle.c_well_typed.specs.Expressions.{IsMember}
 
 pub each_all : {A : Type 0} (P : A → Type 0) (xs : List A) → Each P xs → All P xs
 each_all P [] h = All-nil P
@@ -142,7 +144,7 @@ module _ (u : Typed) (f : Function) (s : Stmt) (us more : List Ty) (waits : ℕ)
   Is = is_object_in u s Slots
 
   abbrev pub To : ℕ → Target
-  To first = Rattle.c_code.specs.Modules.target u Is first (first + length Slots)
+  To first = target u Is first (first + length Slots)
 
   abbrev Ends : Target → List ValType
   Ends t = slots_from t 0 Slots ++ scratch_locals t waits
@@ -152,7 +154,7 @@ module _ (u : Typed) (f : Function) (s : Stmt) (us more : List Ty) (waits : ℕ)
       (To (first_of u Is (length us))))
   laid = by (list_any (λ n. Is (Local n)) (numbers (length us))) refl where
     l : length (map (held_as false) us) ≡ length us
-    l = Rattle.std.proofs.lemmas.List.length-map us (held_as false)
+    l = length-map us (held_as false)
 
     by : (b : Bool) → list_any (λ n. Is (Local n)) (numbers (length us)) ≡ b
         → (pre : List ValType) × (length pre ≡ cond b (length us) 0) ×
@@ -267,7 +269,7 @@ module _ (u : Typed) where
   use_named : (pre rest : List Use) (x : Use) → uses.uses u ≡ pre ++ x ∷ rest → IsNamed C0 (start_target u) Fs x
   use_named pre rest (calls n) e = λ r ps at.
       let f = function_at n (function r ps) at in
-      funcs_at (Rattle.c_code.specs.Modules.index_of u n) (3 + n) (signature (function r ps))
+      funcs_at (index_of u n) (3 + n) (signature (function r ps))
       (index_at u n (slice_get_within u.functions n f.0 f.1) (inr (called u n pre rest e)))
       (sig_at u n f.0 f.1 ∙ ap (λ (q : Ty). Some (signature q)) f.2)
   use_named pre rest (through f) e = sig_through u f pre rest e
@@ -285,7 +287,7 @@ module _ (u : Typed) where
   -- the same in any function
   pub in_function : (locals : List ValType) (k : Option ValType) (p : Variable → Bool) (a b : ℕ) (us : List Use)
       → Each (IsNamed C0 (start_target u) Fs) us → Each
-      (IsNamed (inside C0 locals k) (Rattle.c_code.specs.Modules.target u p a b) Fs) us
+      (IsNamed (inside C0 locals k) (target u p a b) Fs) us
   in_function locals k p a b [] h = tt
   in_function locals k p a b (calls n ∷ us) h = (h.0, in_function locals k p a b us h.1)
   in_function locals k p a b (through n ∷ us) h = (h.0, in_function locals k p a b us h.1)
@@ -302,17 +304,17 @@ module _ (u : Typed) where
       v (Local n) q e = object_sound q (all_at (IsObject u.structs) slots n q e all)
       v (Global n) q e = object_sound q (all_at (IsObject u.structs) u.globals n q e w.globals)
 
-      m : (n i : ℕ) (q : Ty) → Rattle.c_well_typed.specs.Expressions.IsMember u.structs n i q → IsSoundObject q
+      m : (n i : ℕ) (q : Ty) → IsMember u.structs n i q → IsSoundObject q
       m n i q e = by (layout_at u.structs n) refl e where
         by : (o : Option Layout) → layout_at u.structs n ≡ o → slice_get (members_in o) i ≡ Some q → IsSoundObject q
         by None a b = absurd (none-some q b)
         by (Some l) a b = object_sound q (all_at (IsObject u.structs) l.members i q b (w.structs n l a).1)
 
-      g : (n : ℕ) (q : Ty) → slice_get Fs n ≡ Some q → (is_function q ≡ true) × Rattle.c_typing.proofs.Sound.Sound q
+      g : (n : ℕ) (q : Ty) → slice_get Fs n ≡ Some q → (is_function q ≡ true) × Sound q
       g n q e =
           let f = function_at n q e in
           let h = all_at (IsFunction u) u.functions n f.0 f.1 w.functions in (
             ap is_function (sym f.2 ∙ h.2),
-            subst (λ (x : Ty). Rattle.c_typing.proofs.Sound.Sound x) f.2
+            subst (λ (x : Ty). Sound x) f.2
                 (sound_of_type u.structs f.0.ty h.3),
           )

@@ -4,7 +4,7 @@ use Rattle.std.specs.List.{All, list_any}
 use Rattle.std.proofs.lemmas.List.{length-map, length-append}
 use Rattle.std.proofs.lemmas.List.Elements.{All-head, All-nil, All-tail}
 use Rattle.std.proofs.lemmas.Option.{slice_get_within}
-use Rattle.std.specs.Prelude.{slice_get, cond, filter, is_some, map, nat_lt, not, option_map, ◌≢◌, ◌||◌, ◌&&◌, ◌==◌}
+use Rattle.std.specs.Prelude.{slice_get, cond, filter, is_some, map, nat_lt, not, ◌&&◌, pos}
 use Rattle.ms_types.specs.declared.types.FuncType.{FuncType}
 use Rattle.ms_types.specs.declared.types.Limits.{Limits}
 use Rattle.ms_types.specs.declared.types.ValType.{ValType}
@@ -13,8 +13,8 @@ use Rattle.ms_module.specs.declared.instr.Instr.TheVariants.{I32Const}
 use Rattle.ms_module.specs.declared.module.Export.{Export}
 use Rattle.ms_module.specs.declared.module.Func.{Func}
 use Rattle.ms_module.specs.declared.module.Import.{Import}
-use Rattle.ms_rules.specs.Context.{all_memories, all_tables, context_of, sigs_of_funcs}
-use Rattle.ms_rules.specs.Modules.{AreDistinct, ElementTyped, ExportTyped, FuncTyped, GlobalTyped, Head, ImportTyped, IsNotAmong, SigTyped, StartTyped, TableTyped, WellTyped}
+use Rattle.ms_rules.specs.Context.{sigs_of_funcs, imported_globals}
+use Rattle.ms_rules.specs.Modules.{AreDistinct, ElementTyped, ExportTyped, FuncTyped, GlobalTyped, Head, ImportTyped, IsNotAmong, SigTyped, StartTyped, TableTyped, WellTyped, ConstantTyped, FillTyped, MemoryTyped}
 use Rattle.c_types.specs.Types.{Ty}
 use Rattle.c_typed.specs.Tree.{Function, Typed}
 use Rattle.c_well_typed.specs.Units.{HaveNames, IsWellTyped, literals_in, numbers}
@@ -23,12 +23,14 @@ use Rattle.c_code.specs.Limits.{Limit, first_true, has_many_slots, is_long_copy,
 use Rattle.c_code.specs.Limits as limits
 use Rattle.c_code.specs.Modules.{compiled, defined, distinct_behind, export_of, exports_of, first_of_type, function_at, global_of, globals_from, import_from_c, imported, index_of, is_call_of, is_defined_at, is_exported, is_name_of, literal_globals, named, sigs_through, through_in}
 use Rattle.c_code.specs.Uses.{Use, calls, copies, names, through, uses}
-use Rattle.c_typing.proofs.Bodied.{all_typed}
+use Rattle.c_typing.proofs.Funcs.{all_typed}
 use Rattle.c_typing.proofs.Bodies.{each_below}
-use Rattle.c_typing.proofs.Functions.{C0, each_all, funcs_at, one_table}
+use Rattle.c_typing.proofs.Frames.{C0, each_all, funcs_at, one_table}
 use Rattle.c_typing.proofs.Indices.{IsPresent, defined_from, defined_is, index_at, no_imported_memories, no_imported_tables, sigs_are, third}
 use Rattle.c_typing.proofs.Lists.{either, filter_all, numbers_is, slice_right}
 use Rattle.c_typing.proofs.Names.{Each, each_append, or_left, or_right}
+use Rattle.ms_linear.specs.Table.{same_sig}
+use Rattle.ms_module.specs.declared.module.ExportDesc.TheVariants as exports
 
 each_with : {A : Type 0} (P Q : A → Type 0) → ((x : A) → P x → Q x) → (xs : List A) → Each P xs → Each Q xs
 each_with P Q f [] h = tt
@@ -54,8 +56,8 @@ signature_typed t = listed_short _
 distinct_each : (P : FuncType → Type 0) (seen ts : List FuncType) → Each P seen → Each P ts → Each P (distinct_behind seen ts)
 distinct_each P seen [] h g = h
 distinct_each P seen (t ∷ ts) h g = distinct_each P
-    (cond (list_any (Rattle.ms_linear.specs.Table.same_sig t) seen) seen (seen ++ t ∷ [])) ts
-    (by (list_any (Rattle.ms_linear.specs.Table.same_sig t) seen)) g.1 where
+    (cond (list_any (same_sig t) seen) seen (seen ++ t ∷ [])) ts
+    (by (list_any (same_sig t) seen)) g.1 where
       by : (b : Bool) → Each P (cond b seen (seen ++ t ∷ []))
       by true = h
       by false = each_append P seen (t ∷ []) h (g.0, tt)
@@ -138,8 +140,8 @@ module _ (u : Typed) where
 
   global_typed : (v : ValType) → GlobalTyped (compiled u) (global_of u v)
   global_typed v = (first_of_type u v, refl, by v) where
-    by : (v : ValType) → Rattle.ms_rules.specs.Modules.ConstantTyped
-        (Rattle.ms_rules.specs.Context.imported_globals (compiled u).imports) v (first_of_type u v)
+    by : (v : ValType) → ConstantTyped
+        (imported_globals (compiled u).imports) v (first_of_type u v)
     by vals.I32 = refl
     by vals.I64 = refl
     by vals.Handle = refl
@@ -181,7 +183,7 @@ module _ (u : Typed) where
     by : (b : Bool) → Each (λ (e : Export). ExportTyped (compiled u) e.desc)
         (cond b (record {
           name = f.name;
-          desc = Rattle.ms_module.specs.declared.module.ExportDesc.TheVariants.Func
+          desc = exports.Func
               (index_of u n);
         } ∷ []) [])
     by true = (h, tt)
@@ -208,7 +210,7 @@ module _ (u : Typed) where
             → IsNotAmong name (map (λ (e : Export). e.name)
             ((cond b (record {
               name = f.name;
-              desc = Rattle.ms_module.specs.declared.module.ExportDesc.TheVariants.Func
+              desc = exports.Func
                   (index_of u k);
             } ∷ []) []) ++ es))
         here true es g = (λ e. All-head (λ (g : Function). g.name ≡ name → ⊥) f fs h (sym e), g)
@@ -237,7 +239,7 @@ module _ (u : Typed) where
           → AreDistinct (map (λ (e : Export). e.name)
           ((cond b (record {
             name = f.name;
-            desc = Rattle.ms_module.specs.declared.module.ExportDesc.TheVariants.Func
+            desc = exports.Func
                 (index_of u k);
           } ∷ []) []) ++ es))
       here true es g n = (n, g)
@@ -282,13 +284,13 @@ module _ (u : Typed) where
             (each_with (FuncTyped (C0 u)) (λ (f : Func). f.sig < length m.sigs)
             (λ f h. slice_get_within m.sigs f.sig h.0 h.2) m.funcs (all_typed u w));
         tables = each_all TableTyped m.tables ((omega (arith, few), (omega (arith, few), omega arith)), tt);
-        memories = All-nil Rattle.ms_rules.specs.Modules.MemoryTyped;
+        memories = All-nil MemoryTyped;
         globals = each_all (GlobalTyped m) m.globals (each_append (GlobalTyped m) (globals_from u 0 u.globals)
             (literal_globals u (literals_in u.made)) (globals_typed 0 u.globals) (literals_typed (literals_in u.made)));
         elements = each_all (ElementTyped m) m.elements (
           (
             one_table u,
-            (I32Const (Rattle.std.specs.Prelude.pos 1), refl, refl),
+            (I32Const (pos 1), refl, refl),
             each_all (λ f. f < length (sigs_of_funcs m)) (map (index_of u) (named u))
                 (each_map (λ f. f < length (sigs_of_funcs m)) (index_of u) (named u)
                 (each_with (λ n. (n < length u.functions) × (list_any (is_name_of n) (uses u) ≡ true))
@@ -298,7 +300,7 @@ module _ (u : Typed) where
           ),
           tt,
         );
-        fills = All-nil (Rattle.ms_rules.specs.Modules.FillTyped m);
+        fills = All-nil (FillTyped m);
         start = start_typed;
         exports = each_all (λ (e : Export). ExportTyped m e.desc) m.exports
             (exports_typed (defined u) (numbered (is_defined_at u)));
