@@ -1,0 +1,13 @@
+pub mod Typing
+pub mod Names
+pub mod Steps
+pub mod Parts
+pub mod Sound
+pub mod Exprs
+pub mod Stmts
+pub mod Bodies
+pub mod Lists
+pub mod Indices
+pub mod Frames
+pub mod Funcs
+pub mod Modules
