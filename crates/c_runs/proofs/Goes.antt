@@ -129,7 +129,7 @@ module _ (S : Site) where
 
   -- ---- one behind the other
 
-  asks_on : (e : End) (cost n : ℕ) (m m1 : Mem) (t t1 : Thread) (w w1 : World) (puts : List ℕ) (events later : List Event)
+  pub asks_on : (e : End) (cost n : ℕ) (m m1 : Mem) (t t1 : Thread) (w w1 : World) (puts : List ℕ) (events later : List Event)
       → ((k : ℕ) → steps (cost + k) (store S m) t (given w) ≡ behind puts events (steps k (store S m1) t1 (given w1))) → Asks e n m1 t1 w1 later → Asks e (cost + n) m t w (events ++ later)
   asks_on world.ungranted cost n m m1 t t1 w w1 puts events later by a =
       let one : suc (cost + n) ≡ cost + suc n = omega arith in
@@ -186,7 +186,7 @@ module _ (S : Site) where
       → Goes s1 w w1 m t m1 t1 → Runs s2 m1 t1 w1 to Good x → Runs (s1 + s2) m t w to Good x
   behind_goes s1 s2 w w1 m m1 t t1 to Good x g r a = after_goes s1 s2 w w1 m m1 t t1 to Good x g (r (agrees_after s1 w w1 m m1 t t1 g a))
 
-  resize_to : {B : Type 0} (size size' : ℕ) (m : Mem) (t : Thread) (w : World) (to : B → World → Mem → Thread) (Good : B → World → Mem → Type 0) (x : Result B) → size ≤ size' → RunsTo size m t w to Good x → RunsTo size' m t w to Good x
+  pub resize_to : {B : Type 0} (size size' : ℕ) (m : Mem) (t : Thread) (w : World) (to : B → World → Mem → Thread) (Good : B → World → Mem → Type 0) (x : Result B) → size ≤ size' → RunsTo size m t w to Good x → RunsTo size' m t w to Good x
   resize_to size size' m t w to Good (gives b w1) le r =
       let g = r.2 in (r.0, r.1, record { puts = g.puts; events = g.events; tells = g.tells; cost = g.cost; least = g.least; greatest = let b = g.greatest in omega (arith, b, le); by = g.by })
   resize_to size size' m t w to Good (ends e w1) le g =
@@ -233,7 +233,7 @@ module _ (S : Site) where
 
   -- ---- one step, which tells nothing
 
-  step_is : (k : ℕ) (m m' : Mem) (i : Instr) (fr : Frame) (vs : List Value) (r : List Item) (t' : Thread) (input : Input)
+  pub step_is : (k : ℕ) (m m' : Mem) (i : Instr) (fr : Frame) (vs : List Value) (r : List Item) (t' : Thread) (input : Input)
       → act (store S m) i (thread fr vs r) ≡ step.Next (store S m') t' None → steps (1 + k) (store S m) (thread fr vs (Do i ∷ r)) input ≡ steps k (store S m') (exited t') input
   step_is k m m' i fr vs r t' input e =
       let one : 1 + k ≡ suc k = omega arith in

@@ -6,3 +6,6 @@ pub mod Ops
 pub mod Nodes
 pub mod Operations
 pub mod Exprs
+pub mod Ahead
+pub mod Flows
+pub mod Loops

@@ -129,7 +129,7 @@ module _ (E : Env) where
     is_yes : (k : ℕ) → n ≡ suc k → t ≡ true → IsTest n t
 
   -- into a sequence that stands there, by one step
-  into : {A : Type 0} (i : Instr) (us : List Word) (ty : Option ValType) (s : ℕ) (is : List Instr) (to : A → World → Mem → Thread) (G : A → World → Mem → Type 0) (y : Result A) (vs : List Word) (r : List Item) (w : World) (m : Mem)
+  pub into : {A : Type 0} (i : Instr) (us : List Word) (ty : Option ValType) (s : ℕ) (is : List Instr) (to : A → World → Mem → Thread) (G : A → World → Mem → Type 0) (y : Result A) (vs : List Word) (r : List Item) (w : World) (m : Mem)
       → act (store E.site m) i (thread (frame_of E m w) us r) ≡ step.Next (store E.site m) (thread (frame_of E m w) vs (front is (Label ty (length vs) None ∷ r))) None
       → Runs E.site s m (at_work m w vs (front is (Label ty (length vs) None ∷ r))) w to G y
       → Runs E.site (1 + s) m (thread (frame_of E m w) us (Do i ∷ r)) w to G y
