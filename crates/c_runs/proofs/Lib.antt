@@ -9,3 +9,4 @@ pub mod Exprs
 pub mod Ahead
 pub mod Flows
 pub mod Loops
+pub mod Stmts

@@ -1,2 +1,3 @@
 pub mod Threads
 pub mod Ends
+pub mod Parts
