@@ -1,5 +1,6 @@
 pub mod Grants
 pub mod Goes
+pub mod Longer
 pub mod Related
 pub mod Whole
 pub mod Ops

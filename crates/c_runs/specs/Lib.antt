@@ -1,3 +1,4 @@
 pub mod Threads
 pub mod Ends
+pub mod Crews
 pub mod Parts

@@ -4,3 +4,7 @@
 //! There is no code. It stands on the code of units (`c_code`), on their meaning (`c_meaning`), on numbers (`c_numbers`) and on the
 //! machine (`ms_machine`). Read `specs/Threads.antt` first, and then the laws here.
 #![tactic(auto)]
+
+mod laws;
+
+pub use laws::threads_run;
