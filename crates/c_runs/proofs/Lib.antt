@@ -10,4 +10,5 @@ pub mod Exprs
 pub mod Ahead
 pub mod Flows
 pub mod Loops
+pub mod Dos
 pub mod Stmts

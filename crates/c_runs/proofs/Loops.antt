@@ -49,7 +49,7 @@ jumps_in true = in_loop
 jumps_in false = breaks_alone
 
 -- the body, in a block of its own where it has a `continue`
-abbrev bodied : Code → Bool → Code
+abbrev pub bodied : Code → Bool → Code
 bodied body false = body
 bodied body true = block None body
 
@@ -62,7 +62,7 @@ module _ (E : Env) where
   kept_on : (now : Now) (below : ℕ) (w : World) (m : Mem) → below ≤ now.below → Kept E (record { below = below; temps = now.temps }) w m → Kept E now w m
   kept_on now below w m le k = record { held = k.held; deep = k.deep; less = (let lt = k.less in omega (arith, lt, le)); bytes = k.bytes; temps = k.temps }
 
-  weaken : (l : Jumps) (now : Now) (below size : ℕ) (m : Mem) (t : Thread) (w : World) (to : Flow → World → Mem → Thread) (y : Result Flow) → below ≤ now.below
+  pub weaken : (l : Jumps) (now : Now) (below size : ℕ) (m : Mem) (t : Thread) (w : World) (to : Flow → World → Mem → Thread) (y : Result Flow) → below ≤ now.below
       → RunsTo E.site size m t w to (GoodFlow E l (record { below = below; temps = now.temps })) y → RunsTo E.site size m t w to (GoodFlow E l now) y
   weaken l now below size m t w to (gives f w1) le q = (q.0, (q.1.0, kept_on now below w1 q.0 le q.1.1), q.2)
   weaken l now below size m t w to (ends e w1) le q = q
@@ -80,7 +80,7 @@ module _ (E : Env) where
     abbrev outer : List Item
     outer = Label None (length vs) None ∷ r
 
-    abbrev ring : List Item
+    abbrev pub ring : List Item
     ring = Label None (length vs) (Some (Loop None N)) ∷ outer
 
     abbrev to : Flow → World → Mem → Thread
@@ -117,7 +117,7 @@ module _ (E : Env) where
     to_outside : (fr : Frame) → branch 0 fr vs outer ≡ To (thread fr vs r)
     to_outside fr = ap (λ (o : Option (List Word)). kept o fr r) (lowest_all vs)
 
-    to_head : (fr : Frame) → branch 0 fr vs ring ≡ To (thread fr vs (Do (Loop None N) ∷ outer))
+    pub to_head : (fr : Frame) → branch 0 fr vs ring ≡ To (thread fr vs (Do (Loop None N) ∷ outer))
     to_head fr = ap (λ (o : Option (List Word)). kept o fr (Do (Loop None N) ∷ outer)) (lowest_all vs)
 
     -- ---- the body
@@ -158,7 +158,7 @@ module _ (E : Env) where
           returns = returns_past;
         }) dep_tail w m k)))
 
-    body_runs : HasAll E.site.funcs E.fn (suc N) (B (suc N)).seqs → sB ≤ E.site.most → (now : Now) → now.below ≤ E.bound → (w : World) (m : Mem) → Kept E now w m
+    pub body_runs : HasAll E.site.funcs E.fn (suc N) (B (suc N)).seqs → sB ≤ E.site.most → (now : Now) → now.below ≤ E.bound → (w : World) (m : Mem) → Kept E now w m
         → Runs E.site sB m (at_work E m w vs (front (B (suc N)).instrs (front tail1 ring))) w to_body (GoodFlow E (jumps_in C) now) (mx w)
     body_runs = by C rx where
       by : (C' : Bool) → FlowRuns E (jumps_in C') (if C' then 2 else 1) 0 body same mx → HasAll E.site.funcs E.fn (suc N) (bodied body C' (suc N)).seqs → size_of (bodied body C' (suc N)) ≤ E.site.most → (now : Now) → now.below ≤ E.bound → (w : World) (m : Mem) → Kept E now w m

@@ -1,4 +1,4 @@
--- Statements do what is meant: all of the stage but `do` and `switch`.
+-- Statements do what is meant: all of the stage but `switch`.
 use Rattle.std.proofs.Common.{◌≡◌, ℕ, zero, suc, ◌+◌, ◌<◌, ◌≤◌, List, [], ◌∷◌, ◌++◌, length, take, filter, map, Bool, true, false, Option, Some, None, refl, sym, ap, ◌∙◌, arith, subst, cond}
 use Rattle.std.specs.Prelude.{ℤ, pos, not, ◌&&◌, ◌||◌, slice_get, get_or, if◌then◌else◌}
 use Rattle.ms_linear.specs.declared.value.Value.{Value as Word}
@@ -28,7 +28,7 @@ use Rattle.c_meaning.specs.Expressions as meaning
 use Rattle.c_meaning.specs.Expressions.{expr, is_true}
 use Rattle.c_meaning.specs.Statements as meant
 use Rattle.c_meaning.specs.Statements.{Flow, next, broken, continued, returned, followed, enter, enter_slot, leave, leave_held, loops, step_of, stmts_from}
-use Rattle.ms_emit.specs.Codes.{Code, plain as bare, one, no_code, ◌⨾◌, choice, repeat, size_of}
+use Rattle.ms_emit.specs.Codes.{Code, plain as bare, one, no_code, ◌⨾◌, block, choice, size_of}
 use Rattle.c_code.specs.Expressions as code
 use Rattle.c_code.specs.Operations.{constant, width_of}
 use Rattle.c_code.specs.Stage.{in_expr, in_step, in_stmt, in_stmts}
@@ -45,6 +45,7 @@ use Rattle.c_runs.proofs.Nodes.{Always, Leaves, Num, gone, remains, set_runs, of
 use Rattle.c_runs.proofs.Operations.{AtHome, Linked}
 use Rattle.c_runs.proofs.Exprs.{AreInts, CallsRun, code_of, expr_runs, narrow_width}
 use Rattle.c_runs.proofs.Flows.{Around, FlowRuns, GoodFlow, to_flow, flow_none, flow_behind, flow_of, flow_seq, flow_return, flow_break, flow_continue, flow_choice}
+use Rattle.c_runs.proofs.Dos.{do_runs}
 use Rattle.c_runs.proofs.Loops.{iterated_is, jumps_in, while_runs}
 use Rattle.c_runs.proofs.Whole.{IsWhole, both, whole_choice, whole_expr, whole_plain, whole_then}
 use Rattle.c_runs.specs.Parts.{are_shown, is_shown}
@@ -308,7 +309,7 @@ module _ (E : Env) (L : Linked E.site) (home : AtHome E) (k : well.Context) (slo
     whole_stmt v d x l break i p h = λ n e'. absurd (never_both (freed E.target (take x.left_by_break x.objects) n).instrs (x.leaving (n + length (freed E.target (take x.left_by_break x.objects) n).seqs)).instrs (Br x.break_label) e')
     whole_stmt v d x l continue i p h = λ n e'. absurd (never_one (freed E.target (take x.left_by_continue x.objects) n).instrs (Br x.continue_label) e')
     whole_stmt v d x l (tree.fill q n bytes) i p h = absurd cc
-    whole_stmt v d x l (tree.do_while s e) i p h = absurd cc
+    whole_stmt v d x l (tree.do_while s e) i p h = λ n e'. absurd cc
     whole_stmt v d x l (tree.switch t e ns cases ss) i p h = absurd cc
 
     whole_stmts : (v : List ℕ) (d : ℕ) (x : Exits) (l : Jumps) (ss : Stmts) → in_stmts ss ≡ true → are_shown ss ≡ true → AreStatements (in_blocks v) E.result l ss → IsWhole (all_codes d x ss)
@@ -369,7 +370,14 @@ module _ (E : Env) (L : Linked E.site) (home : AtHome E) (k : well.Context) (slo
     stmt_runs v d x l continue bx i p h =
         freed_none l x.break_label x.continue_label (take x.left_by_continue x.objects) (one (Br x.continue_label)) same (pure continued) (take_none x.left_by_continue x.objects bx.objects) (flow_continue E l x.break_label x.continue_label h)
     stmt_runs v d x l (tree.fill q n bytes) bx i p h = absurd cc
-    stmt_runs v d x l (tree.do_while s e) bx i p h = absurd cc
+    stmt_runs v d x l (tree.do_while s e) bx i p h =
+        let q = both (in_stmt s) (in_expr e) i in
+        let T = code.expr E.target true d e in
+        let body = codes d (scheme.in_loop (continues s) x) s in
+        subst (λ (y : Code). FlowRuns E l x.break_label x.continue_label (block None y) same (does (tree.do_while s e))) (iterated_is E.target (continues s) body no_code T)
+        (do_runs E h.1.0 (narrow_width h.1.0 h.1.1) T (value e) (run_expr v true d e (integer h.1.0) q.1 h.1.2) (continues s) body (does s)
+        (stmt_runs v d (scheme.in_loop (continues s) x) (jumps_in (continues s)) s (record { objects = bx.objects; leaving = refl }) q.0 p (jumps_of (in_blocks v) E.result s (continues s) refl h.0))
+        l x.break_label x.continue_label E.turn_bound wide)
     stmt_runs v d x l (tree.switch t e ns cases ss) bx i p h = absurd cc
 
     pub stmts_run : (v : List ℕ) (d : ℕ) (x : Exits) (l : Jumps) (ss : Stmts) → IsBare x → in_stmts ss ≡ true → are_shown ss ≡ true → AreStatements (in_blocks v) E.result l ss → FlowRuns E l x.break_label x.continue_label (all_codes d x ss) same (do_all ss)
