@@ -1,6 +1,7 @@
 pub mod Grants
 pub mod Goes
 pub mod Longer
+pub mod Outcomes
 pub mod Related
 pub mod Whole
 pub mod Ops

@@ -16,13 +16,8 @@ use Rattle.c_meaning.specs.Expressions.{Calls}
 use Rattle.ms_emit.specs.Codes.{total}
 use Rattle.c_code.specs.Targets.{Target}
 use Rattle.c_numbers.specs.Operands.{IsIn, word}
+use Rattle.c_runs.specs.Correct.{AreBytes}
 use Rattle.c_runs.proofs.Goes.{Site, Mem}
-
--- ---- bytes of the input
-
-abbrev pub AreBytes : List ℕ → Type 0
-AreBytes [] = Unit {0}
-AreBytes (b ∷ bs) = (b < 256) × AreBytes bs
 
 -- ---- values as operands
 
