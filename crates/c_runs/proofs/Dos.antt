@@ -1,6 +1,6 @@
 -- Loops with the test behind: the block around them takes the place of the arm in which a loop with the test in front stands.
-use Rattle.std.proofs.Common.{◌≡◌, ℕ, zero, suc, ◌+◌, ◌<◌, ◌≤◌, List, [], ◌∷◌, ◌++◌, length, Bool, true, false, Option, Some, None, refl, sym, ap, ◌∙◌, arith, subst}
-use Rattle.std.specs.Prelude.{ℤ, not, if◌then◌else◌}
+use Rattle.std.proofs.Common.{◌≡◌, ℕ, zero, suc, ◌+◌, ◌≤◌, List, [], ◌∷◌, length, Bool, None, refl, sym, ap, ◌∙◌, arith, subst}
+use Rattle.std.specs.Prelude.{not, if◌then◌else◌}
 use Rattle.ms_linear.specs.declared.value.Value.{Value as Word}
 use Rattle.ms_linear.specs.declared.value.Value.TheVariants.{I32}
 use Rattle.ms_machine.specs.Step as step
@@ -22,15 +22,15 @@ use Rattle.c_meaning.specs.Expressions.{is_true}
 use Rattle.c_meaning.specs.Statements.{Flow, next, broken, continued, returned, behind_body, do_loops}
 use Rattle.ms_emit.specs.Codes.{Code, one, no_code, ◌⨾◌, block, repeat, size_of}
 use Rattle.c_code.specs.Operations.{width_of}
-use Rattle.c_numbers.specs.Operands.{IsIn, operand}
+use Rattle.c_numbers.specs.Operands.{operand}
 use Rattle.c_runs.proofs.Ahead.{Leads, leads_first, leads_further, leads_out, leads_paid}
 use Rattle.c_runs.proofs.Goes as goes
 use Rattle.c_runs.proofs.Goes.{Mem, Runs, RunsTo, after_after, agrees_after, behind_goes, given, goes_on, one_here, resize, resize_to, stops_behind}
 use Rattle.c_runs.proofs.Grants.{Agrees}
-use Rattle.c_runs.proofs.Related.{Env, HasAll, IsOf, Kept, Now, depth_front, frame_of, front, front_append, has_back, has_front, pushed}
+use Rattle.c_runs.proofs.Related.{Env, HasAll, IsOf, Kept, Now, frame_of, front, front_append, has_back, has_front, pushed}
 use Rattle.c_runs.proofs.Ops.{Good, IsTest, Op, To_, at_work, into, is_no, is_yes, op_none, same, size_joined}
-use Rattle.c_runs.proofs.Nodes.{Always, Leaves, gone, of_number, test_is}
-use Rattle.c_runs.proofs.Flows.{Around, FlowRuns, GoodFlow, in_label, to_flow}
+use Rattle.c_runs.proofs.Nodes.{Always, Leaves, gone, test_is}
+use Rattle.c_runs.proofs.Flows.{Around, FlowRuns, GoodFlow, to_flow}
 use Rattle.c_runs.proofs.Loops as loops
 use Rattle.c_runs.proofs.Loops.{bodied, jumps_in, weaken}
 

@@ -1,6 +1,6 @@
 -- Expressions do what is meant.
-use Rattle.std.proofs.Common.{◌≡◌, ℕ, zero, suc, ◌+◌, ◌^◌, ◌<◌, ◌≤◌, List, [], ◌∷◌, Bool, true, false, T, ltb→lt, Option, Some, None, refl, sym, ap, ◌∙◌, arith, subst}
-use Rattle.std.specs.Prelude.{ℤ, pos, ◌&&◌, not, nat_lt, slice_get, if◌then◌else◌}
+use Rattle.std.proofs.Common.{◌≡◌, ℕ, ◌^◌, ◌<◌, ◌≤◌, List, [], ◌∷◌, Bool, true, false, T, ltb→lt, Option, Some, None, refl, sym, ap, ◌∙◌, arith, subst}
+use Rattle.std.specs.Prelude.{ℤ, pos, ◌&&◌, not, slice_get, if◌then◌else◌}
 use Rattle.ms_linear.specs.declared.value.Value.{Value as Word}
 use Rattle.ms_types.specs.declared.types.ValType.TheVariants as vals
 use Rattle.ms_module.specs.declared.instr.Instr.TheVariants.{Call}
@@ -9,7 +9,6 @@ use Rattle.c_types.specs.declared.integers.IntType.{IntType}
 use Rattle.c_types.specs.declared.integers.IntType.TheVariants.{Char, SignedChar, UnsignedChar, Short, UnsignedShort, Int, UnsignedInt, Long, UnsignedLong, LongLong, UnsignedLongLong}
 use Rattle.c_types.specs.declared.types.Scalar.{Scalar}
 use Rattle.c_types.specs.declared.types.Scalar.TheVariants as scalars
-use Rattle.c_types.specs.Integers.{bits}
 use Rattle.c_types.specs.Layout.{most_bytes}
 use Rattle.c_types.specs.Types.{Ty, void, integer, pointer, struct, array, function, Tys, no_types, scalar_of}
 use Rattle.c_types.specs.Types as ty
@@ -33,10 +32,9 @@ use Rattle.c_code.specs.Expressions.{as_bit, begun, converted, ended, fetched, i
 use Rattle.c_code.specs.Operations.{constant, convert, eqz, i32, operated, truth, val_option, width_of}
 use Rattle.c_code.specs.Stage.{in_expr, in_exprs, is_local, is_number, is_number_or_void}
 use Rattle.c_code.specs.Targets.{get, plain_in}
-use Rattle.c_numbers.specs.Operands.{IsIn}
 use Rattle.c_numbers.proofs.Ranges.{value_in, wrap_in}
 use Rattle.c_runs.proofs.Related.{AreOf, Env, IsHeld, IsOf, piled, pushed, value_word}
-use Rattle.c_runs.proofs.Ops.{AllGiven, Op, Stack, op_assoc, op_given, op_look, op_none, op_over, op_post, op_seen, op_then, same}
+use Rattle.c_runs.proofs.Ops.{AllGiven, Op, op_assoc, op_given, op_look, op_none, op_over, op_then, same}
 use Rattle.c_runs.proofs.Nodes.{Carries, Leaves, assign_runs, chosen_runs, constant_runs, fetch_runs, behind_place, gone, left_runs, of_number, remains}
 use Rattle.c_runs.proofs.Operations.{AtHome, Linked, abort_runs, binary_runs, compare_runs, complement_runs, convert_runs, getchar_runs, narrow_truth_runs, negate_runs, not_runs, putchar_runs, truth_in, truth_runs, update_runs}
 use Rattle.c_runs.proofs.Whole.{both, whole_as_bit, whole_expr, whole_plain}

@@ -1,13 +1,12 @@
 -- The machine goes from one state to another, within counts of steps. Each unit of fuel that is spent between them costs at
 -- least one step; the steps are at most so many instructions, and `most` for each unit that is spent.
-use Rattle.std.proofs.Common.{◌≡◌, ℕ, zero, suc, ◌+◌, ◌*◌, ◌≤◌, List, [], ◌∷◌, ◌++◌, map, length, Bool, true, false, Option, Some, None, refl, sym, ap, ◌∙◌, arith, subst, append_assoc, append-nil, length-append}
+use Rattle.std.proofs.Common.{◌≡◌, ℕ, suc, ◌+◌, ◌*◌, ◌≤◌, List, [], ◌∷◌, ◌++◌, map, length, Bool, false, Some, None, refl, sym, ap, ◌∙◌, arith, append_assoc, append-nil, length-append}
 use Rattle.std.proofs.Math.Nat.{mul-suc}
 use Rattle.ms_event.specs.declared.event.Event.{Event}
 use Rattle.ms_event.specs.declared.event.Event.TheVariants.{Alloc, Free, Read, Refused, Seal, Slice, Write}
 use Rattle.ms_event.specs.Monitor.{grants, sizes_of}
 use Rattle.ms_host.specs.declared.host.Host.{Host}
 use Rattle.ms_host.specs.declared.trap.TrapKind.{TrapKind}
-use Rattle.ms_host.specs.declared.trap.TrapKind.TheVariants as traps
 use Rattle.ms_linear.specs.declared.global.GlobalInst.{GlobalInst}
 use Rattle.ms_linear.specs.declared.value.Value.{Value}
 use Rattle.ms_linear.specs.Memory.{Memory as Linear}
@@ -27,7 +26,7 @@ use Rattle.ms_task.specs.declared.func.FuncInst.{FuncInst}
 use Rattle.ms_task.specs.Thread.{Do, Frame, Item, Thread, thread}
 use Rattle.c_meaning.specs.World.{End, World, Result, gives, ends, after}
 use Rattle.c_meaning.specs.World as world
-use Rattle.c_runs.specs.Threads.{Ended, Trapped, Paused, Stuck, Stop, Ran, ran, behind, before, after_move, steps, with_put}
+use Rattle.c_runs.specs.Threads.{Trapped, Ran, ran, behind, before, after_move, steps}
 use Rattle.c_runs.specs.Ends.{stop_of}
 use Rattle.c_runs.proofs.Grants.{Agrees, agrees_on, grants_append}
 

@@ -1,5 +1,5 @@
 -- Longer runs of a thread go on as shorter ones do; and the run of a crew of one task.
-use Rattle.std.proofs.Common.{◌≡◌, ◌≢◌, ℕ, zero, suc, ◌+◌, ◌≤◌, List, [], ◌∷◌, ◌++◌, map, replicate, Bool, true, false, Option, Some, None, refl, sym, ap, ◌∙◌, arith, append-nil}
+use Rattle.std.proofs.Common.{◌≡◌, ℕ, zero, suc, ◌≤◌, List, [], ◌∷◌, ◌++◌, replicate, Option, Some, None, refl, sym, ap, ◌∙◌, arith, append-nil}
 use Rattle.std.specs.Prelude.{slice_get}
 use Rattle.ms_event.specs.declared.event.Event.{Event}
 use Rattle.ms_linear.specs.declared.value.Value.{Value}
@@ -10,7 +10,7 @@ use Rattle.ms_machine.specs.Moves.{Goes, Move, move_of, rest_of}
 use Rattle.ms_machine.specs.Running.{with_event}
 use Rattle.ms_machine.specs.Store.{Store}
 use Rattle.ms_task.specs.Thread.{Frame, Item, Thread, thread}
-use Rattle.c_runs.specs.Threads.{Ended, Trapped, Paused, Stuck, Stop, Ran, ran, before, after_move, steps, with_put}
+use Rattle.c_runs.specs.Threads.{Ended, Trapped, Paused, Stuck, Ran, ran, before, after_move, steps, with_put}
 use Rattle.c_runs.specs.Crews.{Extends, Same, crew_of_one}
 
 extends_same : (r : Ran) → Extends r r

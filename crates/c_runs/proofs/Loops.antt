@@ -1,6 +1,6 @@
 -- Loops with the test in front, whose iterations cost a unit of fuel each.
-use Rattle.std.proofs.Common.{◌≡◌, ℕ, zero, suc, ◌+◌, ◌<◌, ◌≤◌, List, [], ◌∷◌, ◌++◌, length, Bool, true, false, Option, Some, None, refl, sym, ap, ◌∙◌, arith, subst}
-use Rattle.std.specs.Prelude.{ℤ, not, if◌then◌else◌}
+use Rattle.std.proofs.Common.{◌≡◌, ℕ, zero, suc, ◌+◌, ◌≤◌, List, [], ◌∷◌, ◌++◌, length, Bool, true, false, Option, Some, None, refl, sym, ap, ◌∙◌, arith, subst}
+use Rattle.std.specs.Prelude.{not, if◌then◌else◌}
 use Rattle.ms_linear.specs.declared.value.Value.{Value as Word}
 use Rattle.ms_linear.specs.declared.value.Value.TheVariants.{I32}
 use Rattle.ms_machine.specs.Crews.{Input}
@@ -11,25 +11,24 @@ use Rattle.ms_module.specs.declared.instr.Instr.TheVariants.{Block, BrIf, Loop}
 use Rattle.ms_module.specs.declared.numeric.Width.{Width}
 use Rattle.ms_module.specs.declared.numeric.Width.TheVariants.{W32}
 use Rattle.ms_num.specs.Integers.{wrapped}
-use Rattle.ms_task.specs.Control as control
-use Rattle.ms_task.specs.Control.{Moved, To, branch, kept, return_on, exit_ended}
+use Rattle.ms_task.specs.Control.{To, branch, kept, return_on, exit_ended}
 use Rattle.ms_task.specs.Thread.{Do, Frame, Item, Label, Thread, thread, depth_of, sequence}
 use Rattle.ms_task.proofs.Items.{branch_past, return_past}
 use Rattle.c_types.specs.declared.integers.IntType.{IntType}
 use Rattle.c_types.specs.Types.{integer}
 use Rattle.c_well_typed.specs.declared.jumps.Jumps.{Jumps}
 use Rattle.c_well_typed.specs.Statements.{in_loop}
-use Rattle.c_meaning.specs.Values.{Value, number}
+use Rattle.c_meaning.specs.Values.{Value}
 use Rattle.c_meaning.specs.World.{World, Result, gives, ends, Does, after, ◌>>=◌, ◌>>◌, pure, spend}
 use Rattle.c_meaning.specs.Integers.{is_zero}
 use Rattle.c_meaning.specs.Expressions as meaning
 use Rattle.c_meaning.specs.Expressions.{is_true}
 use Rattle.c_meaning.specs.Statements.{Flow, next, broken, continued, returned, behind_body, loops}
-use Rattle.ms_emit.specs.Codes.{Code, one, no_code, ◌⨾◌, block, choice, inner, repeat, size_of, second_seqs}
+use Rattle.ms_emit.specs.Codes.{Code, one, no_code, ◌⨾◌, block, choice, inner, repeat, size_of}
 use Rattle.c_code.specs.Operations.{width_of}
 use Rattle.c_code.specs.Statements.{iterated}
 use Rattle.c_code.specs.Targets.{Target}
-use Rattle.c_numbers.specs.Operands.{IsIn, operand}
+use Rattle.c_numbers.specs.Operands.{operand}
 use Rattle.c_runs.specs.Threads.{Paused, ran, steps}
 use Rattle.c_runs.proofs.Ahead.{Leads, leads_first, leads_further, leads_out, leads_paid}
 use Rattle.c_runs.proofs.Goes as goes

@@ -1,6 +1,6 @@
 -- The code of nodes by the codes of their parts: what is left, numbers, variables, conditions.
-use Rattle.std.proofs.Common.{◌≡◌, ℕ, zero, suc, ◌+◌, ◌<◌, ◌≤◌, List, [], ◌∷◌, ◌++◌, length, Bool, true, false, Option, Some, None, refl, sym, ap, ◌∙◌, arith, subst, cond}
-use Rattle.std.specs.Prelude.{ℤ, pos, not, ◌==◌, slice_get, slice_set, if◌then◌else◌}
+use Rattle.std.proofs.Common.{◌≡◌, ℕ, zero, suc, ◌+◌, ◌<◌, List, [], ◌∷◌, ◌++◌, length, Bool, true, false, Option, Some, None, refl, sym, ap, ◌∙◌, arith, subst, cond}
+use Rattle.std.specs.Prelude.{ℤ, not, ◌==◌, slice_get, slice_set, if◌then◌else◌}
 use Rattle.std.proofs.lemmas.Bool.{lt-ltb, ne_eqb}
 use Rattle.ms_linear.specs.declared.value.Value.{Value as Word}
 use Rattle.ms_linear.specs.declared.value.Value.TheVariants.{I32}
@@ -11,20 +11,20 @@ use Rattle.ms_module.specs.declared.instr.Instr.TheVariants.{Drop, LocalGet, Loc
 use Rattle.ms_module.specs.declared.numeric.Width.{Width}
 use Rattle.ms_module.specs.declared.numeric.Width.TheVariants.{W32}
 use Rattle.ms_num.specs.Integers.{wrapped}
-use Rattle.ms_task.specs.Thread.{Frame, Item, thread}
+use Rattle.ms_task.specs.Thread.{Item, thread}
 use Rattle.c_types.specs.declared.integers.IntType.{IntType}
 use Rattle.c_types.specs.declared.types.Scalar.{Scalar}
 use Rattle.c_types.specs.Types.{Ty, void, integer, scalar_of}
 use Rattle.c_typed.specs.declared.ops.Variable.TheVariants.{Local}
 use Rattle.c_typed.specs.Tree.{of}
 use Rattle.c_meaning.specs.Values.{Value, number}
-use Rattle.c_meaning.specs.World.{Held, plain, World, Result, gives, ends, Does, after, ◌>>=◌, ◌>>◌, pure, known}
+use Rattle.c_meaning.specs.World.{Held, plain, World, Result, gives, Does, after, ◌>>=◌, ◌>>◌, pure, known}
 use Rattle.c_meaning.specs.Integers.{is_zero}
 use Rattle.c_meaning.specs.Accesses.{hold, with_held}
 use Rattle.c_meaning.specs.Expressions as meaning
 use Rattle.c_meaning.specs.Expressions.{Spot, variable, as_number, fetch, is_true, place, plain_value, spot_of, store}
 use Rattle.ms_emit.specs.Codes.{Code, plain as bare, one, no_code, ◌⨾◌, choice, size_of}
-use Rattle.c_code.specs.Expressions.{ended, left, put}
+use Rattle.c_code.specs.Expressions.{ended, left}
 use Rattle.c_code.specs.Operations.{constant, width_of}
 use Rattle.c_code.specs.Targets.{get, set}
 use Rattle.c_numbers.specs.Operands.{IsIn, operand, word}

@@ -1,8 +1,7 @@
 -- Operators, conversions, assignments with an operator, and calls of the host, on the values of their parts.
-use Rattle.std.proofs.Common.{◌≡◌, ◌⊎◌, inl, inr, ℕ, zero, suc, ◌+◌, ◌%◌, ◌^◌, ◌<◌, ◌≤◌, List, [], ◌∷◌, ◌++◌, length, map, append-nil, Bool, true, false, Option, Some, None, refl, sym, ap, ◌∙◌, arith, subst}
-use Rattle.std.specs.Prelude.{ℤ, pos, negsuc, neg_ℤ, ◌-ℤ◌, not, slice_get, if◌then◌else◌, nat_lt}
+use Rattle.std.proofs.Common.{◌≡◌, ◌⊎◌, inl, inr, ℕ, ◌%◌, ◌^◌, ◌<◌, ◌≤◌, List, [], ◌∷◌, ◌++◌, length, map, append-nil, Bool, true, false, Option, Some, None, refl, sym, ap, ◌∙◌, arith, subst}
+use Rattle.std.specs.Prelude.{ℤ, pos, negsuc, neg_ℤ, ◌-ℤ◌, not, slice_get, if◌then◌else◌}
 use Rattle.std.proofs.lemmas.Bool.{lt-ltb}
-use Rattle.ms_host.specs.declared.host.Host.{Host}
 use Rattle.ms_host.specs.declared.host.Host.TheVariants as hosts
 use Rattle.ms_host.specs.declared.trap.TrapKind.TheVariants as traps
 use Rattle.ms_linear.specs.declared.value.Value.{Value as Word}
@@ -18,7 +17,7 @@ use Rattle.ms_module.specs.declared.instr.Instr.TheVariants.{Call}
 use Rattle.ms_module.specs.declared.numeric.BinOp.TheVariants as bins
 use Rattle.ms_module.specs.declared.numeric.RelOp.TheVariants as rels
 use Rattle.ms_module.specs.declared.numeric.Width.{Width}
-use Rattle.ms_module.specs.declared.numeric.Width.TheVariants.{W32, W64}
+use Rattle.ms_module.specs.declared.numeric.Width.TheVariants.{W32}
 use Rattle.ms_num.specs.Integers.{signed, wrapped}
 use Rattle.ms_operate.specs.Outcomes as operate
 use Rattle.ms_task.specs.Thread.{Do, Item, Thread, thread}
@@ -26,7 +25,7 @@ use Rattle.c_types.specs.declared.integers.IntType.{IntType}
 use Rattle.c_types.specs.declared.integers.IntType.TheVariants.{Int, UnsignedChar}
 use Rattle.c_types.specs.declared.types.Scalar.{Scalar}
 use Rattle.c_types.specs.declared.types.Scalar.TheVariants as scalars
-use Rattle.c_types.specs.Types.{Ty, void, integer}
+use Rattle.c_types.specs.Types.{void, integer}
 use Rattle.c_typed.specs.declared.ops.BinaryOp.{BinaryOp}
 use Rattle.c_typed.specs.declared.ops.RelOp.{RelOp}
 use Rattle.c_typed.specs.declared.ops.UnaryOp.TheVariants.{Negate, Complement}
@@ -39,20 +38,20 @@ use Rattle.c_meaning.specs.Integers.{bits_of, changed, compared, from_truth, is_
 use Rattle.c_meaning.specs.Expressions as meaning
 use Rattle.c_meaning.specs.Expressions.{as_number, byte_value, fetch, is_true, store, variable}
 use Rattle.ms_emit.specs.Codes.{Code, plain as bare, one, no_code, ◌⨾◌}
-use Rattle.c_code.specs.Expressions.{begun_over_old, begun_with_old, ended, put, updated}
+use Rattle.c_code.specs.Expressions.{begun_over_old, ended, put, updated}
 use Rattle.c_code.specs.Operations as code
 use Rattle.c_code.specs.Operations.{constant, convert, eqz, op, rel, truth, width_of}
 use Rattle.c_code.specs.Targets.{get}
-use Rattle.c_numbers.specs.Operands.{IsIn, all_carried, carried, operand, then_on, word}
+use Rattle.c_numbers.specs.Operands.{IsIn, all_carried, operand, then_on, word}
 use Rattle.c_numbers.proofs.Conversions.{constant_is, convert_is, not_is, truth_is}
 use Rattle.c_numbers.proofs.Operators.{comparison, complement, negation, operation}
-use Rattle.c_numbers.proofs.Ranges.{value_in, wrap_in}
+use Rattle.c_numbers.proofs.Ranges.{wrap_in}
 use Rattle.c_runs.proofs.Goes as goes
 use Rattle.c_runs.proofs.Goes.{Mem, Site, after_after, puts_one, takes_one, tells_nothing}
 use Rattle.c_runs.specs.Correct.{AreBytes}
 use Rattle.c_runs.proofs.Related.{Env, IsOf, Kept, Now, frame_of, pushed}
-use Rattle.c_runs.proofs.Ops.{Good, Op, Stack, To_, at_work, op_agree, op_assoc, op_bare, op_carried, op_look, op_none, op_over, op_seen, op_then, op_trap, same}
-use Rattle.c_runs.proofs.Nodes.{Always, Carries, Leaves, Num, Spot_of_x, behind_place, constant_runs, fetch_runs, fetch_twice_runs, gone, of_number, op_integer, op_integer_then, op_number_then, remains, set_gives, set_runs, two_run, write_runs}
+use Rattle.c_runs.proofs.Ops.{Good, Op, Stack, To_, at_work, op_agree, op_assoc, op_bare, op_carried, op_look, op_over, op_seen, op_then, op_trap, same}
+use Rattle.c_runs.proofs.Nodes.{Always, Leaves, Num, Spot_of_x, behind_place, fetch_runs, fetch_twice_runs, gone, of_number, op_integer, op_integer_then, op_number_then, remains, set_gives, set_runs, two_run, write_runs}
 use Rattle.c_runs.proofs.Whole.{bare_convert}
 
 -- ---- one instance, in which each function has its address as its index; the first three are the host's

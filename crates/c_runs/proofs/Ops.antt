@@ -1,5 +1,5 @@
 -- Code that does what is meant, wherever it stands: over any operands, in front of any work.
-use Rattle.std.proofs.Common.{◌≡◌, ℕ, zero, suc, ◌+◌, ◌<◌, ◌≤◌, List, [], ◌∷◌, ◌++◌, length, length-append, Bool, true, false, Option, Some, None, refl, sym, ap, ◌∙◌, arith, subst}
+use Rattle.std.proofs.Common.{◌≡◌, ℕ, suc, ◌+◌, ◌≤◌, List, [], ◌∷◌, ◌++◌, length, length-append, Bool, true, false, Option, Some, None, refl, sym, ap, ◌∙◌, arith, subst}
 use Rattle.std.specs.Prelude.{ℤ, if◌then◌else◌}
 use Rattle.ms_types.specs.declared.types.ValType.{ValType}
 use Rattle.ms_linear.specs.declared.value.Value.{Value as Word}
@@ -8,22 +8,20 @@ use Rattle.ms_machine.specs.Step as step
 use Rattle.ms_machine.specs.Step.{act}
 use Rattle.ms_module.specs.declared.instr.Instr.{Instr}
 use Rattle.ms_module.specs.declared.instr.Instr.TheVariants.{I32Const, I64Const, If, Numeric}
-use Rattle.ms_task.specs.Control.{To, exit_ended}
-use Rattle.ms_task.specs.Thread.{Do, Frame, Item, Label, Thread, thread, depth_of, sequence}
+use Rattle.ms_task.specs.Control.{exit_ended}
+use Rattle.ms_task.specs.Thread.{Do, Frame, Item, Label, Thread, thread, depth_of}
 use Rattle.ms_host.specs.declared.trap.TrapKind.{TrapKind}
 use Rattle.c_types.specs.declared.integers.IntType.{IntType}
-use Rattle.c_types.specs.Types.{integer}
 use Rattle.c_meaning.specs.World.{End, zero_divide, overflow, World, Result, gives, ends, Does, after, ◌>>=◌, pure, stop}
 use Rattle.c_runs.specs.Threads.{Trapped}
 use Rattle.c_runs.specs.Ends.{stop_of}
 use Rattle.ms_emit.specs.Codes.{Code, Coded, plain, one, no_code, ◌⨾◌, joined, choice, inner, second, second_seqs, size_of, total}
-use Rattle.c_runs.proofs.Goes.{Site, Mem, store, Runs, RunsTo, Goes, bind, behind_goes, here, one_here, resize, after_after, trapped, IsEnd, Asks}
-use Rattle.c_runs.proofs.Related.{Env, IsOf, Kept, Now, pushed, frame_of, front, front_append, depth_front, HasAll, has_front, has_back, total_append}
+use Rattle.c_runs.proofs.Goes.{Mem, store, Runs, RunsTo, Goes, bind, behind_goes, here, one_here, resize, after_after, trapped, IsEnd, Asks}
+use Rattle.c_runs.proofs.Related.{Env, Kept, Now, frame_of, front, front_append, depth_front, HasAll, has_front, has_back, total_append}
 use Rattle.ms_operate.specs.Outcomes as operate
 use Rattle.ms_operate.specs.declared.trap.Trap.{Trap as OperateTrap}
 use Rattle.ms_operate.specs.declared.trap.Trap.TheVariants as operate-traps
 use Rattle.ms_host.specs.declared.trap.TrapKind.TheVariants as traps
-use Rattle.c_meaning.specs.Values.{Value, number}
 use Rattle.c_code.specs.Operations.{width_of}
 use Rattle.c_numbers.specs.Operands as answers
 use Rattle.c_numbers.specs.Operands.{Agree, Answer, IsAnswer, IsIn, all_carried, carried, made, meant, then_on, word}

@@ -1,6 +1,6 @@
 -- Variables and locals; and what is known of a function that is carried out.
-use Rattle.std.proofs.Common.{◌≡◌, ℕ, zero, suc, ◌+◌, ◌<◌, ◌≤◌, List, [], ◌∷◌, ◌++◌, length, true, false, Option, Some, None, refl, sym, ap, ◌∙◌, arith, subst}
-use Rattle.std.specs.Prelude.{ℤ, pos, slice_get, slice_set}
+use Rattle.std.proofs.Common.{◌≡◌, ℕ, zero, suc, ◌+◌, ◌<◌, List, [], ◌∷◌, ◌++◌, length, false, Option, Some, None, refl, sym, ap, arith, subst}
+use Rattle.std.specs.Prelude.{ℤ, slice_get, slice_set}
 use Rattle.ms_linear.specs.declared.value.Value.{Value as Word}
 use Rattle.ms_linear.specs.declared.value.Value.TheVariants.{I32}
 use Rattle.ms_module.specs.declared.instr.Instr.{Instr}

@@ -1,8 +1,7 @@
 -- Statements do what is meant: all of the stage but `switch`.
 use Rattle.std.proofs.Common.{◌≡◌, ℕ, zero, suc, ◌+◌, ◌<◌, ◌≤◌, List, [], ◌∷◌, ◌++◌, length, take, filter, map, Bool, true, false, Option, Some, None, refl, sym, ap, ◌∙◌, arith, subst, cond}
-use Rattle.std.specs.Prelude.{ℤ, pos, not, ◌&&◌, ◌||◌, slice_get, get_or, if◌then◌else◌}
+use Rattle.std.specs.Prelude.{pos, not, ◌&&◌, ◌||◌, slice_get, get_or, if◌then◌else◌}
 use Rattle.ms_linear.specs.declared.value.Value.{Value as Word}
-use Rattle.ms_task.specs.Thread.{Item}
 use Rattle.ms_module.specs.declared.instr.Instr.{Instr}
 use Rattle.ms_module.specs.declared.instr.Instr.TheVariants.{Br, Return}
 use Rattle.ms_module.specs.declared.numeric.Width.{Width}
@@ -20,7 +19,7 @@ use Rattle.c_well_typed.specs.Expressions as well
 use Rattle.c_well_typed.specs.Expressions.{HasType}
 use Rattle.c_well_typed.specs.Statements as judged
 use Rattle.c_well_typed.specs.Statements.{AreNew, AreStatements, IsStatement, IsStep, in_loop}
-use Rattle.c_meaning.specs.Values.{Value, number, zero_value}
+use Rattle.c_meaning.specs.Values.{Value, number}
 use Rattle.c_meaning.specs.World.{Held, plain, World, Result, gives, ends, Does, after, ◌>>=◌, ◌>>◌, pure, known}
 use Rattle.c_meaning.specs.Integers.{is_zero}
 use Rattle.c_meaning.specs.Accesses.{hold}
@@ -28,7 +27,7 @@ use Rattle.c_meaning.specs.Expressions as meaning
 use Rattle.c_meaning.specs.Expressions.{expr, is_true}
 use Rattle.c_meaning.specs.Statements as meant
 use Rattle.c_meaning.specs.Statements.{Flow, next, broken, continued, returned, followed, enter, enter_slot, leave, leave_held, loops, step_of, stmts_from}
-use Rattle.ms_emit.specs.Codes.{Code, plain as bare, one, no_code, ◌⨾◌, block, choice, size_of}
+use Rattle.ms_emit.specs.Codes.{Code, one, no_code, ◌⨾◌, block, choice, size_of}
 use Rattle.c_code.specs.Expressions as code
 use Rattle.c_code.specs.Operations.{constant, width_of}
 use Rattle.c_code.specs.Stage.{in_expr, in_step, in_stmt, in_stmts}
@@ -37,14 +36,13 @@ use Rattle.c_code.specs.Statements.{Exits, any_continues, continues, entered, en
 use Rattle.c_code.specs.Targets.{set}
 use Rattle.c_numbers.specs.Operands.{IsIn, operand}
 use Rattle.c_numbers.proofs.Conversions.{constant_is}
-use Rattle.c_numbers.proofs.Ranges.{value_in}
 use Rattle.c_runs.proofs.Goes.{Mem, Runs, bind, here, after_after}
-use Rattle.c_runs.proofs.Related.{Env, Found, HasAll, IsOf, Kept, Now, found, front, pushed}
+use Rattle.c_runs.proofs.Related.{Env, IsOf, Kept, Now, found, front, pushed}
 use Rattle.c_runs.proofs.Ops.{Op, Stack, at_work, op_carried, op_look, op_none, op_then, same}
-use Rattle.c_runs.proofs.Nodes.{Always, Leaves, Num, gone, remains, set_runs, of_number, test_is}
+use Rattle.c_runs.proofs.Nodes.{Always, Num, gone, remains, set_runs, of_number, test_is}
 use Rattle.c_runs.proofs.Operations.{AtHome, Linked}
-use Rattle.c_runs.proofs.Exprs.{AreInts, CallsRun, code_of, expr_runs, narrow_width}
-use Rattle.c_runs.proofs.Flows.{Around, FlowRuns, GoodFlow, to_flow, flow_none, flow_behind, flow_of, flow_seq, flow_return, flow_break, flow_continue, flow_choice}
+use Rattle.c_runs.proofs.Exprs.{AreInts, CallsRun, expr_runs, narrow_width}
+use Rattle.c_runs.proofs.Flows.{FlowRuns, GoodFlow, to_flow, flow_none, flow_behind, flow_of, flow_seq, flow_return, flow_break, flow_continue, flow_choice}
 use Rattle.c_runs.proofs.Dos.{do_runs}
 use Rattle.c_runs.proofs.Loops.{iterated_is, jumps_in, while_runs}
 use Rattle.c_runs.proofs.Whole.{IsWhole, both, whole_choice, whole_expr, whole_plain, whole_then}

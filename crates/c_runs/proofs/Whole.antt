@@ -1,5 +1,5 @@
 -- Code without instructions has no sequences: the code of all expressions of the stage.
-use Rattle.std.proofs.Common.{◌≡◌, ℕ, zero, suc, ◌+◌, List, [], ◌∷◌, ◌++◌, length, Bool, true, false, Option, Some, None, refl, ap, ◌∙◌, cond}
+use Rattle.std.proofs.Common.{◌≡◌, ℕ, ◌+◌, List, [], ◌∷◌, ◌++◌, length, Bool, true, false, Option, Some, None, refl, ap, ◌∙◌, cond}
 use Rattle.std.specs.Prelude.{ℤ, ◌&&◌, nat_lt}
 use Rattle.ms_types.specs.declared.types.ValType.{ValType}
 use Rattle.ms_types.specs.declared.types.ValType.TheVariants as vals
@@ -18,7 +18,7 @@ use Rattle.c_typed.specs.declared.ops.Variable.TheVariants.{Local, Global}
 use Rattle.c_typed.specs.Tree as tree
 use Rattle.c_typed.specs.Tree.{Place, of, Expr, Exprs, none, more}
 use Rattle.ms_emit.specs.Codes.{Code, plain, one, no_code, ◌⨾◌, choice}
-use Rattle.c_code.specs.Expressions.{as_bit, begun, begun_with_old, begun_over_old, converted, ended, expr, exprs, fetched, int, is_bit, left, number_in, place, put, updated, written}
+use Rattle.c_code.specs.Expressions.{as_bit, begun, begun_with_old, begun_over_old, converted, ended, expr, exprs, fetched, int, is_bit, left, number_in, place, put, updated}
 use Rattle.c_code.specs.Operations.{by_width, convert, i32, narrow, to_type, truth, val_option, width_of}
 use Rattle.c_code.specs.Stage.{in_expr, in_exprs, is_local, is_number, is_number_or_void}
 use Rattle.c_code.specs.Targets.{Target, plain_in, tee}

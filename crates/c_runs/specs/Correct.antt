@@ -1,5 +1,5 @@
 -- What is said of the run of a compiled unit.
-use Rattle.std.specs.Prelude.{◌≡◌, ◌≢◌, ℕ, ◌+◌, ◌*◌, ◌<◌, List, [], ◌∷◌, ◌++◌, map, replicate, slice_get, Option, Some, None}
+use Rattle.std.specs.Prelude.{◌≡◌, ◌≢◌, ℕ, ◌+◌, ◌*◌, ◌<◌, List, [], ◌∷◌, ◌++◌, map, replicate, slice_get, Some, None}
 use Rattle.ms_event.specs.Monitor.{grants, sizes_of}
 use Rattle.ms_linear.specs.declared.value.Value.{Value as Word}
 use Rattle.ms_machine.specs.Crews as crews

@@ -1,5 +1,5 @@
 -- The run of a crew of one task as the steps of its thread, and longer runs.
-use Rattle.std.specs.Prelude.{◌≡◌, ◌≢◌, ℕ, List, [], ◌∷◌, ◌++◌, Option, Some, None}
+use Rattle.std.specs.Prelude.{◌≡◌, ◌≢◌, ℕ, List, [], ◌∷◌, ◌++◌}
 use Rattle.ms_event.specs.declared.event.Event.{Event}
 use Rattle.ms_machine.specs.Crews as crews
 use Rattle.ms_machine.specs.Crews.{Crew, Run, Task, bytes_of, events_of}
