@@ -38,8 +38,8 @@ module _ (S : Site) where
           least = let a = g.least in let b = h.least in omega (arith, a, b);
           greatest = let a = g.greatest in let b = h.greatest in omega (arith, a, b);
           by = λ k.
-            let e : (g.cost + h.cost) + k ≡ g.cost + (h.cost + k) = omega arith in
-            ap (λ (n : ℕ). steps n (store S m) t (given w)) e ∙ g.by (h.cost + k) ∙ ap (behind g.puts g.events) (h.by k) ∙ behind_both g.puts h.puts g.events h.events (steps k (store S m2) t2 (given w2));
+              let e : (g.cost + h.cost) + k ≡ g.cost + (h.cost + k) = omega arith in
+              ap (λ (n : ℕ). steps n (store S m) t (given w)) e ∙ g.by (h.cost + k) ∙ ap (behind g.puts g.events) (h.by k) ∙ behind_both g.puts h.puts g.events h.events (steps k (store S m2) t2 (given w2));
         };
         more = let a = l.more in let b = h.least in omega (arith, a, b);
       }
@@ -66,18 +66,21 @@ module _ (S : Site) where
   leads_paid s rest size f w w1 m m1 t t1 to Good (gives b w2) l fuel le r =
       let g = l.goes in
       let h = r.2 in
-      let paid : S.most * w1.fuel ≡ S.most * f + S.most = ap (λ (n : ℕ). S.most * n) fuel ∙ mul-suc S.most f in
-      (r.0, r.1, record {
-        puts = g.puts ++ h.puts;
-        events = g.events ++ h.events;
-        tells = tells_both w w1 w2 g.puts h.puts g.events h.events g.tells (record { output = h.tells.output; sizes = h.tells.sizes; grants = h.tells.grants });
-        cost = g.cost + h.cost;
-        least = let a = l.more in let b = h.least in omega (arith, a, b, fuel);
-        greatest = let a = g.greatest in let b = h.greatest in omega (arith, a, b, le, paid);
-        by = λ k.
-          let e : (g.cost + h.cost) + k ≡ g.cost + (h.cost + k) = omega arith in
-          ap (λ (n : ℕ). steps n (store S m) t (given w)) e ∙ g.by (h.cost + k) ∙ ap (behind g.puts g.events) (h.by k) ∙ behind_both g.puts h.puts g.events h.events (steps k (store S r.0) (to b w2 r.0) (given w2));
-      })
+      let paid : S.most * w1.fuel ≡ S.most * f + S.most = ap (λ (n : ℕ). S.most * n) fuel ∙ mul-suc S.most f in (
+        r.0,
+        r.1,
+        record {
+          puts = g.puts ++ h.puts;
+          events = g.events ++ h.events;
+          tells = tells_both w w1 w2 g.puts h.puts g.events h.events g.tells (record { output = h.tells.output; sizes = h.tells.sizes; grants = h.tells.grants });
+          cost = g.cost + h.cost;
+          least = let a = l.more in let b = h.least in omega (arith, a, b, fuel);
+          greatest = let a = g.greatest in let b = h.greatest in omega (arith, a, b, le, paid);
+          by = λ k.
+              let e : (g.cost + h.cost) + k ≡ g.cost + (h.cost + k) = omega arith in
+              ap (λ (n : ℕ). steps n (store S m) t (given w)) e ∙ g.by (h.cost + k) ∙ ap (behind g.puts g.events) (h.by k) ∙ behind_both g.puts h.puts g.events h.events (steps k (store S r.0) (to b w2 r.0) (given w2));
+        },
+      )
   leads_paid s rest size f w w1 m m1 t t1 to Good (ends e' w2) l fuel le h =
       let g = l.goes in
       let paid : S.most * w1.fuel ≡ S.most * f + S.most = ap (λ (n : ℕ). S.most * n) fuel ∙ mul-suc S.most f in

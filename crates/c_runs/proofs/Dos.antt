@@ -120,7 +120,7 @@ module _ (E : Env) (u : IntType) (narrow : width_of u ≡ W32) (T : Code) (test 
       decide z t (is_yes q ez et) w2 m2 k ld ag =
           let t2 = thread (frame_of E m2 w2) (I32 z ∷ vs) (Do (BrIf 0) ∷ ring) in
           let g = one_here E.site w2 m2 m2 (BrIf 0) (frame_of E m2 w2) (I32 z ∷ vs) ring (head m2 w2)
-            (ap (λ (y : ℕ). step.act (goes.store E.site m2) (BrIf 0) (thread (frame_of E m2 w2) (I32 y ∷ vs) ring)) ez ∙ ap (step.moved (goes.store E.site m2)) (loops.to_head E u narrow T test rt no_code (pure tt) no_step C body mx rx N vs r br cr rr caller b c l a dep (frame_of E m2 w2))) in
+          (ap (λ (y : ℕ). step.act (goes.store E.site m2) (BrIf 0) (thread (frame_of E m2 w2) (I32 y ∷ vs) ring)) ez ∙ ap (step.moved (goes.store E.site m2)) (loops.to_head E u narrow T test rt no_code (pure tt) no_step C body mx rx N vs r br cr rr caller b c l a dep (frame_of E m2 w2))) in
           subst (λ (x : Bool). RunsTo E.site turn m (head m w) w to (GoodFlow E l now) (behind_test n x w2)) (sym et)
           (paid_runs w2 m2 w2.fuel k (leads_further E.site ((1 + sB) + sT) 1 w w2 w2 m m2 m2 (head m w) t2 (head m2 w2) ld g) (agrees_after E.site 1 w2 w2 m2 m2 t2 (head m2 w2) g ag))
       decide z t (is_no ez et) w2 m2 k ld ag =

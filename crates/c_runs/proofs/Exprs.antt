@@ -61,6 +61,7 @@ number_type t (scalars.Int u) n e = by t e where
   int_or : IntType → Option Scalar → IntType
   int_or v (Some (scalars.Int w)) = w
   int_or v _ = v
+
   by : (t : Ty) → scalar_of t ≡ Some (scalars.Int u) → (v : IntType) × (t ≡ integer v) × (scalars.Int u ≡ scalars.Int v)
   by (integer v) e = (v, refl, ap (λ (o : Option Scalar). scalars.Int (int_or v o)) (sym e))
   by void e = absurd cc
@@ -215,7 +216,7 @@ module _ (E : Env) (L : Linked E.site) (home : AtHome E) (k : well.Context) (slo
 
     updates : (kept old : Bool) (d : ℕ) (u v : IntType) (o : BinaryOp) (p : Place) (c : Code) (y : Does Value) → is_local p ≡ true → well.IsPromoted v → IsPlace k p (integer u) → Leaves E c (integer v) y
         → Carries E kept (updated E.target kept old (plain_in E.target p) (code.place E.target d p) (scalars.Int u) (convert u v ⨾ c ⨾ one (operated o v) ⨾ convert v u)) (integer u)
-            (updating old u v o p y)
+        (updating old u v o p y)
     updates kept old d u v o (of (Local x)) c y l pr h r =
         subst (λ (q : Option Variable). Carries E kept (updated E.target kept old q (code.place E.target d (of (Local x))) (scalars.Int u) (convert u v ⨾ c ⨾ one (operated o v) ⨾ convert v u)) (integer u) (updating old u v o (of (Local x)) y)) (sym (plain_is x (integer u) h.0))
         (update_runs E o u v x (at_slot x (integer u) h.0) c y pr r kept old (code.place E.target d (of (Local x))) (scalars.Int u))

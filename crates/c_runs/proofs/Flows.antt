@@ -115,13 +115,13 @@ module _ (E : Env) where
       (subst (λ (q : List Item). Runs E.site (size_of cx + size_of cy) m (at_work E m w vs q) w to (GoodFlow l now) (after (e w) (followed f))) (sym (front_append cx.instrs cy.instrs r))
       (bind E.site (size_of cx) (size_of cy) m (at_work E m w vs (front cx.instrs (front cy.instrs r))) w (to_flow vs (front cy.instrs r) br cr rr caller) (GoodFlow l now) to (GoodFlow l now) (e w) (followed f)
       (rx n (has_front E.site.funcs E.fn n cx.seqs cy.seqs has) (omega (arith, sizes, small)) now le vs (front cy.instrs r) br cr rr caller (around_front cy.instrs vs r b c l br cr rr caller a) (depth_front cy.instrs r ∙ dep) w m k) on))
-      where
-        on : (g : Flow) (w1 : World) (m1 : Mem) → GoodFlow l now g w1 m1
-            → Runs E.site (size_of (y (n + length (x n).seqs))) m1 (to_flow vs (front (y (n + length (x n).seqs)).instrs r) br cr rr caller g w1 m1) w1 (to_flow vs r br cr rr caller) (GoodFlow l now) (followed f g w1)
-        on next w1 m1 g = ry (n + length (x n).seqs) (has_back E.site.funcs E.fn n (x n).seqs (y (n + length (x n).seqs)).seqs has) (let s = size_joined (x n) (y (n + length (x n).seqs)) in omega (arith, s, small)) now le vs r br cr rr caller a dep w1 m1 g.1
-        on broken w1 m1 g = here E.site (size_of (y (n + length (x n).seqs))) w1 m1 (to_flow vs r br cr rr caller) (GoodFlow l now) broken g
-        on continued w1 m1 g = here E.site (size_of (y (n + length (x n).seqs))) w1 m1 (to_flow vs r br cr rr caller) (GoodFlow l now) continued g
-        on (returned v) w1 m1 g = here E.site (size_of (y (n + length (x n).seqs))) w1 m1 (to_flow vs r br cr rr caller) (GoodFlow l now) (returned v) g
+    where
+      on : (g : Flow) (w1 : World) (m1 : Mem) → GoodFlow l now g w1 m1
+          → Runs E.site (size_of (y (n + length (x n).seqs))) m1 (to_flow vs (front (y (n + length (x n).seqs)).instrs r) br cr rr caller g w1 m1) w1 (to_flow vs r br cr rr caller) (GoodFlow l now) (followed f g w1)
+      on next w1 m1 g = ry (n + length (x n).seqs) (has_back E.site.funcs E.fn n (x n).seqs (y (n + length (x n).seqs)).seqs has) (let s = size_joined (x n) (y (n + length (x n).seqs)) in omega (arith, s, small)) now le vs r br cr rr caller a dep w1 m1 g.1
+      on broken w1 m1 g = here E.site (size_of (y (n + length (x n).seqs))) w1 m1 (to_flow vs r br cr rr caller) (GoodFlow l now) broken g
+      on continued w1 m1 g = here E.site (size_of (y (n + length (x n).seqs))) w1 m1 (to_flow vs r br cr rr caller) (GoodFlow l now) continued g
+      on (returned v) w1 m1 g = here E.site (size_of (y (n + length (x n).seqs))) w1 m1 (to_flow vs r br cr rr caller) (GoodFlow l now) (returned v) g
 
   pub flow_return : (l : Jumps) (b c : ℕ) (v : Value) → IsOf E.result v → FlowRuns l b c (one Return) (pushed E.result v) (pure (returned v))
   flow_return l b c v ok n has small now le vs r br cr rr caller a dep w m k ag =
@@ -152,6 +152,7 @@ module _ (E : Env) where
     where
       small_first : (q : ℕ) → size_of (x (suc n)) ≤ E.site.most
       small_first q = let s = total_append (inner (x (suc n))) (second_seqs (y (suc (suc n + length (x (suc n)).seqs)))) in omega (arith, s, small)
+
       small_second : (q : ℕ) → size_of (y (suc (suc n + length (x (suc n)).seqs))) ≤ E.site.most
       small_second q =
           let s = total_append (inner (x (suc n))) (second_seqs (y (suc (suc n + length (x (suc n)).seqs)))) in

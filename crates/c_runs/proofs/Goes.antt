@@ -156,8 +156,8 @@ module _ (S : Site) where
     least = let a = g.least in let b = h.least in omega (arith, a, b);
     greatest = let a = g.greatest in let b = h.greatest in omega (arith, a, b);
     by = λ k.
-      let e : (g.cost + h.cost) + k ≡ g.cost + (h.cost + k) = omega arith in
-      ap (λ (n : ℕ). steps n (store S m) t (given w)) e ∙ g.by (h.cost + k) ∙ ap (behind g.puts g.events) (h.by k) ∙ behind_both g.puts h.puts g.events h.events (steps k (store S m2) t2 (given w2));
+        let e : (g.cost + h.cost) + k ≡ g.cost + (h.cost + k) = omega arith in
+        ap (λ (n : ℕ). steps n (store S m) t (given w)) e ∙ g.by (h.cost + k) ∙ ap (behind g.puts g.events) (h.by k) ∙ behind_both g.puts h.puts g.events h.events (steps k (store S m2) t2 (given w2));
   }
 
   pub stops_behind : (s1 s2 : ℕ) (w w1 w2 : World) (m m1 : Mem) (t t1 : Thread) (e : End) → Goes s1 w w1 m t m1 t1 → Stops s2 w1 w2 m1 t1 e → Stops (s1 + s2) w w2 m t e
@@ -211,14 +211,23 @@ module _ (S : Site) where
 
   pub stays : (w : World) (m : Mem) (t : Thread) → Goes 0 w w m t m t
   stays w m t = record {
-    puts = []; events = []; tells = tells_nothing w w refl refl refl; cost = 0; least = omega arith; greatest = omega arith;
+    puts = [];
+    events = [];
+    tells = tells_nothing w w refl refl refl;
+    cost = 0;
+    least = omega arith;
+    greatest = omega arith;
     by = λ k. let e : 0 + k ≡ k = omega arith in ap (λ (n : ℕ). steps n (store S m) t (given w)) e;
   }
 
   -- the same state of the machine, of another world and with other locals of no variable
   pub shifts : (w w' : World) (m : Mem) (q : List Value) (t : Thread) → w'.fuel ≡ w.fuel → w'.input ≡ w.input → Tells w w' [] [] → Goes 0 w w' m t (record m { temps = q }) t
   shifts w w' m q t ef ei tells = record {
-    puts = []; events = []; tells = tells; cost = 0; least = omega (arith, ef);
+    puts = [];
+    events = [];
+    tells = tells;
+    cost = 0;
+    least = omega (arith, ef);
     greatest = let e = ap (λ (n : ℕ). S.most * n) ef in omega (arith, e);
     by = λ k. let e : 0 + k ≡ k = omega arith in ap (λ (n : ℕ). steps n (store S m) t (given w)) e ∙ ap (λ (l : List ℕ). steps k (store S m) t (map Some l)) (sym ei);
   }
@@ -242,7 +251,11 @@ module _ (S : Site) where
   pub one : (w w' : World) (m m' : Mem) (i : Instr) (fr : Frame) (vs : List Value) (r : List Item) (t' : Thread) → w'.fuel ≡ w.fuel → w'.input ≡ w.input → Tells w w' [] []
       → act (store S m) i (thread fr vs r) ≡ step.Next (store S m') t' None → Goes 1 w w' m (thread fr vs (Do i ∷ r)) m' (exited t')
   one w w' m m' i fr vs r t' ef ei tells e = record {
-    puts = []; events = []; tells = tells; cost = 1; least = omega (arith, ef);
+    puts = [];
+    events = [];
+    tells = tells;
+    cost = 1;
+    least = omega (arith, ef);
     greatest = let q = ap (λ (n : ℕ). S.most * n) ef in omega (arith, q);
     by = λ k. step_is k m m' i fr vs r t' (given w) e ∙ ap (λ (l : List ℕ). steps k (store S m') (exited t') (map Some l)) (sym ei);
   }
@@ -255,7 +268,14 @@ module _ (S : Site) where
   pub trapped : (w : World) (m : Mem) (i : Instr) (fr : Frame) (vs : List Value) (r : List Item) (k : TrapKind) (e : End)
       → act (store S m) i (thread fr vs r) ≡ step.Trap k → IsEnd e w → stop_of e ≡ Trapped k → (Asks e 1 m (thread fr vs (Do i ∷ r)) w []) → Stops 1 w w m (thread fr vs (Do i ∷ r)) e
   trapped w m i fr vs r k e h is a asks = record {
-    puts = []; events = []; tells = tells_nothing w w refl refl refl; is = is; cost = 1; least = omega arith; greatest = omega arith; asks = asks;
+    puts = [];
+    events = [];
+    tells = tells_nothing w w refl refl refl;
+    is = is;
+    cost = 1;
+    least = omega arith;
+    greatest = omega arith;
+    asks = asks;
     so = ap (λ (o : Outcome). after_move (move_on (store S m) (first_of (given w)) (step.exited o)) (given w) (steps 0)) h ∙ ap ran (sym a);
   }
 
@@ -265,29 +285,37 @@ module _ (S : Site) where
       → act (store S m) i (thread fr us r) ≡ step.Calls h (thread fr us r) → host_on h (first_of (given w)) us ≡ hosting.Gives vs (Some b) → takes h ≡ false
       → w'.fuel ≡ w.fuel → w'.input ≡ w.input → Tells w w' (b ∷ []) [] → Goes 1 w w' m (thread fr us (Do i ∷ r)) m (exited (thread fr vs r))
   puts_one w w' m i fr us vs r h b e g calm ef ei tells = record {
-    puts = b ∷ []; events = []; tells = tells; cost = 1; least = omega (arith, ef);
+    puts = b ∷ [];
+    events = [];
+    tells = tells;
+    cost = 1;
+    least = omega (arith, ef);
     greatest = let q = ap (λ (n : ℕ). S.most * n) ef in omega (arith, q);
     by = λ k.
-      let one : 1 + k ≡ suc k = omega arith in
-      ap (λ (n : ℕ). steps n (store S m) (thread fr us (Do i ∷ r)) (given w)) one
-      ∙ ap (λ (o : Outcome). after_move (move_on (store S m) (first_of (given w)) (step.exited o)) (given w) (steps k)) e
-      ∙ ap (λ (x : hosting.Effect). after_move (hosted (store S m) (thread fr us r) (takes h) x) (given w) (steps k)) g
-      ∙ ap (λ (t : Bool). before (Some b) None (steps k (store S m) (exited (thread fr vs r)) (rest_of t (given w)))) calm
-      ∙ ap (λ (l : List ℕ). before (Some b) None (steps k (store S m) (exited (thread fr vs r)) (map Some l))) (sym ei);
+        let one : 1 + k ≡ suc k = omega arith in
+        ap (λ (n : ℕ). steps n (store S m) (thread fr us (Do i ∷ r)) (given w)) one
+        ∙ ap (λ (o : Outcome). after_move (move_on (store S m) (first_of (given w)) (step.exited o)) (given w) (steps k)) e
+        ∙ ap (λ (x : hosting.Effect). after_move (hosted (store S m) (thread fr us r) (takes h) x) (given w) (steps k)) g
+        ∙ ap (λ (t : Bool). before (Some b) None (steps k (store S m) (exited (thread fr vs r)) (rest_of t (given w)))) calm
+        ∙ ap (λ (l : List ℕ). before (Some b) None (steps k (store S m) (exited (thread fr vs r)) (map Some l))) (sym ei);
   }
 
   pub takes_one : (w w' : World) (m : Mem) (i : Instr) (fr : Frame) (us vs : List Value) (r : List Item) (h : Host)
       → act (store S m) i (thread fr us r) ≡ step.Calls h (thread fr us r) → host_on h (first_of (given w)) us ≡ hosting.Gives vs None
       → w'.fuel ≡ w.fuel → rest_of (takes h) (given w) ≡ given w' → Tells w w' [] [] → Goes 1 w w' m (thread fr us (Do i ∷ r)) m (exited (thread fr vs r))
   takes_one w w' m i fr us vs r h e g ef ei tells = record {
-    puts = []; events = []; tells = tells; cost = 1; least = omega (arith, ef);
+    puts = [];
+    events = [];
+    tells = tells;
+    cost = 1;
+    least = omega (arith, ef);
     greatest = let q = ap (λ (n : ℕ). S.most * n) ef in omega (arith, q);
     by = λ k.
-      let one : 1 + k ≡ suc k = omega arith in
-      ap (λ (n : ℕ). steps n (store S m) (thread fr us (Do i ∷ r)) (given w)) one
-      ∙ ap (λ (o : Outcome). after_move (move_on (store S m) (first_of (given w)) (step.exited o)) (given w) (steps k)) e
-      ∙ ap (λ (x : hosting.Effect). after_move (hosted (store S m) (thread fr us r) (takes h) x) (given w) (steps k)) g
-      ∙ ap (λ (l : Input). steps k (store S m) (exited (thread fr vs r)) l) ei;
+        let one : 1 + k ≡ suc k = omega arith in
+        ap (λ (n : ℕ). steps n (store S m) (thread fr us (Do i ∷ r)) (given w)) one
+        ∙ ap (λ (o : Outcome). after_move (move_on (store S m) (first_of (given w)) (step.exited o)) (given w) (steps k)) e
+        ∙ ap (λ (x : hosting.Effect). after_move (hosted (store S m) (thread fr us r) (takes h) x) (given w) (steps k)) g
+        ∙ ap (λ (l : Input). steps k (store S m) (exited (thread fr vs r)) l) ei;
   }
 
   -- ---- a step on which a unit of fuel is spent: the unit pays for all but one step of what follows
@@ -297,20 +325,27 @@ module _ (S : Site) where
       → RunsTo rest m (exited t) (record w { fuel = f }) to Good x → RunsTo size m (thread fr vs (Do i ∷ r)) w to Good x
   spent_to size rest f w m i fr vs r t to Good (gives b w1) e fuel le g =
       let h = g.2 in
-      let paid : S.most * w.fuel ≡ S.most * f + S.most = ap (λ (n : ℕ). S.most * n) fuel ∙ mul-suc S.most f in
-      (g.0, g.1, record {
-        puts = h.puts; events = h.events; tells = record { output = h.tells.output; sizes = h.tells.sizes; grants = h.tells.grants };
-        cost = 1 + h.cost;
-        least = let a = h.least in omega (arith, a, fuel);
-        greatest = let a = h.greatest in omega (arith, a, le, paid);
-        by = λ k.
-          let q : (1 + h.cost) + k ≡ 1 + (h.cost + k) = omega arith in
-          ap (λ (n : ℕ). steps n (store S m) (thread fr vs (Do i ∷ r)) (given w)) q ∙ step_is (h.cost + k) m m i fr vs r t (given w) e ∙ h.by k;
-      })
+      let paid : S.most * w.fuel ≡ S.most * f + S.most = ap (λ (n : ℕ). S.most * n) fuel ∙ mul-suc S.most f in (
+        g.0,
+        g.1,
+        record {
+          puts = h.puts;
+          events = h.events;
+          tells = record { output = h.tells.output; sizes = h.tells.sizes; grants = h.tells.grants };
+          cost = 1 + h.cost;
+          least = let a = h.least in omega (arith, a, fuel);
+          greatest = let a = h.greatest in omega (arith, a, le, paid);
+          by = λ k.
+              let q : (1 + h.cost) + k ≡ 1 + (h.cost + k) = omega arith in
+              ap (λ (n : ℕ). steps n (store S m) (thread fr vs (Do i ∷ r)) (given w)) q ∙ step_is (h.cost + k) m m i fr vs r t (given w) e ∙ h.by k;
+        },
+      )
   spent_to size rest f w m i fr vs r t to Good (ends e' w1) e fuel le h =
       let paid : S.most * w.fuel ≡ S.most * f + S.most = ap (λ (n : ℕ). S.most * n) fuel ∙ mul-suc S.most f in
       record {
-        puts = h.puts; events = h.events; tells = record { output = h.tells.output; sizes = h.tells.sizes; grants = h.tells.grants };
+        puts = h.puts;
+        events = h.events;
+        tells = record { output = h.tells.output; sizes = h.tells.sizes; grants = h.tells.grants };
         is = h.is;
         cost = 1 + h.cost;
         least = let a = h.least in omega (arith, a, fuel);
@@ -329,7 +364,15 @@ module _ (S : Site) where
   -- no unit is left
   pub unspent : (size : ℕ) (w : World) (m : Mem) (i : Instr) (fr : Frame) (vs : List Value) (r : List Item) → w.fuel ≡ 0 → Stops size w w m (thread fr vs (Do i ∷ r)) world.out_of_fuel
   unspent size w m i fr vs r e = record {
-    puts = []; events = []; tells = tells_nothing w w refl refl refl; is = e; cost = 0; least = omega arith; greatest = omega arith; so = refl; asks = tt;
+    puts = [];
+    events = [];
+    tells = tells_nothing w w refl refl refl;
+    is = e;
+    cost = 0;
+    least = omega arith;
+    greatest = omega arith;
+    so = refl;
+    asks = tt;
   }
 
 pub after_after : {A B C : Type 0} (m : Result A) (f : A → World → Result B) (g : B → World → Result C) → after (after m f) g ≡ after m (λ a w. after (f a w) g)

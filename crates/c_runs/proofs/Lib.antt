@@ -3,6 +3,7 @@ pub mod Goes
 pub mod Longer
 pub mod Outcomes
 pub mod Related
+pub mod Entering
 pub mod Whole
 pub mod Ops
 pub mod Nodes

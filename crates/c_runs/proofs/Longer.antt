@@ -29,7 +29,8 @@ event_append (Some e) a b = refl
 
 extends_before : (put : Option ℕ) (event : Option Event) (r r' : Ran) → Extends r r' → Extends (before put event r) (before put event r')
 extends_before put event r r' x = record {
-  puts = x.puts; events = x.events;
+  puts = x.puts;
+  events = x.events;
   puts_are = ap (with_put put) x.puts_are ∙ put_append put r.puts x.puts;
   events_are = ap (with_event event) x.events_are ∙ event_append event r.events x.events;
   over = λ n. ap (before put event) (x.over n);

@@ -332,8 +332,8 @@ module _ (E : Env) where
 
       enters : HasAll E.site.funcs E.fn (suc (n + length (T n).seqs)) (repeat None (bodied body C ⨾ S ⨾ T ⨾ one (BrIf 0)) (suc (n + length (T n).seqs))).seqs → (w1 : World) (m1 : Mem) → Kept E now w1 m1
           → Runs E.site (size_of (repeat None (bodied body C ⨾ S ⨾ T ⨾ one (BrIf 0)) (suc (n + length (T n).seqs)))) m1
-            (at_work E m1 w1 vs (front (repeat None (bodied body C ⨾ S ⨾ T ⨾ one (BrIf 0)) (suc (n + length (T n).seqs))).instrs (Label None (length vs) None ∷ r))) w1 (to_flow E vs r br cr rr caller) (GoodFlow E l now)
-            (iteration u narrow T test rt S step' rs C body mx rx (suc (n + length (T n).seqs)) vs r br cr rr caller b c l a dep bound w1)
+          (at_work E m1 w1 vs (front (repeat None (bodied body C ⨾ S ⨾ T ⨾ one (BrIf 0)) (suc (n + length (T n).seqs))).instrs (Label None (length vs) None ∷ r))) w1 (to_flow E vs r br cr rr caller) (GoodFlow E l now)
+          (iteration u narrow T test rt S step' rs C body mx rx (suc (n + length (T n).seqs)) vs r br cr rr caller b c l a dep bound w1)
       enters h w1 m1 k1 =
           let j = n + length (T n).seqs in
           let N = suc j in

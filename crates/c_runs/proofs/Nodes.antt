@@ -140,11 +140,13 @@ module _ (E : Env) where
     fetch_twice_at : Op E (bare (LocalGet x ∷ LocalGet x ∷ [])) same (λ v vs. pushed (integer u) v (pushed (integer u) v vs)) (IsOf (integer u)) (fetch (variable (Local x)))
     fetch_twice_at n has now le vs r dep w m k ag =
         let f = found E.slots w.locals x u k.held at_x in
-        subst (λ (y : Result Value). RunsTo E.site 2 m (at_work E m w vs (front (LocalGet x ∷ LocalGet x ∷ []) r)) w (To_ E (λ v us. pushed (integer u) v (pushed (integer u) v us)) vs r) (Good E (IsOf (integer u)) now) y) (sym (fetch_is w f))
-        (m, (f.is_in, k),
-        goes_on E.site 1 1 w w w m m m (thread (frame_of E m w) vs (front (LocalGet x ∷ LocalGet x ∷ []) r)) (thread (frame_of E m w) (word u f.value ∷ vs) (front (LocalGet x ∷ []) r)) (at_work E m w (word u f.value ∷ word u f.value ∷ vs) r)
-        (one_here E.site w m m (LocalGet x) (frame_of E m w) vs (front (LocalGet x ∷ []) r) (thread (frame_of E m w) (word u f.value ∷ vs) (front (LocalGet x ∷ []) r)) (get_step w m f vs (front (LocalGet x ∷ []) r)))
-        (one_here E.site w m m (LocalGet x) (frame_of E m w) (word u f.value ∷ vs) r (thread (frame_of E m w) (word u f.value ∷ word u f.value ∷ vs) r) (get_step w m f (word u f.value ∷ vs) r)))
+        subst (λ (y : Result Value). RunsTo E.site 2 m (at_work E m w vs (front (LocalGet x ∷ LocalGet x ∷ []) r)) w (To_ E (λ v us. pushed (integer u) v (pushed (integer u) v us)) vs r) (Good E (IsOf (integer u)) now) y) (sym (fetch_is w f)) (
+          m,
+          (f.is_in, k),
+          goes_on E.site 1 1 w w w m m m (thread (frame_of E m w) vs (front (LocalGet x ∷ LocalGet x ∷ []) r)) (thread (frame_of E m w) (word u f.value ∷ vs) (front (LocalGet x ∷ []) r)) (at_work E m w (word u f.value ∷ word u f.value ∷ vs) r)
+              (one_here E.site w m m (LocalGet x) (frame_of E m w) vs (front (LocalGet x ∷ []) r) (thread (frame_of E m w) (word u f.value ∷ vs) (front (LocalGet x ∷ []) r)) (get_step w m f vs (front (LocalGet x ∷ []) r)))
+              (one_here E.site w m m (LocalGet x) (frame_of E m w) (word u f.value ∷ vs) r (thread (frame_of E m w) (word u f.value ∷ word u f.value ∷ vs) r) (get_step w m f (word u f.value ∷ vs) r)),
+        )
 
     module _ (z : ℤ) (i : IsIn u z) where
       abbrev written : World → World
@@ -163,14 +165,18 @@ module _ (E : Env) where
           ∙ ap go (set_in ws m.temps x (word u z) (within ws x _ f.word_is) ∙ ap (λ (l : List Word). l ++ m.temps) (sym (words_set E.slots w.locals x u z at_x)))
 
       set_at : Op E (one (LocalSet x)) (Num u z) gone Always (hold (Local x) (plain (number z)))
-      set_at n has now le vs r dep w m k ag =
-          (m, (tt, kept_written now w m k),
-          one_step E.site w (written w) m m (LocalSet x) (frame_of E m w) (word u z ∷ vs) r (thread (frame_of E m (written w)) vs r) refl refl (tells_nothing w (written w) refl refl refl) (set_step w m now k (word u z ∷ vs) vs r))
+      set_at n has now le vs r dep w m k ag = (
+        m,
+        (tt, kept_written now w m k),
+        one_step E.site w (written w) m m (LocalSet x) (frame_of E m w) (word u z ∷ vs) r (thread (frame_of E m (written w)) vs r) refl refl (tells_nothing w (written w) refl refl refl) (set_step w m now k (word u z ∷ vs) vs r),
+      )
 
       tee_at : Op E (one (LocalTee x)) (Num u z) (pushed (integer u)) (IsOf (integer u)) (store (variable (Local x)) (number z) >> pure (number z))
-      tee_at n has now le vs r dep w m k ag =
-          (m, (i, kept_written now w m k),
-          one_step E.site w (written w) m m (LocalTee x) (frame_of E m w) (word u z ∷ vs) r (thread (frame_of E m (written w)) (word u z ∷ vs) r) refl refl (tells_nothing w (written w) refl refl refl) (set_step w m now k (word u z ∷ vs) (word u z ∷ vs) r))
+      tee_at n has now le vs r dep w m k ag = (
+        m,
+        (i, kept_written now w m k),
+        one_step E.site w (written w) m m (LocalTee x) (frame_of E m w) (word u z ∷ vs) r (thread (frame_of E m (written w)) (word u z ∷ vs) r) refl refl (tells_nothing w (written w) refl refl refl) (set_step w m now k (word u z ∷ vs) (word u z ∷ vs) r),
+      )
 
       -- it is set, and a value that is known is given
       set_giving : (v : Value) → IsOf (integer u) v → Op E (one (LocalSet x)) (Num u z) gone (IsOf (integer u)) (store (variable (Local x)) (number z) >> pure v)

@@ -273,12 +273,14 @@ module _ (E : Env) where
         let w' : World = record w { output = w.output ++ b ∷ [] } in
         let byte : wrapped 32 z % 256 ≡ b = byte_bits z in
         let lt : b < 2 ^ 8 = byte_below z in
-        let room : 0 < length E.site.funcs = let t = L.three in omega (arith, t) in
-        (m, (small_is b lt, record { held = k.held; deep = k.deep; less = k.less; bytes = k.bytes; temps = k.temps }),
-        puts_one E.site w w' m (Call 0) (frame_of E m w) (I32 (wrapped 32 z) ∷ vs) (I32 (wrapped 32 (pos b)) ∷ vs) r hosts.Putchar b
-        (call_is m w 0 (I32 (wrapped 32 z) ∷ vs) r room ∙ ap (called (goes.store E.site m) 0 (thread (frame_of E m w) (I32 (wrapped 32 z) ∷ vs) r)) L.putchar)
-        (ap (λ (q : ℕ). hosting.Gives (I32 q ∷ vs) (Some q)) byte ∙ ap (λ (q : ℕ). hosting.Gives (I32 q ∷ vs) (Some b)) (sym (small_same b lt))) refl refl refl
-        (record { output = refl; sizes = sym (append-nil w.sizes); grants = refl }))
+        let room : 0 < length E.site.funcs = let t = L.three in omega (arith, t) in (
+          m,
+          (small_is b lt, record { held = k.held; deep = k.deep; less = k.less; bytes = k.bytes; temps = k.temps }),
+          puts_one E.site w w' m (Call 0) (frame_of E m w) (I32 (wrapped 32 z) ∷ vs) (I32 (wrapped 32 (pos b)) ∷ vs) r hosts.Putchar b
+              (call_is m w 0 (I32 (wrapped 32 z) ∷ vs) r room ∙ ap (called (goes.store E.site m) 0 (thread (frame_of E m w) (I32 (wrapped 32 z) ∷ vs) r)) L.putchar)
+              (ap (λ (q : ℕ). hosting.Gives (I32 q ∷ vs) (Some q)) byte ∙ ap (λ (q : ℕ). hosting.Gives (I32 q ∷ vs) (Some b)) (sym (small_same b lt))) refl refl refl
+              (record { output = refl; sizes = sym (append-nil w.sizes); grants = refl }),
+        )
 
     pub putchar_runs : (c : Code) (x : Does Value) → Leaves E c (integer Int) x
         → Leaves E (c ⨾ one (Call 0)) (integer Int) (meaning.integer x >>= (λ z. let b = bits_of UnsignedChar z in write_byte b >> pure (number (pos b))))
@@ -287,21 +289,26 @@ module _ (E : Env) where
     getchar_by : (now : Now) (vs : List Word) (r : List Item) (w : World) (m : Mem) → Kept E now w m → (input : List ℕ) → w.input ≡ input
         → goes.RunsTo E.site 1 m (at_work E m w vs (Do (Call 1) ∷ r)) w (To_ E (pushed (integer Int)) vs r) (Good E (IsOf (integer Int)) now) (after (took input w) (λ b. pure (byte_value b)))
     getchar_by now vs r w m k [] e =
-        let room : 1 < length E.site.funcs = let t = L.three in omega (arith, t) in
-        (m, (refl, k), takes_one E.site w w m (Call 1) (frame_of E m w) vs (I32 4294967295 ∷ vs) r hosts.Getchar
-        (call_is m w 1 vs r room ∙ ap (called (goes.store E.site m) 1 (thread (frame_of E m w) vs r)) L.getchar)
-        (ap (λ (l : List ℕ). host_on hosts.Getchar (first_of (map Some l)) vs) e) refl
-        (ap (λ (l : List ℕ). rest_of true (map Some l)) e ∙ ap (map Some) (sym e)) (tells_nothing w w refl refl refl))
+        let room : 1 < length E.site.funcs = let t = L.three in omega (arith, t) in (
+          m,
+          (refl, k),
+          takes_one E.site w w m (Call 1) (frame_of E m w) vs (I32 4294967295 ∷ vs) r hosts.Getchar
+              (call_is m w 1 vs r room ∙ ap (called (goes.store E.site m) 1 (thread (frame_of E m w) vs r)) L.getchar)
+              (ap (λ (l : List ℕ). host_on hosts.Getchar (first_of (map Some l)) vs) e) refl
+              (ap (λ (l : List ℕ). rest_of true (map Some l)) e ∙ ap (map Some) (sym e)) (tells_nothing w w refl refl refl),
+        )
     getchar_by now vs r w m k (b ∷ bs) e =
         let room : 1 < length E.site.funcs = let t = L.three in omega (arith, t) in
         let bytes : AreBytes (b ∷ bs) = subst AreBytes e k.bytes in
         let lt : b < 256 = bytes.0 in
-        let w' : World = record w { input = bs } in
-        (m, (small_is b lt, record { held = k.held; deep = k.deep; less = k.less; bytes = bytes.1; temps = k.temps }),
-        takes_one E.site w w' m (Call 1) (frame_of E m w) vs (I32 (wrapped 32 (pos b)) ∷ vs) r hosts.Getchar
-        (call_is m w 1 vs r room ∙ ap (called (goes.store E.site m) 1 (thread (frame_of E m w) vs r)) L.getchar)
-        (ap (λ (l : List ℕ). host_on hosts.Getchar (first_of (map Some l)) vs) e ∙ ap (λ (q : ℕ). hosting.Gives (I32 q ∷ vs) None) (sym (small_same b lt))) refl
-        (ap (λ (l : List ℕ). rest_of true (map Some l)) e) (tells_nothing w w' refl refl refl))
+        let w' : World = record w { input = bs } in (
+          m,
+          (small_is b lt, record { held = k.held; deep = k.deep; less = k.less; bytes = bytes.1; temps = k.temps }),
+          takes_one E.site w w' m (Call 1) (frame_of E m w) vs (I32 (wrapped 32 (pos b)) ∷ vs) r hosts.Getchar
+              (call_is m w 1 vs r room ∙ ap (called (goes.store E.site m) 1 (thread (frame_of E m w) vs r)) L.getchar)
+              (ap (λ (l : List ℕ). host_on hosts.Getchar (first_of (map Some l)) vs) e ∙ ap (λ (q : ℕ). hosting.Gives (I32 q ∷ vs) None) (sym (small_same b lt))) refl
+              (ap (λ (l : List ℕ). rest_of true (map Some l)) e) (tells_nothing w w' refl refl refl),
+        )
 
     pub getchar_runs : Leaves E (one (Call 1)) (integer Int) (take_byte >>= (λ b. pure (byte_value b)))
     getchar_runs n has now le vs r dep w m k ag = getchar_by now vs r w m k w.input refl

@@ -146,7 +146,7 @@ module _ (E : Env) where
       → IsWhole b → IsTest z t → HasAll E.site.funcs E.fn n (choice ty a b n).seqs
       → (HasAll E.site.funcs E.fn (suc n) (a (suc n)).seqs → Runs E.site (size_of (a (suc n))) m (at_work m w vs (front (a (suc n)).instrs (Label ty (length vs) None ∷ r))) w to G x)
       → (HasAll E.site.funcs E.fn (suc (suc n + length (a (suc n)).seqs)) (b (suc (suc n + length (a (suc n)).seqs))).seqs
-        → Runs E.site (size_of (b (suc (suc n + length (a (suc n)).seqs)))) m (at_work m w vs (front (b (suc (suc n + length (a (suc n)).seqs))).instrs (Label ty (length vs) None ∷ r))) w to G y)
+      → Runs E.site (size_of (b (suc (suc n + length (a (suc n)).seqs)))) m (at_work m w vs (front (b (suc (suc n + length (a (suc n)).seqs))).instrs (Label ty (length vs) None ∷ r))) w to G y)
       → Runs E.site (size_of (choice ty a b n)) m (thread (frame_of E m w) (I32 z ∷ vs) (front (choice ty a b n).instrs r)) w to G (if t then x else y)
   runs_choice ty a b n z t vs r w m to G x y whole (is_yes q ez et) has ra rb =
       let xa = a (suc n) in

@@ -101,8 +101,10 @@ module _ (s : Store) (t0 : Thread) (input : Input) (most : ℕ) where
       ahead_of le = go (R b).stop refl where
         x : Extends (R b) (R k.cost)
         x = longer b k.cost le s t0 input
+
         over_is : (q : Stop) → (R b).stop ≡ q → q ≢ Paused → Beside
         over_is q eq d = equal (sym (x.over (λ p. d (sym eq ∙ p)))) (λ p. d (sym eq ∙ ap (λ (r : Ran). r.stop) (sym (x.over (λ p. d (sym eq ∙ p)))) ∙ stop_is ∙ p))
+
         go : (q : Stop) → (R b).stop ≡ q → Beside
         go (Ended v) eq = over_is (Ended v) eq (λ p. absurd cc)
         go (Trapped t) eq = over_is (Trapped t) eq (λ p. absurd cc)
@@ -153,6 +155,7 @@ module _ (s : Store) (t0 : Thread) (input : Input) (most : ℕ) where
     bound_law lt p = by how where
       room : suc k.cost ≤ b
       room = let r = k.room in omega (arith, lt, r)
+
       by : How s t0 input fuel st e w k.cost k.events → e ≡ world.out_of_fuel
       by (over d) = absurd (d (sym stop_is ∙ sym (ap (λ (r : Ran). r.stop) ((longer k.cost b (omega (arith, room)) s t0 input).over (not_paused d))) ∙ p))
       by (spent e1 e2 le) = e1

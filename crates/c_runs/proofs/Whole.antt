@@ -40,6 +40,7 @@ bare_to_type t = by (nat_lt (bits t) 32) where
   narrows : (b : ℕ) (s : Bool) → IsBare (narrow b s)
   narrows b true n = refl
   narrows b false n = refl
+
   by : (b : Bool) → IsBare (cond b (narrow (bits t) (is_signed t)) no_code)
   by true = narrows (bits t) (is_signed t)
   by false = λ n. refl
