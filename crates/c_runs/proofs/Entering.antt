@@ -4,18 +4,16 @@ use Rattle.std.specs.Prelude.{slice_get}
 use Rattle.std.proofs.lemmas.Bool.{lt-ltb, le-leb, le-ltb}
 use Rattle.std.proofs.lemmas.List.{length-reverse, reverse-append, reverse-reverse}
 use Rattle.std.proofs.Math.Seq.{take-append_seam, drop-append_seam}
-use Rattle.ms_types.specs.declared.types.ValType.{ValType}
 use Rattle.ms_linear.specs.declared.value.Value.{Value as Word}
 use Rattle.ms_linear.specs.Values.{default_of}
-use Rattle.ms_task.specs.Control.{Moved, To, TooDeep, Stuck, call_on, deepest, enter, entered}
+use Rattle.ms_task.specs.Control.{To, TooDeep, Stuck, call_on, deepest, enter, entered}
 use Rattle.ms_task.specs.declared.func.FuncInst.{FuncInst}
 use Rattle.ms_task.specs.Thread.{Activation, Frame, Item, thread, depth_of, dos, result_of, sequence}
-use Rattle.c_types.specs.Types.{Ty, integer, Tys, no_types, types}
+use Rattle.c_types.specs.Types.{Ty, Tys, no_types, types}
 use Rattle.c_well_typed.specs.Units.{list_of}
-use Rattle.c_meaning.specs.Functions.{first_locals}
-use Rattle.c_meaning.specs.Values.{Value, number, zero_value}
+use Rattle.c_meaning.specs.Values.{Value, zero_value}
 use Rattle.c_meaning.specs.World.{Held, plain}
-use Rattle.c_runs.proofs.Related.{AreHeld, AreOf, IsHeld, front, held_word, piled, value_word, words}
+use Rattle.c_runs.proofs.Related.{AreHeld, AreOf, front, piled, value_word, words}
 
 -- ---- arguments as locals
 
