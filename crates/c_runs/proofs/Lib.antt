@@ -14,3 +14,4 @@ pub mod Flows
 pub mod Loops
 pub mod Dos
 pub mod Stmts
+pub mod Bodies
