@@ -1,6 +1,6 @@
 -- The units of which it is shown so far that their code does what they mean: those of integers, variables that are no objects,
 -- control, and calls of functions by their names.
-use Rattle.std.specs.Prelude.{ℕ, suc, ◌&&◌, not, Bool, true, false, List, [], ◌∷◌, Option, Some, None}
+use Rattle.std.specs.Prelude.{ℕ, suc, nat_lt, ◌&&◌, not, Bool, true, false, List, [], ◌∷◌, Option, Some, None}
 use Rattle.c_types.specs.declared.types.Scalar.{Scalar}
 use Rattle.c_types.specs.declared.types.Scalar.TheVariants as scalars
 use Rattle.c_types.specs.Types.{Ty, void, integer, function, Tys, no_types, types}
@@ -48,7 +48,7 @@ abbrev mutual
   in_expr (tree.discard e) = in_expr e
   in_expr (tree.size_of_place n p) = true
   in_expr (tree.size_of_value n e) = true
-  in_expr (tree.size_of_type n) = true
+  in_expr (tree.size_of_type n) = nat_lt n 4294967296
   in_expr _ = false
 
   pub in_exprs : Exprs → Bool

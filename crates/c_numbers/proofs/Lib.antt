@@ -1,0 +1,4 @@
+pub mod Wrapping
+pub mod Ranges
+pub mod Operators
+pub mod Conversions

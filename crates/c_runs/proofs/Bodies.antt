@@ -1,0 +1,98 @@
+-- A body, and what stands behind it: a result that is missing is 0, and the caller goes on with the result.
+use Rattle.std.proofs.Common.{◌≡◌, ℕ, suc, ◌+◌, ◌<◌, ◌≤◌, List, [], ◌∷◌, ◌++◌, length, Option, sym, ap, ◌∙◌, arith, subst}
+use Rattle.std.specs.Prelude.{pos}
+use Rattle.ms_linear.specs.declared.value.Value.{Value as Word}
+use Rattle.ms_task.specs.Control.{To, exit_ended, keep, kept, over}
+use Rattle.ms_task.specs.Thread.{Activation, Frame, Item, Thread, thread, depth_of}
+use Rattle.ms_task.proofs.Items.{return_past}
+use Rattle.c_types.specs.declared.integers.IntType.{IntType}
+use Rattle.c_types.specs.Types.{Ty, void, integer, scalar_of}
+use Rattle.c_well_typed.specs.Statements.{no_jumps}
+use Rattle.c_meaning.specs.Functions.{given}
+use Rattle.c_meaning.specs.Statements.{Flow, next, broken, continued, returned}
+use Rattle.c_meaning.specs.Values.{Value, number, zero_value}
+use Rattle.c_meaning.specs.World.{World, gives, Does, ◌>>=◌, pure}
+use Rattle.ms_emit.specs.Codes.{Code, one, ◌⨾◌, size_of}
+use Rattle.c_code.specs.Functions.{result}
+use Rattle.c_code.specs.Operations.{constant, val_of, width_of}
+use Rattle.c_numbers.proofs.Conversions.{constant_is}
+use Rattle.c_runs.specs.Correct.{AreBytes}
+use Rattle.c_runs.proofs.Goes.{Mem, Runs, bind, here}
+use Rattle.c_runs.proofs.Related.{Env, HasAll, IsOf, Kept, Now, depth_front, front, front_append, has_front, pushed, value_word}
+use Rattle.c_runs.proofs.Ops.{Op, at_work, op_carried, same, size_joined}
+use Rattle.c_runs.proofs.Flows.{Around, FlowRuns, GoodFlow, lowest_all, to_flow}
+use Rattle.c_runs.proofs.Stmts.{zero_in}
+
+-- no value, or an integer
+pub data IsResult (t : Ty) : Type 0 where
+  is_void : t ≡ void → IsResult t
+  is_integer : (u : IntType) → t ≡ integer u → IsResult t
+
+module _ (E : Env) (is_result : IsResult E.result) (caller : Frame) (vs : List Word) (r : List Item) (dep : suc (depth_of r) ≡ E.depth) where
+  abbrev t : Ty
+  t = E.result
+
+  abbrev pub after_body : List Item
+  after_body = Activation (val_of t) (length vs) caller ∷ r
+
+  abbrev pub to_caller : Value → World → Mem → Thread
+  to_caller v w m = exit_ended caller (pushed t v vs) r
+
+  abbrev pub Returned : Now → Value → World → Mem → Type 0
+  Returned now v w m = IsOf t v × (w.fuel < now.below) × AreBytes w.input
+
+  abbrev R : Code
+  R = result E.target (scalar_of t)
+
+  abbrev Kept_at : Ty → Value → Type 0
+  Kept_at s v = kept (keep (val_of s) (length vs) (pushed s v vs)) caller r ≡ To (thread caller (pushed s v vs) r)
+
+  kept_is : (v : Value) → Kept_at t v
+  kept_is v = go is_result where
+    go : IsResult t → Kept_at t v
+    go (is_void e) = subst (λ (s : Ty). Kept_at s v) (sym e) (ap (λ (o : Option (List Word)). kept o caller r) (lowest_all vs))
+    go (is_integer u e) = subst (λ (s : Ty). Kept_at s v) (sym e) (ap (λ (o : Option (List Word)). kept (over (value_word (integer u) v) o) caller r) (lowest_all vs))
+
+  around : (n : ℕ) → Around E vs (front (R n).instrs after_body) 0 0 no_jumps [] [] r caller
+  around n = record {
+    breaks = λ e fr. absurd cc;
+    continues = λ e fr. absurd cc;
+    returns = λ v ok. return_past (pushed t v vs) (R n).instrs after_body ∙ kept_is v;
+  }
+
+  abbrev Results : ℕ → Now → World → Mem → Ty → Type 0
+  Results n now w m s =
+      Runs E.site (size_of (result E.target (scalar_of s) n)) m (at_work E m w vs (front (result E.target (scalar_of s) n).instrs after_body)) w
+      (λ v w1 m1. exit_ended caller (pushed s v vs) r) (λ v w1 m1. IsOf s v × (w1.fuel < now.below) × AreBytes w1.input) (gives (zero_value s) w)
+
+  zero_steps : (u : IntType) → Op E (one (constant (width_of u) (pos 0))) same (pushed (integer u)) (IsOf (integer u)) (pure (number (pos 0)))
+  zero_steps u = op_carried E (constant (width_of u) (pos 0)) same (pushed (integer u)) (IsOf (integer u)) (number (pos 0)) (zero_in u) (λ us. constant_is (width_of u) (pos 0) us)
+
+  -- a missing result is 0
+  result_runs : (n : ℕ) (now : Now) → now.below ≤ E.bound → (w : World) (m : Mem) → Kept E now w m → Results n now w m t
+  result_runs n now le w m k = go is_result where
+    go : IsResult t → Results n now w m t
+    go (is_void e) = subst (Results n now w m) (sym e) (here E.site 0 w m (λ v w1 m1. exit_ended caller (pushed void v vs) r) (λ v w1 m1. IsOf void v × (w1.fuel < now.below) × AreBytes w1.input) (zero_value void) (tt, k.less, k.bytes))
+    go (is_integer u e) = subst (Results n now w m) (sym e) (λ ag. let q = zero_steps u n tt now le vs after_body dep w m k ag in (q.0, (q.1.0, q.1.1.less, q.1.1.bytes), q.2))
+
+  ends_runs : (n : ℕ) (now : Now) → now.below ≤ E.bound → (flow : Flow) (w : World) (m : Mem) → GoodFlow E no_jumps now flow w m
+      → Runs E.site (size_of (R n)) m (to_flow E vs (front (R n).instrs after_body) [] [] r caller flow w m) w to_caller (Returned now) (gives (given t flow) w)
+  ends_runs n now le next w m g = result_runs n now le w m g.1
+  ends_runs n now le (returned v) w m g = here E.site (size_of (R n)) w m to_caller (Returned now) v (g.0, g.1.less, g.1.bytes)
+  ends_runs n now le broken w m g = absurd (let e = g.0 in cc)
+  ends_runs n now le continued w m g = absurd (let e = g.0 in cc)
+
+  -- the body, and the result behind it
+  pub body_runs : (B : Code) (mx : Does Flow) → FlowRuns E no_jumps 0 0 B same mx → (n : ℕ) → HasAll E.site.funcs E.fn n ((B ⨾ R) n).seqs → size_of ((B ⨾ R) n) ≤ E.site.most → (now : Now) → now.below ≤ E.bound → (w : World) (m : Mem) → Kept E now w m
+      → Runs E.site (size_of ((B ⨾ R) n)) m (at_work E m w vs (front ((B ⨾ R) n).instrs after_body)) w to_caller (Returned now) ((mx >>= (λ flow. pure (given t flow))) w)
+  body_runs B mx h n has small now le w m k =
+      let cb = B n in
+      let n' = n + length cb.seqs in
+      let cr = R n' in
+      let sizes = size_joined cb cr in
+      let f = λ (flow : Flow). pure (given t flow) in
+      subst (λ (s : ℕ). Runs E.site s m (at_work E m w vs (front (cb.instrs ++ cr.instrs) after_body)) w to_caller (Returned now) ((mx >>= f) w)) sizes
+      (subst (λ (q : List Item). Runs E.site (size_of cb + size_of cr) m (at_work E m w vs q) w to_caller (Returned now) ((mx >>= f) w)) (sym (front_append cb.instrs cr.instrs after_body))
+      (bind E.site (size_of cb) (size_of cr) m (at_work E m w vs (front cb.instrs (front cr.instrs after_body))) w (to_flow E vs (front cr.instrs after_body) [] [] r caller) (GoodFlow E no_jumps now) to_caller (Returned now) (mx w) f
+      (h n (has_front E.site.funcs E.fn n cb.seqs cr.seqs has) (omega (arith, sizes, small)) now le vs (front cr.instrs after_body) [] [] r caller (around n') (depth_front cr.instrs after_body ∙ dep) w m k)
+      (λ flow w1 m1 g. ends_runs n' now le flow w1 m1 g)))

@@ -1,0 +1,17 @@
+pub mod Grants
+pub mod Goes
+pub mod Longer
+pub mod Outcomes
+pub mod Related
+pub mod Entering
+pub mod Whole
+pub mod Ops
+pub mod Nodes
+pub mod Operations
+pub mod Exprs
+pub mod Ahead
+pub mod Flows
+pub mod Loops
+pub mod Dos
+pub mod Stmts
+pub mod Bodies

@@ -1,0 +1,77 @@
+-- Longer runs of a thread go on as shorter ones do; and the run of a crew of one task.
+use Rattle.std.proofs.Common.{◌≡◌, ℕ, zero, suc, ◌≤◌, List, [], ◌∷◌, ◌++◌, replicate, Option, Some, None, refl, sym, ap, ◌∙◌, arith, append-nil}
+use Rattle.std.specs.Prelude.{slice_get}
+use Rattle.ms_event.specs.declared.event.Event.{Event}
+use Rattle.ms_linear.specs.declared.value.Value.{Value}
+use Rattle.ms_machine.specs.Crews as crews
+use Rattle.ms_machine.specs.Crews.{Crew, End, Input, Run, Task, bytes_of, deed, events_of, moved, run_entries, with_task}
+use Rattle.ms_machine.specs.Moves as moves
+use Rattle.ms_machine.specs.Moves.{Goes, Move, move_of, rest_of}
+use Rattle.ms_machine.specs.Running.{with_event}
+use Rattle.ms_machine.specs.Store.{Store}
+use Rattle.ms_task.specs.Thread.{Frame, Item, Thread, thread}
+use Rattle.c_runs.specs.Threads.{Ended, Trapped, Paused, Stuck, Ran, ran, before, after_move, steps, with_put}
+use Rattle.c_runs.specs.Crews.{Extends, Same, crew_of_one}
+
+extends_same : (r : Ran) → Extends r r
+extends_same r = record { puts = []; events = []; puts_are = sym (append-nil r.puts); events_are = sym (append-nil r.events); over = λ n. refl }
+
+extends_paused : (r : Ran) → Extends (ran Paused) r
+extends_paused r = record { puts = r.puts; events = r.events; puts_are = refl; events_are = refl; over = λ n. absurd (n refl) }
+
+put_append : (put : Option ℕ) (a b : List ℕ) → with_put put (a ++ b) ≡ with_put put a ++ b
+put_append None a b = refl
+put_append (Some p) a b = refl
+
+event_append : (event : Option Event) (a b : List Event) → with_event event (a ++ b) ≡ with_event event a ++ b
+event_append None a b = refl
+event_append (Some e) a b = refl
+
+extends_before : (put : Option ℕ) (event : Option Event) (r r' : Ran) → Extends r r' → Extends (before put event r) (before put event r')
+extends_before put event r r' x = record {
+  puts = x.puts;
+  events = x.events;
+  puts_are = ap (with_put put) x.puts_are ∙ put_append put r.puts x.puts;
+  events_are = ap (with_event event) x.events_are ∙ event_append event r.events x.events;
+  over = λ n. ap (before put event) (x.over n);
+}
+
+extends_move : (mv : Move) (input : Input) (go go' : Store → Thread → Input → Ran) → ((s : Store) (t : Thread) (i : Input) → Extends (go s t i) (go' s t i)) → Extends (after_move mv input go) (after_move mv input go')
+extends_move (Goes s t took put event) input go go' h = extends_before put event (go s t (rest_of took input)) (go' s t (rest_of took input)) (h s t (rest_of took input))
+extends_move (moves.Trap k) input go go' h = extends_same (ran (Trapped k))
+extends_move moves.Stuck input go go' h = extends_same (ran Stuck)
+
+pub longer_at : (n m : ℕ) → n ≤ m → (s : Store) (input : Input) (fr : Frame) (vs : List Value) (w : List Item) → Extends (steps n s (thread fr vs w) input) (steps m s (thread fr vs w) input)
+longer_at zero zero le s input fr vs w = extends_same (steps 0 s (thread fr vs w) input)
+longer_at zero (suc m) le s input fr vs [] = extends_same (ran (Ended (slice_get vs 0)))
+longer_at zero (suc m) le s input fr vs (i ∷ w) = extends_paused (steps (suc m) s (thread fr vs (i ∷ w)) input)
+longer_at (suc n) zero le s input fr vs w = absurd (omega (arith, le))
+longer_at (suc n) (suc m) le s input fr vs [] = extends_same (ran (Ended (slice_get vs 0)))
+longer_at (suc n) (suc m) le s input fr vs (i ∷ w) = extends_move (move_of s (thread fr vs (i ∷ w)) input) input (steps n) (steps m) (λ s' t' i'. longer_at n m (omega (arith, le)) s' i' t'.frame t'.operands t'.work)
+
+pub longer : (n m : ℕ) → n ≤ m → (s : Store) (t : Thread) (input : Input) → Extends (steps n s t input) (steps m s t input)
+longer n m le s t input = longer_at n m le s input t.frame t.operands t.work
+
+-- ---- a crew of one task
+
+same_before : (put : Option ℕ) (event : Option Event) (r : Run) (q : Ran) → Same r q → Same (crews.behind (deed (Task 0) put event) r) (before put event q)
+same_before None None r q h = record { bytes = h.bytes; events = h.events; ends = h.ends }
+same_before (Some b) None r q h = record { bytes = ap (λ (l : List ℕ). b ∷ l) h.bytes; events = h.events; ends = h.ends }
+same_before None (Some e) r q h = record { bytes = h.bytes; events = ap (λ (l : List Event). e ∷ l) h.events; ends = h.ends }
+same_before (Some b) (Some e) r q h = record { bytes = ap (λ (l : List ℕ). b ∷ l) h.bytes; events = ap (λ (l : List Event). e ∷ l) h.events; ends = h.ends }
+
+same_move : (mv : Move) (s : Store) (t : Thread) (input : Input) (go : Crew → Input → Run) (go' : Store → Thread → Input → Ran) → ((s' : Store) (t' : Thread) (i : Input) → Same (go (crew_of_one s' t') i) (go' s' t' i))
+    → Same (moved (Task 0) mv (crew_of_one s t) input (with_task (crew_of_one s t) 0) go) (after_move mv input go')
+same_move (Goes s' t' took put event) s t input go go' h = same_before put event (go (crew_of_one s' t') (rest_of took input)) (go' s' t' (rest_of took input)) (h s' t' (rest_of took input))
+same_move (moves.Trap k) s t input go go' h = record { bytes = refl; events = refl; ends = refl }
+same_move moves.Stuck s t input go go' h = record { bytes = refl; events = refl; ends = refl }
+
+same_at : (n : ℕ) (s : Store) (input : Input) (fr : Frame) (vs : List Value) (w : List Item) → Same (run_entries (replicate n 0) (crew_of_one s (thread fr vs w)) input) (steps n s (thread fr vs w) input)
+same_at zero s input fr vs [] = record { bytes = refl; events = refl; ends = refl }
+same_at zero s input fr vs (i ∷ w) = record { bytes = refl; events = refl; ends = refl }
+same_at (suc n) s input fr vs [] = record { bytes = refl; events = refl; ends = refl }
+same_at (suc n) s input fr vs (i ∷ w) =
+    same_move (move_of s (thread fr vs (i ∷ w)) input) s (thread fr vs (i ∷ w)) input (run_entries (replicate n 0)) (steps n) (λ s' t' i'. same_at n s' i' t'.frame t'.operands t'.work)
+
+pub same_run : (n : ℕ) (s : Store) (t : Thread) (input : Input) → Same (run_entries (replicate n 0) (crew_of_one s t) input) (steps n s t input)
+same_run n s t input = same_at n s input t.frame t.operands t.work

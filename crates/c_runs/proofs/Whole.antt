@@ -1,0 +1,185 @@
+-- Code without instructions has no sequences: the code of all expressions of the stage.
+use Rattle.std.proofs.Common.{◌≡◌, ℕ, ◌+◌, List, [], ◌∷◌, ◌++◌, length, Bool, true, false, Option, Some, None, refl, ap, ◌∙◌, cond}
+use Rattle.std.specs.Prelude.{ℤ, ◌&&◌, nat_lt}
+use Rattle.ms_types.specs.declared.types.ValType.{ValType}
+use Rattle.ms_types.specs.declared.types.ValType.TheVariants as vals
+use Rattle.ms_module.specs.declared.instr.Instr.{Instr}
+use Rattle.ms_module.specs.declared.instr.Instr.TheVariants.{Drop}
+use Rattle.ms_module.specs.declared.numeric.Width.{Width}
+use Rattle.ms_module.specs.declared.numeric.Width.TheVariants.{W32, W64}
+use Rattle.c_types.specs.declared.integers.IntType.{IntType}
+use Rattle.c_types.specs.declared.integers.IntType.TheVariants.{Int}
+use Rattle.c_types.specs.declared.types.Scalar.{Scalar}
+use Rattle.c_types.specs.declared.types.Scalar.TheVariants as scalars
+use Rattle.c_types.specs.Integers.{bits, is_signed}
+use Rattle.c_typed.specs.declared.ops.UnaryOp.TheVariants as signs
+use Rattle.c_typed.specs.declared.ops.Variable.{Variable}
+use Rattle.c_typed.specs.declared.ops.Variable.TheVariants.{Local, Global}
+use Rattle.c_typed.specs.Tree as tree
+use Rattle.c_typed.specs.Tree.{Place, of, Expr, Exprs, none, more}
+use Rattle.ms_emit.specs.Codes.{Code, plain, one, no_code, ◌⨾◌, choice}
+use Rattle.c_code.specs.Expressions.{as_bit, begun, begun_with_old, begun_over_old, converted, ended, expr, exprs, fetched, int, is_bit, left, number_in, place, put, updated}
+use Rattle.c_code.specs.Operations.{by_width, convert, i32, narrow, to_type, truth, val_option, width_of}
+use Rattle.c_code.specs.Stage.{in_expr, in_exprs, is_local, is_number, is_number_or_void}
+use Rattle.c_code.specs.Targets.{Target, plain_in, tee}
+
+-- both of two
+pub both : (a b : Bool) → (a && b) ≡ true → (a ≡ true) × (b ≡ true)
+both true b e = (refl, e)
+both false b e = absurd cc
+
+abbrev pub IsWhole : Code → Type 0
+IsWhole b = (n : ℕ) → (b n).instrs ≡ [] → (b n).seqs ≡ []
+
+-- code without a block
+abbrev pub IsBare : Code → Type 0
+IsBare b = (n : ℕ) → (b n).seqs ≡ []
+
+bare_to_type : (t : IntType) → IsBare (to_type t)
+bare_to_type t = by (nat_lt (bits t) 32) where
+  narrows : (b : ℕ) (s : Bool) → IsBare (narrow b s)
+  narrows b true n = refl
+  narrows b false n = refl
+
+  by : (b : Bool) → IsBare (cond b (narrow (bits t) (is_signed t)) no_code)
+  by true = narrows (bits t) (is_signed t)
+  by false = λ n. refl
+
+pub bare_convert : (t u : IntType) → IsBare (convert t u)
+bare_convert t u = by (width_of t) (width_of u) where
+  by : (v w : Width) → IsBare (by_width t u v w)
+  by W32 W32 = bare_to_type u
+  by W32 W64 = λ n. refl
+  by W64 W32 = λ n. bare_to_type u (n + 0)
+  by W64 W64 = λ n. refl
+
+-- ---- of the combinators
+
+nil_left : (a b : List Instr) → a ++ b ≡ [] → a ≡ []
+nil_left [] b e = refl
+nil_left (i ∷ a) b e = absurd cc
+
+nil_right : (a b : List Instr) → a ++ b ≡ [] → b ≡ []
+nil_right [] b e = e
+nil_right (i ∷ a) b e = absurd cc
+
+pub whole_bare : (c : Code) → IsBare c → IsWhole c
+whole_bare c b n e = b n
+
+pub whole_plain : (is : List Instr) → IsWhole (plain is)
+whole_plain is n e = refl
+
+pub whole_then : (a b : Code) → IsWhole a → IsWhole b → IsWhole (a ⨾ b)
+whole_then a b ha hb n e =
+    let x = a n in
+    let y = b (n + length x.seqs) in
+    ap (λ (l : List (List Instr)). l ++ y.seqs) (ha n (nil_left x.instrs y.instrs e)) ∙ hb (n + length x.seqs) (nil_right x.instrs y.instrs e)
+
+pub whole_choice : (k : Option ValType) (a b : Code) → IsWhole (choice k a b)
+whole_choice k a b n e = absurd cc
+
+whole_left : (k : Bool) (s : Option Scalar) (c : Code) → IsWhole c → IsWhole (left k s c)
+whole_left true s c h = h
+whole_left false None c h = h
+whole_left false (Some s) c h = whole_then c (one Drop) h (whole_plain _)
+
+whole_converted : (t u : IntType) (o : Option ℤ) (a : Code) → IsWhole a → IsWhole (converted t u o a)
+whole_converted t u None a h = whole_then a (convert t u) h (whole_bare (convert t u) (bare_convert t u))
+whole_converted t u (Some z) a h = whole_plain _
+
+whole_truth : (s : Scalar) → IsWhole (truth s)
+whole_truth (scalars.Int t) = whole_plain _
+whole_truth scalars.Pointer = whole_plain _
+whole_truth scalars.Function = whole_plain _
+
+pub whole_as_bit : (b : Bool) (a : Code) → IsWhole a → IsWhole (as_bit b a)
+whole_as_bit true a h = h
+whole_as_bit false a h = whole_then a (truth (scalars.Int Int)) h (whole_plain _)
+
+module _ (t : Target) where
+  whole_fetched : (v : Option Variable) (p : Code) (s : Scalar) → IsWhole p → IsWhole (fetched t v p s)
+  whole_fetched (Some v) p s h = whole_plain _
+  whole_fetched None p s h = whole_then p _ h (whole_plain _)
+
+  whole_begun : (v : Option Variable) (p : Code) → IsWhole p → IsWhole (begun t v p)
+  whole_begun (Some v) p h = whole_plain []
+  whole_begun None p h = h
+
+  whole_tee : (v : Variable) → IsWhole (tee t v)
+  whole_tee (Local n) = whole_plain _
+  whole_tee (Global n) = whole_plain _
+
+  whole_ended : (k : Bool) (v : Option Variable) (s : Scalar) → IsWhole (ended t k v s)
+  whole_ended true (Some v) s = whole_tee v
+  whole_ended true None s = whole_plain _
+  whole_ended false (Some v) s = whole_plain _
+  whole_ended false None s = whole_plain _
+
+  whole_with_old : (v : Option Variable) (p : Code) (s : Scalar) → IsWhole p → IsWhole (begun_with_old t v p s)
+  whole_with_old (Some v) p s h = whole_plain _
+  whole_with_old None p s h = whole_then p _ h (whole_plain _)
+
+  whole_over_old : (v : Option Variable) (p : Code) (s : Scalar) → IsWhole p → IsWhole (begun_over_old t v p s)
+  whole_over_old (Some v) p s h = whole_plain _
+  whole_over_old None p s h = whole_then p _ h (whole_plain _)
+
+  whole_put : (v : Option Variable) (s : Scalar) → IsWhole (put t v s)
+  whole_put (Some v) s = whole_plain _
+  whole_put None s = whole_plain _
+
+  whole_updated : (k old : Bool) (v : Option Variable) (p : Code) (s : Scalar) (c : Code) → IsWhole p → IsWhole c → IsWhole (updated t k old v p s c)
+  whole_updated true true v p s c hp hc = whole_then (begun_over_old t v p s) _ (whole_over_old v p s hp) (whole_then c _ hc (whole_put v s))
+  whole_updated true false v p s c hp hc = whole_then (begun_with_old t v p s) _ (whole_with_old v p s hp) (whole_then c _ hc (whole_ended true v s))
+  whole_updated false true v p s c hp hc = whole_then (begun_with_old t v p s) _ (whole_with_old v p s hp) (whole_then c _ hc (whole_ended false v s))
+  whole_updated false false v p s c hp hc = whole_then (begun_with_old t v p s) _ (whole_with_old v p s hp) (whole_then c _ hc (whole_ended false v s))
+
+  -- ---- of expressions
+
+  whole_place : (d : ℕ) (p : Place) → is_local p ≡ true → IsWhole (place t d p)
+  whole_place d (of (Local n)) e = whole_plain _
+  whole_place d (of (Global n)) e = absurd cc
+  whole_place d (tree.deref a) e = absurd cc
+  whole_place d (tree.member p n m) e = absurd cc
+
+  mutual
+    pub whole_expr : (k : Bool) (d : ℕ) (e : Expr) → in_expr e ≡ true → IsWhole (expr t k d e)
+    whole_expr k d (tree.number u n) h = whole_left k _ _ (whole_plain _)
+    whole_expr k d (tree.read s p) h = whole_left k _ _ (whole_fetched (plain_in t p) (place t d p) s (whole_place d p h))
+    whole_expr k d (tree.convert u v a) h = whole_left k _ _ (whole_converted u v (number_in a) (expr t true d a) (whole_expr true d a h))
+    whole_expr k d (tree.truth s a) h = let q = both (is_number s) (in_expr a) h in whole_left k _ _ (whole_then (expr t true d a) (truth s) (whole_expr true d a q.1) (whole_truth s))
+    whole_expr k d (tree.not a) h = whole_left k _ _ (whole_then (expr t true d a) _ (whole_expr true d a h) (whole_plain _))
+    whole_expr k d (tree.unary signs.Negate u a) h = whole_left k _ _ (whole_then (one _) _ (whole_plain _) (whole_then (expr t true d a) _ (whole_expr true d a h) (whole_plain _)))
+    whole_expr k d (tree.unary signs.Complement u a) h = whole_left k _ _ (whole_then (expr t true d a) _ (whole_expr true d a h) (whole_plain _))
+    whole_expr k d (tree.binary o u a b) h = let q = both (in_expr a) (in_expr b) h in whole_left k _ _ (whole_then (expr t true d a) _ (whole_expr true d a q.0) (whole_then (expr t true d b) _ (whole_expr true d b q.1) (whole_plain _)))
+    whole_expr k d (tree.compare o u a b) h = let q = both (in_expr a) (in_expr b) h in whole_left k _ _ (whole_then (expr t true d a) _ (whole_expr true d a q.0) (whole_then (expr t true d b) _ (whole_expr true d b q.1) (whole_plain _)))
+    whole_expr k d (tree.and a b) h =
+        let q = both (in_expr a) (in_expr b) h in let y = as_bit (is_bit b) (expr t true d b) in let z = one (i32 0) in
+        whole_left k int _ (whole_then (expr t true d a) (choice (Some vals.I32) y z) (whole_expr true d a q.0) (whole_choice (Some vals.I32) y z))
+    whole_expr k d (tree.or a b) h =
+        let q = both (in_expr a) (in_expr b) h in let y = one (i32 1) in let z = as_bit (is_bit b) (expr t true d b) in
+        whole_left k int _ (whole_then (expr t true d a) (choice (Some vals.I32) y z) (whole_expr true d a q.0) (whole_choice (Some vals.I32) y z))
+    whole_expr k d (tree.choose s c a b) h =
+        let q = both (is_number_or_void s) (in_expr c && (in_expr a && in_expr b)) h in
+        let p = both (in_expr c) (in_expr a && in_expr b) q.1 in let y = expr t true d a in let z = expr t true d b in
+        whole_left k s _ (whole_then (expr t true d c) (choice (val_option s) y z) (whole_expr true d c p.0) (whole_choice (val_option s) y z))
+    whole_expr k d (tree.comma a b) h = let q = both (in_expr a) (in_expr b) h in whole_then (expr t false d a) (expr t k d b) (whole_expr false d a q.0) (whole_expr k d b q.1)
+    whole_expr k d (tree.assign s p e) h =
+        let q = both (is_local p) (in_expr e) h in
+        whole_then (begun t (plain_in t p) (place t d p)) _ (whole_begun (plain_in t p) (place t d p) (whole_place d p q.0)) (whole_then (expr t true d e) _ (whole_expr true d e q.1) (whole_ended k (plain_in t p) s))
+    whole_expr k d (tree.update old u o v p e) h =
+        let q = both (is_local p) (in_expr e) h in
+        whole_updated k old (plain_in t p) (place t d p) (scalars.Int u) _ (whole_place d p q.0)
+        (whole_then (convert u v) _ (whole_bare (convert u v) (bare_convert u v)) (whole_then (expr t true d e) _ (whole_expr true d e q.1) (whole_then (one _) (convert v u) (whole_plain _) (whole_bare (convert v u) (bare_convert v u)))))
+    whole_expr k d (tree.call n s es) h = let q = both (is_number_or_void s) (in_exprs es) h in whole_left k _ _ (whole_then (exprs t d es) _ (whole_exprs d es q.1) (whole_plain _))
+    whole_expr k d (tree.putchar e) h = whole_left k _ _ (whole_then (expr t true d e) _ (whole_expr true d e h) (whole_plain _))
+    whole_expr k d tree.getchar h = whole_left k _ _ (whole_plain _)
+    whole_expr k d tree.abort h = whole_plain _
+    whole_expr k d (tree.discard e) h = whole_expr false d e h
+    whole_expr k d (tree.size_of_place n p) h = whole_left k _ _ (whole_plain _)
+    whole_expr k d (tree.size_of_value n e) h = whole_left k _ _ (whole_plain _)
+    whole_expr k d (tree.size_of_type n) h = whole_left k _ _ (whole_plain _)
+    whole_expr k d _ h = absurd cc
+
+    pub whole_exprs : (d : ℕ) (es : Exprs) → in_exprs es ≡ true → IsWhole (exprs t d es)
+    whole_exprs d none h = whole_plain []
+    whole_exprs d (more e es) h = let q = both (in_expr e) (in_exprs es) h in whole_then (expr t true d e) _ (whole_expr true d e q.0) (whole_exprs d es q.1)

@@ -1,0 +1,5 @@
+pub mod Threads
+pub mod Ends
+pub mod Crews
+pub mod Correct
+pub mod Parts
