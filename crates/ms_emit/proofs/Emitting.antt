@@ -43,7 +43,7 @@ abbrev with_seqs : State → List (List Instr) → State
 with_seqs st ss = record { blocks = st.blocks; seqs = ss }
 
 -- the state where an instruction comes, by whether it comes first behind an `else`
-abbrev started_in : Bool → State → State
+abbrev pub started_in : Bool → State → State
 started_in b st = cond b (record { blocks = in_second (length st.seqs) st.blocks; seqs = st.seqs ++ [] ∷ [] }) st
 
 -- ---- in a sequence that has begun

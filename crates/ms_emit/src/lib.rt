@@ -6,4 +6,4 @@
 
 mod laws;
 
-pub use laws::builds_in_parts;
+pub use laws::{builds_in_parts, parts_add_up};
