@@ -11,3 +11,4 @@ pub mod Indices
 pub mod Frames
 pub mod Funcs
 pub mod Modules
+pub mod Interface
