@@ -12,3 +12,7 @@ pub mod Frames
 pub mod Funcs
 pub mod Modules
 pub mod Interface
+pub mod Bounded
+pub mod BoundedExprs
+pub mod BoundedStmts
+pub mod BoundedModules

@@ -1,16 +1,20 @@
-//! The module of a unit: it is valid, and what it exports and imports.
+//! The module of a unit: it is valid, what it exports and imports, how deep its blocks nest, its loops and its calls.
 
-ghost use Rattle.std.specs.Prelude.{◌≡◌, [], ◌∷◌, codes, map, None, true};
+ghost use Rattle.std.specs.Prelude.{◌≡◌, ◌<◌, ℕ, [], ◌∷◌, codes, map, None, true, All};
 ghost use Rattle.ms_types.specs.declared.types.ValType.TheVariants.{I32};
+ghost use Rattle.ms_module.specs.refinement.Nesting.{ModuleNestsWithin};
 ghost use Rattle.ms_rules.specs.Modules.{AreDistinct, WellTyped};
 ghost use Rattle.c_types.specs.declared.integers.IntType.TheVariants.{Int};
 ghost use Rattle.c_types.specs.Types.{function, integer, no_types};
-ghost use Rattle.c_typed.specs.Tree.{Function, Typed};
+ghost use Rattle.c_typed.specs.Nesting.{unit_nesting};
+ghost use Rattle.c_typed.specs.Tree.{Function, Stmt, Typed};
 ghost use Rattle.c_well_typed.specs.Units.{IsWellTyped};
-ghost use Rattle.c_code.specs.Functions.{signature};
+ghost use Rattle.c_code.specs.Functions.{body, signature};
 ghost use Rattle.c_code.specs.Limits.{limit_of};
-ghost use Rattle.c_code.specs.Modules.{compiled, is_exported};
+ghost use Rattle.c_code.specs.Modules.{compiled, is_exported, start_func, target_of};
+ghost use Rattle.c_code.specs.Uses.{in_made, in_stmt};
 ghost use Rattle.c_typing.specs.Interface.{MakesKnown, Takes};
+ghost use Rattle.c_typing.specs.LoopsAndCalls.{IsBounded, IsNoCall, IsQuiet, loops_in_made, loops_in_stmt};
 
 /// The module of each well-typed unit of C that passes no limit is valid WebAssembly (WebAssembly 1.0, 3.4): each of its functions
 /// has a typed body, all indices name something, and no two exports have one name.
@@ -26,4 +30,20 @@ pub fn compiled_exports_its_functions()
     ensures distinct { (u : Typed) → IsWellTyped u → AreDistinct (map (λ e. e.name) (compiled u).exports) }
     ensures main { (u : Typed) (f : Function) → f.name ≡ codes "main" → f.ty ≡ function (integer Int) no_types → (is_exported u f ≡ true) × (signature f.ty ≡ record { params = []; results = I32 ∷ [] }) }
     ensures imports { (u : Typed) → Takes u }
+{}
+
+/// In the module of a unit blocks nest at most one deeper than in the unit (`c_typed/specs/Nesting.antt`): where an object is made,
+/// or memory is allocated or freed, there is an `if` that holds no part of the unit. `nests` of `check` (`c_check`) bounds how deep
+/// they nest in a unit, so that a module within the readers' bound (`ms_module/specs/Bounds.antt`) can be read again.
+pub fn compiled_nests()
+    ensures nests { (u : Typed) (d : ℕ) → unit_nesting u < d → ModuleNestsWithin d (compiled u) }
+{}
+
+/// The body of a function has at most as many loops as the function has loop statements, and it calls nothing but the host's
+/// functions and what the function calls; likewise for what is done before `main`. A function without loops and calls has a body
+/// without loops, which calls the host's functions alone: there each branch leads forward.
+pub fn compiled_loops_and_calls()
+    ensures functions { (u : Typed) (f : Function) (code : Stmt) → IsBounded u (loops_in_stmt code) (in_stmt code) (body (target_of u f code) f code) }
+    ensures start { (u : Typed) → IsBounded u (loops_in_made u.made) (in_made u.made) (start_func u).body }
+    ensures quiet { (u : Typed) (f : Function) (code : Stmt) → loops_in_stmt code ≡ 0 → All IsNoCall (in_stmt code) → All (λ is. All IsQuiet is) (body (target_of u f code) f code) }
 {}
