@@ -208,7 +208,8 @@ module _ (body : List (List Instr)) (C D : ℕ → Type 0) (h : ℕ) where
     leaves_copied_ok (l ∷ ls) = leaf_copied_ok l (scalar_of l.ty) ▹ leaves_copied_ok ls
 
     copied_ok : (n : ℕ) {p q : Code} → Q p → Q q → Q (copied t n p q)
-    copied_ok n gp gq = gp ▹ gq ▹ flat {is = LocalSet (scratch_handle t) ∷ LocalSet (scratch_place t) ∷ []} (tt, (tt, tt)) ▹ leaves_copied_ok (leaves t.structs n)
+    copied_ok n gp gq = gp ▹ gq ▹ flat {is = LocalSet (scratch_handle t) ∷ LocalSet (scratch_place t) ∷ []} (tt, (tt, tt))
+        ▹ leaves_copied_ok (leaves t.structs n)
 
     -- ---- the others
 
@@ -295,7 +296,8 @@ module _ (body : List (List Instr)) (C D : ℕ → Type 0) (host : Host C) (t : 
     expr_ok h k d (tree.truth s a) w = left_ok body C D h k _ (expr_ok h true d a w ▹ truth_ok body C D h s)
     expr_ok h k d (tree.not a) w = left_ok body C D h k _ (expr_ok h true d a w ▹ flat (tt, tt))
     expr_ok h k d (tree.unary Negate u a) w = left_ok body C D h k _
-        (flat {is = constant (width_of u) (pos 0) ∷ []} (constant_flat C D (width_of u) (pos 0), tt) ▹ expr_ok h true d a w ▹ flat (tt, tt))
+        (flat {is = constant (width_of u) (pos 0) ∷ []} (constant_flat C D (width_of u) (pos 0), tt)
+        ▹ expr_ok h true d a w ▹ flat (tt, tt))
     expr_ok h k d (tree.unary Complement u a) w = left_ok body C D h k _
         (expr_ok h true d a w ▹ flat (constant_flat C D (width_of u) (negsuc 0), (tt, tt)))
     expr_ok h k d (tree.size_of_place n p) w = left_ok body C D h k _ (flat (tt, tt))
@@ -342,7 +344,8 @@ module _ (body : List (List Instr)) (C D : ℕ → Type 0) (host : Host C) (t : 
         ▹ expr_ok h true d e (snd_place h p e w) ▹ ended_ok body C D h t k (plain_in t p) s
     expr_ok h k d (tree.update old u o v p e) w = updated_ok body C D h t k old (plain_in t p) (scalars.Int u)
         (place_ok h d p (fst_place h p e w))
-        (convert_ok body C D h u v ▹ expr_ok h true d e (snd_place h p e w) ▹ flat {is = operated o v ∷ []} (tt, tt) ▹ convert_ok body C D h v u)
+        (convert_ok body C D h u v ▹ expr_ok h true d e (snd_place h p e w) ▹ flat {is = operated o v ∷ []} (tt, tt)
+        ▹ convert_ok body C D h v u)
     expr_ok h k d (tree.advance old u back p e) w = updated_ok body C D h t k old (plain_in t p) scalars.Pointer
         (place_ok h d p (fst_place h p e w))
         (moved_ok body C D h (size t.structs u) back (expr_ok h true d e (snd_place h p e w)))

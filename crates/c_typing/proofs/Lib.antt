@@ -16,3 +16,4 @@ pub mod Bounded
 pub mod BoundedExprs
 pub mod BoundedStmts
 pub mod BoundedModules
+pub mod Locals

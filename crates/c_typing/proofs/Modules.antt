@@ -71,11 +71,11 @@ through_typed (copies n ∷ us) = through_typed us
 
 -- ---- limits
 
-no_limit : (b : Bool) (l : Limit) (rest : Option Limit) → first_true b l rest ≡ None → (b ≡ false) × (rest ≡ None)
+pub no_limit : (b : Bool) (l : Limit) (rest : Option Limit) → first_true b l rest ≡ None → (b ≡ false) × (rest ≡ None)
 no_limit true l rest e = absurd cc
 no_limit false l rest e = (refl, e)
 
-not_below : (m n : ℕ) → nat_lt m n ≡ false → n ≤ m
+pub not_below : (m n : ℕ) → nat_lt m n ≡ false → n ≤ m
 not_below m n e = grind (arith, e)
 
 is_use : (n : ℕ) (x : Use) → is_name_of n x ≡ true → is_call_of n x ≡ true

@@ -1,4 +1,5 @@
--- What the module of a unit makes known to other modules and takes from them (WebAssembly 1.0, 2.5.10, 2.5.11), in the unit's terms.
+-- What the module of a unit makes known to other modules and takes from them, in the unit's terms (WebAssembly 1.0, 2.5.10 and
+-- 2.5.11).
 use Rattle.std.specs.Prelude.{◌≡◌, ℕ, ◌+◌, true, List, [], ◌∷◌, codes, length, slice_get, Some, None, All}
 use Rattle.std.specs.List.{list_any}
 use Rattle.ms_types.specs.declared.types.FuncType.{FuncType}
@@ -80,7 +81,8 @@ IsPutchar u i = let m = compiled u in
     IsImport m i (codes "env") (codes "putchar") (record { params = vals.I32 ∷ []; results = vals.I32 ∷ [] })
 
 abbrev pub IsGetchar : Typed → Import → Type 0
-IsGetchar u i = let m = compiled u in IsImport m i (codes "env") (codes "getchar") (record { params = []; results = vals.I32 ∷ [] })
+IsGetchar u i = let m = compiled u in
+    IsImport m i (codes "env") (codes "getchar") (record { params = []; results = vals.I32 ∷ [] })
 
 abbrev pub IsAbort : Typed → Import → Type 0
 IsAbort u i = let m = compiled u in IsImport m i (codes "env") (codes "abort") (record { params = []; results = [] })

@@ -1,6 +1,6 @@
-//! The module of a unit: it is valid, what it exports and imports, how deep its blocks nest, its loops and its calls.
+//! The module of a unit: it is valid, what it exports and imports, how deep its blocks nest, its locals, its loops and its calls.
 
-ghost use Rattle.std.specs.Prelude.{◌≡◌, ◌<◌, ℕ, [], ◌∷◌, codes, map, None, true, All};
+ghost use Rattle.std.specs.Prelude.{◌≡◌, ◌≤◌, ◌<◌, ◌+◌, length, ℕ, [], ◌∷◌, codes, map, None, true, All};
 ghost use Rattle.ms_types.specs.declared.types.ValType.TheVariants.{I32};
 ghost use Rattle.ms_module.specs.refinement.Nesting.{ModuleNestsWithin};
 ghost use Rattle.ms_rules.specs.Modules.{AreDistinct, WellTyped};
@@ -10,11 +10,12 @@ ghost use Rattle.c_typed.specs.Nesting.{unit_nesting};
 ghost use Rattle.c_typed.specs.Tree.{Function, Stmt, Typed};
 ghost use Rattle.c_well_typed.specs.Units.{IsWellTyped};
 ghost use Rattle.c_code.specs.Functions.{body, signature};
-ghost use Rattle.c_code.specs.Limits.{limit_of};
+ghost use Rattle.c_code.specs.Limits.{limit_of, most_slots};
 ghost use Rattle.c_code.specs.Modules.{compiled, is_exported, start_func, target_of};
 ghost use Rattle.c_code.specs.Uses.{in_made, in_stmt};
 ghost use Rattle.c_typing.specs.Interface.{MakesKnown, Takes};
 ghost use Rattle.c_typing.specs.LoopsAndCalls.{IsBounded, IsNoCall, IsQuiet, loops_in_made, loops_in_stmt};
+ghost use Rattle.c_typing.specs.Waits.{unit_waits};
 
 /// The module of each well-typed unit of C that passes no limit is valid WebAssembly (WebAssembly 1.0, 3.4): each of its functions
 /// has a typed body, all indices name something, and no two exports have one name.
@@ -32,11 +33,18 @@ pub fn compiled_exports_its_functions()
     ensures imports { (u : Typed) → Takes u }
 {}
 
-/// In the module of a unit blocks nest at most one deeper than in the unit (`c_typed/specs/Nesting.antt`): where an object is made,
-/// or memory is allocated or freed, there is an `if` that holds no part of the unit. `nests` of `check` (`c_check`) bounds how deep
-/// they nest in a unit, so that a module within the readers' bound (`ms_module/specs/Bounds.antt`) can be read again.
+/// In the module of a unit blocks nest at most one deeper than in the unit (`c_typed/specs/Nesting.antt`): where an object is
+/// made, or memory is allocated or freed, there is an `if` that holds no part of the unit. How deep they nest in a unit that was
+/// read is bounded by `nests` of `check` (`c_check`) and by the parser, so that a module that is written is within what the readers
+/// allow (`ms_module/specs/Bounds.antt`).
 pub fn compiled_nests()
     ensures nests { (u : Typed) (d : ℕ) → unit_nesting u < d → ModuleNestsWithin d (compiled u) }
+{}
+
+/// Where the unit passes no limit, a function of its module declares at most 10,004 locals beside one for each value that waits:
+/// one for each slot and four scratch locals.
+pub fn compiled_declares_few_locals()
+    ensures locals { (u : Typed) → limit_of u ≡ None → All (λ f. length f.locals ≤ most_slots + 4 + unit_waits u) (compiled u).funcs }
 {}
 
 /// The body of a function has at most as many loops as the function has loop statements, and it calls nothing but the host's

@@ -1,5 +1,5 @@
 //! Laws of compiled code that need no run: the module of a well-typed unit of C is valid WebAssembly, exports what the unit defines,
-//! and has no more blocks, loops and calls than the unit asks for.
+//! and has no more blocks, locals, loops and calls than the unit asks for.
 //!
 //! There is no code. It stands on the module of a unit (`c_code`), on the judgement of C's types (`c_well_typed`) and on the rules
 //! of validation (`ms_rules`). The laws are the clauses of `src/laws.rt`; in `proofs/`, `Typing.antt` says what it is for code that
@@ -10,5 +10,6 @@
 mod laws;
 
 pub use laws::{
-    compiled_exports_its_functions, compiled_is_valid, compiled_loops_and_calls, compiled_nests,
+    compiled_declares_few_locals, compiled_exports_its_functions, compiled_is_valid,
+    compiled_loops_and_calls, compiled_nests,
 };
