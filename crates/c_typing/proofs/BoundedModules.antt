@@ -1,7 +1,8 @@
 -- How deep blocks nest in the module of a unit, how many loops its bodies have, and what they call.
-use Rattle.std.proofs.Common.{◌≡◌, ℕ, zero, suc, ◌≤◌, ◌<◌, List, [], ◌∷◌, Option, Some, None, refl, arith}
+use Rattle.std.proofs.Common.{◌≡◌, ℕ, zero, suc, ◌≤◌, ◌<◌, List, [], ◌∷◌, Option, Some, None, refl, arith, ◌+◌, length, ap}
 use Rattle.std.specs.Prelude.{Bool, slice_get}
 use Rattle.std.specs.List.{All}
+use Rattle.std.proofs.lemmas.List.{length-map}
 use Rattle.std.proofs.lemmas.List.Elements.{All-head, All-nil, All-tail}
 use Rattle.ms_types.specs.declared.types.ValType.{ValType}
 use Rattle.ms_types.specs.declared.types.ValType.TheVariants as vals
@@ -13,12 +14,13 @@ use Rattle.ms_module.specs.declared.module.Func.{Func}
 use Rattle.ms_module.specs.declared.module.Global.{Global as GlobalEntry}
 use Rattle.ms_module.specs.refinement.Nesting.{ModuleNestsWithin, NestsWithin}
 use Rattle.c_types.specs.Types.{Ty}
+use Rattle.ms_rules.specs.Context.{imported_funcs}
 use Rattle.c_typed.specs.declared.ops.Variable.{Variable}
 use Rattle.c_typed.specs.Nesting.{body_nesting, deepest, function_nesting, made_nesting, stmt_nesting, unit_nesting}
 use Rattle.c_typed.specs.Tree.{Function, Stmt, Typed}
 use Rattle.c_well_typed.specs.Units.{literals_in}
 use Rattle.c_code.specs.Functions.{body}
-use Rattle.c_code.specs.Modules.{compiled, func_of, funcs_from, global_of, globals_from, literal_globals, start_func, start_target, target, target_of}
+use Rattle.c_code.specs.Modules.{compiled, defined, imported, func_of, funcs_from, global_of, globals_from, literal_globals, start_func, start_target, target, target_of}
 use Rattle.c_code.specs.Targets.{Target}
 use Rattle.c_code.specs.Uses.{Use, calls, copies, in_made, in_stmt, names, through}
 use Rattle.c_typing.specs.LoopsAndCalls.{IsBounded, IsCallee, IsCalleeType, IsNoCall, IsQuiet, OfCalls, called, host, loops_among, loops_in_body, loops_in_made, loops_in_stmt, one_if_loop}
@@ -26,6 +28,10 @@ use Rattle.c_typing.proofs.Bounded.{BodyBounded}
 use Rattle.c_typing.proofs.BoundedExprs.{Calls, Host}
 use Rattle.c_typing.proofs.BoundedStmts.{body_ok, start_ok}
 use Rattle.c_typing.proofs.Frames.{each_all}
+use Rattle.c_typing.proofs.Indices.{defined_from, sigs_from, third}
+use Rattle.c_typing.proofs.Interface.{imported_length}
+use Rattle.c_typing.proofs.Lists.{slice_right}
+use Rattle.c_typing.proofs.Modules.{defined_are}
 use Rattle.c_typing.proofs.Names.{Each, each_append}
 
 -- ---- depth: any function may be called
@@ -134,13 +140,37 @@ module _ (u : Typed) where
       bounded_is us h (loops_in_stmt s) (body t f s) (body_ok (IsCallee u us) (IsCalleeType u us) (hosts us) t h f s
       (record { depth = omega arith; uses = calls_of us t.is_object t.first t.scratch }))
 
-  pub start_bounded : IsBounded u (loops_in_made u.made) (in_made u.made) ((start_func u).body)
-  start_bounded =
+  bounded_start : IsBounded u (loops_in_made u.made) (in_made u.made) ((start_func u).body)
+  bounded_start =
       let us = in_made u.made in
       let t = start_target u in
       let h = deepest made_nesting u.made in
       bounded_is us h (loops_in_made u.made) ((start_func u).body) (start_ok (IsCallee u us) (IsCalleeType u us) (hosts us) t h
       u.globals u.made (record { depth = omega arith; uses = calls_of us t.is_object t.first t.scratch }))
+
+  funcs_length : length (funcs_from u 0 u.functions) ≡ length (defined u)
+  funcs_length =
+      let ns = defined_from 0 u.functions in
+      let a = length-map (funcs_from u 0 u.functions) (λ (g : Func). g.sig) in
+      let b = ap (λ (l : List ℕ). length l) (sigs_from u 0 u.functions) in
+      let c = length-map ns third in
+      let d = ap (λ (l : List ℕ). length l) (defined_are u) in
+      omega (arith, a, b, c, d)
+
+  -- the start function is the last one
+  start_at : slice_get (compiled u).funcs (length (defined u)) ≡ Some (start_func u)
+  start_at =
+      let l = funcs_length in
+      let e : length (defined u) ≡ length (funcs_from u 0 u.functions) + 0 = omega (arith, l) in
+      slice_right (funcs_from u 0 u.functions) (start_func u ∷ []) (length (defined u)) 0 e
+
+  pub start_bounded : (i : ℕ) × (g : Func) × ((compiled u).start ≡ Some (length (imported_funcs (compiled u).imports) + i))
+      × (slice_get (compiled u).funcs i ≡ Some g) × IsBounded u (loops_in_made u.made) (in_made u.made) g.body
+  start_bounded =
+      let l = imported_length u in
+      let n = length (defined u) in
+      let e : 3 + length (imported u) + n ≡ length (imported_funcs (compiled u).imports) + n = omega (arith, l) in
+      (n, start_func u, ap Some e, start_at, bounded_start)
 
 -- ---- without loops and calls
 

@@ -149,7 +149,7 @@ module _ (u : Typed) where
   no_imported_memories [] = refl
   no_imported_memories (n ∷ ns) = no_imported_memories ns
 
-  sigs_from : (k : ℕ) (fs : List Function) → map (λ (f : Func). f.sig) (funcs_from u k fs) ≡ map third (defined_from k fs)
+  pub sigs_from : (k : ℕ) (fs : List Function) → map (λ (f : Func). f.sig) (funcs_from u k fs) ≡ map third (defined_from k fs)
   sigs_from k [] = refl
   sigs_from k (f ∷ fs) = by f.body (sigs_from (suc k) fs) where
     by : (o : Option Stmt) → map (λ (f : Func). f.sig) (funcs_from u (suc k) fs) ≡ map third (defined_from (suc k) fs)

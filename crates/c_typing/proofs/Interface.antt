@@ -76,20 +76,25 @@ module _ (u : Typed) where
   among n f s d = filter_has (is_defined_at u) n (all_functions u) (has_number (length u.functions) n (within n f d.at))
       (defined_here n f s d)
 
+  pub imported_length : length (imported_funcs (compiled u).imports) ≡ 3 + length (imported u)
+  imported_length =
+      let l : length (imported_funcs (map (import_from_c u) (imported u))) ≡ length (imported u) =
+      ap (λ (l : List ℕ). length l) (imports_are u (imported u)) ∙ length-map (imported u) third in
+      let c : length (imported_funcs (compiled u).imports)
+      ≡ suc (suc (suc (length (imported_funcs (map (import_from_c u) (imported u)))))) = refl in
+      omega (arith, l, c)
+
   pub is_compiled : (n : ℕ) (f : Function) (s : Stmt) → Defines u n f s → IsCompiled u (index_of u n) f s
   is_compiled n f s d =
       let r = rank_in (defined u) n in
       let at : slice_get (defined u) r ≡ Some n = rank_is (defined u) n (among n f s d) in
       let is : index_of u n ≡ 3 + length (imported u) + r =
       ap (λ (b : Bool). cond b (3 + length (imported u) + r) (3 + rank_in (imported u) n)) (defined_here n f s d) in
-      let l : length (imported_funcs (map (import_from_c u) (imported u))) ≡ length (imported u) =
-      ap (λ (l : List ℕ). length l) (imports_are u (imported u)) ∙ length-map (imported u) third in
-      let c : length (imported_funcs (compiled u).imports)
-      ≡ suc (suc (suc (length (imported_funcs (map (import_from_c u) (imported u)))))) = refl in
+      let l = imported_length in
       record {
         number = r;
         func = FuncOf n f s;
-        index_is = let z : 3 + length (imported u) + r ≡ length (imported_funcs (compiled u).imports) + r = omega (arith, l, c) in
+        index_is = let z : 3 + length (imported u) + r ≡ length (imported_funcs (compiled u).imports) + r = omega (arith, l) in
             is ∙ z;
         at = slice_left (funcs_from u 0 u.functions) (start_func u ∷ []) r (FuncOf n f s)
             (func_at n f s d 0 u.functions (all_from u) r (ap (λ (ns : List ℕ). slice_get ns r) (sym (defined_are u)) ∙ at));
