@@ -38,8 +38,8 @@ pub fn compiled_exports_its_functions()
 
 /// In the module of a unit blocks nest at most one deeper than in the unit (`c_typed/specs/Nesting.antt`): where an object is
 /// made, or memory is allocated or freed, there is an `if` that holds no part of the unit. How deep they nest in a unit that was
-/// read is bounded by `nests` of `check` (`c_check`) and by the parser, so that a module that is written is within what the readers
-/// allow (`ms_module/specs/Bounds.antt`).
+/// read is bounded by `nests` of `check` (`c_check`) and by `most_high` of the parser (`c_parse/specs/Units.antt`), so that they
+/// nest no deeper than the readers of modules allow (`ms_module/specs/Bounds.antt`).
 pub fn compiled_nests()
     ensures nests { (u : Typed) (d : ℕ) → unit_nesting u < d → ModuleNestsWithin d (compiled u) }
 {}
