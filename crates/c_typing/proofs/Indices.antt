@@ -32,11 +32,11 @@ same_type_is I64 Handle e = absurd cc
 same_type_is Handle I32 e = absurd cc
 same_type_is Handle I64 e = absurd cc
 
-both : (a b : Bool) → a && b ≡ true → (a ≡ true) × (b ≡ true)
+pub both : (a b : Bool) → a && b ≡ true → (a ≡ true) × (b ≡ true)
 both true b e = (refl, e)
 both false b e = absurd cc
 
-and_true : (a b : Bool) → a ≡ true → b ≡ true → a && b ≡ true
+pub and_true : (a b : Bool) → a ≡ true → b ≡ true → a && b ≡ true
 and_true true b e h = h
 and_true false b e h = absurd cc
 
@@ -117,7 +117,7 @@ place_is t ts e =
     let at : place_of t ts ≡ p.0 = ap or_zero p.2 in
     ap (slice_get ts) at ∙ p.3 ∙ ap Some (sym (same_sig_is t p.1 p.4))
 
-rank_is : (ms : List ℕ) (n : ℕ) → list_any (λ m. m == n) ms ≡ true → slice_get ms (rank_in ms n) ≡ Some n
+pub rank_is : (ms : List ℕ) (n : ℕ) → list_any (λ m. m == n) ms ≡ true → slice_get ms (rank_in ms n) ≡ Some n
 rank_is ms n e =
     let p = position_finds (λ m. m == n) ms e in
     let at : rank_in ms n ≡ p.0 = ap or_zero p.2 in
@@ -133,7 +133,7 @@ defined_from k [] = []
 defined_from k (f ∷ fs) = cond (is_some f.body) (k ∷ defined_from (suc k) fs) (defined_from (suc k) fs)
 
 module _ (u : Typed) where
-  imports_are : (ns : List ℕ) → imported_funcs (map (import_from_c u) ns) ≡ map third ns
+  pub imports_are : (ns : List ℕ) → imported_funcs (map (import_from_c u) ns) ≡ map third ns
   imports_are [] = refl
   imports_are (n ∷ ns) = ap (λ (l : List ℕ). (3 + n) ∷ l) (imports_are ns)
 
@@ -149,7 +149,7 @@ module _ (u : Typed) where
   no_imported_memories [] = refl
   no_imported_memories (n ∷ ns) = no_imported_memories ns
 
-  sigs_from : (k : ℕ) (fs : List Function) → map (λ (f : Func). f.sig) (funcs_from u k fs) ≡ map third (defined_from k fs)
+  pub sigs_from : (k : ℕ) (fs : List Function) → map (λ (f : Func). f.sig) (funcs_from u k fs) ≡ map third (defined_from k fs)
   sigs_from k [] = refl
   sigs_from k (f ∷ fs) = by f.body (sigs_from (suc k) fs) where
     by : (o : Option Stmt) → map (λ (f : Func). f.sig) (funcs_from u (suc k) fs) ≡ map third (defined_from (suc k) fs)

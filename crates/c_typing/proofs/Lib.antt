@@ -11,3 +11,9 @@ pub mod Indices
 pub mod Frames
 pub mod Funcs
 pub mod Modules
+pub mod Interface
+pub mod Bounded
+pub mod BoundedExprs
+pub mod BoundedStmts
+pub mod BoundedModules
+pub mod Locals

@@ -32,11 +32,11 @@ use Rattle.c_typing.proofs.Names.{Each, each_append, or_left, or_right}
 use Rattle.ms_linear.specs.Table.{same_sig}
 use Rattle.ms_module.specs.declared.module.ExportDesc.TheVariants as exports
 
-each_with : {A : Type 0} (P Q : A → Type 0) → ((x : A) → P x → Q x) → (xs : List A) → Each P xs → Each Q xs
+pub each_with : {A : Type 0} (P Q : A → Type 0) → ((x : A) → P x → Q x) → (xs : List A) → Each P xs → Each Q xs
 each_with P Q f [] h = tt
 each_with P Q f (x ∷ xs) h = (f x h.0, each_with P Q f xs h.1)
 
-each_map : {A B : Type 0} (P : B → Type 0) (g : A → B) (xs : List A) → Each (λ x. P (g x)) xs → Each P (map g xs)
+pub each_map : {A B : Type 0} (P : B → Type 0) (g : A → B) (xs : List A) → Each (λ x. P (g x)) xs → Each P (map g xs)
 each_map P g [] h = tt
 each_map P g (x ∷ xs) h = (h.0, each_map P g xs h.1)
 
@@ -71,11 +71,11 @@ through_typed (copies n ∷ us) = through_typed us
 
 -- ---- limits
 
-no_limit : (b : Bool) (l : Limit) (rest : Option Limit) → first_true b l rest ≡ None → (b ≡ false) × (rest ≡ None)
+pub no_limit : (b : Bool) (l : Limit) (rest : Option Limit) → first_true b l rest ≡ None → (b ≡ false) × (rest ≡ None)
 no_limit true l rest e = absurd cc
 no_limit false l rest e = (refl, e)
 
-not_below : (m n : ℕ) → nat_lt m n ≡ false → n ≤ m
+pub not_below : (m n : ℕ) → nat_lt m n ≡ false → n ≤ m
 not_below m n e = grind (arith, e)
 
 is_use : (n : ℕ) (x : Use) → is_name_of n x ≡ true → is_call_of n x ≡ true
@@ -104,7 +104,7 @@ module _ (u : Typed) where
 
   -- ---- lists of functions
 
-  numbered : (p : ℕ → Bool) → Each (λ n. (n < length u.functions) × (p n ≡ true)) (filter p (numbers (length u.functions)))
+  pub numbered : (p : ℕ → Bool) → Each (λ n. (n < length u.functions) × (p n ≡ true)) (filter p (numbers (length u.functions)))
   numbered p = filter_all p (λ n. n < length u.functions) (numbers (length u.functions))
       (each_below (length u.functions) (length u.functions) (omega arith))
 
@@ -196,7 +196,7 @@ module _ (u : Typed) where
       each_append (λ (e : Export). ExportTyped (compiled u) e.desc) (export_of u n (function_at u n)) (exports_of u ns)
       (export_typed n (function_at u n) (index_within n h.0.0 (inl h.0.1))) (exports_typed ns h.1)
 
-  abbrev names_of : List ℕ → List (List ℕ)
+  abbrev pub names_of : List ℕ → List (List ℕ)
   names_of ns = map (λ (e : Export). e.name) (exports_of u ns)
 
   -- of these functions, from number k on, none has this name
@@ -257,15 +257,22 @@ module _ (u : Typed) where
 
   -- ---- the whole
 
+  -- from the start of the list on
+  pub all_from : (i : ℕ) → slice_get u.functions (0 + i) ≡ slice_get u.functions i
+  all_from i = let z : 0 + i ≡ i = omega arith in ap (slice_get u.functions) z
+
+  pub defined_are : defined u ≡ defined_from 0 u.functions
+  defined_are = ap (filter (is_defined_at u)) (numbers_is (length u.functions)) ∙ defined_is u 0 u.functions all_from
+
+  pub exports_differ : IsWellTyped u → AreDistinct (names_of (defined u))
+  exports_differ w = subst (λ (ns : List ℕ). AreDistinct (names_of ns)) (sym defined_are)
+      (distinct_names 0 u.functions all_from w.distinct)
+
   head : IsWellTyped u → limit_of u ≡ None → Head (compiled u)
   head w limit =
       let m = compiled u in
-      let first : (i : ℕ) → slice_get u.functions (0 + i) ≡ slice_get u.functions i = λ i. let z : 0 + i ≡ i = omega arith in
-      ap (slice_get u.functions) z in
       let few = few_named limit in
       let named_sigs = every (λ (f : Function). SigTyped (signature f.ty)) (λ f. signature_typed f.ty) u.functions in
-      let defined_are : defined u ≡ defined_from 0 u.functions =
-      ap (filter (is_defined_at u)) (numbers_is (length u.functions)) ∙ defined_is u 0 u.functions first in
       record {
         sigs = each_all SigTyped m.sigs (
           omega arith,
@@ -304,8 +311,7 @@ module _ (u : Typed) where
         start = start_typed;
         exports = each_all (λ (e : Export). ExportTyped m e.desc) m.exports
             (exports_typed (defined u) (numbered (is_defined_at u)));
-        names = subst (λ (ns : List ℕ). AreDistinct (names_of ns)) (sym defined_are)
-            (distinct_names 0 u.functions first w.distinct);
+        names = exports_differ w;
         one_table = let e = ap (λ (l : List Limits). length (l ++ m.tables)) (no_imported_tables u (imported u)) in
             omega (arith, e);
         one_memory = let e = ap (λ (l : List Limits). length (l ++ m.memories)) (no_imported_memories u (imported u)) in

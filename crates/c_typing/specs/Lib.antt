@@ -1,0 +1,3 @@
+pub mod Interface
+pub mod LoopsAndCalls
+pub mod Waits
