@@ -15,3 +15,4 @@ pub mod Loops
 pub mod Dos
 pub mod Stmts
 pub mod Bodies
+pub mod Callees

@@ -96,7 +96,7 @@ pub record Found (ts : List Ty) (hs : List Held) (x : ℕ) (u : IntType) : Type 
   pub is : slice_get hs x ≡ Some (plain (number value))
   pub word_is : slice_get (words ts hs) x ≡ Some (word u value)
 
-some_is : (t t' : Ty) → Some t ≡ Some t' → t ≡ t'
+pub some_is : (t t' : Ty) → Some t ≡ Some t' → t ≡ t'
 some_is t t' e = ap (λ (o : Option Ty). or o) e where
   or : Option Ty → Ty
   or None = t
