@@ -47,7 +47,8 @@ use Rattle.c_runs.specs.Correct.{AreBytes}
 use Rattle.c_runs.specs.Parts.{is_shown}
 use Rattle.c_runs.proofs.Goes as goes
 use Rattle.c_runs.proofs.Goes.{Site, Mem, Runs, Goes, after_after, behind_goes, resize, spent, tells_nothing, trapped, unspent}
-use Rattle.c_runs.proofs.Related.{AreHeld, AreOf, Env, HasAll, IsOf, Kept, Now, frame_of, front, held_word, piled, pushed, some_is, words}
+use Rattle.c_runs.specs.Words.{pushed}
+use Rattle.c_runs.proofs.Related.{AreHeld, AreOf, Env, HasAll, IsOf, Kept, Now, frame_of, front, held_word, piled, some_is, words}
 use Rattle.c_runs.proofs.Ops.{Good, To_, at_work, same}
 use Rattle.c_runs.proofs.Operations.{AtHome, Linked, call_is}
 use Rattle.c_runs.proofs.Exprs.{AreInts, CallsRun}
@@ -59,7 +60,7 @@ use Rattle.c_runs.proofs.Whole.{both}
 
 -- ---- slots that are integers, and no objects
 
-an_integer : (t : Ty) → is_integer t ≡ true → (u : IntType) × (t ≡ integer u)
+pub an_integer : (t : Ty) → is_integer t ≡ true → (u : IntType) × (t ≡ integer u)
 an_integer (integer u) e = (u, refl)
 an_integer _ e = absurd cc
 

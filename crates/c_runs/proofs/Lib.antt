@@ -16,3 +16,5 @@ pub mod Dos
 pub mod Stmts
 pub mod Bodies
 pub mod Callees
+pub mod Placed
+pub mod Top

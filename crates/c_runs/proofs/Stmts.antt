@@ -37,7 +37,8 @@ use Rattle.c_code.specs.Targets.{set}
 use Rattle.c_numbers.specs.Operands.{IsIn, operand}
 use Rattle.c_numbers.proofs.Conversions.{constant_is}
 use Rattle.c_runs.proofs.Goes.{Mem, Runs, bind, here, after_after}
-use Rattle.c_runs.proofs.Related.{Env, IsOf, Kept, Now, found, front, pushed}
+use Rattle.c_runs.specs.Words.{pushed}
+use Rattle.c_runs.proofs.Related.{Env, IsOf, Kept, Now, found, front}
 use Rattle.c_runs.proofs.Ops.{Op, Stack, at_work, op_carried, op_look, op_none, op_then, same}
 use Rattle.c_runs.proofs.Nodes.{Always, Num, gone, remains, set_runs, of_number, test_is}
 use Rattle.c_runs.proofs.Operations.{AtHome, Linked}
