@@ -1,5 +1,5 @@
 -- What a call needs of each function, from what a store has of the unit.
-use Rattle.std.proofs.Common.{◌≡◌, ℕ, zero, suc, ◌+◌, ◌≤◌, List, [], ◌∷◌, ◌++◌, length, map, Bool, true, false, Option, Some, None, refl, sym, ap, ◌∙◌, arith, subst}
+use Rattle.std.proofs.Common.{◌≡◌, ℕ, zero, suc, ◌+◌, ◌≤◌, List, [], ◌∷◌, length, map, true, false, Option, Some, None, refl, sym, ap, ◌∙◌, arith, subst}
 use Rattle.std.specs.Prelude.{slice_get, ◌&&◌}
 use Rattle.std.specs.List.{All}
 use Rattle.std.proofs.lemmas.List.{length-map}
@@ -10,7 +10,7 @@ use Rattle.ms_machine.specs.Store.{Store}
 use Rattle.ms_module.specs.declared.instr.Instr.{Instr}
 use Rattle.ms_module.specs.Numbered.{sequence_at}
 use Rattle.ms_task.specs.declared.func.FuncInst.{FuncInst}
-use Rattle.ms_task.specs.Thread.{body_in, body_of, result_of, sequence}
+use Rattle.ms_task.specs.Thread.{body_in, body_of, sequence}
 use Rattle.c_types.specs.Types.{Ty, void, integer, function, Tys, no_types}
 use Rattle.c_typed.specs.Tree.{Function, Made, Stmt, Typed}
 use Rattle.c_well_typed.specs.Units.{IsBody, IsFunction, IsWellTyped, list_of}
@@ -18,15 +18,14 @@ use Rattle.ms_emit.specs.Codes.{total}
 use Rattle.c_code.specs.Functions.{body, held_as, listed, locals, params_in, result_in}
 use Rattle.c_code.specs.Modules.{index_of, target_of}
 use Rattle.c_code.specs.Operations.{val_of}
-use Rattle.c_code.specs.Stage.{are_integers, are_plain, in_body, in_functions, in_stage, in_stmt, is_empty, is_integer, is_integer_or_void, is_plain_function}
+use Rattle.c_code.specs.Stage.{are_integers, are_plain, in_body, in_functions, in_stage, in_stmt, is_empty, is_integer_or_void, is_plain_function}
 use Rattle.c_code.specs.Uses.{waits_stmt}
-use Rattle.c_runs.specs.Parts.{is_shown}
-use Rattle.c_runs.specs.Placed.{IsFunctionAt, IsPlaced, are_shown_functions, is_shown_body}
+use Rattle.c_runs.specs.Placed.{IsPlaced, are_shown_functions, is_shown_body}
 use Rattle.c_runs.proofs.Goes.{Mem, Site}
 use Rattle.c_runs.proofs.Operations.{Linked}
 use Rattle.c_runs.proofs.Related.{HasAll}
 use Rattle.c_runs.proofs.Bodies.{IsResult, is_void}
-use Rattle.c_runs.proofs.Callees.{Compiled, an_integer, slots_of}
+use Rattle.c_runs.proofs.Callees.{Compiled, slots_of}
 use Rattle.c_runs.proofs.Whole.{both}
 
 -- ---- one of a list
@@ -51,11 +50,11 @@ in_stage_at [] n f e h = absurd cc
 in_stage_at (g ∷ fs) zero f e h =
     let q = both (is_plain_function g.ty) (in_body g g.body && in_functions fs) h in
     let r = both (in_body g g.body) (in_functions fs) q.1 in subst (λ (x : Function). (is_plain_function x.ty ≡ true) × (in_body x x.body ≡ true)) (same e) (q.0, r.0) where
-  same : Some g ≡ Some f → g ≡ f
-  same q = ap (λ (o : Option Function). or o) q where
-    or : Option Function → Function
-    or None = g
-    or (Some z) = z
+      same : Some g ≡ Some f → g ≡ f
+      same q = ap (λ (o : Option Function). or o) q where
+        or : Option Function → Function
+        or None = g
+        or (Some z) = z
 in_stage_at (g ∷ fs) (suc n) f e h =
     let q = both (is_plain_function g.ty) (in_body g g.body && in_functions fs) h in in_stage_at fs n f e (both (in_body g g.body) (in_functions fs) q.1).1
 
@@ -147,7 +146,7 @@ module _ (u : Typed) (s : Store) (longest : ℕ) (well : IsWellTyped u) (staged 
         let r_is : here.0 ≡ t = ap result_in (sym here.2 ∙ ty_is) in
         let ps_is : here.1 ≡ ps = ap types_in (sym here.2 ∙ ty_is) in
         let bd : IsBody u t ps f.slots (Some b.0) =
-          subst (λ (r : Ty). IsBody u r ps f.slots (Some b.0)) r_is (subst (λ (qs : Tys). IsBody u here.0 qs f.slots (Some b.0)) ps_is (subst (λ (o : Option Stmt). IsBody u here.0 here.1 f.slots o) b.1 here.4)) in
+        subst (λ (r : Ty). IsBody u r ps f.slots (Some b.0)) r_is (subst (λ (qs : Tys). IsBody u here.0 qs f.slots (Some b.0)) ps_is (subst (λ (o : Option Stmt). IsBody u here.0 here.1 f.slots o) b.1 here.4)) in
         let st = both (are_plain b.0 0 f.slots) (in_stmt b.0) (ap (in_body f) (sym b.1) ∙ in_stage_here.1) in
         let few : length (params_in f.ty) ≡ length (list_of ps) = ap (λ (ty : Ty). length (params_in ty)) ty_is in
         record {

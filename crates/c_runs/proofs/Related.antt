@@ -17,7 +17,7 @@ use Rattle.ms_emit.specs.Codes.{total}
 use Rattle.c_code.specs.Targets.{Target}
 use Rattle.c_numbers.specs.Operands.{IsIn, word}
 use Rattle.c_runs.specs.Correct.{AreBytes}
-use Rattle.c_runs.specs.Words.{pushed, value_word}
+use Rattle.c_runs.specs.Words.{value_word}
 use Rattle.c_runs.proofs.Goes.{Site, Mem}
 
 abbrev pub IsOf : Ty → Value → Type 0

@@ -2,9 +2,7 @@
 use Rattle.std.proofs.Common.{◌≡◌, ◌≢◌, ℕ, zero, suc, ◌+◌, ◌*◌, ◌<◌, ◌≤◌, List, [], ◌∷◌, ◌++◌, map, Bool, true, Option, Some, None, refl, sym, ap, ◌∙◌, arith, subst}
 use Rattle.std.specs.Prelude.{slice_get}
 use Rattle.std.proofs.Math.Nat.{mul-suc}
-use Rattle.ms_event.specs.declared.event.Event.{Event}
 use Rattle.ms_event.specs.Monitor.{grants, sizes_of}
-use Rattle.ms_linear.specs.declared.value.Value.{Value as Word}
 use Rattle.ms_linear.specs.Values.{default_of}
 use Rattle.ms_module.specs.declared.instr.Instr.{Instr}
 use Rattle.ms_machine.specs.Crews as crews
@@ -35,7 +33,7 @@ use Rattle.c_runs.specs.Words.{left, pushed}
 use Rattle.c_runs.proofs.Bodies.{IsResult, is_integer, is_void}
 use Rattle.c_runs.proofs.Callees.{Compiled, Callees, D, E, K, home, begun, callee_runs, calls_run, does, fits, frame_is, ints_of, sequence_is, start_kept, temps}
 use Rattle.c_runs.proofs.Exprs.{AreInts}
-use Rattle.c_runs.proofs.Goes.{Asks, Goes, IsEnd, Mem, Runs, RunsTo, Site, Stops, store}
+use Rattle.c_runs.proofs.Goes.{Asks, IsEnd, Mem, Runs, RunsTo, Site, Stops, store}
 use Rattle.c_runs.proofs.Grants.{Agrees}
 use Rattle.c_runs.proofs.Longer.{same_run}
 use Rattle.c_runs.proofs.Operations.{Linked}
@@ -171,9 +169,14 @@ module _ (S : Site) (L : Linked S) (unit : Typed) (all : (f : ℕ) (t : Ty) (ps 
         record {
           st = Ended (slice_get (pushed t v []) 0);
           known = record {
-            puts = h.puts; events = h.events; cost = h.cost;
+            puts = h.puts;
+            events = h.events;
+            cost = h.cost;
             so = ap (λ (n : ℕ). steps n here_store start (map Some bytes)) (sym none_more) ∙ h.by 0;
-            output = h.tells.output; sizes = h.tells.sizes; taken = h.tells.grants; room = bounded h.cost w1.fuel h.greatest
+            output = h.tells.output;
+            sizes = h.tells.sizes;
+            taken = h.tells.grants;
+            room = bounded h.cost w1.fuel h.greatest;
           };
           how = over (λ q. absurd cc);
           reports = reports_value v;
