@@ -18,3 +18,4 @@ pub mod Bodies
 pub mod Callees
 pub mod Placed
 pub mod Top
+pub mod Sample

@@ -30,42 +30,35 @@ use Rattle.c_runs.proofs.Whole.{both}
 
 -- ---- one of a list
 
+same_one : {A : Type 0} (x y : A) → Some x ≡ Some y → x ≡ y
+same_one {A = A} x y e = ap (λ (o : Option A). or o) e where
+  or : Option A → A
+  or None = x
+  or (Some z) = z
+
 all_at : {A : Type 0} (P : A → Type 0) (xs : List A) (n : ℕ) (x : A) → slice_get xs n ≡ Some x → All P xs → P x
 all_at P [] n x e h = absurd cc
-all_at {A = A} P (y ∷ xs) zero x e h = subst P (or_same e) (All-head P y xs h) where
-  or_same : Some y ≡ Some x → y ≡ x
-  or_same q = ap (λ (o : Option A). or o) q where
-    or : Option A → A
-    or None = y
-    or (Some z) = z
+all_at P (y ∷ xs) zero x e h = subst P (same_one y x e) (All-head P y xs h)
 all_at P (y ∷ xs) (suc n) x e h = all_at P xs n x e (All-tail P y xs h)
 
 get_mapped : (fs : List Function) (n : ℕ) (t : Ty) → slice_get (map (λ (g : Function). g.ty) fs) n ≡ Some t → (f : Function) × (slice_get fs n ≡ Some f) × (f.ty ≡ t)
 get_mapped [] n t e = absurd cc
-get_mapped (f ∷ fs) zero t e = (f, refl, Rattle.c_runs.proofs.Related.some_is f.ty t e)
+get_mapped (f ∷ fs) zero t e = (f, refl, same_one f.ty t e)
 get_mapped (f ∷ fs) (suc n) t e = get_mapped fs n t e
 
-in_stage_at : (fs : List Function) (n : ℕ) (f : Function) → slice_get fs n ≡ Some f → in_functions fs ≡ true → (is_plain_function f.ty ≡ true) × (in_body f f.body ≡ true)
-in_stage_at [] n f e h = absurd cc
-in_stage_at (g ∷ fs) zero f e h =
-    let q = both (is_plain_function g.ty) (in_body g g.body && in_functions fs) h in
-    let r = both (in_body g g.body) (in_functions fs) q.1 in subst (λ (x : Function). (is_plain_function x.ty ≡ true) × (in_body x x.body ≡ true)) (same e) (q.0, r.0) where
-      same : Some g ≡ Some f → g ≡ f
-      same q = ap (λ (o : Option Function). or o) q where
-        or : Option Function → Function
-        or None = g
-        or (Some z) = z
-in_stage_at (g ∷ fs) (suc n) f e h =
-    let q = both (is_plain_function g.ty) (in_body g g.body && in_functions fs) h in in_stage_at fs n f e (both (in_body g g.body) (in_functions fs) q.1).1
+abbrev IsStaged : Function → Type 0
+IsStaged f = (is_plain_function f.ty ≡ true) × (in_body f f.body ≡ true)
+
+staged_at : (fs : List Function) (n : ℕ) (f : Function) → slice_get fs n ≡ Some f → in_functions fs ≡ true → IsStaged f
+staged_at [] n f e h = absurd cc
+staged_at (g ∷ fs) zero f e h =
+    let q = both (is_plain_function g.ty) (in_body g g.body && in_functions fs) h in subst IsStaged (same_one g f e) (q.0, (both (in_body g g.body) (in_functions fs) q.1).0)
+staged_at (g ∷ fs) (suc n) f e h =
+    let q = both (is_plain_function g.ty) (in_body g g.body && in_functions fs) h in staged_at fs n f e (both (in_body g g.body) (in_functions fs) q.1).1
 
 shown_at : (fs : List Function) (n : ℕ) (f : Function) → slice_get fs n ≡ Some f → are_shown_functions fs ≡ true → is_shown_body f.body ≡ true
 shown_at [] n f e h = absurd cc
-shown_at (g ∷ fs) zero f e h = subst (λ (x : Function). is_shown_body x.body ≡ true) (same e) (both (is_shown_body g.body) (are_shown_functions fs) h).0 where
-  same : Some g ≡ Some f → g ≡ f
-  same q = ap (λ (o : Option Function). or o) q where
-    or : Option Function → Function
-    or None = g
-    or (Some z) = z
+shown_at (g ∷ fs) zero f e h = subst (λ (x : Function). is_shown_body x.body ≡ true) (same_one g f e) (both (is_shown_body g.body) (are_shown_functions fs) h).0
 shown_at (g ∷ fs) (suc n) f e h = shown_at fs n f e (both (is_shown_body g.body) (are_shown_functions fs) h).1
 
 defined_by : (o : Option Stmt) → is_shown_body o ≡ true → (b : Stmt) × (o ≡ Some b)
@@ -127,8 +120,8 @@ module _ (u : Typed) (s : Store) (longest : ℕ) (well : IsWellTyped u) (staged 
     found : (f : Function) × (slice_get u.functions n ≡ Some f) × (f.ty ≡ function t ps)
     found = get_mapped u.functions n (function t ps) e
 
-    in_stage_here : (is_plain_function found.0.ty ≡ true) × (in_body found.0 found.0.body ≡ true)
-    in_stage_here = in_stage_at u.functions n found.0 found.1 split.1
+    in_stage_here : IsStaged found.0
+    in_stage_here = staged_at u.functions n found.0 found.1 split.1
 
     plain_here : (is_integer_or_void t ≡ true) × (are_integers ps ≡ true)
     plain_here = both (is_integer_or_void t) (are_integers ps) (ap is_plain_function (sym found.2) ∙ in_stage_here.0)

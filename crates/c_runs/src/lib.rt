@@ -2,7 +2,7 @@
 //! stands, and so do units of integers, plain variables, calls by names, and all statements but `switch`.
 //!
 //! There is no code. It stands on the code of units (`c_code`), on their meaning (`c_meaning`), on numbers (`c_numbers`) and on the
-//! machine. Read `specs/Correct.antt` first, then `proofs/Ops.antt`, `Exprs.antt`, `Stmts.antt`, `Callees.antt` and `Top.antt` there.
+//! machine. Read `specs/Correct.antt` first, then `proofs/Ops.antt`, `Exprs.antt`, `Stmts.antt`, `Callees.antt`, `Top.antt`, `Sample.antt`.
 #![tactic(auto)]
 
 mod laws;
