@@ -18,7 +18,8 @@ use Rattle.c_code.specs.Operations.{constant, val_of, width_of}
 use Rattle.c_numbers.proofs.Conversions.{constant_is}
 use Rattle.c_runs.specs.Correct.{AreBytes}
 use Rattle.c_runs.proofs.Goes.{Mem, Runs, bind, here}
-use Rattle.c_runs.proofs.Related.{Env, HasAll, IsOf, Kept, Now, depth_front, front, front_append, has_front, pushed, value_word}
+use Rattle.c_runs.specs.Words.{pushed, value_word}
+use Rattle.c_runs.proofs.Related.{Env, HasAll, IsOf, Kept, Now, depth_front, front, front_append, has_front}
 use Rattle.c_runs.proofs.Ops.{Op, at_work, op_carried, same, size_joined}
 use Rattle.c_runs.proofs.Flows.{Around, FlowRuns, GoodFlow, lowest_all, to_flow}
 use Rattle.c_runs.proofs.Stmts.{zero_in}

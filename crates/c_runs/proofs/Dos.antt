@@ -27,7 +27,8 @@ use Rattle.c_runs.proofs.Ahead.{Leads, leads_first, leads_further, leads_out, le
 use Rattle.c_runs.proofs.Goes as goes
 use Rattle.c_runs.proofs.Goes.{Mem, Runs, RunsTo, after_after, agrees_after, behind_goes, given, goes_on, one_here, resize, resize_to, stops_behind}
 use Rattle.c_runs.proofs.Grants.{Agrees}
-use Rattle.c_runs.proofs.Related.{Env, HasAll, IsOf, Kept, Now, frame_of, front, front_append, has_back, has_front, pushed}
+use Rattle.c_runs.specs.Words.{pushed}
+use Rattle.c_runs.proofs.Related.{Env, HasAll, IsOf, Kept, Now, frame_of, front, front_append, has_back, has_front}
 use Rattle.c_runs.proofs.Ops.{Good, IsTest, Op, To_, at_work, into, is_no, is_yes, op_none, same, size_joined}
 use Rattle.c_runs.proofs.Nodes.{Always, Leaves, gone, test_is}
 use Rattle.c_runs.proofs.Flows.{Around, FlowRuns, GoodFlow, to_flow}

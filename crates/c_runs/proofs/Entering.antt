@@ -13,7 +13,8 @@ use Rattle.c_types.specs.Types.{Ty, Tys, no_types, types}
 use Rattle.c_well_typed.specs.Units.{list_of}
 use Rattle.c_meaning.specs.Values.{Value, zero_value}
 use Rattle.c_meaning.specs.World.{Held, plain}
-use Rattle.c_runs.proofs.Related.{AreHeld, AreOf, front, piled, value_word, words}
+use Rattle.c_runs.specs.Words.{value_word}
+use Rattle.c_runs.proofs.Related.{AreHeld, AreOf, front, piled, words}
 
 -- ---- arguments as locals
 

@@ -33,7 +33,8 @@ use Rattle.c_code.specs.Operations.{constant, convert, eqz, i32, operated, truth
 use Rattle.c_code.specs.Stage.{in_expr, in_exprs, is_local, is_number, is_number_or_void}
 use Rattle.c_code.specs.Targets.{get, plain_in}
 use Rattle.c_numbers.proofs.Ranges.{value_in, wrap_in}
-use Rattle.c_runs.proofs.Related.{AreOf, Env, IsHeld, IsOf, piled, pushed, value_word}
+use Rattle.c_runs.specs.Words.{pushed, value_word}
+use Rattle.c_runs.proofs.Related.{AreOf, Env, IsHeld, IsOf, piled}
 use Rattle.c_runs.proofs.Ops.{AllGiven, Op, op_assoc, op_given, op_look, op_none, op_over, op_then, same}
 use Rattle.c_runs.proofs.Nodes.{Carries, Leaves, assign_runs, chosen_runs, constant_runs, fetch_runs, behind_place, gone, left_runs, of_number, remains}
 use Rattle.c_runs.proofs.Operations.{AtHome, Linked, abort_runs, binary_runs, compare_runs, complement_runs, convert_runs, getchar_runs, narrow_truth_runs, negate_runs, not_runs, putchar_runs, truth_in, truth_runs, update_runs}

@@ -18,7 +18,8 @@ use Rattle.c_meaning.specs.Statements.{Flow, next, broken, continued, returned, 
 use Rattle.ms_emit.specs.Codes.{Code, one, no_code, ◌⨾◌, choice, inner, second_seqs, size_of}
 use Rattle.c_runs.proofs.Goes as goes
 use Rattle.c_runs.proofs.Goes.{Mem, Runs, bind, here, one_here}
-use Rattle.c_runs.proofs.Related.{Env, IsOf, Kept, Now, frame_of, front, front_append, depth_front, pushed, HasAll, has_front, has_back, total_append}
+use Rattle.c_runs.specs.Words.{pushed}
+use Rattle.c_runs.proofs.Related.{Env, IsOf, Kept, Now, frame_of, front, front_append, depth_front, HasAll, has_front, has_back, total_append}
 use Rattle.c_runs.proofs.Ops.{Stack, same, Op, Good, To_, at_work, IsTest, runs_choice, choice_at, second_size, size_joined}
 use Rattle.c_runs.proofs.Whole.{IsWhole}
 

@@ -15,3 +15,7 @@ pub mod Loops
 pub mod Dos
 pub mod Stmts
 pub mod Bodies
+pub mod Callees
+pub mod Placed
+pub mod Top
+pub mod Sample

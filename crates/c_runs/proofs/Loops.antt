@@ -34,7 +34,8 @@ use Rattle.c_runs.proofs.Ahead.{Leads, leads_first, leads_further, leads_out, le
 use Rattle.c_runs.proofs.Goes as goes
 use Rattle.c_runs.proofs.Grants.{Agrees}
 use Rattle.c_runs.proofs.Goes.{Mem, Runs, RunsTo, after_after, agrees_after, behind_goes, bind, given, goes_on, here, one_here, resize, resize_to, stops_behind}
-use Rattle.c_runs.proofs.Related.{Env, HasAll, IsOf, Kept, Now, depth_front, frame_of, front, front_append, has_back, has_front, pushed, total_append}
+use Rattle.c_runs.specs.Words.{pushed}
+use Rattle.c_runs.proofs.Related.{Env, HasAll, IsOf, Kept, Now, depth_front, frame_of, front, front_append, has_back, has_front, total_append}
 use Rattle.c_runs.proofs.Ops.{Good, IsTest, Op, To_, at_work, choice_at, into, is_no, is_yes, runs_choice, same, size_joined}
 use Rattle.c_runs.proofs.Nodes.{Always, Leaves, gone, of_number, test_is}
 use Rattle.c_runs.proofs.Flows.{Around, FlowRuns, GoodFlow, in_label, lowest_all, to_flow}

@@ -32,7 +32,8 @@ use Rattle.c_numbers.proofs.Conversions.{constant_is}
 use Rattle.c_numbers.proofs.Ranges.{is_zero_of}
 use Rattle.c_runs.proofs.Goes as goes
 use Rattle.c_runs.proofs.Goes.{Mem, Runs, RunsTo, after_after, goes_on, here, one as one_step, one_here, tells_nothing}
-use Rattle.c_runs.proofs.Related.{AreHeld, Env, Found, IsOf, Kept, Now, found, frame_of, front, get_in, held_set, pushed, set_in, within, words, words_set}
+use Rattle.c_runs.specs.Words.{pushed}
+use Rattle.c_runs.proofs.Related.{AreHeld, Env, Found, IsOf, Kept, Now, found, frame_of, front, get_in, held_set, set_in, within, words, words_set}
 use Rattle.c_runs.proofs.Ops.{Good, IsTest, Op, Stack, To_, at_work, is_no, is_yes, op_after, op_assoc, op_carried, op_choice, op_look, op_none, op_over, op_post, op_step, op_then, same}
 use Rattle.c_runs.proofs.Whole.{IsWhole}
 

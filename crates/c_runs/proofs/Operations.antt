@@ -49,7 +49,8 @@ use Rattle.c_numbers.proofs.Ranges.{wrap_in}
 use Rattle.c_runs.proofs.Goes as goes
 use Rattle.c_runs.proofs.Goes.{Mem, Site, after_after, puts_one, takes_one, tells_nothing}
 use Rattle.c_runs.specs.Correct.{AreBytes}
-use Rattle.c_runs.proofs.Related.{Env, IsOf, Kept, Now, frame_of, pushed}
+use Rattle.c_runs.specs.Words.{pushed}
+use Rattle.c_runs.proofs.Related.{Env, IsOf, Kept, Now, frame_of}
 use Rattle.c_runs.proofs.Ops.{Good, Op, Stack, To_, at_work, op_agree, op_assoc, op_bare, op_carried, op_look, op_over, op_seen, op_then, op_trap, same}
 use Rattle.c_runs.proofs.Nodes.{Always, Leaves, Num, Spot_of_x, behind_place, fetch_runs, fetch_twice_runs, gone, of_number, op_integer, op_integer_then, op_number_then, remains, set_gives, set_runs, two_run, write_runs}
 use Rattle.c_runs.proofs.Whole.{bare_convert}

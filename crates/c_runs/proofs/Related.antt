@@ -17,18 +17,8 @@ use Rattle.ms_emit.specs.Codes.{total}
 use Rattle.c_code.specs.Targets.{Target}
 use Rattle.c_numbers.specs.Operands.{IsIn, word}
 use Rattle.c_runs.specs.Correct.{AreBytes}
+use Rattle.c_runs.specs.Words.{value_word}
 use Rattle.c_runs.proofs.Goes.{Site, Mem}
-
--- ---- values as operands
-
-abbrev pub value_word : Ty → Value → Word
-value_word (integer u) (number z) = word u z
-value_word _ _ = I32 0
-
--- what an expression of the type leaves on the operands
-abbrev pub pushed : Ty → Value → List Word → List Word
-pushed void v vs = vs
-pushed t v vs = value_word t v ∷ vs
 
 abbrev pub IsOf : Ty → Value → Type 0
 IsOf void v = Unit {0}
@@ -96,7 +86,7 @@ pub record Found (ts : List Ty) (hs : List Held) (x : ℕ) (u : IntType) : Type 
   pub is : slice_get hs x ≡ Some (plain (number value))
   pub word_is : slice_get (words ts hs) x ≡ Some (word u value)
 
-some_is : (t t' : Ty) → Some t ≡ Some t' → t ≡ t'
+pub some_is : (t t' : Ty) → Some t ≡ Some t' → t ≡ t'
 some_is t t' e = ap (λ (o : Option Ty). or o) e where
   or : Option Ty → Ty
   or None = t

@@ -37,7 +37,8 @@ use Rattle.c_code.specs.Targets.{set}
 use Rattle.c_numbers.specs.Operands.{IsIn, operand}
 use Rattle.c_numbers.proofs.Conversions.{constant_is}
 use Rattle.c_runs.proofs.Goes.{Mem, Runs, bind, here, after_after}
-use Rattle.c_runs.proofs.Related.{Env, IsOf, Kept, Now, found, front, pushed}
+use Rattle.c_runs.specs.Words.{pushed}
+use Rattle.c_runs.proofs.Related.{Env, IsOf, Kept, Now, found, front}
 use Rattle.c_runs.proofs.Ops.{Op, Stack, at_work, op_carried, op_look, op_none, op_then, same}
 use Rattle.c_runs.proofs.Nodes.{Always, Num, gone, remains, set_runs, of_number, test_is}
 use Rattle.c_runs.proofs.Operations.{AtHome, Linked}
@@ -65,7 +66,7 @@ zero_in UnsignedLongLong = refl
 
 -- ---- a statement without a `continue` of its own is one where none may stand
 
-neither : (a b : Bool) → (a || b) ≡ false → (a ≡ false) × (b ≡ false)
+pub neither : (a b : Bool) → (a || b) ≡ false → (a ≡ false) × (b ≡ false)
 neither true b e = absurd cc
 neither false b e = (refl, e)
 
@@ -97,7 +98,7 @@ jumps_of k r s false e h = no_continue k r in_loop s e h
 
 -- ---- slots of a block
 
-abbrev Below : ℕ → List ℕ → Type 0
+abbrev pub Below : ℕ → List ℕ → Type 0
 Below n [] = Unit {0}
 Below n (x ∷ xs) = (x < n) × Below n xs
 
@@ -119,7 +120,7 @@ never_both : (a b : List Instr) (i : Instr) → a ++ (b ++ i ∷ []) ≡ [] → 
 never_both [] b i e = never_one b i e
 never_both (j ∷ a) b i e = absurd cc
 
-get_is : (ts : List Ty) (x : ℕ) (t : Ty) → slice_get ts x ≡ Some t → get_or ts x void ≡ t
+pub get_is : (ts : List Ty) (x : ℕ) (t : Ty) → slice_get ts x ≡ Some t → get_or ts x void ≡ t
 get_is [] x t e = absurd cc
 get_is (s ∷ ts) zero t e = ap (λ (o : Option Ty). or o) e where
   or : Option Ty → Ty
@@ -187,8 +188,8 @@ module _ (E : Env) (L : Linked E.site) (home : AtHome E) (k : well.Context) (slo
       ap (λ (o : Option Held). after (after (known o w) (leave_held E.unit E.calls E.turn_bound kinds)) (λ q. leave E.unit E.calls E.turn_bound kinds ns)) f.is
       ∙ leave_is ns h.1 now w m kp
 
-  left_runs' : (l : Jumps) (b c : ℕ) (x : Code) (y : Does Flow) (ns : List ℕ) → Below (length k.slots) ns → FlowRuns E l b c x same y → FlowRuns E l b c x same (y >>= (λ f. leave E.unit E.calls E.turn_bound kinds ns >> pure f))
-  left_runs' l b c x y ns al h n has small now le vs r br cr rr caller a dep w m kp =
+  pub left_runs : (l : Jumps) (b c : ℕ) (x : Code) (y : Does Flow) (ns : List ℕ) → Below (length k.slots) ns → FlowRuns E l b c x same y → FlowRuns E l b c x same (y >>= (λ f. leave E.unit E.calls E.turn_bound kinds ns >> pure f))
+  left_runs l b c x y ns al h n has small now le vs r br cr rr caller a dep w m kp =
       let to = to_flow E vs r br cr rr caller in
       let s = size_of (x n) in
       let z : s + 0 ≡ s = omega arith in
@@ -197,7 +198,7 @@ module _ (E : Env) (L : Linked E.site) (home : AtHome E) (k : well.Context) (slo
       (bind E.site s 0 m (at_work E m w vs (front (x n).instrs r)) w to (GoodFlow E l now) to (GoodFlow E l now) (y w) f (h n has small now le vs r br cr rr caller a dep w m kp)
       (λ g w1 m1 ok. subst (λ (q : Result (Unit {0})). Runs E.site 0 m1 (to g w1 m1) w1 to (GoodFlow E l now) (after q (λ u. pure g))) (sym (leave_is ns al now w1 m1 ok.1)) (here E.site 0 w1 m1 to (GoodFlow E l now) g ok)))
 
-  no_objects : (ns : List ℕ) → Below (length k.slots) ns → objects_in E.target E.slots ns ≡ []
+  pub no_objects : (ns : List ℕ) → Below (length k.slots) ns → objects_in E.target E.slots ns ≡ []
   no_objects [] h = refl
   no_objects (x ∷ ns) h =
       let s = slot_at x h.0 in
@@ -355,7 +356,7 @@ module _ (E : Env) (L : Linked E.site) (home : AtHome E) (k : well.Context) (slo
         let e = no_objects ns al in
         let inner' = all_codes d (with_objects vs x) ss in
         flow_behind E l x.break_label x.continue_label (enters E.target E.slots ns) (inner' ⨾ freed E.target vs) same (gone E) (Always E) (enter E.unit E.calls E.turn_bound kinds ns) (λ u. do_all ss >>= (λ f. leave E.unit E.calls E.turn_bound kinds ns >> pure f)) (enter_runs ns al)
-        (λ u ok. left_runs' l x.break_label x.continue_label (inner' ⨾ freed E.target vs) (do_all ss) ns al
+        (λ u ok. left_runs l x.break_label x.continue_label (inner' ⨾ freed E.target vs) (do_all ss) ns al
         (flow_then_none l x.break_label x.continue_label inner' (freed E.target vs) (do_all ss) (ap (freed E.target) e) (stmts_run (v ++ ns) d (with_objects vs x) l ss (scoped_bare x vs e bx) i p h.1)))
     stmt_runs v d x l (return e) bx i p h =
         flow_behind E l x.break_label x.continue_label (code.expr E.target true d e) (freed E.target x.objects ⨾ one Return) same (pushed E.result) (IsOf E.result) (value e) (λ z. pure (returned z)) (run_expr v true d e E.result i h.1)

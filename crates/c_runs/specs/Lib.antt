@@ -3,3 +3,5 @@ pub mod Ends
 pub mod Crews
 pub mod Correct
 pub mod Parts
+pub mod Words
+pub mod Placed

@@ -1,10 +1,10 @@
 //! The run of a compiled unit of C against its meaning (C11, 5.1.2.3): code that is put together does what is meant, wherever it
-//! stands, and so do expressions of integers, plain variables and calls by names, and all statements of them but `switch`.
+//! stands, and so do units of integers, plain variables, calls by names, and all statements but `switch`.
 //!
 //! There is no code. It stands on the code of units (`c_code`), on their meaning (`c_meaning`), on numbers (`c_numbers`) and on the
-//! machine (`ms_machine`). Read `specs/Correct.antt` first, then `proofs/Ops.antt`, and `proofs/Exprs.antt` and `proofs/Stmts.antt`.
+//! machine. Read `specs/Correct.antt` first, then `proofs/Ops.antt`, `Exprs.antt`, `Stmts.antt`, `Callees.antt`, `Top.antt`, `Sample.antt`.
 #![tactic(auto)]
 
 mod laws;
 
-pub use laws::threads_run;
+pub use laws::{compiled_behaves, threads_run};

@@ -1,0 +1,167 @@
+-- What a call needs of each function, from what a store has of the unit.
+use Rattle.std.proofs.Common.{◌≡◌, ℕ, zero, suc, ◌+◌, ◌≤◌, List, [], ◌∷◌, length, map, true, false, Option, Some, None, refl, sym, ap, ◌∙◌, arith, subst}
+use Rattle.std.specs.Prelude.{slice_get, ◌&&◌}
+use Rattle.std.specs.List.{All}
+use Rattle.std.proofs.lemmas.List.{length-map}
+use Rattle.std.proofs.lemmas.List.Elements.{All-head, All-tail}
+use Rattle.ms_types.specs.declared.types.FuncType.{FuncType}
+use Rattle.ms_types.specs.declared.types.ValType.{ValType}
+use Rattle.ms_machine.specs.Store.{Store}
+use Rattle.ms_module.specs.declared.instr.Instr.{Instr}
+use Rattle.ms_module.specs.Numbered.{sequence_at}
+use Rattle.ms_task.specs.declared.func.FuncInst.{FuncInst}
+use Rattle.ms_task.specs.Thread.{body_in, body_of, sequence}
+use Rattle.c_types.specs.Types.{Ty, void, integer, function, Tys, no_types}
+use Rattle.c_typed.specs.Tree.{Function, Made, Stmt, Typed}
+use Rattle.c_well_typed.specs.Units.{IsBody, IsFunction, IsWellTyped, list_of}
+use Rattle.ms_emit.specs.Codes.{total}
+use Rattle.c_code.specs.Functions.{body, held_as, listed, locals, params_in, result_in}
+use Rattle.c_code.specs.Modules.{index_of, target_of}
+use Rattle.c_code.specs.Operations.{val_of}
+use Rattle.c_code.specs.Stage.{are_integers, are_plain, in_body, in_functions, in_stage, in_stmt, is_empty, is_integer_or_void, is_plain_function}
+use Rattle.c_code.specs.Uses.{waits_stmt}
+use Rattle.c_runs.specs.Placed.{IsPlaced, are_shown_functions, is_shown_body}
+use Rattle.c_runs.proofs.Goes.{Mem, Site}
+use Rattle.c_runs.proofs.Operations.{Linked}
+use Rattle.c_runs.proofs.Related.{HasAll}
+use Rattle.c_runs.proofs.Bodies.{IsResult, is_void}
+use Rattle.c_runs.proofs.Callees.{Compiled, slots_of}
+use Rattle.c_runs.proofs.Whole.{both}
+
+-- ---- one of a list
+
+same_one : {A : Type 0} (x y : A) → Some x ≡ Some y → x ≡ y
+same_one {A = A} x y e = ap (λ (o : Option A). or o) e where
+  or : Option A → A
+  or None = x
+  or (Some z) = z
+
+all_at : {A : Type 0} (P : A → Type 0) (xs : List A) (n : ℕ) (x : A) → slice_get xs n ≡ Some x → All P xs → P x
+all_at P [] n x e h = absurd cc
+all_at P (y ∷ xs) zero x e h = subst P (same_one y x e) (All-head P y xs h)
+all_at P (y ∷ xs) (suc n) x e h = all_at P xs n x e (All-tail P y xs h)
+
+get_mapped : (fs : List Function) (n : ℕ) (t : Ty) → slice_get (map (λ (g : Function). g.ty) fs) n ≡ Some t → (f : Function) × (slice_get fs n ≡ Some f) × (f.ty ≡ t)
+get_mapped [] n t e = absurd cc
+get_mapped (f ∷ fs) zero t e = (f, refl, same_one f.ty t e)
+get_mapped (f ∷ fs) (suc n) t e = get_mapped fs n t e
+
+abbrev IsStaged : Function → Type 0
+IsStaged f = (is_plain_function f.ty ≡ true) × (in_body f f.body ≡ true)
+
+staged_at : (fs : List Function) (n : ℕ) (f : Function) → slice_get fs n ≡ Some f → in_functions fs ≡ true → IsStaged f
+staged_at [] n f e h = absurd cc
+staged_at (g ∷ fs) zero f e h =
+    let q = both (is_plain_function g.ty) (in_body g g.body && in_functions fs) h in subst IsStaged (same_one g f e) (q.0, (both (in_body g g.body) (in_functions fs) q.1).0)
+staged_at (g ∷ fs) (suc n) f e h =
+    let q = both (is_plain_function g.ty) (in_body g g.body && in_functions fs) h in staged_at fs n f e (both (in_body g g.body) (in_functions fs) q.1).1
+
+shown_at : (fs : List Function) (n : ℕ) (f : Function) → slice_get fs n ≡ Some f → are_shown_functions fs ≡ true → is_shown_body f.body ≡ true
+shown_at [] n f e h = absurd cc
+shown_at (g ∷ fs) zero f e h = subst (λ (x : Function). is_shown_body x.body ≡ true) (same_one g f e) (both (is_shown_body g.body) (are_shown_functions fs) h).0
+shown_at (g ∷ fs) (suc n) f e h = shown_at fs n f e (both (is_shown_body g.body) (are_shown_functions fs) h).1
+
+defined_by : (o : Option Stmt) → is_shown_body o ≡ true → (b : Stmt) × (o ≡ Some b)
+defined_by None e = absurd cc
+defined_by (Some b) e = (b, refl)
+
+-- ---- the sequences of a body
+
+seq_is : (funcs : List FuncInst) (fn k : ℕ) → sequence funcs fn k ≡ sequence_at (body_of funcs fn) k
+unfolding sequence
+seq_is funcs fn k = refl
+
+has_from : (funcs : List FuncInst) (fn n : ℕ) (ss : List (List Instr)) → ((k : ℕ) → sequence funcs fn (n + k) ≡ sequence_at ss k) → HasAll funcs fn n ss
+has_from funcs fn n [] h = tt
+has_from funcs fn n (is ∷ ss) h =
+    let z : n + 0 ≡ n = omega arith in
+    (subst (λ (k : ℕ). sequence funcs fn k ≡ is) z (h 0), has_from funcs fn (suc n) ss (λ k. let q : suc n + k ≡ n + suc k = omega arith in ap (sequence funcs fn) q ∙ h (suc k)))
+
+has_all : (funcs : List FuncInst) (fn : ℕ) (ss : List (List Instr)) → body_of funcs fn ≡ ss → HasAll funcs fn 0 ss
+has_all funcs fn ss e = has_from funcs fn 0 ss (λ k. let z : 0 + k ≡ k = omega arith in ap (sequence funcs fn) z ∙ seq_is funcs fn k ∙ ap (λ (s : List (List Instr)). sequence_at s k) e)
+
+-- ---- types of functions
+
+abbrev types_in : Ty → Tys
+types_in (function r ps) = ps
+types_in t = no_types
+
+first_listed : (o : Option ValType) → slice_get (listed o) 0 ≡ o
+first_listed None = refl
+first_listed (Some v) = refl
+
+result_kind : (t : Ty) → is_integer_or_void t ≡ true → IsResult t
+result_kind void e = is_void refl
+result_kind (integer u) e = Rattle.c_runs.proofs.Bodies.is_integer u refl
+result_kind _ e = absurd cc
+
+-- ---- the site of a store
+
+abbrev pub site_of : Store → (longest : ℕ) → Site
+site_of s longest = record { funcs = s.funcs; instances = s.instances; tables = s.tables; memories = s.memories; most = longest }
+
+abbrev pub mem_of : Store → Mem
+mem_of s = record { globals = s.globals; segments = s.segments; ids = []; temps = [] }
+
+module _ (u : Typed) (s : Store) (longest : ℕ) (well : IsWellTyped u) (staged : in_stage u ≡ true) (shown : are_shown_functions u.functions ≡ true) (placed : IsPlaced u s longest) where
+  pub linked : Linked (site_of s longest)
+  linked = record { inst = placed.inst; alone = placed.alone; all = placed.all; three = placed.three; putchar = placed.putchar; getchar = placed.getchar; abort = placed.abort }
+
+  split : (is_empty u.made ≡ true) × (in_functions u.functions ≡ true)
+  split = let q = both (is_empty u.made) (is_empty u.globals && in_functions u.functions) staged in (q.0, (both (is_empty u.globals) (in_functions u.functions) q.1).1)
+
+  pub none_made : u.made ≡ []
+  none_made = by u.made split.0 where
+    by : (ms : List Made) → is_empty ms ≡ true → ms ≡ []
+    by [] e = refl
+    by (m ∷ ms) e = absurd cc
+
+  module _ (n : ℕ) (t : Ty) (ps : Tys) (e : slice_get (map (λ (g : Function). g.ty) u.functions) n ≡ Some (function t ps)) where
+    found : (f : Function) × (slice_get u.functions n ≡ Some f) × (f.ty ≡ function t ps)
+    found = get_mapped u.functions n (function t ps) e
+
+    in_stage_here : IsStaged found.0
+    in_stage_here = staged_at u.functions n found.0 found.1 split.1
+
+    plain_here : (is_integer_or_void t ≡ true) × (are_integers ps ≡ true)
+    plain_here = both (is_integer_or_void t) (are_integers ps) (ap is_plain_function (sym found.2) ∙ in_stage_here.0)
+
+    pub params_are : are_integers ps ≡ true
+    params_are = plain_here.1
+
+    pub compiled : Compiled (site_of s longest) u n t ps
+    compiled =
+        let f = found.0 in
+        let ty_is = found.2 in
+        let b = defined_by f.body (shown_at u.functions n f found.1 shown) in
+        let at = placed.functions n f b.0 found.1 b.1 in
+        let here = all_at (IsFunction u) u.functions n f found.1 well.functions in
+        let r_is : here.0 ≡ t = ap result_in (sym here.2 ∙ ty_is) in
+        let ps_is : here.1 ≡ ps = ap types_in (sym here.2 ∙ ty_is) in
+        let bd : IsBody u t ps f.slots (Some b.0) =
+        subst (λ (r : Ty). IsBody u r ps f.slots (Some b.0)) r_is (subst (λ (qs : Tys). IsBody u here.0 qs f.slots (Some b.0)) ps_is (subst (λ (o : Option Stmt). IsBody u here.0 here.1 f.slots o) b.1 here.4)) in
+        let st = both (are_plain b.0 0 f.slots) (in_stmt b.0) (ap (in_body f) (sym b.1) ∙ in_stage_here.1) in
+        let few : length (params_in f.ty) ≡ length (list_of ps) = ap (λ (ty : Ty). length (params_in ty)) ty_is in
+        record {
+          inst = at.inst;
+          is_at = at.is_at;
+          no_host = at.no_host;
+          at_home = at.at_home;
+          takes = ap (λ (ty : FuncType). length ty.params) at.type_is ∙ length-map (params_in f.ty) (held_as false) ∙ few;
+          gives_one = ap (λ (ty : FuncType). slice_get ty.results 0) at.type_is ∙ ap (λ (ty : Ty). slice_get (listed (val_of (result_in ty))) 0) ty_is ∙ first_listed (val_of t);
+          function_is = f;
+          named = found.1;
+          typed = ty_is;
+          stmt_is = b.0;
+          has_body = b.1;
+          locals_are = at.locals_are ∙ ap (λ (k : ℕ). locals (target_of u f b.0) k f.slots (waits_stmt b.0)) few;
+          code = has_all s.funcs (index_of u n) (body (target_of u f b.0) f b.0) (ap body_in at.is_at ∙ at.body_is);
+          small = subst (λ (ss : List (List Instr)). total ss ≤ longest) at.body_is at.small;
+          others = bd.0.0;
+          begins = bd.0.1;
+          well = bd.2;
+          slots_are = slots_of b.0 0 f.slots st.0;
+          staged = st.1;
+          shown = ap is_shown_body (sym b.1) ∙ shown_at u.functions n f found.1 shown;
+          result = result_kind t plain_here.0;
+        }

@@ -1,0 +1,268 @@
+-- The run of a unit that was compiled against its meaning.
+use Rattle.std.proofs.Common.{◌≡◌, ◌≢◌, ℕ, zero, suc, ◌+◌, ◌*◌, ◌<◌, ◌≤◌, List, [], ◌∷◌, ◌++◌, map, Bool, true, Option, Some, None, refl, sym, ap, ◌∙◌, arith, subst}
+use Rattle.std.specs.Prelude.{slice_get}
+use Rattle.std.proofs.Math.Nat.{mul-suc}
+use Rattle.ms_event.specs.Monitor.{grants, sizes_of}
+use Rattle.ms_linear.specs.Values.{default_of}
+use Rattle.ms_module.specs.declared.instr.Instr.{Instr}
+use Rattle.ms_machine.specs.Crews as crews
+use Rattle.ms_machine.specs.Crews.{Run, bytes_of, events_of}
+use Rattle.ms_machine.specs.Running.{func_thread, start_of}
+use Rattle.ms_machine.specs.Store.{Store}
+use Rattle.ms_task.specs.Control.{exit_ended, nobody}
+use Rattle.ms_task.specs.declared.func.FuncInst.{FuncInst}
+use Rattle.ms_task.specs.Thread.{Activation, Frame, Item, Thread, result_of}
+use Rattle.c_types.specs.Types.{Ty, function, Tys, no_types}
+use Rattle.c_typed.specs.Tree.{Function, Made, Stmt, Typed}
+use Rattle.c_well_typed.specs.Units.{IsWellTyped}
+use Rattle.c_meaning.specs.Functions as meaning
+use Rattle.c_meaning.specs.Functions.{back_to, calls_at, called, of_defined, with_body}
+use Rattle.c_meaning.specs.Units.{as_result, closed, first_world, give_each, main_number, make_each, means, run_main}
+use Rattle.c_meaning.specs.Values.{Value}
+use Rattle.c_meaning.specs.World as world
+use Rattle.c_meaning.specs.World.{End, World, Result, gives, ends, Does, after, ◌>>=◌, ◌>>◌, pure}
+use Rattle.ms_emit.specs.Codes.{Coded, size_of}
+use Rattle.c_code.specs.Modules.{index_of}
+use Rattle.c_code.specs.Stage.{are_integers, in_stage}
+use Rattle.c_runs.specs.Correct.{AreBytes, Behaves, IsPrefix, Reports, meant, run_at}
+use Rattle.c_runs.specs.Crews.{Same, crew_end}
+use Rattle.c_runs.specs.Ends.{stop_of}
+use Rattle.c_runs.specs.Placed.{IsPlaced, are_shown_functions}
+use Rattle.c_runs.specs.Threads.{Ended, Trapped, Paused, Stuck, Stop, steps}
+use Rattle.c_runs.specs.Words.{left, pushed}
+use Rattle.c_runs.proofs.Bodies.{IsResult, is_integer, is_void}
+use Rattle.c_runs.proofs.Callees.{Compiled, Callees, D, E, K, home, begun, callee_runs, calls_run, does, fits, frame_is, ints_of, sequence_is, start_kept, temps}
+use Rattle.c_runs.proofs.Exprs.{AreInts}
+use Rattle.c_runs.proofs.Goes.{Asks, IsEnd, Mem, Runs, RunsTo, Site, Stops, store}
+use Rattle.c_runs.proofs.Grants.{Agrees}
+use Rattle.c_runs.proofs.Longer.{same_run}
+use Rattle.c_runs.proofs.Operations.{Linked}
+use Rattle.c_runs.proofs.Outcomes.{How, Known, agrees, asking, bound_law, end_law, output_law, over, prefix_law, sizes_law, spent}
+use Rattle.c_runs.proofs.Placed as stands
+use Rattle.c_runs.proofs.Placed.{mem_of, site_of}
+use Rattle.c_runs.proofs.Related.{IsOf, frame_of, front}
+
+-- ---- the meaning of the unit is that of main's body
+
+module _ (S : Site) (L : Linked S) (unit : Typed) (all : (f : ℕ) (t : Ty) (ps : Tys) → slice_get (map (λ (g : Function). g.ty) unit.functions) f ≡ Some (function t ps) → Compiled S unit f t ps)
+    (par_ints : (f : ℕ) (t : Ty) (ps : Tys) → slice_get (map (λ (g : Function). g.ty) unit.functions) f ≡ Some (function t ps) → are_integers ps ≡ true)
+    (m0 : Mem) (f : ℕ) (t : Ty) (p : Compiled S unit f t no_types) (is_main : main_number unit ≡ Some f) (none_made : unit.made ≡ []) where
+  abbrev pub here_store : Store
+  here_store = store S m0
+
+  abbrev pub start : Thread
+  start = func_thread here_store (index_of unit f)
+
+  module _ (bytes : List ℕ) (are_bytes : AreBytes bytes) (g : List Bool) (fuel : ℕ) where
+    abbrev w : World
+    w = first_world unit bytes g fuel
+
+    callees : Callees S L unit all par_ints (suc fuel) f 1 t no_types p
+    callees = calls_run S L unit all par_ints (suc fuel) f 1 t no_types p
+
+    abbrev ints : (g' : ℕ) (s : Ty) (qs : Tys) → slice_get (map (λ (h : Function). h.ty) unit.functions) g' ≡ Some (function s qs) → AreInts (E S L unit (suc fuel) f 1 t no_types p) L (home S L unit (suc fuel) f 1 t no_types p) (K S L unit (suc fuel) f 1 t no_types p) refl qs
+    ints = ints_of S L unit all par_ints (suc fuel) f 1 t no_types p
+
+    abbrev whole : Coded
+    whole = D S L unit (suc fuel) f 1 t no_types p
+
+    abbrev nobody' : Frame
+    nobody' = nobody S.funcs
+
+    abbrev ws : World
+    ws = begun S L unit (suc fuel) f 1 t no_types p [] tt w
+
+    abbrev m' : Mem
+    m' = record m0 { temps = temps S L unit (suc fuel) f 1 t no_types p }
+
+    abbrev marked : List Item
+    marked = Activation (result_of p.inst) 0 nobody' ∷ []
+
+    start_is : start ≡ exit_ended (frame_of (E S L unit (suc fuel) f 1 t no_types p) m' ws) [] (front whole.instrs marked)
+    start_is =
+        ap (λ (o : Option FuncInst). start_of here_store (index_of unit f) o) p.is_at
+        ∙ ap (λ (is : List Instr). exit_ended (record { function = index_of unit f; locals = map default_of p.inst.locals }) [] (front is marked)) (sequence_is S L unit (suc fuel) f 1 t no_types p callees ints)
+        ∙ ap (λ (fr : Frame). exit_ended fr [] (front whole.instrs marked)) (frame_is S L unit (suc fuel) f 1 t no_types p [] tt w m0)
+
+    abbrev body : World → Result Value
+    body = does S L unit (suc fuel) f 1 t no_types p callees ints []
+
+    abbrev to_end : Value → World → Mem → Thread
+    to_end v w1 m1 = exit_ended nobody' (pushed t v []) []
+
+    abbrev AtEnd : Value → World → Mem → Type 0
+    AtEnd v w1 m1 = IsOf t v × (w1.fuel < suc fuel) × AreBytes w1.input
+
+    main_runs : Runs S (size_of whole) m' start ws to_end AtEnd (body ws)
+    main_runs =
+        subst (λ (t0 : Thread). Runs S (size_of whole) m' t0 ws to_end AtEnd (body ws)) (sym start_is)
+        (callee_runs S L unit (suc fuel) f 1 t no_types p callees ints [] tt nobody' [] [] refl (record { below = suc fuel; temps = temps S L unit (suc fuel) f 1 t no_types p }) (omega arith) ws m' (start_kept S L unit (suc fuel) f 1 t no_types p [] tt (suc fuel) w m0 refl (omega arith) are_bytes))
+
+    abbrev ending : Result Value → End × World
+    ending x = closed unit (after (back_to w x) (λ v. pure (as_result unit t v)))
+
+    means_is : means unit bytes g fuel ≡ ending (body ws)
+    means_is =
+        let go : Function → Stmt → Does (Option Value) = λ h b. called unit (calls_at unit (suc fuel)) (suc (suc fuel)) [] h b >>= (λ v. pure (as_result unit (meaning.result_of h.ty) v)) in
+        ap (λ (ms : List Made). closed unit ((make_each unit ms >> (give_each unit 0 ms >> run_main unit (suc fuel) (main_number unit))) w)) none_made
+        ∙ ap (λ (o : Option ℕ). closed unit (run_main unit (suc fuel) o w)) is_main
+        ∙ ap (λ (o : Option Function). closed unit (of_defined unit o go w)) p.named ∙ ap (λ (b : Option Stmt). closed unit (with_body unit p.function_is b go w)) p.has_body
+        ∙ ap (λ (ty : Ty). closed unit (after (back_to w (body ws)) (λ v. pure (as_result unit (meaning.result_of ty) v)))) p.typed
+
+    -- ---- what is known of it
+
+    pub record Bundle (e : End) (w1 : World) : Type 0 where
+      pub st : Stop
+      pub known : Known here_store start (map Some bytes) g S.most fuel st e w1
+      pub how : How here_store start (map Some bytes) fuel st e w1 known.cost known.events
+      pub reports : (end : crews.End) → end ≡ crew_end st → Reports left t e end
+
+    bounded : (cost f' : ℕ) → cost + S.most * f' ≤ size_of whole + S.most * fuel → cost ≤ S.most * (fuel + 1)
+    bounded cost f' h =
+        let small = fits S L unit (suc fuel) f 1 t no_types p callees ints in
+        let more : S.most * (fuel + 1) ≡ S.most * fuel + S.most = ap (λ (n : ℕ). S.most * n) (let q : fuel + 1 ≡ suc fuel = omega arith in q) ∙ mul-suc S.most fuel in
+        omega (arith, h, small, more)
+
+    reports_value : (v : Value) (end : crews.End) → end ≡ crews.Results (slice_get (pushed t v []) 0 ∷ []) → Reports left t (world.result (as_result unit t v)) end
+    reports_value v end e = go p.result where
+      go : IsResult t → Reports left t (world.result (as_result unit t v)) end
+      go (is_void q) = subst (λ (s : Ty). end ≡ crews.Results (slice_get (pushed s v []) 0 ∷ []) → Reports left s (world.result (as_result unit s v)) end) (sym q) (λ e'. e') e
+      go (is_integer u q) = subst (λ (s : Ty). end ≡ crews.Results (slice_get (pushed s v []) 0 ∷ []) → Reports left s (world.result (as_result unit s v)) end) (sym q) (λ e'. e') e
+
+    known_end : (e : End) (w1 : World) → Stops S (size_of whole) ws w1 m' start e → Bundle e w1
+    known_end e w1 h = record {
+      st = stop_of e;
+      known = record { puts = h.puts; events = h.events; cost = h.cost; so = h.so; output = h.tells.output; sizes = h.tells.sizes; taken = h.tells.grants; room = bounded h.cost w1.fuel h.greatest };
+      how = how_of e h.is h.asks;
+      reports = reports_of e h.is;
+    } where
+      how_of : (e : End) → IsEnd S e w1 → Asks S e h.cost m' start ws h.events → How here_store start (map Some bytes) fuel (stop_of e) e w1 h.cost h.events
+      how_of (world.result v) is asks = absurd is
+      how_of (world.unsafe u) is asks = over (λ q. absurd cc)
+      how_of world.zero_divide is asks = over (λ q. absurd cc)
+      how_of world.overflow is asks = over (λ q. absurd cc)
+      how_of world.abort is asks = over (λ q. absurd cc)
+      how_of world.null_call is asks = over (λ q. absurd cc)
+      how_of world.deep is asks = over (λ q. absurd cc)
+      how_of world.exhausted is asks = over (λ q. absurd cc)
+      how_of world.ungranted is asks = asking refl refl is asks
+      how_of world.out_of_fuel is asks = spent refl refl (let l = h.least in omega (arith, l, is))
+      how_of world.lost is asks = absurd is
+
+      reports_of : (e : End) → IsEnd S e w1 → (end : crews.End) → end ≡ crew_end (stop_of e) → Reports left t e end
+      reports_of (world.result v) is end q = absurd is
+      reports_of (world.unsafe u) is end q = q
+      reports_of world.zero_divide is end q = q
+      reports_of world.overflow is end q = q
+      reports_of world.abort is end q = q
+      reports_of world.null_call is end q = q
+      reports_of world.deep is end q = q
+      reports_of world.exhausted is end q = q
+      reports_of world.ungranted is end q = q
+      reports_of world.out_of_fuel is end q = q
+      reports_of world.lost is end q = absurd is
+
+    bundle_of : (x : Result Value) → RunsTo S (size_of whole) m' start ws to_end AtEnd x → Bundle (ending x).0 (ending x).1
+    bundle_of (gives v w1) r =
+        let h = r.2 in
+        let none_more : h.cost + 0 ≡ h.cost = omega arith in
+        record {
+          st = Ended (slice_get (pushed t v []) 0);
+          known = record {
+            puts = h.puts;
+            events = h.events;
+            cost = h.cost;
+            so = ap (λ (n : ℕ). steps n here_store start (map Some bytes)) (sym none_more) ∙ h.by 0;
+            output = h.tells.output;
+            sizes = h.tells.sizes;
+            taken = h.tells.grants;
+            room = bounded h.cost w1.fuel h.greatest;
+          };
+          how = over (λ q. absurd cc);
+          reports = reports_value v;
+        }
+    bundle_of (ends e w1) r = known_end e w1 r
+
+    pub bundle : Agrees here_store start (map Some bytes) g → Bundle (means unit bytes g fuel).0 (means unit bytes g fuel).1
+    bundle ag = subst (λ (q : End × World). Bundle q.0 q.1) (sym means_is) (bundle_of (body ws) (main_runs ag))
+
+  -- ---- the theorem
+
+  out_is : (st : Stop) → crew_end st ≡ crews.OutOfBudget → st ≡ Paused
+  out_is (Ended v) e = absurd cc
+  out_is (Trapped k) e = absurd cc
+  out_is Paused e = refl
+  out_is Stuck e = absurd cc
+
+  module _ (bytes : List ℕ) (are_bytes : AreBytes bytes) (b : ℕ) where
+    abbrev run : Run
+    run = run_at here_store (index_of unit f) bytes b
+
+    same : Same run (steps b here_store start (map Some bytes))
+    same = same_run b here_store start (map Some bytes)
+
+    abbrev g : List Bool
+    g = grants (steps b here_store start (map Some bytes)).events
+
+    grants_is : grants (events_of run.deeds) ≡ g
+    grants_is = ap grants same.events
+
+    meant_is : (fuel : ℕ) → means unit bytes g fuel ≡ meant unit here_store (index_of unit f) bytes b fuel
+    meant_is fuel = ap (λ (q : List Bool). means unit bytes q fuel) (sym grants_is)
+
+    have : (fuel : ℕ) → Bundle bytes are_bytes g fuel (means unit bytes g fuel).0 (means unit bytes g fuel).1
+    have fuel = bundle bytes are_bytes g fuel (agrees here_store start (map Some bytes) S.most b)
+
+    over_is : run.end ≢ crews.OutOfBudget → (steps b here_store start (map Some bytes)).stop ≢ Paused
+    over_is d q = d (same.ends ∙ ap crew_end q)
+
+    paused_is : run.end ≡ crews.OutOfBudget → (steps b here_store start (map Some bytes)).stop ≡ Paused
+    paused_is e = out_is (steps b here_store start (map Some bytes)).stop (sym same.ends ∙ e)
+
+    sizes_are : sizes_of (events_of run.deeds) ≡ (meant unit here_store (index_of unit f) bytes b b).1.sizes
+    sizes_are = let h = have b in ap sizes_of same.events ∙ sizes_law here_store start (map Some bytes) S.most b b h.st (means unit bytes g b).0 (means unit bytes g b).1 h.known h.how refl ∙ ap (λ (q : End × World). q.1.sizes) (meant_is b)
+
+    output_is : run.end ≢ crews.OutOfBudget → bytes_of run.deeds ≡ (meant unit here_store (index_of unit f) bytes b b).1.output
+    output_is d = let h = have b in same.bytes ∙ output_law here_store start (map Some bytes) S.most b b h.st (means unit bytes g b).0 (means unit bytes g b).1 h.known h.how refl (over_is d) ∙ ap (λ (q : End × World). q.1.output) (meant_is b)
+
+    end_is : run.end ≢ crews.OutOfBudget → Reports left t (meant unit here_store (index_of unit f) bytes b b).0 run.end
+    end_is d =
+        let h = have b in
+        subst (λ (q : End × World). Reports left t q.0 run.end) (meant_is b)
+        (h.reports run.end (same.ends ∙ ap crew_end (end_law here_store start (map Some bytes) S.most b b h.st (means unit bytes g b).0 (means unit bytes g b).1 h.known h.how refl (over_is d))))
+
+    prints_is : run.end ≡ crews.OutOfBudget → IsPrefix (bytes_of run.deeds) (meant unit here_store (index_of unit f) bytes b b).1.output
+    prints_is e =
+        let h = have b in
+        let q = prefix_law here_store start (map Some bytes) S.most b b h.st (means unit bytes g b).0 (means unit bytes g b).1 h.known h.how refl (paused_is e) in
+        (q.0, ap (λ (x : End × World). x.1.output) (sym (meant_is b)) ∙ q.1 ∙ ap (λ (l : List ℕ). l ++ q.0) (sym same.bytes))
+
+    bound_is : (fuel : ℕ) → S.most * (fuel + 1) < b → run.end ≡ crews.OutOfBudget → (meant unit here_store (index_of unit f) bytes b fuel).0 ≡ world.out_of_fuel
+    bound_is fuel lt e =
+        let h = have fuel in
+        ap (λ (x : End × World). x.0) (sym (meant_is fuel)) ∙ bound_law here_store start (map Some bytes) S.most b fuel h.st (means unit bytes g fuel).0 (means unit bytes g fuel).1 h.known h.how lt (paused_is e)
+
+  pub behaves : Behaves left unit here_store (index_of unit f) t S.most
+  behaves = record {
+    sizes = λ bytes ok b. sizes_are bytes ok b;
+    output = λ bytes ok b d. output_is bytes ok b d;
+    end = λ bytes ok b d. end_is bytes ok b d;
+    prints = λ bytes ok b e. prints_is bytes ok b e;
+    bound = λ bytes ok b fuel lt e. bound_is bytes ok b fuel lt e;
+  }
+
+-- ---- a unit that a store has
+
+pub compiled_behaves : (u : Typed) (s : Store) (n longest : ℕ) (f : Function) (t : Ty) → IsWellTyped u → in_stage u ≡ true → are_shown_functions u.functions ≡ true → main_number u ≡ Some n → slice_get u.functions n ≡ Some f → f.ty ≡ function t no_types
+    → IsPlaced u s longest → Behaves left u s (index_of u n) t longest
+compiled_behaves u s n longest f t well staged shown is_main at ty_is placed =
+    let all = stands.compiled u s longest well staged shown placed in
+    behaves (site_of s longest) (stands.linked u s longest well staged shown placed) u all (stands.params_are u s longest well staged shown placed) (mem_of s) n t (all n t no_types (typed_at u.functions n at)) is_main (stands.none_made u s longest well staged shown placed)
+  where
+    typed_at : (fs : List Function) (k : ℕ) → slice_get fs k ≡ Some f → slice_get (map (λ (g : Function). g.ty) fs) k ≡ Some (function t no_types)
+    typed_at [] k e = absurd cc
+    typed_at (h ∷ fs) zero e = ap (λ (o : Option Function). ty_or o) e ∙ ap Some ty_is where
+      ty_or : Option Function → Option Ty
+      ty_or None = None
+      ty_or (Some x) = Some x.ty
+    typed_at (h ∷ fs) (suc k) e = typed_at fs k e
