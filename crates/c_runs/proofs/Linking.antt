@@ -1,17 +1,21 @@
 -- Linking a unit that was compiled, each function of which is defined, gives a store that has its functions.
 use Rattle.std.proofs.Common.{◌≡◌, ℕ, zero, suc, ◌+◌, ◌<◌, ◌≤◌, List, [], ◌∷◌, ◌++◌, length, map, Bool, true, false, Option, Some, None, Ok, Err, refl, sym, ap, ◌∙◌, arith, subst}
-use Rattle.std.specs.Prelude.{Result, cond, filter, get_or, is_some, max, nat_lt, not, option_map, slice_get, ◌&&◌, ◌==◌}
+use Rattle.std.specs.Prelude.{Result, cond, filter, get_or, is_some, max, nat_le, nat_lt, not, option_map, replicate, slice_get, ◌&&◌, ◌==◌}
 use Rattle.std.specs.List.{list_any, position_or_len}
-use Rattle.std.proofs.lemmas.List.{length-map}
+use Rattle.std.proofs.lemmas.List.{length-map, length-replicate}
 use Rattle.std.proofs.lemmas.Option.{get_or_from_slice_get, slice_get-map, slice_get_within}
 use Rattle.ms_host.specs.declared.host.Host.TheVariants as hosts
+use Rattle.ms_linear.specs.declared.table.Entry.{Entry}
+use Rattle.ms_linear.specs.Table.{most_entries}
 use Rattle.ms_module.specs.declared.module.Func.{Func as ModuleFunc}
-use Rattle.ms_machine.specs.Externs.{Fault, Made, externs, with_rest}
+use Rattle.ms_types.specs.declared.types.Limits.{Limits}
+use Rattle.ms_machine.specs.Externs.{Fault, Made, externs, fault_at, with_rest}
 use Rattle.ms_machine.specs.Linked as linking
-use Rattle.ms_machine.specs.Linked.{all_more, and_then, if_small, instance_in, linked, no_type, nothing_made, outside, own_func, store_of, stored, too_large, unless, with_externs, with_module}
+use Rattle.ms_machine.specs.Linked.{all_more, and_then, if_small, instance_in, linked, no_type, nothing_made, or_next, outside, own_func, sizes_fit, store_of, stored, too_large, unless, with_externs, with_module}
 use Rattle.ms_machine.specs.Store.{Store}
 use Rattle.ms_machine.specs.declared.externs.Extern.{Extern}
 use Rattle.ms_machine.specs.declared.externs.Extern.TheVariants.{Host}
+use Rattle.ms_machine.specs.declared.externs.Why.TheVariants.{Fit, TooLarge}
 use Rattle.ms_task.specs.declared.func.FuncInst.{FuncInst}
 use Rattle.c_types.specs.Types.{Ty, function, no_types}
 use Rattle.c_typed.specs.Tree.{Function, Stmt, Typed}
@@ -19,7 +23,9 @@ use Rattle.c_well_typed.specs.Units.{IsWellTyped, numbers}
 use Rattle.c_meaning.specs.Units.{main_number}
 use Rattle.ms_emit.specs.Codes.{total}
 use Rattle.c_code.specs.Functions.{body, locals, params_in, signature}
-use Rattle.c_code.specs.Modules.{compiled, defined, func_of, funcs_from, import_from_c, imported, index_of, is_call_of, is_defined, is_defined_at, rank_in, sigs_through, start_func, target_of}
+use Rattle.c_code.specs.Limits as limits
+use Rattle.c_code.specs.Limits.{first_true, has_many_slots, is_long_copy, limit_of, most_named}
+use Rattle.c_code.specs.Modules.{compiled, defined, func_of, funcs_from, import_from_c, imported, index_of, is_call_of, is_defined, is_defined_at, named, rank_in, sigs_through, start_func, target_of}
 use Rattle.c_code.specs.Stage.{in_stage}
 use Rattle.c_code.specs.Uses.{uses, waits_stmt}
 use Rattle.c_runs.specs.Correct.{Behaves}
@@ -124,7 +130,8 @@ rank_is k n lt = ap (λ (l : List ℕ). rank_in l n) (numbers_are k) ∙ rank_fr
 defined_in : (fs : List Function) → are_shown_functions fs ≡ true → (n : ℕ) → n < length fs → is_defined (slice_get fs n) ≡ true
 defined_in [] h n lt = absurd (omega (arith, lt))
 defined_in (f ∷ fs) h zero lt =
-    let b = defined_by f.body (both (is_shown_body f.body) (are_shown_functions fs) h).0 in ap (λ (o : Option Stmt). is_some o) b.1
+    let b = defined_by f.body (both (is_shown_body f.body) (are_shown_functions fs) h).0 in
+    ap (λ (o : Option Stmt). is_some o) b.1
 defined_in (f ∷ fs) h (suc n) lt = defined_in fs (both (is_shown_body f.body) (are_shown_functions fs) h).1 n (omega (arith, lt))
 
 sum_is : (a r n : ℕ) → a ≡ 0 → r ≡ n → 3 + a + r ≡ suc (suc (suc n))
@@ -277,19 +284,86 @@ module _ (u : Typed) (name : List ℕ) (c : ℕ) (shown : are_shown_functions u.
   is_made : (s : Store) → linked ((name, compiled u) ∷ []) c ≡ Ok s → st ≡ s
   is_made s e =
       is_stored c s (too_large 0 (compiled u).tables (compiled u).memories)
-      (outside 0 made.globals made.tables made.memories (instance_in nothing_made (compiled u) three_hosts) (compiled u).elements (compiled u).fills)
+      (outside 0 made.globals made.tables made.memories (instance_in nothing_made (compiled u) three_hosts)
+      (compiled u).elements (compiled u).fills)
       made
-      (sym (ap (λ (r : Result (List Extern) Fault). stored c (and_then (with_externs nothing_made name (compiled u) r) (all_more []))) imports_are) ∙ e)
+      (sym (ap (λ (r : Result (List Extern) Fault). stored c (and_then (with_externs nothing_made name (compiled u) r) (all_more [])))
+      imports_are) ∙ e)
+
+-- ---- linking succeeds: of a unit that passes no limit, the table isn't too large, and the elements fit into it
+
+last_limit : (a b d : Bool)
+    → first_true a limits.locals (first_true b limits.copy (first_true d limits.functions None)) ≡ None → d ≡ false
+last_limit false false false e = refl
+last_limit false false true e = absurd cc
+last_limit false true d e = absurd cc
+last_limit true b d e = absurd cc
+
+not_above : (m n : ℕ) → nat_lt m n ≡ false → n ≤ m
+not_above m n e = grind (arith, e)
+
+is_within : (m n : ℕ) → m ≤ n → nat_le m n ≡ true
+is_within m n le = grind (arith, le)
+
+fits_most : (l : Limits) (most : ℕ) → l.min ≤ most → sizes_fit 0 0 most (l ∷ []) ≡ None
+fits_most l most le = ap (λ (b : Bool). cond b None (Some (fault_at 0 0 TooLarge))) (is_within l.min most le)
+
+abbrev no_entry : Option Entry
+no_entry = None
+
+module _ (u : Typed) (name : List ℕ) (c : ℕ) (shown : are_shown_functions u.functions ≡ true) (limited : limit_of u ≡ None) where
+  few_named : length (named u) ≤ most_named
+  few_named =
+      not_above most_named (length (named u))
+      (last_limit (list_any has_many_slots u.functions) (list_any (is_long_copy u.structs) (uses u))
+      (nat_lt most_named (length (named u))) limited)
+
+  abbrev table_limits : Limits
+  table_limits = record { min = suc (length (named u)); max = Some (suc (length (named u))) }
+
+  abbrev size_fault : Option Fault
+  size_fault = too_large 0 (compiled u).tables (compiled u).memories
+
+  is_small : size_fault ≡ None
+  is_small =
+      ap (λ (o : Option Fault). or_next o None) (fits_most table_limits most_entries (let f = few_named in omega (arith, f)))
+
+  abbrev all_made : Made
+  all_made = made u name c shown
+
+  abbrev fit_fault : Option Fault
+  fit_fault = outside 0 all_made.globals all_made.tables all_made.memories
+      (instance_in nothing_made (compiled u) three_hosts) (compiled u).elements (compiled u).fills
+
+  is_inside : fit_fault ≡ None
+  is_inside =
+      let a = length-map (named u) (index_of u) in
+      let r = length-replicate (suc (length (named u))) no_entry in
+      ap (λ (b : Bool). or_next (cond b None (Some (fault_at 0 0 Fit))) None)
+      (is_within (1 + length (map (index_of u) (named u))) (length (replicate (suc (length (named u))) no_entry))
+      (omega (arith, a, r)))
+
+  links : linked ((name, compiled u) ∷ []) c ≡ Ok (store_of c all_made)
+  links =
+      ap (λ (r : Result (List Extern) Fault). stored c (and_then (with_externs nothing_made name (compiled u) r) (all_more [])))
+      (imports_are u name c shown)
+      ∙ ap (λ (a : Option Fault). stored c (and_then (if_small a (unless fit_fault all_made)) (all_more []))) is_small
+      ∙ ap (λ (b : Option Fault). stored c (and_then (unless b all_made) (all_more []))) is_inside
 
 -- ---- the laws
+
+pub compiled_links : (u : Typed) (name : List ℕ) (c : ℕ) → are_shown_functions u.functions ≡ true → limit_of u ≡ None
+    → (s : Store) × (linked ((name, compiled u) ∷ []) c ≡ Ok s)
+compiled_links u name c shown limited = (store_of c (made u name c shown), links u name c shown limited)
 
 pub compiled_is_placed : (u : Typed) (name : List ℕ) (c : ℕ) (s : Store) → are_shown_functions u.functions ≡ true
     → linked ((name, compiled u) ∷ []) c ≡ Ok s → IsPlaced u s (longest_of u)
 compiled_is_placed u name c s shown e =
     subst (λ (t : Store). IsPlaced u t (longest_of u)) (is_made u name c shown s e) (placed u name c shown)
 
-pub linked_behaves : (u : Typed) (name : List ℕ) (c : ℕ) (s : Store) (n : ℕ) (f : Function) (t : Ty) → IsWellTyped u → in_stage u ≡ true
-    → are_shown_functions u.functions ≡ true → main_number u ≡ Some n → slice_get u.functions n ≡ Some f → f.ty ≡ function t no_types
+pub linked_behaves : (u : Typed) (name : List ℕ) (c : ℕ) (s : Store) (n : ℕ) (f : Function) (t : Ty)
+    → IsWellTyped u → in_stage u ≡ true → are_shown_functions u.functions ≡ true → main_number u ≡ Some n
+    → slice_get u.functions n ≡ Some f → f.ty ≡ function t no_types
     → linked ((name, compiled u) ∷ []) c ≡ Ok s → Behaves left u s (index_of u n) t (longest_of u)
 linked_behaves u name c s n f t well staged shown is_main at ty e =
     compiled_behaves u s n (longest_of u) f t well staged shown is_main at ty (compiled_is_placed u name c s shown e)

@@ -8,4 +8,4 @@
 
 mod laws;
 
-pub use laws::{compiled_behaves, compiled_is_placed, linked_behaves, threads_run};
+pub use laws::{compiled_behaves, compiled_is_placed, compiled_links, linked_behaves, threads_run};
