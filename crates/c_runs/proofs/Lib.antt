@@ -18,4 +18,5 @@ pub mod Bodies
 pub mod Callees
 pub mod Placed
 pub mod Top
+pub mod Linking
 pub mod Sample

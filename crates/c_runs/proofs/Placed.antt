@@ -30,7 +30,7 @@ use Rattle.c_runs.proofs.Whole.{both}
 
 -- ---- one of a list
 
-same_one : {A : Type 0} (x y : A) → Some x ≡ Some y → x ≡ y
+pub same_one : {A : Type 0} (x y : A) → Some x ≡ Some y → x ≡ y
 same_one {A = A} x y e = ap (λ (o : Option A). or o) e where
   or : Option A → A
   or None = x
@@ -61,7 +61,7 @@ shown_at [] n f e h = absurd cc
 shown_at (g ∷ fs) zero f e h = subst (λ (x : Function). is_shown_body x.body ≡ true) (same_one g f e) (both (is_shown_body g.body) (are_shown_functions fs) h).0
 shown_at (g ∷ fs) (suc n) f e h = shown_at fs n f e (both (is_shown_body g.body) (are_shown_functions fs) h).1
 
-defined_by : (o : Option Stmt) → is_shown_body o ≡ true → (b : Stmt) × (o ≡ Some b)
+pub defined_by : (o : Option Stmt) → is_shown_body o ≡ true → (b : Stmt) × (o ≡ Some b)
 defined_by None e = absurd cc
 defined_by (Some b) e = (b, refl)
 

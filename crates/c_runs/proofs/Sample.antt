@@ -1,16 +1,12 @@
 -- A unit that is compiled, linked alone, and behaves: the premises can be met at once.
-use Rattle.std.proofs.Common.{◌≡◌, ℕ, zero, suc, ◌<◌, List, [], ◌∷◌, Option, Some, None, Ok, Err, refl, sym, ap, ◌∙◌, arith, subst}
-use Rattle.std.specs.Prelude.{Result, codes, slice_get}
+use Rattle.std.proofs.Common.{◌≡◌, ℕ, [], ◌∷◌, Some, None, Ok, Err, refl, arith}
+use Rattle.std.specs.Prelude.{Result, codes}
 use Rattle.std.proofs.lemmas.List.Elements.{All-nil, All-cons}
-use Rattle.ms_host.specs.declared.host.Host.TheVariants as hosts
 use Rattle.ms_host.specs.declared.trap.TrapKind.TheVariants as traps
 use Rattle.ms_machine.specs.Crews.{Task, Trap, bytes_of}
 use Rattle.ms_machine.specs.Externs.{Fault}
-use Rattle.ms_machine.specs.Linked.{host_func, instance_in, linked, nothing_made, store_of}
+use Rattle.ms_machine.specs.Linked.{linked, nothing_made, store_of}
 use Rattle.ms_machine.specs.Store.{Store}
-use Rattle.ms_machine.specs.declared.externs.Extern.{Extern}
-use Rattle.ms_machine.specs.declared.externs.Extern.TheVariants.{Host}
-use Rattle.ms_task.specs.declared.func.FuncInst.{FuncInst}
 use Rattle.ms_task.specs.Thread.{sequence}
 use Rattle.c_types.specs.declared.integers.IntType.TheVariants.{Int}
 use Rattle.c_types.specs.declared.types.Scalar.TheVariants as scalars
@@ -26,9 +22,9 @@ use Rattle.c_meaning.specs.Units.{means}
 use Rattle.c_meaning.specs.World.{zero_divide}
 use Rattle.c_code.specs.Modules.{compiled}
 use Rattle.c_runs.specs.Correct.{Behaves, run_at}
-use Rattle.c_runs.specs.Placed.{IsFunctionAt, IsPlaced}
+use Rattle.c_runs.specs.Placed.{longest_of}
 use Rattle.c_runs.specs.Words.{left}
-use Rattle.c_runs.proofs.Top.{compiled_behaves}
+use Rattle.c_runs.proofs.Linking.{linked_behaves}
 
 abbrev i : Ty
 i = integer Int
@@ -128,9 +124,6 @@ well = record {
 
 -- ---- linked alone
 
-abbrev externs : List Extern
-externs = Host hosts.Putchar ∷ Host hosts.Getchar ∷ Host hosts.Abort ∷ []
-
 abbrev store_in : Result Store Fault → Store
 store_in (Ok s) = s
 store_in (Err f) = store_of 64 nothing_made
@@ -141,51 +134,10 @@ st = store_in (linked (([], compiled unit) ∷ []) 64)
 linked_is : linked (([], compiled unit) ∷ []) 64 ≡ Ok st
 linked_is = refl
 
-all_at : (y : ℕ) → y < 6 → slice_get (instance_in nothing_made (compiled unit) externs).funcs y ≡ Some y
-all_at zero lt = refl
-all_at (suc zero) lt = refl
-all_at (suc (suc zero)) lt = refl
-all_at (suc (suc (suc zero))) lt = refl
-all_at (suc (suc (suc (suc zero)))) lt = refl
-all_at (suc (suc (suc (suc (suc zero))))) lt = refl
-all_at (suc (suc (suc (suc (suc (suc y)))))) lt = absurd (omega (arith, lt))
-
-abbrev unwrapped : Option FuncInst → FuncInst
-unwrapped (Some g) = g
-unwrapped None = host_func hosts.Abort 0 0
-
-main_at : IsFunctionAt unit st 200 0 main_is main_body
-main_at = record { inst = unwrapped (slice_get st.funcs 3); is_at = refl; no_host = refl; at_home = refl; type_is = refl; locals_are = refl; body_is = refl; small = omega arith }
-
-f_at : IsFunctionAt unit st 200 1 f_is f_body
-f_at = record { inst = unwrapped (slice_get st.funcs 4); is_at = refl; no_host = refl; at_home = refl; type_is = refl; locals_are = refl; body_is = refl; small = omega arith }
-
-body_or : Stmt → Option Stmt → Stmt
-body_or s None = s
-body_or s (Some b) = b
-
-function_or : Function → Option Function → Function
-function_or g None = g
-function_or g (Some f) = f
-
--- a function that was found is the one that stands there
-found_at : (n : ℕ) (g : Function) (c : Stmt) → g.body ≡ Some c → IsFunctionAt unit st 200 n g c → (f : Function) (b : Stmt) → Some g ≡ Some f → f.body ≡ Some b → IsFunctionAt unit st 200 n f b
-unfolding body_or function_or
-found_at n g c is at f b e h =
-    subst (λ (f' : Function). (b' : Stmt) → f'.body ≡ Some b' → IsFunctionAt unit st 200 n f' b') (ap (function_or g) e) (λ b' h'. subst (λ (q : Stmt). IsFunctionAt unit st 200 n g q) (ap (body_or c) (sym is ∙ h')) at) b h
-
-all_placed : (n : ℕ) (f : Function) (b : Stmt) → slice_get unit.functions n ≡ Some f → f.body ≡ Some b → IsFunctionAt unit st 200 n f b
-all_placed zero f b e h = found_at 0 main_is main_body refl main_at f b e h
-all_placed (suc zero) f b e h = found_at 1 f_is f_body refl f_at f b e h
-all_placed (suc (suc n)) f b e h = absurd cc
-
-placed : IsPlaced unit st 200
-placed = record { inst = instance_in nothing_made (compiled unit) externs; alone = refl; all = all_at; three = omega arith; putchar = refl; getchar = refl; abort = refl; functions = all_placed }
-
 -- ---- so it behaves; and both, computed
 
-sample_behaves : Behaves left unit st 3 i 200
-sample_behaves = compiled_behaves unit st 0 200 main_is i well refl refl refl refl refl placed
+sample_behaves : Behaves left unit st 3 i (longest_of unit)
+sample_behaves = linked_behaves unit [] 64 st 0 main_is i well refl refl refl refl refl linked_is
 
 sample_run : bytes_of (run_at st 3 [] 100).deeds ≡ codes "321"
 unfolding sequence

@@ -1,5 +1,5 @@
 -- What a store has of a unit that was compiled: its functions, and three of the host.
-use Rattle.std.specs.Prelude.{◌≡◌, ℕ, ◌<◌, ◌≤◌, ◌&&◌, Bool, true, false, List, [], ◌∷◌, length, Option, Some, None, slice_get}
+use Rattle.std.specs.Prelude.{◌≡◌, ℕ, ◌<◌, ◌≤◌, ◌&&◌, max, Bool, true, false, List, [], ◌∷◌, length, Option, Some, None, slice_get}
 use Rattle.ms_host.specs.declared.host.Host.TheVariants as hosts
 use Rattle.ms_machine.specs.Step.{host_in}
 use Rattle.ms_machine.specs.Store.{Store}
@@ -42,3 +42,17 @@ is_shown_body (Some b) = is_shown b
 abbrev pub are_shown_functions : List Function → Bool
 are_shown_functions [] = true
 are_shown_functions (f ∷ fs) = is_shown_body f.body && are_shown_functions fs
+
+-- ---- how many instructions a body has at most
+
+abbrev pub instructions_in : Typed → Function → Option Stmt → ℕ
+instructions_in u f None = 0
+instructions_in u f (Some b) = total (body (target_of u f b) f b)
+
+abbrev pub longest_in : Typed → List Function → ℕ
+longest_in u [] = 0
+longest_in u (f ∷ fs) = max (instructions_in u f f.body) (longest_in u fs)
+
+-- of the functions of a unit
+abbrev pub longest_of : Typed → ℕ
+longest_of u = longest_in u u.functions
