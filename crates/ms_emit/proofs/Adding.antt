@@ -8,39 +8,41 @@ use Rattle.ms_module.specs.declared.builder.Opening.TheVariants.{Block, Loop, If
 use Rattle.ms_module.specs.declared.instr.Instr.{Instr}
 use Rattle.ms_emit.specs.Codes.{Code, Coded, added_in, block, choice, emitted, no_code, one, repeat, second_added, ◌⨾◌}
 use Rattle.ms_emit.specs.Parts.{Adds, HasRoom, IsWhole}
-use Rattle.ms_emit.proofs.Emitting.{after_else_room, begun_room, emits_block, emits_choice, emits_nothing, emits_one, emits_only, emits_repeat, emits_then, emitted_room, started_in}
+use Rattle.ms_emit.proofs.Emitting.{after_else_room, begun_room, emits_block, emits_choice, emits_nothing, emits_one, emits_only, emits_repeat, emits_then, emitted_room, started_in, then_whole}
 
--- an equation gives both
-from_equation : (old new : State) (c : Code) → (HasRoom old → new ≡ emitted old c) → Adds old new c
-from_equation old new c e = record {
+-- an equation gives all
+from_equation : (old new : State) (c : Code) → IsWhole c → (HasRoom old → new ≡ emitted old c) → Adds old new c
+from_equation old new c whole e = record {
+  whole = whole;
   is = e;
   room = λ room. subst HasRoom (sym (e room)) (emitted_room old c room);
 }
 
 pub adds_nothing : (st : State) → Adds st st no_code
-adds_nothing st = from_equation st st no_code (λ room. sym (emits_nothing st room))
+adds_nothing st = from_equation st st no_code (λ n e. refl) (λ room. sym (emits_nothing st room))
 
 pub adds_one : (old new : State) (i : Instr) → new ≡ placed old i → Adds old new (one i)
-adds_one old new i e = from_equation old new (one i) (λ room. e ∙ emits_one old room i)
+adds_one old new i e = from_equation old new (one i) (λ n none. refl) (λ room. e ∙ emits_one old room i)
 
-pub adds_then : (s0 s1 s2 : State) (a b : Code) → IsWhole a → Adds s0 s1 a → Adds s1 s2 b → Adds s0 s2 (a ⨾ b)
-adds_then s0 s1 s2 a b whole x y =
-    from_equation s0 s2 (a ⨾ b) (λ room. y.is (x.room room) ∙ ap (λ (s : State). emitted s b) (x.is room) ∙ emits_then s0 room a b whole)
+pub adds_then : (s0 s1 s2 : State) (a b : Code) → Adds s0 s1 a → Adds s1 s2 b → Adds s0 s2 (a ⨾ b)
+adds_then s0 s1 s2 a b x y =
+    from_equation s0 s2 (a ⨾ b) (then_whole a b x.whole y.whole)
+    (λ room. y.is (x.room room) ∙ ap (λ (s : State). emitted s b) (x.is room) ∙ emits_then s0 room a b x.whole)
 
 pub adds_block : (s0 s1 s2 s3 : State) (ty : Option ValType) (a : Code) → s1 ≡ begun s0 Block ty → Adds s1 s2 a → s3 ≡ closed s2 → Adds s0 s3 (block ty a)
 adds_block s0 s1 s2 s3 ty a e1 x e3 =
-    from_equation s0 s3 (block ty a) (λ room.
+    from_equation s0 s3 (block ty a) (λ n none. absurd cc) (λ room.
     e3 ∙ ap closed (x.is (subst HasRoom (sym e1) (begun_room s0 Block ty)) ∙ ap (λ (s : State). emitted s a) e1) ∙ emits_block s0 room ty a)
 
 pub adds_repeat : (s0 s1 s2 s3 : State) (ty : Option ValType) (a : Code) → s1 ≡ begun s0 Loop ty → Adds s1 s2 a → s3 ≡ closed s2 → Adds s0 s3 (repeat ty a)
 adds_repeat s0 s1 s2 s3 ty a e1 x e3 =
-    from_equation s0 s3 (repeat ty a) (λ room.
+    from_equation s0 s3 (repeat ty a) (λ n none. absurd cc) (λ room.
     e3 ∙ ap closed (x.is (subst HasRoom (sym e1) (begun_room s0 Loop ty)) ∙ ap (λ (s : State). emitted s a) e1) ∙ emits_repeat s0 room ty a)
 
 -- an `if` without an `else`
 pub adds_only : (s0 s1 s2 s3 : State) (ty : Option ValType) (a : Code) → s1 ≡ begun s0 If ty → Adds s1 s2 a → s3 ≡ closed s2 → Adds s0 s3 (choice ty a no_code)
 adds_only s0 s1 s2 s3 ty a e1 x e3 =
-    from_equation s0 s3 (choice ty a no_code) (λ room.
+    from_equation s0 s3 (choice ty a no_code) (λ n none. absurd cc) (λ room.
     e3 ∙ ap closed (x.is (subst HasRoom (sym e1) (begun_room s0 If ty)) ∙ ap (λ (s : State). emitted s a) e1) ∙ emits_only s0 room ty a)
 
 pub adds_choice : (s0 s1 s2 s3 s4 s5 : State) (ty : Option ValType) (a b : Code)
@@ -51,7 +53,7 @@ adds_choice s0 s1 s2 s3 s4 s5 ty a b e1 x e3 y e5 =
     let room3 = subst HasRoom (sym e3) (after_else_room s2 (x.room room1)) in
     let q4 : s4 ≡ emitted (after_else (emitted (begun s0 If ty) a)) b =
     y.is room3 ∙ ap (λ (s : State). emitted s b) (e3 ∙ ap after_else q2) in
-    from_equation s0 s5 (choice ty a b) (λ room. e5 ∙ ap closed q4 ∙ emits_choice s0 room ty a b)
+    from_equation s0 s5 (choice ty a b) (λ n none. absurd cc) (λ room. e5 ∙ ap closed q4 ∙ emits_choice s0 room ty a b)
 
 -- ---- the builder may go on: an `else`, or the end of a block
 

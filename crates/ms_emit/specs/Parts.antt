@@ -13,5 +13,6 @@ IsWhole c = (n : ℕ) → (c n).instrs ≡ [] → (c n).seqs ≡ []
 
 -- between the two states this code was added, and there is still a sequence to which instructions go
 pub record Adds (old new : State) (c : Code) : Type 0 where
+  pub whole : IsWhole c
   pub is : HasRoom old → new ≡ emitted old c
   pub room : HasRoom old → HasRoom new

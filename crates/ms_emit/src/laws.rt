@@ -26,7 +26,7 @@ pub fn builds_in_parts()
 pub fn parts_add_up()
     ensures nothing { (st : State) → Adds st st no_code }
     ensures instruction { (s0 : State) (s1 : State) (i : Instr) → s1 ≡ placed s0 i → Adds s0 s1 (one i) }
-    ensures behind { (s0 : State) (s1 : State) (s2 : State) (a : Code) (b : Code) → IsWhole a → Adds s0 s1 a → Adds s1 s2 b → Adds s0 s2 (a ⨾ b) }
+    ensures behind { (s0 : State) (s1 : State) (s2 : State) (a : Code) (b : Code) → Adds s0 s1 a → Adds s1 s2 b → Adds s0 s2 (a ⨾ b) }
     ensures block { (s0 : State) (s1 : State) (s2 : State) (s3 : State) (ty : Option ValType) (a : Code) → s1 ≡ begun s0 Block ty → Adds s1 s2 a → s3 ≡ closed s2 → Adds s0 s3 (block ty a) }
     ensures repeat { (s0 : State) (s1 : State) (s2 : State) (s3 : State) (ty : Option ValType) (a : Code) → s1 ≡ begun s0 Loop ty → Adds s1 s2 a → s3 ≡ closed s2 → Adds s0 s3 (repeat ty a) }
     ensures only { (s0 : State) (s1 : State) (s2 : State) (s3 : State) (ty : Option ValType) (a : Code) → s1 ≡ begun s0 If ty → Adds s1 s2 a → s3 ≡ closed s2 → Adds s0 s3 (choice ty a no_code) }
