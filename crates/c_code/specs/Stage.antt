@@ -1,5 +1,5 @@
 -- The units of which it is shown so far that their code does what they mean: those of integers, variables that are no objects,
--- control, and calls of functions by their names.
+-- control, and calls of functions by their names. An i32 counts the groups of a switch, but for one number.
 use Rattle.std.specs.Prelude.{ℕ, suc, nat_lt, ◌&&◌, not, Bool, true, false, List, [], ◌∷◌, Option, Some, None}
 use Rattle.c_types.specs.declared.types.Scalar.{Scalar}
 use Rattle.c_types.specs.declared.types.Scalar.TheVariants as scalars
@@ -8,6 +8,7 @@ use Rattle.c_typed.specs.declared.ops.Variable.TheVariants.{Local, Global}
 use Rattle.c_typed.specs.Objects.{is_object}
 use Rattle.c_typed.specs.Tree as tree
 use Rattle.c_typed.specs.Tree.{Place, of, Expr, Exprs, none, more, Stmt, nothing, perform, if_else, loop, do_while, switch, scope, return, return_nothing, break, continue, Stmts, done, seq, Function, Typed}
+use Rattle.c_well_typed.specs.Statements.{count}
 
 abbrev pub is_integer : Ty → Bool
 is_integer (integer t) = true
@@ -66,7 +67,7 @@ abbrev mutual
   in_stmt (if_else c a b) = in_expr c && (in_stmt a && in_stmt b)
   in_stmt (loop c step s) = in_expr c && (in_step step && in_stmt s)
   in_stmt (do_while s c) = in_stmt s && in_expr c
-  in_stmt (switch t e slots cases ss) = in_expr e && in_stmts ss
+  in_stmt (switch t e slots cases ss) = nat_lt (count ss) 4294967295 && (in_expr e && in_stmts ss)
   in_stmt (scope slots ss) = in_stmts ss
   in_stmt (return e) = in_expr e
   in_stmt return_nothing = true

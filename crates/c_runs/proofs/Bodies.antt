@@ -1,5 +1,5 @@
 -- A body, and what stands behind it: a result that is missing is 0, and the caller goes on with the result.
-use Rattle.std.proofs.Common.{◌≡◌, ℕ, suc, ◌+◌, ◌<◌, ◌≤◌, List, [], ◌∷◌, ◌++◌, length, Option, sym, ap, ◌∙◌, arith, subst}
+use Rattle.std.proofs.Common.{◌≡◌, ℕ, suc, ◌+◌, ◌<◌, ◌≤◌, List, [], ◌∷◌, ◌++◌, length, Option, None, sym, ap, ◌∙◌, arith, subst}
 use Rattle.std.specs.Prelude.{pos}
 use Rattle.ms_linear.specs.declared.value.Value.{Value as Word}
 use Rattle.ms_task.specs.Control.{To, exit_ended, keep, kept, over}
@@ -21,13 +21,17 @@ use Rattle.c_runs.proofs.Goes.{Mem, Runs, bind, here}
 use Rattle.c_runs.specs.Words.{pushed, value_word}
 use Rattle.c_runs.proofs.Related.{Env, HasAll, IsOf, Kept, Now, depth_front, front, front_append, has_front}
 use Rattle.c_runs.proofs.Ops.{Op, at_work, op_carried, same, size_joined}
-use Rattle.c_runs.proofs.Flows.{Around, FlowRuns, GoodFlow, lowest_all, to_flow}
+use Rattle.c_runs.proofs.Flows.{Around, FlowRuns, GoodFlow, IsAt, Way, lowest_all, to_flow, way}
 use Rattle.c_runs.proofs.Stmts.{zero_in}
 
 -- no value, or an integer
 pub data IsResult (t : Ty) : Type 0 where
   is_void : t ≡ void → IsResult t
   is_integer : (u : IntType) → t ≡ integer u → IsResult t
+
+-- the body of a function: no jump leads out of it, and no value waits
+abbrev pub at_top : Way
+at_top = way no_jumps 0 None
 
 module _ (E : Env) (is_result : IsResult E.result) (caller : Frame) (vs : List Word) (r : List Item) (dep : suc (depth_of r) ≡ E.depth) where
   abbrev t : Ty
@@ -54,7 +58,7 @@ module _ (E : Env) (is_result : IsResult E.result) (caller : Frame) (vs : List W
     go (is_void e) = subst (λ (s : Ty). Kept_at s v) (sym e) (ap (λ (o : Option (List Word)). kept o caller r) (lowest_all vs))
     go (is_integer u e) = subst (λ (s : Ty). Kept_at s v) (sym e) (ap (λ (o : Option (List Word)). kept (over (value_word (integer u) v) o) caller r) (lowest_all vs))
 
-  around : (n : ℕ) → Around E vs (front (R n).instrs after_body) 0 0 no_jumps [] [] r caller
+  around : (n : ℕ) → Around E vs (front (R n).instrs after_body) 0 0 at_top [] [] r caller
   around n = record {
     breaks = λ e fr. absurd cc;
     continues = λ e fr. absurd cc;
@@ -76,15 +80,15 @@ module _ (E : Env) (is_result : IsResult E.result) (caller : Frame) (vs : List W
     go (is_void e) = subst (Results n now w m) (sym e) (here E.site 0 w m (λ v w1 m1. exit_ended caller (pushed void v vs) r) (λ v w1 m1. IsOf void v × (w1.fuel < now.below) × AreBytes w1.input) (zero_value void) (tt, k.less, k.bytes))
     go (is_integer u e) = subst (Results n now w m) (sym e) (λ ag. let q = zero_steps u n tt now le vs after_body dep w m k ag in (q.0, (q.1.0, q.1.1.less, q.1.1.bytes), q.2))
 
-  ends_runs : (n : ℕ) (now : Now) → now.below ≤ E.bound → (flow : Flow) (w : World) (m : Mem) → GoodFlow E no_jumps now flow w m
+  ends_runs : (n : ℕ) (now : Now) → now.below ≤ E.bound → (flow : Flow) (w : World) (m : Mem) → GoodFlow E at_top now flow w m
       → Runs E.site (size_of (R n)) m (to_flow E vs (front (R n).instrs after_body) [] [] r caller flow w m) w to_caller (Returned now) (gives (given t flow) w)
   ends_runs n now le next w m g = result_runs n now le w m g.1
   ends_runs n now le (returned v) w m g = here E.site (size_of (R n)) w m to_caller (Returned now) v (g.0, g.1.less, g.1.bytes)
-  ends_runs n now le broken w m g = absurd (let e = g.0 in cc)
+  ends_runs n now le broken w m g = absurd (let e = g.0.0 in cc)
   ends_runs n now le continued w m g = absurd (let e = g.0 in cc)
 
   -- the body, and the result behind it
-  pub body_runs : (B : Code) (mx : Does Flow) → FlowRuns E no_jumps 0 0 B same mx → (n : ℕ) → HasAll E.site.funcs E.fn n ((B ⨾ R) n).seqs → size_of ((B ⨾ R) n) ≤ E.site.most → (now : Now) → now.below ≤ E.bound → (w : World) (m : Mem) → Kept E now w m
+  pub body_runs : (B : Code) (mx : Does Flow) → FlowRuns E at_top 0 0 B same mx → (n : ℕ) → HasAll E.site.funcs E.fn n ((B ⨾ R) n).seqs → size_of ((B ⨾ R) n) ≤ E.site.most → (now : Now) → IsAt E 0 now → (w : World) (m : Mem) → Kept E now w m
       → Runs E.site (size_of ((B ⨾ R) n)) m (at_work E m w vs (front ((B ⨾ R) n).instrs after_body)) w to_caller (Returned now) ((mx >>= (λ flow. pure (given t flow))) w)
   body_runs B mx h n has small now le w m k =
       let cb = B n in
@@ -94,6 +98,6 @@ module _ (E : Env) (is_result : IsResult E.result) (caller : Frame) (vs : List W
       let f = λ (flow : Flow). pure (given t flow) in
       subst (λ (s : ℕ). Runs E.site s m (at_work E m w vs (front (cb.instrs ++ cr.instrs) after_body)) w to_caller (Returned now) ((mx >>= f) w)) sizes
       (subst (λ (q : List Item). Runs E.site (size_of cb + size_of cr) m (at_work E m w vs q) w to_caller (Returned now) ((mx >>= f) w)) (sym (front_append cb.instrs cr.instrs after_body))
-      (bind E.site (size_of cb) (size_of cr) m (at_work E m w vs (front cb.instrs (front cr.instrs after_body))) w (to_flow E vs (front cr.instrs after_body) [] [] r caller) (GoodFlow E no_jumps now) to_caller (Returned now) (mx w) f
+      (bind E.site (size_of cb) (size_of cr) m (at_work E m w vs (front cb.instrs (front cr.instrs after_body))) w (to_flow E vs (front cr.instrs after_body) [] [] r caller) (GoodFlow E at_top now) to_caller (Returned now) (mx w) f
       (h n (has_front E.site.funcs E.fn n cb.seqs cr.seqs has) (omega (arith, sizes, small)) now le vs (front cr.instrs after_body) [] [] r caller (around n') (depth_front cr.instrs after_body ∙ dep) w m k)
-      (λ flow w1 m1 g. ends_runs n' now le flow w1 m1 g)))
+      (λ flow w1 m1 g. ends_runs n' now le.below flow w1 m1 g)))

@@ -1,9 +1,11 @@
 -- Calls of defined functions do what is meant, by induction on the bound that stands above the fuel.
 use Rattle.std.proofs.Common.{◌≡◌, ℕ, zero, suc, ◌+◌, ◌<◌, ◌≤◌, List, [], ◌∷◌, ◌++◌, length, length-append, map, drop, Bool, true, false, Option, Some, None, refl, sym, ap, ◌∙◌, arith, subst, append_assoc}
-use Rattle.std.specs.Prelude.{pos, slice_get, not, ◌==◌, ◌||◌, ◌&&◌, nat_lt, if◌then◌else◌}
+use Rattle.std.specs.Prelude.{pos, replicate, slice_get, not, ◌==◌, ◌||◌, ◌&&◌, nat_lt, if◌then◌else◌}
 use Rattle.std.specs.List.{list_any}
 use Rattle.std.proofs.lemmas.Bool.{ltb-true, ltb-false}
+use Rattle.std.proofs.lemmas.List.{length-map, length-replicate}
 use Rattle.ms_types.specs.declared.types.ValType.{ValType}
+use Rattle.ms_types.specs.declared.types.ValType.TheVariants.{I32}
 use Rattle.ms_linear.specs.declared.value.Value.{Value as Word}
 use Rattle.ms_linear.specs.Values.{default_of}
 use Rattle.ms_host.specs.declared.host.Host.{Host}
@@ -41,10 +43,10 @@ use Rattle.c_code.specs.Stage.{are_integers, are_plain, in_stmt, is_integer}
 use Rattle.c_code.specs.Statements as scheme
 use Rattle.c_code.specs.Statements.{at_body, freed, objects_in}
 use Rattle.c_code.specs.Targets.{Target}
+use Rattle.c_code.specs.Uses as uses
 use Rattle.c_code.specs.Uses.{waits_stmt}
 use Rattle.c_numbers.specs.Operands.{operand}
 use Rattle.c_runs.specs.Correct.{AreBytes}
-use Rattle.c_runs.specs.Parts.{is_shown}
 use Rattle.c_runs.proofs.Goes as goes
 use Rattle.c_runs.proofs.Goes.{Site, Mem, Runs, Goes, after_after, behind_goes, resize, spent, tells_nothing, trapped, unspent}
 use Rattle.c_runs.specs.Words.{pushed}
@@ -52,10 +54,11 @@ use Rattle.c_runs.proofs.Related.{AreHeld, AreOf, Env, HasAll, IsOf, Kept, Now, 
 use Rattle.c_runs.proofs.Ops.{Good, To_, at_work, same}
 use Rattle.c_runs.proofs.Operations.{AtHome, Linked, call_is}
 use Rattle.c_runs.proofs.Exprs.{AreInts, CallsRun}
-use Rattle.c_runs.proofs.Flows.{FlowRuns}
+use Rattle.c_runs.proofs.Flows.{FlowRuns, IsAt}
 use Rattle.c_runs.proofs.Stmts.{Below, get_is, left_runs, neither, no_objects, stmt_runs, zero_in}
-use Rattle.c_runs.proofs.Bodies.{IsResult, body_runs}
+use Rattle.c_runs.proofs.Bodies.{IsResult, at_top, body_runs}
 use Rattle.c_runs.proofs.Entering.{arg_words, args_held, args_words, callee, deep_call, firsts, length_us, others_are, shallow_call}
+use Rattle.c_runs.proofs.Ready.{IsCallable, IsReady}
 use Rattle.c_runs.proofs.Whole.{both}
 
 -- ---- slots that are integers, and no objects
@@ -176,8 +179,7 @@ pub record Compiled (S : Site) (unit : Typed) (f : ℕ) (t : Ty) (ps : Tys) : Ty
   pub begins : function_is.slots ≡ list_of ps ++ others
   pub well : IsStatement (context_of unit function_is.slots (length (list_of ps))) t no_jumps stmt_is
   pub slots_are : AreSlots stmt_is 0 function_is.slots
-  pub staged : in_stmt stmt_is ≡ true
-  pub shown : is_shown stmt_is ≡ true
+  pub ready : IsReady unit (in_stmt stmt_is) (uses.in_stmt stmt_is)
   pub result : IsResult t
 
 get_within : (xs : List FuncInst) (i : ℕ) (x : FuncInst) → slice_get xs i ≡ Some x → i < length xs
@@ -216,6 +218,9 @@ module _ (S : Site) (L : Linked S) (unit : Typed) (i f d : ℕ) (t : Ty) (ps : T
       let few : length (params_in p.function_is.ty) ≡ k = ap (λ (ty : Ty). length (params_in ty)) p.typed in
       ap (λ (b : Bool). if b then length (params_in p.function_is.ty) else 0) (none_in (length (params_in p.function_is.ty)) (let l = long in omega (arith, few, l)))
 
+  pub scratch_is : tg.scratch ≡ length slots
+  scratch_is = let e = first_is in omega (arith, e)
+
   abbrev pub E : Env
   E = record {
     site = S;
@@ -228,6 +233,8 @@ module _ (S : Site) (L : Linked S) (unit : Typed) (i f d : ℕ) (t : Ty) (ps : T
     fn = index_of unit f;
     slots = slots;
     plain_slots = plain_slots;
+    scratch_is = scratch_is;
+    waits = waits_stmt p.stmt_is;
     result = t;
     depth = d;
   }
@@ -245,6 +252,15 @@ module _ (S : Site) (L : Linked S) (unit : Typed) (i f d : ℕ) (t : Ty) (ps : T
 
   abbrev pub temps : List Word
   temps = map default_of (scratch_locals tg (waits_stmt p.stmt_is))
+
+  length_temps : length temps ≡ 4 + waits_stmt p.stmt_is
+  length_temps =
+      let a = length-map (replicate (waits_stmt p.stmt_is) I32) default_of in
+      let b = length-replicate (waits_stmt p.stmt_is) I32 in
+      omega (arith, a, b)
+
+  abbrev pub start_now : (below : ℕ) → Now
+  start_now below = record { below = below; waits = 0; temps = temps }
 
   in_front : (x : ℕ) (s : Ty) → slice_get (list_of ps ++ p.others) x ≡ Some s → slice_get slots x ≡ Some s
   in_front x s e = ap (λ (ts : List Ty). slice_get ts x) p.begins ∙ e
@@ -277,8 +293,8 @@ module _ (S : Site) (L : Linked S) (unit : Typed) (i f d : ℕ) (t : Ty) (ps : T
     pub frame_is : (w : World) (m : Mem) → callee S.funcs (index_of unit f) p.inst ps us [] (record { function = 0; locals = [] }) [] p.is_at p.takes ok ≡ frame_of E (record m { temps = temps }) (begun w)
     frame_is w m = ap (λ (ls : List Word). record { function = index_of unit f; locals = ls }) locals_are
 
-    pub start_kept : (below : ℕ) (w : World) (m : Mem) → suc w.depth ≡ d → w.fuel < below → AreBytes w.input → Kept E (record { below = below; temps = temps }) (begun w) (record m { temps = temps })
-    start_kept below w m dep lt bytes = record { held = held_are; deep = dep; less = lt; bytes = bytes; temps = refl }
+    pub start_kept : (below : ℕ) (w : World) (m : Mem) → suc w.depth ≡ d → w.fuel < below → AreBytes w.input → Kept E (start_now below) (begun w) (record m { temps = temps })
+    start_kept below w m dep lt bytes = record { held = held_are; deep = dep; less = lt; bytes = bytes; temps = record { long = length_temps; stay = λ j l. refl } }
 
   -- ---- the code of the body
 
@@ -343,12 +359,12 @@ module _ (S : Site) (L : Linked S) (unit : Typed) (i f d : ℕ) (t : Ty) (ps : T
         ∙ ap (λ (ty : Ty). after (flow w) (λ g. leaves us >> pure (given (meaning.result_of ty) g))) (sym p.typed)
         ∙ ap (λ (q : Result (Unit {0})). after q (λ u. flow >>= (λ g. leaves us >> pure (given (meaning.result_of p.function_is.ty) g)))) (sym (params_are 0 us w (few us ok)))
 
-    flow_runs : (us : List Value) → AreOf ps us → FlowRuns E no_jumps 0 0 B same (flow >>= (λ g. leaves us >> pure g))
+    flow_runs : (us : List Value) → AreOf ps us → FlowRuns E at_top 0 0 B same (flow >>= (λ g. leaves us >> pure g))
     flow_runs us ok =
-        left_runs E L home K refl callees ints slot_ints kinds kinds_are (slot_there slots) (omega arith) no_jumps 0 0 B flow (numbers_from 0 us) (below_from us 0 (length slots) (few us ok))
-        (stmt_runs E L home K refl callees ints slot_ints kinds kinds_are (slot_there slots) (omega arith) (numbers k) 0 (at_body []) no_jumps p.stmt_is (record { objects = refl; leaving = refl }) p.staged p.shown p.well)
+        left_runs E L home K refl callees ints slot_ints kinds kinds_are (slot_there slots) (omega arith) at_top 0 0 B flow (numbers_from 0 us) (below_from us 0 (length slots) (few us ok))
+        (stmt_runs E L home K refl callees ints slot_ints kinds kinds_are (slot_there slots) (omega arith) (numbers k) 0 None (at_body []) no_jumps p.stmt_is (record { objects = refl; leaving = refl; around = λ q e. absurd cc }) (omega arith) p.ready p.well)
 
-    pub callee_runs : (us : List Value) → AreOf ps us → (caller : Frame) (vs : List Word) (r : List Item) → suc (depth_of r) ≡ d → (now : Now) → now.below ≤ i → (w : World) (m : Mem) → Kept E now w m
+    pub callee_runs : (us : List Value) → AreOf ps us → (caller : Frame) (vs : List Word) (r : List Item) → suc (depth_of r) ≡ d → (now : Now) → IsAt E 0 now → (w : World) (m : Mem) → Kept E now w m
         → Runs S (size_of D) m (at_work E m w vs (front D.instrs (Activation (result_of p.inst) (length vs) caller ∷ r))) w (λ v w1 m1. exit_ended caller (pushed t v vs) r) (λ v w1 m1. IsOf t v × (w1.fuel < now.below) × AreBytes w1.input) (does us w)
     callee_runs us ok caller vs r dep now le w m kp =
         let to = λ (v : Value) (w1 : World) (m1 : Mem). exit_ended caller (pushed t v vs) r in
@@ -359,7 +375,7 @@ module _ (S : Site) (L : Linked S) (unit : Typed) (i f d : ℕ) (t : Ty) (ps : T
 
 -- ---- all calls, by the bound
 
-module _ (S : Site) (L : Linked S) (unit : Typed) (all : (f : ℕ) (t : Ty) (ps : Tys) → slice_get (map (λ (g : Function). g.ty) unit.functions) f ≡ Some (function t ps) → Compiled S unit f t ps)
+module _ (S : Site) (L : Linked S) (unit : Typed) (all : (f : ℕ) (t : Ty) (ps : Tys) → slice_get (map (λ (g : Function). g.ty) unit.functions) f ≡ Some (function t ps) → IsCallable unit f → Compiled S unit f t ps)
     (par_ints : (f : ℕ) (t : Ty) (ps : Tys) → slice_get (map (λ (g : Function). g.ty) unit.functions) f ≡ Some (function t ps) → are_integers ps ≡ true) where
   module _ (i f d : ℕ) (t : Ty) (ps : Tys) (p : Compiled S unit f t ps) where
     are_ints : (qs : Tys) → are_integers qs ≡ true → AreInts (E S L unit i f d t ps p) L (home S L unit i f d t ps p) (K S L unit i f d t ps p) refl qs
@@ -422,7 +438,7 @@ module _ (S : Site) (L : Linked S) (unit : Typed) (all : (f : ℕ) (t : Ty) (ps 
         let fr = frame_of C m w in
         let wn : World = record w { fuel = q } in
         let ints = ints_of i f (suc d) t ps p in
-        let now' : Now = record { below = suc q; temps = temps S L unit i f (suc d) t ps p } in
+        let now' : Now = start_now S L unit i f (suc d) t ps p (suc q) in
         let ws = begun S L unit i f (suc d) t ps p us ok wn in
         let m' : Mem = record m { temps = now'.temps } in
         let marked = Activation (result_of p.inst) (length vs) fr ∷ r in
@@ -438,7 +454,7 @@ module _ (S : Site) (L : Linked S) (unit : Typed) (all : (f : ℕ) (t : Ty) (ps 
         (behind_goes S 0 (size_of whole) wn ws m m' ts ts (To_ C (pushed t) vs r) (Good C (IsOf t) now) (body_of wn)
         (goes.shifts S wn ws m now'.temps ts refl refl (tells_nothing wn ws refl refl refl))
         (back_runs (size_of whole) (suc q) m' ts ws wn (omega (arith, less)) refl refl (does S L unit i f (suc d) t ps p callees ints us ws)
-        (callee_runs S L unit i f (suc d) t ps p callees ints us ok fr vs r (ap suc dep) now' (omega (arith, less, le)) ws m'
+        (callee_runs S L unit i f (suc d) t ps p callees ints us ok fr vs r (ap suc dep) now' (record { below = omega (arith, less, le); waits = refl }) ws m'
         (start_kept S L unit i f (suc d) t ps p us ok (suc q) wn m (ap suc k'.deep) (omega arith) k'.bytes))))))
 
     by_depth : (b : Bool) → nat_lt w.depth deepest ≡ b → Goal 1 w (if b then (spend >> body_of) w else ends deep w)
@@ -455,6 +471,6 @@ module _ (S : Site) (L : Linked S) (unit : Typed) (all : (f : ℕ) (t : Ty) (ps 
         subst (λ (x : Result Value). Goal 1 w x) (sym (ap (λ (o : Option Function). of_defined unit o go w) p.named ∙ ap (λ (b : Option Stmt). with_body unit p.function_is b go w) p.has_body)) (by_depth (nat_lt w.depth deepest) refl)
 
   pub calls_run : (i f d : ℕ) (t : Ty) (ps : Tys) (p : Compiled S unit f t ps) → Callees i f d t ps p
-  calls_run zero f0 d t0 ps0 p0 f t ps e us ok n has now le vs r dep w m k = absurd (let lt = k.less in omega (arith, lt, le))
-  calls_run (suc i) f0 d t0 ps0 p0 f t ps e us ok n has now le vs r dep w m k =
-      let p = all f t ps e in call_runs i f0 d t0 ps0 p0 f t ps p us ok (calls_run i f (suc d) t ps p) now le vs r dep w m k
+  calls_run zero f0 d t0 ps0 p0 f t ps e b us ok n has now le vs r dep w m k = absurd (let lt = k.less in omega (arith, lt, le))
+  calls_run (suc i) f0 d t0 ps0 p0 f t ps e b us ok n has now le vs r dep w m k =
+      let p = all f t ps e b in call_runs i f0 d t0 ps0 p0 f t ps p us ok (calls_run i f (suc d) t ps p) now le vs r dep w m k

@@ -13,7 +13,6 @@ use Rattle.ms_task.specs.Control.{exit_ended}
 use Rattle.ms_task.specs.Thread.{Do, Frame, Item, Label, Thread, thread, depth_of, sequence}
 use Rattle.c_types.specs.declared.integers.IntType.{IntType}
 use Rattle.c_types.specs.Types.{integer}
-use Rattle.c_well_typed.specs.declared.jumps.Jumps.{Jumps}
 use Rattle.c_meaning.specs.Values.{Value, number}
 use Rattle.c_meaning.specs.World.{World, Result, gives, ends, Does, after, ◌>>=◌, ◌>>◌, pure, spend}
 use Rattle.c_meaning.specs.Integers.{is_zero}
@@ -31,9 +30,9 @@ use Rattle.c_runs.specs.Words.{pushed}
 use Rattle.c_runs.proofs.Related.{Env, HasAll, IsOf, Kept, Now, frame_of, front, front_append, has_back, has_front}
 use Rattle.c_runs.proofs.Ops.{Good, IsTest, Op, To_, at_work, into, is_no, is_yes, op_none, same, size_joined}
 use Rattle.c_runs.proofs.Nodes.{Always, Leaves, gone, test_is}
-use Rattle.c_runs.proofs.Flows.{Around, FlowRuns, GoodFlow, to_flow}
+use Rattle.c_runs.proofs.Flows.{Around, FlowRuns, GoodFlow, IsAt, Way, to_flow}
 use Rattle.c_runs.proofs.Loops as loops
-use Rattle.c_runs.proofs.Loops.{bodied, jumps_in, weaken}
+use Rattle.c_runs.proofs.Loops.{bodied, body_way, lower, weaken}
 
 -- the parts' sizes
 part_sizes : (T : Code) (C : Bool) (body : Code) (x : ℕ) → size_of (bodied body C (suc x)) + (size_of (T ((suc x + length (bodied body C (suc x)).seqs) + 0)) + 1) ≡ size_of ((bodied body C ⨾ no_code ⨾ T ⨾ one (BrIf 0)) (suc x))
@@ -47,8 +46,8 @@ part_sizes T C body x =
     omega (arith, a, b, c)
 
 module _ (E : Env) (u : IntType) (narrow : width_of u ≡ W32) (T : Code) (test : Does Value) (rt : Leaves E T (integer u) test)
-    (C : Bool) (body : Code) (mx : Does Flow) (rx : FlowRuns E (jumps_in C) (if C then 2 else 1) 0 body same mx) (N : ℕ)
-    (vs : List Word) (r br cr rr : List Item) (caller : Frame) (b c : ℕ) (l : Jumps) (a : Around E vs r b c l br cr rr caller) (dep : depth_of r ≡ E.depth) where
+    (C : Bool) (body : Code) (mx : Does Flow) (d : ℕ) (rx : FlowRuns E (body_way d C) (if C then 2 else 1) 0 body same mx) (N : ℕ)
+    (vs : List Word) (r br cr rr : List Item) (caller : Frame) (b c : ℕ) (l : Way) (at_depth : l.depth ≡ d) (a : Around E vs r b c l br cr rr caller) (dep : depth_of r ≡ E.depth) where
   no_step : Op E no_code same (gone E) (Always E) (pure tt)
   no_step = op_none E same (gone E) (Always E) tt tt (λ us. refl)
 
@@ -56,7 +55,7 @@ module _ (E : Env) (u : IntType) (narrow : width_of u ≡ W32) (T : Code) (test 
   R = bodied body C ⨾ no_code ⨾ T ⨾ one (BrIf 0)
 
   abbrev ring : List Item
-  ring = loops.ring E u narrow T test rt no_code (pure tt) no_step C body mx rx N vs r br cr rr caller b c l a dep
+  ring = loops.ring E u narrow T test rt no_code (pure tt) no_step C body mx d rx N vs r br cr rr caller b c l at_depth a dep
 
   abbrev outer : List Item
   outer = Label None (length vs) None ∷ r
@@ -100,20 +99,20 @@ module _ (E : Env) (u : IntType) (narrow : width_of u ≡ W32) (T : Code) (test 
         has_front E.site.funcs E.fn n2 (T n2).seqs [] (subst (λ (q : ℕ). HasAll E.site.funcs E.fn q ((T ⨾ one (BrIf 0)) n2).seqs) e (has_back E.site.funcs E.fn (suc N) (bodied body C (suc N)).seqs ((no_code ⨾ T ⨾ one (BrIf 0)) n1).seqs has))
 
     abbrev Iterates : ℕ → Type 0
-    Iterates n = (now : Now) → now.below ≤ E.bound → now.below ≤ n → (w : World) (m : Mem) → Kept E now w m → Runs E.site turn m (head m w) w to (GoodFlow E l now) (again n w)
+    Iterates n = (now : Now) → IsAt E d now → now.below ≤ n → (w : World) (m : Mem) → Kept E now w m → Runs E.site turn m (head m w) w to (GoodFlow E l now) (again n w)
 
-    module _ (n : ℕ) (ih : Iterates n) (now : Now) (le : now.below ≤ E.bound) (le' : now.below ≤ suc n) (w : World) (m : Mem) where
+    module _ (n : ℕ) (ih : Iterates n) (now : Now) (le : IsAt E d now) (le' : now.below ≤ suc n) (w : World) (m : Mem) where
       -- again at the loop's instruction, with a unit to spend
       paid_runs : (w2 : World) (m2 : Mem) (q : ℕ) → Kept E now (record w2 { fuel = q }) m2 → Leads E.site turn w (record w2 { fuel = q }) m (head m w) m2 (head m2 w2) → Agrees (goes.store E.site m2) (head m2 w2) (given w2) w2.grants
           → RunsTo E.site turn m (head m w) w to (GoodFlow E l now) (after (spend (record w2 { fuel = q })) (λ x. again n))
       paid_runs w2 m2 zero k ld ag = leads_out E.site turn turn w (record w2 { fuel = 0 }) m m2 (head m w) (head m2 w2) (omega arith) ld refl refl
       paid_runs w2 m2 (suc f) k ld ag =
           let w3 : World = record w2 { fuel = f } in
-          let now' : Now = record { below = suc f; temps = now.temps } in
+          let now' : Now = lower E (suc f) now in
           let lt = k.less in
           let k3 : Kept E now' w3 m2 = record { held = k.held; deep = k.deep; less = omega arith; bytes = k.bytes; temps = k.temps } in
           leads_paid E.site turn turn turn f w (record w2 { fuel = suc f }) m m2 (head m w) (head m2 w2) to (GoodFlow E l now) (again n w3) ld refl (omega (arith, room))
-          (weaken E l now (suc f) turn m2 (head m2 w2) w3 to (again n w3) (omega (arith, lt)) (ih now' (omega (arith, lt, le)) (omega (arith, lt, le')) w3 m2 k3 ag))
+          (weaken E l now (suc f) turn m2 (head m2 w2) w3 to (again n w3) (omega (arith, lt)) (ih now' (record { below = omega (arith, lt, le.below); waits = le.waits }) (omega (arith, lt, le')) w3 m2 k3 ag))
 
       -- behind the test
       decide : (z : ℕ) (t : Bool) → IsTest E z t → (w2 : World) (m2 : Mem) → Kept E now w2 m2 → Leads E.site ((1 + sB) + sT) w w2 m (head m w) m2 (thread (frame_of E m2 w2) (I32 z ∷ vs) (Do (BrIf 0) ∷ ring))
@@ -121,7 +120,7 @@ module _ (E : Env) (u : IntType) (narrow : width_of u ≡ W32) (T : Code) (test 
       decide z t (is_yes q ez et) w2 m2 k ld ag =
           let t2 = thread (frame_of E m2 w2) (I32 z ∷ vs) (Do (BrIf 0) ∷ ring) in
           let g = one_here E.site w2 m2 m2 (BrIf 0) (frame_of E m2 w2) (I32 z ∷ vs) ring (head m2 w2)
-          (ap (λ (y : ℕ). step.act (goes.store E.site m2) (BrIf 0) (thread (frame_of E m2 w2) (I32 y ∷ vs) ring)) ez ∙ ap (step.moved (goes.store E.site m2)) (loops.to_head E u narrow T test rt no_code (pure tt) no_step C body mx rx N vs r br cr rr caller b c l a dep (frame_of E m2 w2))) in
+          (ap (λ (y : ℕ). step.act (goes.store E.site m2) (BrIf 0) (thread (frame_of E m2 w2) (I32 y ∷ vs) ring)) ez ∙ ap (step.moved (goes.store E.site m2)) (loops.to_head E u narrow T test rt no_code (pure tt) no_step C body mx d rx N vs r br cr rr caller b c l at_depth a dep (frame_of E m2 w2))) in
           subst (λ (x : Bool). RunsTo E.site turn m (head m w) w to (GoodFlow E l now) (behind_test n x w2)) (sym et)
           (paid_runs w2 m2 w2.fuel k (leads_further E.site ((1 + sB) + sT) 1 w w2 w2 m m2 m2 (head m w) t2 (head m2 w2) ld g) (agrees_after E.site 1 w2 w2 m2 m2 t2 (head m2 w2) g ag))
       decide z t (is_no ez et) w2 m2 k ld ag =
@@ -153,7 +152,7 @@ module _ (E : Env) (u : IntType) (narrow : width_of u ≡ W32) (T : Code) (test 
           let split = front_append (T n2).instrs (BrIf 0 ∷ []) ring in
           let ag' = subst (λ (q : List Item). Agrees (goes.store E.site m1) (at_work E m1 w1 vs q) (given w1) w1.grants) split ag in
           subst (λ (y : Result Flow). RunsTo E.site turn m (head m w) w to (GoodFlow E l now) y) (sym (after_after (test w1) is_true (behind_test n)))
-          (test_by w1 m1 (subst (λ (q : List Item). Leads E.site (1 + sB) w w1 m (head m w) m1 (at_work E m1 w1 vs q)) split ld) ag' (test w1) (rt n2 hasT now le vs (Do (BrIf 0) ∷ ring) dep w1 m1 k1 ag'))
+          (test_by w1 m1 (subst (λ (q : List Item). Leads E.site (1 + sB) w w1 m (head m w) m1 (at_work E m1 w1 vs q)) split ld) ag' (test w1) (rt n2 hasT now le.below vs (Do (BrIf 0) ∷ ring) dep w1 m1 k1 ag'))
 
       abbrev t0 : Thread
       t0 = at_work E m w vs (front (bodied body C (suc N)).instrs (front tail1 ring))
@@ -166,7 +165,7 @@ module _ (E : Env) (u : IntType) (narrow : width_of u ≡ W32) (T : Code) (test 
       abbrev to_body : Flow → World → Mem → Thread
       to_body = to_flow E vs (front tail1 ring) r (front tail1 ring) rr caller
 
-      body_by : Agrees (goes.store E.site m) t0 (given w) w.grants → (y : Result Flow) → RunsTo E.site sB m t0 w to_body (GoodFlow E (jumps_in C) now) y
+      body_by : Agrees (goes.store E.site m) t0 (given w) w.grants → (y : Result Flow) → RunsTo E.site sB m t0 w to_body (GoodFlow E (body_way d C) now) y
           → RunsTo E.site turn m (head m w) w to (GoodFlow E l now) (after y (behind_body (meaning.test test >>= behind_test n)))
       body_by ag (ends e w1) h = resize_to E.site (1 + sB) turn m (head m w) w to (GoodFlow E l now) (ends e w1) (omega arith) (stops_behind E.site 1 sB w w w1 m m (head m w) t0 e first.goes h)
       body_by ag (gives next w1) q =
@@ -184,7 +183,7 @@ module _ (E : Env) (u : IntType) (narrow : width_of u ≡ W32) (T : Code) (test 
       iterates : Kept E now w m → Runs E.site turn m (head m w) w to (GoodFlow E l now) (again (suc n) w)
       iterates k ag =
           let ag0 = agrees_after E.site 1 w w m m (head m w) t0 first.goes ag in
-          body_by ag0 (mx w) (loops.body_runs E u narrow T test rt no_code (pure tt) no_step C body mx rx N vs r br cr rr caller b c l a dep hasB (omega (arith, room)) now le w m k ag0)
+          body_by ag0 (mx w) (loops.body_runs E u narrow T test rt no_code (pure tt) no_step C body mx d rx N vs r br cr rr caller b c l at_depth a dep hasB (omega (arith, room)) now le w m k ag0)
 
     pub all_iterate : (n : ℕ) → Iterates n
     all_iterate zero now le le' w m k = absurd (let lt = k.less in omega (arith, lt, le'))
@@ -194,15 +193,15 @@ module _ (E : Env) (u : IntType) (narrow : width_of u ≡ W32) (T : Code) (test 
 
 module _ (E : Env) where
   pub do_runs : (u : IntType) → width_of u ≡ W32 → (T : Code) (test : Does Value) → Leaves E T (integer u) test
-      → (C : Bool) (body : Code) (mx : Does Flow) → FlowRuns E (jumps_in C) (if C then 2 else 1) 0 body same mx → (l : Jumps) (b c bound : ℕ) → E.bound ≤ bound
+      → (C : Bool) (body : Code) (mx : Does Flow) (d : ℕ) → FlowRuns E (body_way d C) (if C then 2 else 1) 0 body same mx → (l : Way) → l.depth ≡ d → (b c bound : ℕ) → E.bound ≤ bound
       → FlowRuns E l b c (block None (repeat None (bodied body C ⨾ no_code ⨾ T ⨾ one (BrIf 0)))) same (do_loops bound (meaning.test test) mx)
-  do_runs u narrow T test rt C body mx rx l b c bound wide n has small now le vs r br cr rr caller a dep w m k =
+  do_runs u narrow T test rt C body mx d rx l at_depth b c bound wide n has small now le vs r br cr rr caller a dep w m k =
       let N = suc n in
       let loop = repeat None (bodied body C ⨾ no_code ⨾ T ⨾ one (BrIf 0)) in
       let to' = to_flow E vs r br cr rr caller in
-      let size = turn E u narrow T test rt C body mx rx N vs r br cr rr caller b c l a dep in
+      let size = turn E u narrow T test rt C body mx d rx N vs r br cr rr caller b c l at_depth a dep in
       let parts = part_sizes T C body N in
       resize E.site (1 + size) (size_of (block None loop n)) m (at_work E m w vs (Do (Block None n) ∷ r)) w to' (GoodFlow E l now) (do_loops bound (meaning.test test) mx w) (omega (arith, parts))
       (into E (Block None n) vs None size (Loop None N ∷ []) to' (GoodFlow E l now) (do_loops bound (meaning.test test) mx w) vs r w m
       (ap (λ (is : List Instr). step.Next (goes.store E.site m) (thread (frame_of E m w) vs (front is (Label None (length vs) None ∷ r))) None) has.0)
-      (all_iterate E u narrow T test rt C body mx rx N vs r br cr rr caller b c l a dep has.1.0 has.1.1 (omega (arith, parts, small)) bound now le (omega (arith, le, wide)) w m k))
+      (all_iterate E u narrow T test rt C body mx d rx N vs r br cr rr caller b c l at_depth a dep has.1.0 has.1.1 (omega (arith, parts, small)) bound now (record { below = le.below; waits = le.waits ∙ at_depth }) (omega (arith, le.below, wide)) w m k))

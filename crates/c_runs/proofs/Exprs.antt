@@ -1,5 +1,5 @@
 -- Expressions do what is meant.
-use Rattle.std.proofs.Common.{◌≡◌, ℕ, ◌^◌, ◌<◌, ◌≤◌, List, [], ◌∷◌, Bool, true, false, T, ltb→lt, Option, Some, None, refl, sym, ap, ◌∙◌, arith, subst}
+use Rattle.std.proofs.Common.{◌≡◌, ℕ, ◌^◌, ◌<◌, ◌≤◌, List, [], ◌∷◌, ◌++◌, Bool, true, false, T, ltb→lt, Option, Some, None, refl, sym, ap, ◌∙◌, arith, subst}
 use Rattle.std.specs.Prelude.{ℤ, pos, ◌&&◌, not, slice_get, if◌then◌else◌}
 use Rattle.ms_linear.specs.declared.value.Value.{Value as Word}
 use Rattle.ms_types.specs.declared.types.ValType.TheVariants as vals
@@ -32,13 +32,16 @@ use Rattle.c_code.specs.Expressions.{as_bit, begun, converted, ended, fetched, i
 use Rattle.c_code.specs.Operations.{constant, convert, eqz, i32, operated, truth, val_option, width_of}
 use Rattle.c_code.specs.Stage.{in_expr, in_exprs, is_local, is_number, is_number_or_void}
 use Rattle.c_code.specs.Targets.{get, plain_in}
+use Rattle.c_code.specs.Uses as uses
+use Rattle.c_code.specs.Uses.{calls}
 use Rattle.c_numbers.proofs.Ranges.{value_in, wrap_in}
 use Rattle.c_runs.specs.Words.{pushed, value_word}
 use Rattle.c_runs.proofs.Related.{AreOf, Env, IsHeld, IsOf, piled}
 use Rattle.c_runs.proofs.Ops.{AllGiven, Op, op_assoc, op_given, op_look, op_none, op_over, op_then, same}
 use Rattle.c_runs.proofs.Nodes.{Carries, Leaves, assign_runs, chosen_runs, constant_runs, fetch_runs, behind_place, gone, left_runs, of_number, remains}
 use Rattle.c_runs.proofs.Operations.{AtHome, Linked, abort_runs, binary_runs, compare_runs, complement_runs, convert_runs, getchar_runs, narrow_truth_runs, negate_runs, not_runs, putchar_runs, truth_in, truth_runs, update_runs}
-use Rattle.c_runs.proofs.Whole.{both, whole_as_bit, whole_expr, whole_plain}
+use Rattle.c_runs.proofs.Ready.{IsCallable, IsReady, behind_test, called, parts}
+use Rattle.c_runs.proofs.Whole.{whole_as_bit, whole_expr, whole_plain}
 
 -- ---- types
 
@@ -152,7 +155,7 @@ module _ (E : Env) (L : Linked E.site) (home : AtHome E) (k : well.Context) (slo
   -- a call does what is meant, from this function
   abbrev pub CallsRun : Type 0
   CallsRun =
-      (f : ℕ) (t : Ty) (ps : Tys) → slice_get k.functions f ≡ Some (function t ps) → (us : List Value) → AreOf ps us
+      (f : ℕ) (t : Ty) (ps : Tys) → slice_get k.functions f ≡ Some (function t ps) → IsCallable E.unit f → (us : List Value) → AreOf ps us
       → Op E (one (Call (E.target.index f))) (λ vs. piled ps us vs) (pushed t) (IsOf t) (E.calls f us)
 
   -- the parameters are integers
@@ -236,14 +239,14 @@ module _ (E : Env) (L : Linked E.site) (home : AtHome E) (k : well.Context) (slo
     void_left false = refl
 
     mutual
-      pub expr_runs : (kept : Bool) (d : ℕ) (e : Expr) (t : Ty) → in_expr e ≡ true → HasType k e t → Carries E kept (code_of kept d e) t (value_in_E e)
+      pub expr_runs : (kept : Bool) (d : ℕ) (e : Expr) (t : Ty) → IsReady E.unit (in_expr e) (uses.in_expr e) → HasType k e t → Carries E kept (code_of kept d e) t (value_in_E e)
       expr_runs kept d (tree.number u n) t x h = left_int kept (one (constant (width_of u) (value_of u n))) t u (value_in_E (tree.number u n)) h.0 (constant_runs E u (value_of u n) (value_in u n h.1))
       expr_runs kept d (tree.read s p) t x h =
-          left_runs E kept (Some s) t (fetched E.target (plain_in E.target p) (code.place E.target d p) s) (value_in_E (tree.read s p)) h.0 (read_runs d s p t x h.1)
+          left_runs E kept (Some s) t (fetched E.target (plain_in E.target p) (code.place E.target d p) s) (value_in_E (tree.read s p)) h.0 (read_runs d s p t x.in_stage h.1)
       expr_runs kept d (tree.convert u v a) t x h =
           left_int kept (converted u v (number_in a) (code_of true d a)) t v (value_in_E (tree.convert u v a)) h.0 (converted_runs E u v a (code_of true d a) (number_in a) refl (expr_runs true d a (integer u) x h.1))
       expr_runs kept d (tree.truth s a) t x h =
-          let q = both (is_number s) (in_expr a) x in
+          let q = behind_test E.unit (is_number s) (in_expr a) (uses.in_expr a) x in
           let n = number_type h.0 s q.0 h.2 in
           subst (λ (r : Scalar). Carries E kept (left kept int (code_of true d a ⨾ truth r)) t (value_in_E (tree.truth s a))) (sym n.2)
           (left_int kept (code_of true d a ⨾ truth (scalars.Int n.0)) t Int (value_in_E (tree.truth s a)) h.1
@@ -253,48 +256,49 @@ module _ (E : Env) (L : Linked E.site) (home : AtHome E) (k : well.Context) (slo
       expr_runs kept d (tree.unary signs.Negate u a) t x h = left_int kept _ t u (value_in_E (tree.unary signs.Negate u a)) h.0 (negate_runs E u (code_of true d a) (value_in_E a) h.1 (expr_runs true d a (integer u) x h.2))
       expr_runs kept d (tree.unary signs.Complement u a) t x h = left_int kept _ t u (value_in_E (tree.unary signs.Complement u a)) h.0 (complement_runs E u (code_of true d a) (value_in_E a) h.1 (expr_runs true d a (integer u) x h.2))
       expr_runs kept d (tree.binary o u a b) t x h =
-          let q = both (in_expr a) (in_expr b) x in
+          let q = parts E.unit (in_expr a) (in_expr b) (uses.in_expr a) (uses.in_expr b) x in
           left_int kept _ t u (value_in_E (tree.binary o u a b)) h.0 (binary_runs E o u (code_of true d a) (code_of true d b) (value_in_E a) (value_in_E b) h.1 (expr_runs true d a (integer u) q.0 h.2) (expr_runs true d b (integer u) q.1 h.3))
       expr_runs kept d (tree.compare o u a b) t x h =
-          let q = both (in_expr a) (in_expr b) x in
+          let q = parts E.unit (in_expr a) (in_expr b) (uses.in_expr a) (uses.in_expr b) x in
           left_int kept _ t Int (value_in_E (tree.compare o u a b)) h.0 (compare_runs E o u (code_of true d a) (code_of true d b) (value_in_E a) (value_in_E b) h.1 (expr_runs true d a (integer u) q.0 h.2) (expr_runs true d b (integer u) q.1 h.3))
       expr_runs kept d (tree.and a b) t x h =
-          let q = both (in_expr a) (in_expr b) x in
+          let q = parts E.unit (in_expr a) (in_expr b) (uses.in_expr a) (uses.in_expr b) x in
           let y = as_bit (is_bit b) (code_of true d b) in
           left_int kept (code_of true d a ⨾ choice (Some vals.I32) y (one (i32 0))) t Int (value_in_E (tree.and a b)) h.2
           (chosen_runs E h.0 (code_of true d a) y (one (i32 0)) (Some vals.I32) (value_in_E a) (meaning.test (value_in_E b) >>= (λ p. pure (meaning.truth p))) (pure (meaning.truth false)) (pushed (integer Int)) (IsOf (integer Int)) (narrow_width h.0 h.3) (whole_plain _)
           (expr_runs true d a (integer h.0) q.0 h.5)
-          (as_bit_runs E k b h.1 (code_of true d b) (is_bit b) refl q.1 (narrow_width h.1 h.4) h.6 (expr_runs true d b (integer h.1) q.1 h.6))
+          (as_bit_runs E k b h.1 (code_of true d b) (is_bit b) refl q.1.in_stage (narrow_width h.1 h.4) h.6 (expr_runs true d b (integer h.1) q.1 h.6))
           (constant_runs E Int (pos 0) (truth_in false)))
       expr_runs kept d (tree.or a b) t x h =
-          let q = both (in_expr a) (in_expr b) x in
+          let q = parts E.unit (in_expr a) (in_expr b) (uses.in_expr a) (uses.in_expr b) x in
           let y = as_bit (is_bit b) (code_of true d b) in
           left_int kept (code_of true d a ⨾ choice (Some vals.I32) (one (i32 1)) y) t Int (value_in_E (tree.or a b)) h.2
           (chosen_runs E h.0 (code_of true d a) (one (i32 1)) y (Some vals.I32) (value_in_E a) (pure (meaning.truth true)) (meaning.test (value_in_E b) >>= (λ p. pure (meaning.truth p))) (pushed (integer Int)) (IsOf (integer Int)) (narrow_width h.0 h.3)
-          (whole_as_bit (is_bit b) (code_of true d b) (whole_expr E.target true d b q.1))
+          (whole_as_bit (is_bit b) (code_of true d b) (whole_expr E.target true d b q.1.in_stage))
           (expr_runs true d a (integer h.0) q.0 h.5)
           (constant_runs E Int (pos 1) (truth_in true))
-          (as_bit_runs E k b h.1 (code_of true d b) (is_bit b) refl q.1 (narrow_width h.1 h.4) h.6 (expr_runs true d b (integer h.1) q.1 h.6)))
+          (as_bit_runs E k b h.1 (code_of true d b) (is_bit b) refl q.1.in_stage (narrow_width h.1 h.4) h.6 (expr_runs true d b (integer h.1) q.1 h.6)))
       expr_runs kept d (tree.choose s e a b) t x h =
-          let q = both (is_number_or_void s) (in_expr e && (in_expr a && in_expr b)) x in
-          let p = both (in_expr e) (in_expr a && in_expr b) q.1 in
-          let r = both (in_expr a) (in_expr b) p.1 in
+          let q = behind_test E.unit (is_number_or_void s) (in_expr e && (in_expr a && in_expr b)) (uses.in_expr (tree.choose s e a b)) x in
+          let p = parts E.unit (in_expr e) (in_expr a && in_expr b) (uses.in_expr e) (uses.in_expr a ++ uses.in_expr b) q.1 in
+          let r = parts E.unit (in_expr a) (in_expr b) (uses.in_expr a) (uses.in_expr b) p.1 in
           left_runs E kept s t (code_of true d e ⨾ choice (val_option s) (code_of true d a) (code_of true d b)) (value_in_E (tree.choose s e a b)) h.1
-          (chosen_runs E h.0 (code_of true d e) (code_of true d a) (code_of true d b) (val_option s) (value_in_E e) (value_in_E a) (value_in_E b) (pushed t) (IsOf t) (narrow_width h.0 h.2) (whole_expr E.target true d b r.1)
+          (chosen_runs E h.0 (code_of true d e) (code_of true d a) (code_of true d b) (val_option s) (value_in_E e) (value_in_E a) (value_in_E b) (pushed t) (IsOf t) (narrow_width h.0 h.2) (whole_expr E.target true d b r.1.in_stage)
           (expr_runs true d e (integer h.0) p.0 h.3) (expr_runs true d a t r.0 h.4) (expr_runs true d b t r.1 h.5))
       expr_runs kept d (tree.comma a b) t x h =
-          let q = both (in_expr a) (in_expr b) x in
+          let q = parts E.unit (in_expr a) (in_expr b) (uses.in_expr a) (uses.in_expr b) x in
           op_then E (code_of false d a) (code_of kept d b) same (gone E) (remains E kept t) (IsOf h.0) (IsOf t) (value_in_E a) (λ v. value_in_E b) (expr_runs false d a h.0 q.0 h.1) (λ v ok. expr_runs kept d b t q.1 h.2)
       expr_runs kept d (tree.assign s p e) t x h =
-          let q = both (is_local p) (in_expr e) x in
-          assigned kept d s p t (code_of true d e) (value_in_E e) q.0 h.1 (expr_runs true d e t q.1 h.2)
+          let q = parts E.unit (is_local p) (in_expr e) (uses.in_place p) (uses.in_expr e) x in
+          assigned kept d s p t (code_of true d e) (value_in_E e) q.0.in_stage h.1 (expr_runs true d e t q.1 h.2)
       expr_runs kept d (tree.update old u o v p e) t x h =
-          let q = both (is_local p) (in_expr e) x in
-          as_type kept (code_of kept d (tree.update old u o v p e)) t u (value_in_E (tree.update old u o v p e)) h.0 (updates kept old d u v o p (code_of true d e) (value_in_E e) q.0 h.1 h.2 (expr_runs true d e (integer v) q.1 h.3))
+          let q = parts E.unit (is_local p) (in_expr e) (uses.in_place p) (uses.in_expr e) x in
+          as_type kept (code_of kept d (tree.update old u o v p e)) t u (value_in_E (tree.update old u o v p e)) h.0 (updates kept old d u v o p (code_of true d e) (value_in_E e) q.0.in_stage h.1 h.2 (expr_runs true d e (integer v) q.1 h.3))
       expr_runs kept d (tree.call f s es) t x h =
-          let q = both (is_number_or_void s) (in_exprs es) x in
+          let q = behind_test E.unit (is_number_or_void s) (in_exprs es) (calls f ∷ uses.in_exprs es) x in
+          let c = called E.unit f (in_exprs es) (uses.in_exprs es) q.1 in
           left_runs E kept s t (code.exprs E.target d es ⨾ one (Call (E.target.index f))) (value_in_E (tree.call f s es)) h.2
-          (op_then E (code.exprs E.target d es) (one (Call (E.target.index f))) same (λ us vs. piled h.0 us vs) (pushed t) (λ us. AreOf h.0 us) (IsOf t) (exprs E.unit E.calls es) (E.calls f) (exprs_run d es h.0 q.1 h.3 (ints f t h.0 h.1)) (λ us ok. calls_run f t h.0 h.1 us ok))
+          (op_then E (code.exprs E.target d es) (one (Call (E.target.index f))) same (λ us vs. piled h.0 us vs) (pushed t) (λ us. AreOf h.0 us) (IsOf t) (exprs E.unit E.calls es) (E.calls f) (exprs_run d es h.0 c.1 h.3 (ints f t h.0 h.1)) (λ us ok. calls_run f t h.0 h.1 c.0 us ok))
       expr_runs kept d (tree.putchar e) t x h =
           left_int kept (code_of true d e ⨾ one (Call 0)) t Int (value_in_E (tree.putchar e)) h.0 (putchar_runs E L home (code_of true d e) (value_in_E e) (expr_runs true d e (integer Int) x h.1))
       expr_runs kept d tree.getchar t x h = left_int kept (one (Call 1)) t Int (value_in_E tree.getchar) h (getchar_runs E L home)
@@ -304,13 +308,13 @@ module _ (E : Env) (L : Linked E.site) (home : AtHome E) (k : well.Context) (slo
           (op_look E (code_of false d e) same (gone E) (remains E kept void) (IsOf h.0) (IsOf void) (value_in_E e) (λ v. pure meaning.nothing_given) (expr_runs false d e h.0 x h.2) (λ v ok. (meaning.nothing_given, refl, void_left kept, tt)))
       expr_runs kept d (tree.size_of_place n p) t x h = size_runs kept n t h.2 (small_size n _ h.4 h.3.1)
       expr_runs kept d (tree.size_of_value n e) t x h = size_runs kept n t h.2 (small_size n _ h.4 h.3.1)
-      expr_runs kept d (tree.size_of_type n) t x h = size_runs kept n t h (ltb→lt n 4294967296 (subst T (sym x) tt))
-      expr_runs kept d _ t x h = absurd cc
+      expr_runs kept d (tree.size_of_type n) t x h = size_runs kept n t h (ltb→lt n 4294967296 (subst T (sym x.in_stage) tt))
+      expr_runs kept d _ t x h = absurd (let e = x.in_stage in cc)
 
-      pub exprs_run : (d : ℕ) (es : Exprs) (ts : Tys) → in_exprs es ≡ true → HaveTypes k es ts → AreInts ts → Op E (code.exprs E.target d es) same (λ us vs. piled ts us vs) (λ us. AreOf ts us) (exprs E.unit E.calls es)
+      pub exprs_run : (d : ℕ) (es : Exprs) (ts : Tys) → IsReady E.unit (in_exprs es) (uses.in_exprs es) → HaveTypes k es ts → AreInts ts → Op E (code.exprs E.target d es) same (λ us vs. piled ts us vs) (λ us. AreOf ts us) (exprs E.unit E.calls es)
       exprs_run d none no_types x h i = op_none E same (λ us vs. piled no_types us vs) (λ us. AreOf no_types us) [] tt (λ vs. refl)
       exprs_run d (more e es) (ty.types t ts) x h i =
-          let q = both (in_expr e) (in_exprs es) x in
+          let q = parts E.unit (in_expr e) (in_exprs es) (uses.in_expr e) (uses.in_exprs es) x in
           op_then E (code_of true d e) (code.exprs E.target d es) same (pushed t) (λ us vs. piled (ty.types t ts) us vs) (IsOf t) (λ us. AreOf (ty.types t ts) us) (value_in_E e) (λ v. exprs E.unit E.calls es >>= (λ vs. pure (v ∷ vs))) (expr_runs true d e t q.0 h.0)
           (λ v ok.
           op_look E (code.exprs E.target d es) (pushed t v) (λ us vs. piled ts us (pushed t v vs)) (λ us vs. piled (ty.types t ts) us vs) (λ us. AreOf ts us) (λ us. AreOf (ty.types t ts) us) (exprs E.unit E.calls es) (λ us. pure (v ∷ us))

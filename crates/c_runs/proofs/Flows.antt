@@ -1,6 +1,6 @@
 -- Statements go on in one of four ways: code that does so, put together.
 use Rattle.std.proofs.Common.{◌≡◌, ℕ, suc, ◌+◌, ◌-◌, ◌≤◌, List, ◌∷◌, ◌++◌, length, drop, Bool, true, Option, Some, None, refl, sym, ap, ◌∙◌, arith, subst, cond}
-use Rattle.std.specs.Prelude.{if◌then◌else◌}
+use Rattle.std.specs.Prelude.{slice_get, if◌then◌else◌}
 use Rattle.std.proofs.lemmas.Bool.{le-leb}
 use Rattle.ms_types.specs.declared.types.ValType.{ValType}
 use Rattle.ms_linear.specs.declared.value.Value.{Value as Word}
@@ -29,9 +29,44 @@ lowest_all vs =
     ap (λ (b : Bool). cond b (Some (drop (length vs - length vs) vs)) None) (le-leb (length vs) (length vs) (omega arith))
     ∙ ap (λ (n : ℕ). Some (drop n vs)) (let z : length vs - length vs ≡ 0 = omega arith in z)
 
+-- Where a statement stands: the jumps that may stand there, how many values wait, and, where `break` leads behind a group of a switch,
+-- how many wait around that switch: it leaves a number there with which no group is carried out.
+pub record Way : Type 0 where
+  pub breaks : Bool
+  pub continues : Bool
+  pub depth : ℕ
+  pub left : Option ℕ
+
+abbrev pub way : Jumps → (depth : ℕ) → (left : Option ℕ) → Way
+way j d o = record { breaks = j.breaks; continues = j.continues; depth = d; left = o }
+
+abbrev pub no_group : ℕ
+no_group = 4294967295
+
+-- how many values that wait stay
+abbrev pub waits_left : Option ℕ → ℕ → ℕ
+waits_left None n = n
+waits_left (Some q) n = q
+
+abbrev pub waits_after : Way → Flow → ℕ → ℕ
+waits_after l broken n = waits_left l.left n
+waits_after l f n = n
+
+abbrev pub after_flow : Way → Flow → Now → Now
+after_flow l f now = record { below = now.below; waits = waits_after l f now.waits; temps = now.temps }
+
+abbrev pub IsLeft : Option ℕ → Mem → Type 0
+IsLeft None m = Unit {0}
+IsLeft (Some q) m = slice_get m.temps (4 + q) ≡ Some (I32 no_group)
+
 module _ (E : Env) where
+  -- so many values wait, and the calls' bound is above
+  pub record IsAt (depth : ℕ) (now : Now) : Type 0 where
+    pub below : now.below ≤ E.bound
+    pub waits : now.waits ≡ depth
+
   -- where break, continue and return lead
-  pub record Around (vs : List Word) (r : List Item) (b c : ℕ) (j : Jumps) (br cr rr : List Item) (caller : Frame) : Type 0 where
+  pub record Around (vs : List Word) (r : List Item) (b c : ℕ) (j : Way) (br cr rr : List Item) (caller : Frame) : Type 0 where
     pub breaks : j.breaks ≡ true → (fr : Frame) → branch b fr vs r ≡ To (thread fr vs br)
     pub continues : j.continues ≡ true → (fr : Frame) → branch c fr vs r ≡ To (thread fr vs cr)
     pub returns : (v : Value) → IsOf E.result v → return_on (pushed E.result v vs) r ≡ To (thread caller (pushed E.result v vs) rr)
@@ -42,32 +77,32 @@ module _ (E : Env) where
   to_flow vs r br cr rr caller continued w m = at_work E m w vs cr
   to_flow vs r br cr rr caller (returned v) w m = exit_ended caller (pushed E.result v vs) rr
 
-  -- break and continue come in loops alone
-  abbrev pub IsFlow : (j : Jumps) → Flow → Type 0
-  IsFlow l next = Unit {0}
-  IsFlow l broken = l.breaks ≡ true
-  IsFlow l continued = l.continues ≡ true
-  IsFlow l (returned v) = IsOf E.result v
+  -- break and continue come in loops and switches alone
+  abbrev pub IsFlow : Way → Flow → Mem → Type 0
+  IsFlow l next m = Unit {0}
+  IsFlow l broken m = (l.breaks ≡ true) × IsLeft l.left m
+  IsFlow l continued m = l.continues ≡ true
+  IsFlow l (returned v) m = IsOf E.result v
 
-  abbrev pub GoodFlow : (j : Jumps) → Now → Flow → World → Mem → Type 0
-  GoodFlow l now f w m = IsFlow l f × Kept E now w m
+  abbrev pub GoodFlow : Way → Now → Flow → World → Mem → Type 0
+  GoodFlow l now f w m = IsFlow l f m × Kept E (after_flow l f now) w m
 
-  abbrev pub FlowRuns : (l : Jumps) (b c : ℕ) → Code → Stack → Does Flow → Type 0
+  abbrev pub FlowRuns : (l : Way) (b c : ℕ) → Code → Stack → Does Flow → Type 0
   FlowRuns l b c code pre x =
-      (n : ℕ) → HasAll E.site.funcs E.fn n (code n).seqs → size_of (code n) ≤ E.site.most → (now : Now) → now.below ≤ E.bound
+      (n : ℕ) → HasAll E.site.funcs E.fn n (code n).seqs → size_of (code n) ≤ E.site.most → (now : Now) → IsAt l.depth now
       → (vs : List Word) (r br cr rr : List Item) (caller : Frame) → Around vs r b c l br cr rr caller → depth_of r ≡ E.depth → (w : World) (m : Mem) → Kept E now w m
       → Runs E.site (size_of (code n)) m (at_work E m w (pre vs) (front (code n).instrs r)) w (to_flow vs r br cr rr caller) (GoodFlow l now) (x w)
 
   -- ---- behind more instructions, and in a block
 
-  pub around_front : (is : List Instr) (vs : List Word) (r : List Item) (b c : ℕ) (l : Jumps) (br cr rr : List Item) (caller : Frame) → Around vs r b c l br cr rr caller → Around vs (front is r) b c l br cr rr caller
+  pub around_front : (is : List Instr) (vs : List Word) (r : List Item) (b c : ℕ) (l : Way) (br cr rr : List Item) (caller : Frame) → Around vs r b c l br cr rr caller → Around vs (front is r) b c l br cr rr caller
   around_front is vs r b c l br cr rr caller a = record {
     breaks = λ e fr. branch_past b fr vs is r ∙ a.breaks e fr;
     continues = λ e fr. branch_past c fr vs is r ∙ a.continues e fr;
     returns = λ v ok. return_past (pushed E.result v vs) is r ∙ a.returns v ok;
   }
 
-  pub around_block : (k : Option ValType) (h : ℕ) (g : Option Instr) (vs : List Word) (r : List Item) (b c : ℕ) (l : Jumps) (br cr rr : List Item) (caller : Frame) → Around vs r b c l br cr rr caller → Around vs (Label k h g ∷ r) (suc b) (suc c) l br cr rr caller
+  pub around_block : (k : Option ValType) (h : ℕ) (g : Option Instr) (vs : List Word) (r : List Item) (b c : ℕ) (l : Way) (br cr rr : List Item) (caller : Frame) → Around vs r b c l br cr rr caller → Around vs (Label k h g ∷ r) (suc b) (suc c) l br cr rr caller
   around_block k h g vs r b c l br cr rr caller a = record { breaks = a.breaks; continues = a.continues; returns = a.returns }
 
   pub in_label : (k : Option ValType) (h : ℕ) (g : Option Instr) (vs : List Word) (r br cr rr : List Item) (caller : Frame) (f : Flow) (w : World) (m : Mem) → to_flow vs (Label k h g ∷ r) br cr rr caller f w m ≡ to_flow vs r br cr rr caller f w m
@@ -78,11 +113,11 @@ module _ (E : Env) where
 
   -- ---- statements
 
-  pub flow_none : (l : Jumps) (b c : ℕ) → FlowRuns l b c no_code same (pure next)
+  pub flow_none : (l : Way) (b c : ℕ) → FlowRuns l b c no_code same (pure next)
   flow_none l b c n has small now le vs r br cr rr caller a dep w m k = here E.site 0 w m (to_flow vs r br cr rr caller) (GoodFlow l now) next (tt, k)
 
   -- an expression, and what follows
-  pub flow_behind : {A : Type 0} (l : Jumps) (b c : ℕ) (x y : Code) (pre : Stack) (mid : A → Stack) (Ok : A → Type 0) (e : Does A) (f : A → Does Flow)
+  pub flow_behind : {A : Type 0} (l : Way) (b c : ℕ) (x y : Code) (pre : Stack) (mid : A → Stack) (Ok : A → Type 0) (e : Does A) (f : A → Does Flow)
       → Op E x pre mid Ok e → ((v : A) → Ok v → FlowRuns l b c y (mid v) (f v)) → FlowRuns l b c (x ⨾ y) pre (e >>= f)
   flow_behind l b c x y pre mid Ok e f rx ry n has small now le vs r br cr rr caller a dep w m k =
       let cx = x n in
@@ -92,20 +127,20 @@ module _ (E : Env) where
       subst (λ (s : ℕ). Runs E.site s m (at_work E m w (pre vs) (front (cx.instrs ++ cy.instrs) r)) w to (GoodFlow l now) (after (e w) f)) (size_joined cx cy)
       (subst (λ (q : List Item). Runs E.site (size_of cx + size_of cy) m (at_work E m w (pre vs) q) w to (GoodFlow l now) (after (e w) f)) (sym (front_append cx.instrs cy.instrs r))
       (bind E.site (size_of cx) (size_of cy) m (at_work E m w (pre vs) (front cx.instrs (front cy.instrs r))) w (To_ E mid vs (front cy.instrs r)) (Good E Ok now) to (GoodFlow l now) (e w) f
-      (rx n (has_front E.site.funcs E.fn n cx.seqs cy.seqs has) now le vs (front cy.instrs r) (depth_front cy.instrs r ∙ dep) w m k)
+      (rx n (has_front E.site.funcs E.fn n cx.seqs cy.seqs has) now le.below vs (front cy.instrs r) (depth_front cy.instrs r ∙ dep) w m k)
       (λ v w1 m1 g. ry v g.0 n' (has_back E.site.funcs E.fn n cx.seqs cy.seqs has) (let s = size_joined cx cy in omega (arith, s, small)) now le vs r br cr rr caller a dep w1 m1 g.1)))
 
   -- a statement that is an expression
-  pub flow_of : {A : Type 0} (l : Jumps) (b c : ℕ) (x : Code) (post : A → Stack) (Ok : A → Type 0) (e : Does A) → Op E x same post Ok e → ((v : A) (vs : List Word) → post v vs ≡ vs) → FlowRuns l b c x same (e >> pure next)
+  pub flow_of : {A : Type 0} (l : Way) (b c : ℕ) (x : Code) (post : A → Stack) (Ok : A → Type 0) (e : Does A) → Op E x same post Ok e → ((v : A) (vs : List Word) → post v vs ≡ vs) → FlowRuns l b c x same (e >> pure next)
   flow_of l b c x post Ok e rx p n has small now le vs r br cr rr caller a dep w m k =
       let to = to_flow vs r br cr rr caller in
       let s = size_of (x n) in
       let z : s + 0 ≡ s = omega arith in
       subst (λ (q : ℕ). Runs E.site q m (at_work E m w vs (front (x n).instrs r)) w to (GoodFlow l now) (after (e w) (λ v. pure next))) z
-      (bind E.site s 0 m (at_work E m w vs (front (x n).instrs r)) w (To_ E post vs r) (Good E Ok now) to (GoodFlow l now) (e w) (λ v. pure next) (rx n has now le vs r dep w m k)
+      (bind E.site s 0 m (at_work E m w vs (front (x n).instrs r)) w (To_ E post vs r) (Good E Ok now) to (GoodFlow l now) (e w) (λ v. pure next) (rx n has now le.below vs r dep w m k)
       (λ v w1 m1 g. subst (λ (us : List Word). Runs E.site 0 m1 (at_work E m1 w1 us r) w1 to (GoodFlow l now) (gives next w1)) (sym (p v vs)) (here E.site 0 w1 m1 to (GoodFlow l now) next (tt, g.1))))
 
-  pub flow_seq : (l : Jumps) (b c : ℕ) (x y : Code) (e f : Does Flow) → FlowRuns l b c x same e → FlowRuns l b c y same f → FlowRuns l b c (x ⨾ y) same (e >>= followed f)
+  pub flow_seq : (l : Way) (b c : ℕ) (x y : Code) (e f : Does Flow) → FlowRuns l b c x same e → FlowRuns l b c y same f → FlowRuns l b c (x ⨾ y) same (e >>= followed f)
   flow_seq l b c x y e f rx ry n has small now le vs r br cr rr caller a dep w m k =
       let cx = x n in
       let n' = n + length cx.seqs in
@@ -124,19 +159,20 @@ module _ (E : Env) where
       on continued w1 m1 g = here E.site (size_of (y (n + length (x n).seqs))) w1 m1 (to_flow vs r br cr rr caller) (GoodFlow l now) continued g
       on (returned v) w1 m1 g = here E.site (size_of (y (n + length (x n).seqs))) w1 m1 (to_flow vs r br cr rr caller) (GoodFlow l now) (returned v) g
 
-  pub flow_return : (l : Jumps) (b c : ℕ) (v : Value) → IsOf E.result v → FlowRuns l b c (one Return) (pushed E.result v) (pure (returned v))
+  pub flow_return : (l : Way) (b c : ℕ) (v : Value) → IsOf E.result v → FlowRuns l b c (one Return) (pushed E.result v) (pure (returned v))
   flow_return l b c v ok n has small now le vs r br cr rr caller a dep w m k ag =
       (m, (ok, k), one_here E.site w m m Return (frame_of E m w) (pushed E.result v vs) r (thread caller (pushed E.result v vs) rr) (ap (step.moved (goes.store E.site m)) (a.returns v ok)))
 
-  pub flow_break : (l : Jumps) (b c : ℕ) → l.breaks ≡ true → FlowRuns l b c (one (Br b)) same (pure broken)
-  flow_break l b c e n has small now le vs r br cr rr caller a dep w m k ag =
-      (m, (e, k), one_here E.site w m m (Br b) (frame_of E m w) vs r (thread (frame_of E m w) vs br) (ap (step.moved (goes.store E.site m)) (a.breaks e (frame_of E m w))))
+  -- out of a loop
+  pub flow_break : (j : Jumps) (d b c : ℕ) → j.breaks ≡ true → FlowRuns (way j d None) b c (one (Br b)) same (pure broken)
+  flow_break j d b c e n has small now le vs r br cr rr caller a dep w m k ag =
+      (m, ((e, tt), k), one_here E.site w m m (Br b) (frame_of E m w) vs r (thread (frame_of E m w) vs br) (ap (step.moved (goes.store E.site m)) (a.breaks e (frame_of E m w))))
 
-  pub flow_continue : (l : Jumps) (b c : ℕ) → l.continues ≡ true → FlowRuns l b c (one (Br c)) same (pure continued)
+  pub flow_continue : (l : Way) (b c : ℕ) → l.continues ≡ true → FlowRuns l b c (one (Br c)) same (pure continued)
   flow_continue l b c e n has small now le vs r br cr rr caller a dep w m k ag =
       (m, (e, k), one_here E.site w m m (Br c) (frame_of E m w) vs r (thread (frame_of E m w) vs cr) (ap (step.moved (goes.store E.site m)) (a.continues e (frame_of E m w))))
 
-  pub flow_choice : (l : Jumps) (b c : ℕ) (x y : Code) (z : ℕ) (t : Bool) (e f : Does Flow) → IsWhole y → IsTest E z t → FlowRuns l (suc b) (suc c) x same e → FlowRuns l (suc b) (suc c) y same f
+  pub flow_choice : (l : Way) (b c : ℕ) (x y : Code) (z : ℕ) (t : Bool) (e f : Does Flow) → IsWhole y → IsTest E z t → FlowRuns l (suc b) (suc c) x same e → FlowRuns l (suc b) (suc c) y same f
       → FlowRuns l b c (choice None x y) (λ vs. I32 z ∷ vs) (if t then e else f)
   flow_choice l b c x y z t e f whole test rx ry n has small now le vs r br cr rr caller a dep w m k =
       let to = to_flow vs r br cr rr caller in

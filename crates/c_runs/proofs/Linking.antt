@@ -1,6 +1,6 @@
--- Linking a unit that was compiled, each function of which is defined, gives a store that has its functions.
+-- Linking a unit that was compiled alone gives a store that has its functions, if each that it uses is defined.
 use Rattle.std.proofs.Common.{◌≡◌, ℕ, zero, suc, ◌+◌, ◌<◌, ◌≤◌, List, [], ◌∷◌, ◌++◌, length, map, Bool, true, false, Option, Some, None, Ok, Err, refl, sym, ap, ◌∙◌, arith, subst}
-use Rattle.std.specs.Prelude.{Result, cond, filter, get_or, is_some, max, nat_le, nat_lt, not, option_map, replicate, slice_get, ◌&&◌, ◌==◌}
+use Rattle.std.specs.Prelude.{Result, cond, filter, get_or, is_some, nat_le, nat_lt, not, option_map, replicate, slice_get, ◌==◌}
 use Rattle.std.specs.List.{list_any, position_or_len}
 use Rattle.std.proofs.lemmas.List.{length-map, length-replicate}
 use Rattle.std.proofs.lemmas.Option.{get_or_from_slice_get, slice_get-map, slice_get_within}
@@ -19,145 +19,43 @@ use Rattle.ms_machine.specs.declared.externs.Why.TheVariants.{Fit, TooLarge}
 use Rattle.ms_task.specs.declared.func.FuncInst.{FuncInst}
 use Rattle.c_types.specs.Types.{Ty, function, no_types}
 use Rattle.c_typed.specs.Tree.{Function, Stmt, Typed}
-use Rattle.c_well_typed.specs.Units.{IsWellTyped, numbers}
+use Rattle.c_well_typed.specs.Units.{IsWellTyped}
 use Rattle.c_meaning.specs.Units.{main_number}
-use Rattle.ms_emit.specs.Codes.{total}
 use Rattle.c_code.specs.Functions.{body, locals, params_in, signature}
 use Rattle.c_code.specs.Limits as limits
 use Rattle.c_code.specs.Limits.{first_true, has_many_slots, is_long_copy, limit_of, most_named}
-use Rattle.c_code.specs.Modules.{compiled, defined, func_of, funcs_from, import_from_c, imported, index_of, is_call_of, is_defined, is_defined_at, named, rank_in, sigs_through, start_func, target_of}
+use Rattle.c_code.specs.Modules.{compiled, defined, func_of, funcs_from, import_from_c, imported, index_of, is_defined, is_defined_at, named, rank_in, sigs_through, start_func, target_of}
 use Rattle.c_code.specs.Stage.{in_stage}
 use Rattle.c_code.specs.Uses.{uses, waits_stmt}
 use Rattle.c_runs.specs.Correct.{Behaves}
-use Rattle.c_runs.specs.Placed.{IsFunctionAt, IsPlaced, are_shown_functions, instructions_in, is_shown_body, longest_in, longest_of}
-use Rattle.c_runs.specs.Words.{left}
-use Rattle.c_runs.proofs.Placed.{defined_by, same_one}
+use Rattle.c_runs.specs.Placed.{IsFunctionAt, IsPlaced}
+use Rattle.c_runs.proofs.Numbers.{from, is_below, numbers_are, or_zero, other, same, slice_left}
+use Rattle.c_runs.proofs.Placed.{same_one}
 use Rattle.c_runs.proofs.Top.{compiled_behaves}
-use Rattle.c_runs.proofs.Whole.{both}
 
--- ---- lists
+-- ---- functions that are defined, from the k-th on: each has its rank among them, behind the three of the host, as its index
 
-module _ {A : Type 0} where
-  nth_left : (xs ys : List A) (k : ℕ) → k < length xs → slice_get (xs ++ ys) k ≡ slice_get xs k
-  nth_left [] ys k l = absurd (omega (arith, l))
-  nth_left (x ∷ xs) ys zero l = refl
-  nth_left (x ∷ xs) ys (suc k) l = nth_left xs ys k (omega (arith, l))
+abbrev defined_from : (k : ℕ) → List Function → List ℕ
+defined_from k [] = []
+defined_from k (f ∷ fs) = cond (is_some f.body) (k ∷ defined_from (suc k) fs) (defined_from (suc k) fs)
 
-  slice_left : (xs ys : List A) (n : ℕ) (x : A) → slice_get xs n ≡ Some x → slice_get (xs ++ ys) n ≡ Some x
-  slice_left xs ys n x e = nth_left xs ys n (slice_get_within xs n x e) ∙ e
+-- where a number stands among them
+abbrev place_in : (k : ℕ) → List Function → (n : ℕ) → ℕ
+place_in k fs n = position_or_len (λ m. m == n) (defined_from k fs)
 
-  -- an element at the end passes a test, or not
-  kept_last : (p : A → Bool) (xs : List A) (y : A) → p y ≡ true → filter p (xs ++ y ∷ []) ≡ filter p xs ++ y ∷ []
-  kept_last p [] y e = ap (λ (b : Bool). cond b (y ∷ []) []) e
-  kept_last p (x ∷ xs) y e = by (p x) (kept_last p xs y e) where
-    by : (b : Bool) → filter p (xs ++ y ∷ []) ≡ filter p xs ++ y ∷ []
-        → cond b (x ∷ filter p (xs ++ y ∷ [])) (filter p (xs ++ y ∷ [])) ≡ cond b (x ∷ filter p xs) (filter p xs) ++ y ∷ []
-    by true h = ap (λ (l : List A). x ∷ l) h
-    by false h = h
+module _ (u : Typed) where
+  filtered : (k : ℕ) (fs : List Function) → ((i : ℕ) → slice_get fs i ≡ slice_get u.functions (k + i)) → filter (is_defined_at u) (from k (length fs)) ≡ defined_from k fs
+  filtered k [] h = refl
+  filtered k (f ∷ fs) h =
+      let rest = filter (is_defined_at u) (from (suc k) (length fs)) in
+      ap (λ (o : Option Function). cond (is_defined o) (k ∷ rest) rest) (ap (slice_get u.functions) (let z : k ≡ k + 0 = omega arith in z) ∙ sym (h 0))
+      ∙ ap (λ (l : List ℕ). cond (is_some f.body) (k ∷ l) l)
+      (filtered (suc k) fs (λ i. h (suc i) ∙ ap (slice_get u.functions) (let z : k + suc i ≡ suc k + i = omega arith in z)))
 
-  dropped_last : (p : A → Bool) (xs : List A) (y : A) → p y ≡ false → filter p (xs ++ y ∷ []) ≡ filter p xs
-  dropped_last p [] y e = ap (λ (b : Bool). cond b (y ∷ []) []) e
-  dropped_last p (x ∷ xs) y e = ap (λ (l : List A). cond (p x) (x ∷ l) l) (dropped_last p xs y e)
-
--- ---- the first numbers, so many
-
-all_pass : (p : ℕ → Bool) (k : ℕ) → ((n : ℕ) → n < k → p n ≡ true) → filter p (numbers k) ≡ numbers k
-all_pass p zero h = refl
-all_pass p (suc k) h =
-    kept_last p (numbers k) k (h k (omega arith))
-    ∙ ap (λ (l : List ℕ). l ++ k ∷ []) (all_pass p k (λ n lt. h n (omega (arith, lt))))
-
-none_pass : (p : ℕ → Bool) (k : ℕ) → ((n : ℕ) → n < k → p n ≡ false) → filter p (numbers k) ≡ []
-none_pass p zero h = refl
-none_pass p (suc k) h =
-    dropped_last p (numbers k) k (h k (omega arith)) ∙ none_pass p k (λ n lt. h n (omega (arith, lt)))
-
-abbrev from : (first count : ℕ) → List ℕ
-from k zero = []
-from k (suc n) = k ∷ from (suc k) n
-
-from_more : (k n : ℕ) → from k (suc n) ≡ from k n ++ (k + n) ∷ []
-from_more k zero = ap (λ (m : ℕ). m ∷ []) (let z : k ≡ k + 0 = omega arith in z)
-from_more k (suc n) =
-    ap (λ (l : List ℕ). k ∷ l) (from_more (suc k) n)
-    ∙ ap (λ (m : ℕ). k ∷ (from (suc k) n ++ m ∷ [])) (let z : suc k + n ≡ k + suc n = omega arith in z)
-
-numbers_are : (n : ℕ) → numbers n ≡ from 0 n
-numbers_are zero = refl
-numbers_are (suc n) =
-    ap (λ (l : List ℕ). l ++ n ∷ []) (numbers_are n)
-    ∙ ap (λ (m : ℕ). from 0 n ++ m ∷ []) (let z : n ≡ 0 + n = omega arith in z) ∙ sym (from_more 0 n)
-
-same : (m n : ℕ) → m ≡ n → m == n ≡ true
-same m n e = grind (arith, e)
-
-other : (m n : ℕ) → m < n → m == n ≡ false
-other m n lt = grind (arith, lt)
-
-is_below : (m n : ℕ) → m < n → nat_lt m n ≡ true
-is_below m n lt = grind (arith, lt)
-
-length_from : (k n : ℕ) → length (from k n) ≡ n
-length_from k zero = refl
-length_from k (suc n) = ap suc (length_from (suc k) n)
-
--- the number that is i behind the first one stands at i
-first_at : (k n i m : ℕ) → m ≡ k + i → i < n → position_or_len (λ x. x == m) (from k n) ≡ i
-first_at k zero i m e lt = absurd (omega (arith, lt))
-first_at k (suc n) zero m e lt =
-    ap (λ (b : Bool). cond (not b) (1 + position_or_len (λ x. x == m) (from (suc k) n)) 0) (same k m (omega (arith, e)))
-first_at k (suc n) (suc i) m e lt =
-    let z : 1 + i ≡ suc i = omega arith in
-    ap (λ (b : Bool). cond (not b) (1 + position_or_len (λ x. x == m) (from (suc k) n)) 0) (other k m (omega (arith, e)))
-    ∙ ap (λ (j : ℕ). 1 + j) (first_at (suc k) n i m (omega (arith, e)) (omega (arith, lt))) ∙ z
-
-abbrev or_zero : Option ℕ → ℕ
-or_zero None = 0
-or_zero (Some i) = i
-
-rank_from : (k n : ℕ) → n < k → rank_in (from 0 k) n ≡ n
-rank_from k n lt =
-    let p = first_at 0 k n n (omega arith) lt in
-    ap (λ (i : ℕ). or_zero (cond (nat_lt i (length (from 0 k))) (Some i) None)) p
-    ∙ ap (λ (b : Bool). or_zero (cond b (Some n) None))
-    (is_below n (length (from 0 k)) (let l = length_from 0 k in omega (arith, l, lt)))
-
-rank_is : (k n : ℕ) → n < k → rank_in (numbers k) n ≡ n
-rank_is k n lt = ap (λ (l : List ℕ). rank_in l n) (numbers_are k) ∙ rank_from k n lt
-
--- ---- functions that are all defined: none is imported, and each has its number behind the three of the host as its index
-
-defined_in : (fs : List Function) → are_shown_functions fs ≡ true → (n : ℕ) → n < length fs → is_defined (slice_get fs n) ≡ true
-defined_in [] h n lt = absurd (omega (arith, lt))
-defined_in (f ∷ fs) h zero lt =
-    let b = defined_by f.body (both (is_shown_body f.body) (are_shown_functions fs) h).0 in
-    ap (λ (o : Option Stmt). is_some o) b.1
-defined_in (f ∷ fs) h (suc n) lt = defined_in fs (both (is_shown_body f.body) (are_shown_functions fs) h).1 n (omega (arith, lt))
-
-sum_is : (a r n : ℕ) → a ≡ 0 → r ≡ n → 3 + a + r ≡ suc (suc (suc n))
-sum_is a r n e h = omega (arith, e, h)
-
-module _ (u : Typed) (shown : are_shown_functions u.functions ≡ true) where
-  none_imported : imported u ≡ []
-  none_imported =
-      none_pass (λ n. not (is_defined_at u n) && list_any (is_call_of n) (uses u)) (length u.functions)
-      (λ n lt. ap (λ (b : Bool). not b && list_any (is_call_of n) (uses u)) (defined_in u.functions shown n lt))
-
-  all_defined : defined u ≡ numbers (length u.functions)
-  all_defined = all_pass (is_defined_at u) (length u.functions) (defined_in u.functions shown)
-
-  index_is : (n : ℕ) → n < length u.functions → index_of u n ≡ suc (suc (suc n))
-  index_is n lt =
-      ap (λ (b : Bool). cond b (3 + length (imported u) + rank_in (defined u) n) (3 + rank_in (imported u) n))
-      (defined_in u.functions shown n lt)
-      ∙ sum_is (length (imported u)) (rank_in (defined u) n) n (ap (λ (l : List ℕ). length l) none_imported)
-      (ap (λ (l : List ℕ). rank_in l n) all_defined ∙ rank_is (length u.functions) n lt)
-
-on_left : (m n : ℕ) → m ≤ max m n
-on_left m n = omega arith
-
-on_right : (k m n : ℕ) → k ≤ n → k ≤ max m n
-on_right k m n le = omega (arith, le)
+  pub defined_are : defined u ≡ defined_from 0 u.functions
+  defined_are =
+      ap (filter (is_defined_at u)) (numbers_are (length u.functions))
+      ∙ filtered 0 u.functions (λ i. ap (slice_get u.functions) (let z : i ≡ 0 + i = omega arith in z))
 
 -- ---- the functions of the module, in order
 
@@ -169,31 +67,52 @@ module _ (u : Typed) where
     body = body (target_of u f b) f b;
   }
 
-  code_at : (k : ℕ) (fs : List Function) → are_shown_functions fs ≡ true → (n : ℕ) (f : Function) (b : Stmt)
-      → slice_get fs n ≡ Some f → f.body ≡ Some b → slice_get (funcs_from u k fs) n ≡ Some (code_of (k + n) f b)
-  code_at k [] shown n f b e h = absurd cc
-  code_at k (g ∷ fs) shown zero f b e h =
-      let z : k ≡ k + 0 = omega arith in
-      ap (λ (x : Function). slice_get (func_of u k x x.body ++ funcs_from u (suc k) fs) 0) (same_one g f e)
-      ∙ ap (λ (o : Option Stmt). slice_get (func_of u k f o ++ funcs_from u (suc k) fs) 0) h
-      ∙ ap (λ (m : ℕ). Some (code_of m f b)) z
-  code_at k (g ∷ fs) shown (suc n) f b e h =
-      let s = both (is_shown_body g.body) (are_shown_functions fs) shown in
-      let d = defined_by g.body s.0 in
-      let z : suc k + n ≡ k + suc n = omega arith in
-      ap (λ (o : Option Stmt). slice_get (func_of u k g o ++ funcs_from u (suc k) fs) (suc n)) d.1
-      ∙ code_at (suc k) fs s.1 n f b e h
-      ∙ ap (λ (m : ℕ). Some (code_of m f b)) z
+  pub own_funcs : (k : ℕ) (fs : List Function) → length (funcs_from u k fs) ≡ length (defined_from k fs)
+  own_funcs k [] = refl
+  own_funcs k (f ∷ fs) = by f.body (own_funcs (suc k) fs) where
+    by : (o : Option Stmt) → length (funcs_from u (suc k) fs) ≡ length (defined_from (suc k) fs)
+        → length (func_of u k f o ++ funcs_from u (suc k) fs) ≡ length (cond (is_some o) (k ∷ defined_from (suc k) fs) (defined_from (suc k) fs))
+    by None h = h
+    by (Some b) h = ap suc h
 
-  small_in : (fs : List Function) (n : ℕ) (f : Function) (b : Stmt) → slice_get fs n ≡ Some f → f.body ≡ Some b
-      → total (body (target_of u f b) f b) ≤ longest_in u fs
-  small_in [] n f b e h = absurd cc
-  small_in (g ∷ fs) zero f b e h =
-      subst (λ (x : Function). total (body (target_of u f b) f b) ≤ longest_in u (x ∷ fs)) (sym (same_one g f e))
-      (subst (λ (o : Option Stmt). total (body (target_of u f b) f b) ≤ max (instructions_in u f o) (longest_in u fs)) (sym h)
-      (on_left (total (body (target_of u f b) f b)) (longest_in u fs)))
-  small_in (g ∷ fs) (suc n) f b e h =
-      on_right (total (body (target_of u f b) f b)) (instructions_in u g g.body) (longest_in u fs) (small_in fs n f b e h)
+  code_at : (k : ℕ) (fs : List Function) (i n : ℕ) (f : Function) (b : Stmt) → n ≡ k + i → slice_get fs i ≡ Some f → f.body ≡ Some b
+      → slice_get (funcs_from u k fs) (place_in k fs n) ≡ Some (code_of n f b)
+  code_at k [] i n f b q e h = absurd cc
+  code_at k (g ∷ fs) zero n f b q e h =
+      let there : k ≡ n = omega (arith, q) in
+      let one = same_one g f e in
+      let more = defined_from (suc k) fs in
+      subst (λ (o : Option Stmt). slice_get (func_of u k g o ++ funcs_from u (suc k) fs) (position_or_len (λ m. m == n) (cond (is_some o) (k ∷ more) more)) ≡ Some (code_of n f b))
+      (sym (ap (λ (x : Function). x.body) one ∙ h))
+      (ap (λ (c : Bool). slice_get (code_of k g b ∷ funcs_from u (suc k) fs) (cond (not c) (1 + position_or_len (λ m. m == n) more) 0)) (same k n there)
+      ∙ ap (λ (x : Function). Some (code_of k x b)) one ∙ ap (λ (m : ℕ). Some (code_of m f b)) there)
+  code_at k (g ∷ fs) (suc i) n f b q e h = by g.body (code_at (suc k) fs i n f b (omega (arith, q)) e h) where
+    by : (o : Option Stmt) → slice_get (funcs_from u (suc k) fs) (place_in (suc k) fs n) ≡ Some (code_of n f b)
+        → slice_get (func_of u k g o ++ funcs_from u (suc k) fs) (position_or_len (λ m. m == n) (cond (is_some o) (k ∷ defined_from (suc k) fs) (defined_from (suc k) fs))) ≡ Some (code_of n f b)
+    by None r = r
+    by (Some c) r =
+        let j = place_in (suc k) fs n in
+        let z : 1 + j ≡ suc j = omega arith in
+        ap (λ (t : Bool). slice_get (code_of k g c ∷ funcs_from u (suc k) fs) (cond (not t) (1 + j) 0)) (other k n (omega (arith, q)))
+        ∙ ap (λ (m : ℕ). slice_get (code_of k g c ∷ funcs_from u (suc k) fs) m) z ∙ r
+
+  module _ (none : imported u ≡ []) (n : ℕ) (f : Function) (b : Stmt) (e : slice_get u.functions n ≡ Some f) (h : f.body ≡ Some b) where
+    abbrev place : ℕ
+    place = place_in 0 u.functions n
+
+    code_is : slice_get (funcs_from u 0 u.functions) place ≡ Some (code_of n f b)
+    code_is = code_at 0 u.functions n n f b (let z : n ≡ 0 + n = omega arith in z) e h
+
+    index_is : index_of u n ≡ suc (suc (suc place))
+    index_is =
+        let few = slice_get_within (funcs_from u 0 u.functions) place (code_of n f b) code_is in
+        let all = own_funcs 0 u.functions in
+        ap (λ (o : Option Function). cond (is_defined o) (3 + length (imported u) + rank_in (defined u) n) (3 + rank_in (imported u) n)) e
+        ∙ ap (λ (o : Option Stmt). cond (is_some o) (3 + length (imported u) + rank_in (defined u) n) (3 + rank_in (imported u) n)) h
+        ∙ ap (λ (l : List ℕ). 3 + length l + rank_in (defined u) n) none
+        ∙ ap (λ (l : List ℕ). 3 + 0 + rank_in l n) (defined_are u)
+        ∙ ap (λ (c : Bool). 3 + 0 + or_zero (cond c (Some place) None)) (is_below place (length (defined_from 0 u.functions)) (omega (arith, few, all)))
+        ∙ (let z : 3 + 0 + place ≡ suc (suc (suc place)) = omega arith in z)
 
   sig_at : (n : ℕ) (f : Function) → slice_get u.functions n ≡ Some f → get_or (compiled u).sigs (3 + n) no_type ≡ signature f.ty
   sig_at n f e =
@@ -205,7 +124,7 @@ module _ (u : Typed) where
 
 -- ---- the store
 
-abbrev three_hosts : List Extern
+abbrev pub three_hosts : List Extern
 three_hosts = Host hosts.Putchar ∷ Host hosts.Getchar ∷ Host hosts.Abort ∷ []
 
 abbrev behind_three : Result (List Extern) Fault → Result (List Extern) Fault
@@ -218,7 +137,7 @@ number_at k (suc n) (suc x) lt =
     let z : suc k + x ≡ k + suc x = omega arith in number_at (suc k) n x (omega (arith, lt)) ∙ ap Some z
 
 -- an address is an index
-address_at : (fs : List ModuleFunc) (g : ModuleFunc → FuncInst) (x : ℕ) → x < suc (suc (suc (length (map g fs))))
+pub address_at : (fs : List ModuleFunc) (g : ModuleFunc → FuncInst) (x : ℕ) → x < suc (suc (suc (length (map g fs))))
     → slice_get (0 ∷ 1 ∷ 2 ∷ linking.numbers 3 (length fs)) x ≡ Some x
 address_at fs g zero lt = refl
 address_at fs g (suc zero) lt = refl
@@ -238,39 +157,38 @@ is_stored c s None None made e = ap (λ (r : Result Store Fault). or r) e where
 is_stored c s None (Some f) made e = absurd cc
 is_stored c s (Some f) b made e = absurd cc
 
-module _ (u : Typed) (name : List ℕ) (c : ℕ) (shown : are_shown_functions u.functions ≡ true) where
-  abbrev made : Made
+module _ (u : Typed) (name : List ℕ) (c : ℕ) (none : imported u ≡ []) where
+  abbrev pub made : Made
   made = with_module nothing_made name (compiled u) three_hosts
 
-  abbrev st : Store
+  abbrev pub st : Store
   st = store_of c made
 
   imports_are : externs nothing_made (compiled u).sigs 0 (compiled u).imports ≡ Ok three_hosts
   imports_are =
       ap (λ (ns : List ℕ). behind_three (externs nothing_made (compiled u).sigs 3 (map (import_from_c u) ns)))
-      (none_imported u shown)
+      none
 
   function_at : (n : ℕ) (f : Function) (b : Stmt) → slice_get u.functions n ≡ Some f → f.body ≡ Some b
-      → IsFunctionAt u st (longest_of u) n f b
+      → IsFunctionAt u st n f b
   function_at n f b e h =
-      let z : 0 + n ≡ n = omega arith in
+      let k = place_in 0 u.functions n in
       record {
         inst = own_func (compiled u) 0 (code_of u n f b);
-        is_at = ap (slice_get st.funcs) (index_is u shown n (slice_get_within u.functions n f e))
-            ∙ slice_get-map (own_func (compiled u) 0) (compiled u).funcs n
+        is_at = ap (slice_get st.funcs) (index_is u none n f b e h)
+            ∙ slice_get-map (own_func (compiled u) 0) (compiled u).funcs k
             ∙ ap (option_map (own_func (compiled u) 0))
-            (slice_left (funcs_from u 0 u.functions) (start_func u ∷ []) n (code_of u n f b)
-            (code_at u 0 u.functions shown n f b e h ∙ ap (λ (m : ℕ). Some (code_of u m f b)) z));
+            (slice_left (funcs_from u 0 u.functions) (start_func u ∷ []) k (code_of u n f b) (code_is u none n f b e h));
         no_host = refl;
         at_home = refl;
         type_is = sig_at u n f e;
         locals_are = refl;
         body_is = refl;
-        small = small_in u u.functions n f b e h;
       }
 
-  placed : IsPlaced u st (longest_of u)
+  pub placed : IsPlaced u st
   placed = record {
+    none_imported = none;
     inst = instance_in nothing_made (compiled u) three_hosts;
     alone = refl;
     all = address_at (compiled u).funcs (own_func (compiled u) 0);
@@ -281,7 +199,7 @@ module _ (u : Typed) (name : List ℕ) (c : ℕ) (shown : are_shown_functions u.
     functions = function_at;
   }
 
-  is_made : (s : Store) → linked ((name, compiled u) ∷ []) c ≡ Ok s → st ≡ s
+  pub is_made : (s : Store) → linked ((name, compiled u) ∷ []) c ≡ Ok s → st ≡ s
   is_made s e =
       is_stored c s (too_large 0 (compiled u).tables (compiled u).memories)
       (outside 0 made.globals made.tables made.memories (instance_in nothing_made (compiled u) three_hosts)
@@ -311,7 +229,7 @@ fits_most l most le = ap (λ (b : Bool). cond b None (Some (fault_at 0 0 TooLarg
 abbrev no_entry : Option Entry
 no_entry = None
 
-module _ (u : Typed) (name : List ℕ) (c : ℕ) (shown : are_shown_functions u.functions ≡ true) (limited : limit_of u ≡ None) where
+module _ (u : Typed) (name : List ℕ) (c : ℕ) (none : imported u ≡ []) (limited : limit_of u ≡ None) where
   few_named : length (named u) ≤ most_named
   few_named =
       not_above most_named (length (named u))
@@ -329,7 +247,7 @@ module _ (u : Typed) (name : List ℕ) (c : ℕ) (shown : are_shown_functions u.
       ap (λ (o : Option Fault). or_next o None) (fits_most table_limits most_entries (let f = few_named in omega (arith, f)))
 
   abbrev all_made : Made
-  all_made = made u name c shown
+  all_made = made u name c none
 
   abbrev fit_fault : Option Fault
   fit_fault = outside 0 all_made.globals all_made.tables all_made.memories
@@ -346,24 +264,33 @@ module _ (u : Typed) (name : List ℕ) (c : ℕ) (shown : are_shown_functions u.
   links : linked ((name, compiled u) ∷ []) c ≡ Ok (store_of c all_made)
   links =
       ap (λ (r : Result (List Extern) Fault). stored c (and_then (with_externs nothing_made name (compiled u) r) (all_more [])))
-      (imports_are u name c shown)
+      (imports_are u name c none)
       ∙ ap (λ (a : Option Fault). stored c (and_then (if_small a (unless fit_fault all_made)) (all_more []))) is_small
       ∙ ap (λ (b : Option Fault). stored c (and_then (unless b all_made) (all_more []))) is_inside
 
+-- ---- where it is linked alone, nothing is imported from `c`
+
+pub none_imported : (u : Typed) (name : List ℕ) (c : ℕ) (s : Store) → linked ((name, compiled u) ∷ []) c ≡ Ok s → imported u ≡ []
+none_imported u name c s e = by (imported u) e where
+  by : (ns : List ℕ)
+      → stored c (and_then (with_externs nothing_made name (compiled u) (behind_three (externs nothing_made (compiled u).sigs 3 (map (import_from_c u) ns)))) (all_more [])) ≡ Ok s
+      → ns ≡ []
+  by [] e = refl
+  by (n ∷ ns) e = absurd cc
+
 -- ---- the laws
 
-pub compiled_links : (u : Typed) (name : List ℕ) (c : ℕ) → are_shown_functions u.functions ≡ true → limit_of u ≡ None
-    → (s : Store) × (linked ((name, compiled u) ∷ []) c ≡ Ok s)
-compiled_links u name c shown limited = (store_of c (made u name c shown), links u name c shown limited)
+pub compiled_links : (u : Typed) (name : List ℕ) (c : ℕ) → imported u ≡ [] → limit_of u ≡ None → (s : Store) × (linked ((name, compiled u) ∷ []) c ≡ Ok s)
+compiled_links u name c none limited = (store_of c (made u name c none), links u name c none limited)
 
-pub compiled_is_placed : (u : Typed) (name : List ℕ) (c : ℕ) (s : Store) → are_shown_functions u.functions ≡ true
-    → linked ((name, compiled u) ∷ []) c ≡ Ok s → IsPlaced u s (longest_of u)
-compiled_is_placed u name c s shown e =
-    subst (λ (t : Store). IsPlaced u t (longest_of u)) (is_made u name c shown s e) (placed u name c shown)
+pub compiled_is_placed : (u : Typed) (name : List ℕ) (c : ℕ) (s : Store) → linked ((name, compiled u) ∷ []) c ≡ Ok s → IsPlaced u s
+compiled_is_placed u name c s e =
+    let none = none_imported u name c s e in
+    subst (λ (t : Store). IsPlaced u t) (is_made u name c none s e) (placed u name c none)
 
-pub linked_behaves : (u : Typed) (name : List ℕ) (c : ℕ) (s : Store) (n : ℕ) (f : Function) (t : Ty)
-    → IsWellTyped u → in_stage u ≡ true → are_shown_functions u.functions ≡ true → main_number u ≡ Some n
-    → slice_get u.functions n ≡ Some f → f.ty ≡ function t no_types
-    → linked ((name, compiled u) ∷ []) c ≡ Ok s → Behaves left u s (index_of u n) t (longest_of u)
-linked_behaves u name c s n f t well staged shown is_main at ty e =
-    compiled_behaves u s n (longest_of u) f t well staged shown is_main at ty (compiled_is_placed u name c s shown e)
+pub linked_behaves : (u : Typed) (name : List ℕ) (c : ℕ) (s : Store) (n : ℕ) (f : Function) (b : Stmt) (t : Ty)
+    → IsWellTyped u → in_stage u ≡ true → main_number u ≡ Some n
+    → slice_get u.functions n ≡ Some f → f.body ≡ Some b → f.ty ≡ function t no_types
+    → linked ((name, compiled u) ∷ []) c ≡ Ok s → Behaves u s (index_of u n)
+linked_behaves u name c s n f b t well staged is_main at has_body ty e =
+    compiled_behaves u s n f b t well staged is_main at has_body ty (compiled_is_placed u name c s e)

@@ -17,7 +17,6 @@ use Rattle.ms_task.proofs.Items.{branch_past, return_past}
 use Rattle.c_types.specs.declared.integers.IntType.{IntType}
 use Rattle.c_types.specs.Types.{integer}
 use Rattle.c_well_typed.specs.declared.jumps.Jumps.{Jumps}
-use Rattle.c_well_typed.specs.Statements.{in_loop}
 use Rattle.c_meaning.specs.Values.{Value}
 use Rattle.c_meaning.specs.World.{World, Result, gives, ends, Does, after, ◌>>=◌, ◌>>◌, pure, spend}
 use Rattle.c_meaning.specs.Integers.{is_zero}
@@ -38,15 +37,14 @@ use Rattle.c_runs.specs.Words.{pushed}
 use Rattle.c_runs.proofs.Related.{Env, HasAll, IsOf, Kept, Now, depth_front, frame_of, front, front_append, has_back, has_front, total_append}
 use Rattle.c_runs.proofs.Ops.{Good, IsTest, Op, To_, at_work, choice_at, into, is_no, is_yes, runs_choice, same, size_joined}
 use Rattle.c_runs.proofs.Nodes.{Always, Leaves, gone, of_number, test_is}
-use Rattle.c_runs.proofs.Flows.{Around, FlowRuns, GoodFlow, in_label, lowest_all, to_flow}
+use Rattle.c_runs.proofs.Flows.{Around, FlowRuns, GoodFlow, IsAt, Way, after_flow, in_label, lowest_all, to_flow, way}
 
--- where the body has no `continue` of its own
-abbrev pub breaks_alone : Jumps
-breaks_alone = record { breaks = true; continues = false }
-
+-- the body may have a `continue` of its own
 abbrev pub jumps_in : Bool → Jumps
-jumps_in true = in_loop
-jumps_in false = breaks_alone
+jumps_in b = record { breaks = true; continues = b }
+
+abbrev pub body_way : (depth : ℕ) → Bool → Way
+body_way d b = way (jumps_in b) d None
 
 -- the body, in a block of its own where it has a `continue`
 abbrev pub bodied : Code → Bool → Code
@@ -59,17 +57,20 @@ iterated_is t false body S T = refl
 
 module _ (E : Env) where
   -- a fact that is weaker at the end
-  kept_on : (now : Now) (below : ℕ) (w : World) (m : Mem) → below ≤ now.below → Kept E (record { below = below; temps = now.temps }) w m → Kept E now w m
+  abbrev pub lower : ℕ → Now → Now
+  lower below now = record { below = below; waits = now.waits; temps = now.temps }
+
+  kept_on : (now : Now) (below : ℕ) (w : World) (m : Mem) → below ≤ now.below → Kept E (lower below now) w m → Kept E now w m
   kept_on now below w m le k = record { held = k.held; deep = k.deep; less = (let lt = k.less in omega (arith, lt, le)); bytes = k.bytes; temps = k.temps }
 
-  pub weaken : (l : Jumps) (now : Now) (below size : ℕ) (m : Mem) (t : Thread) (w : World) (to : Flow → World → Mem → Thread) (y : Result Flow) → below ≤ now.below
-      → RunsTo E.site size m t w to (GoodFlow E l (record { below = below; temps = now.temps })) y → RunsTo E.site size m t w to (GoodFlow E l now) y
-  weaken l now below size m t w to (gives f w1) le q = (q.0, (q.1.0, kept_on now below w1 q.0 le q.1.1), q.2)
+  pub weaken : (l : Way) (now : Now) (below size : ℕ) (m : Mem) (t : Thread) (w : World) (to : Flow → World → Mem → Thread) (y : Result Flow) → below ≤ now.below
+      → RunsTo E.site size m t w to (GoodFlow E l (lower below now)) y → RunsTo E.site size m t w to (GoodFlow E l now) y
+  weaken l now below size m t w to (gives f w1) le q = (q.0, (q.1.0, kept_on (after_flow l f now) below w1 q.0 le q.1.1), q.2)
   weaken l now below size m t w to (ends e w1) le q = q
 
   module _ (u : IntType) (narrow : width_of u ≡ W32) (T : Code) (test : Does Value) (rt : Leaves E T (integer u) test) (S : Code) (step' : Does (Unit {0})) (rs : Op E S same (gone E) (Always E) step')
-      (C : Bool) (body : Code) (mx : Does Flow) (rx : FlowRuns E (jumps_in C) (if C then 2 else 1) 0 body same mx) (N : ℕ)
-      (vs : List Word) (r br cr rr : List Item) (caller : Frame) (b c : ℕ) (l : Jumps) (a : Around E vs r b c l br cr rr caller) (dep : depth_of r ≡ E.depth) where
+      (C : Bool) (body : Code) (mx : Does Flow) (d : ℕ) (rx : FlowRuns E (body_way d C) (if C then 2 else 1) 0 body same mx) (N : ℕ)
+      (vs : List Word) (r br cr rr : List Item) (caller : Frame) (b c : ℕ) (l : Way) (at_depth : l.depth ≡ d) (a : Around E vs r b c l br cr rr caller) (dep : depth_of r ≡ E.depth) where
     abbrev B : Code
     B = bodied body C
 
@@ -131,8 +132,8 @@ module _ (E : Env) where
     dep_tail : depth_of (front tail1 ring) ≡ E.depth
     dep_tail = depth_front tail1 ring ∙ dep
 
-    bare_runs : FlowRuns E breaks_alone 1 0 body same mx → HasAll E.site.funcs E.fn (suc N) (body (suc N)).seqs → size_of (body (suc N)) ≤ E.site.most → (now : Now) → now.below ≤ E.bound → (w : World) (m : Mem) → Kept E now w m
-        → Runs E.site (size_of (body (suc N))) m (at_work E m w vs (front (body (suc N)).instrs (front tail1 ring))) w to_body (GoodFlow E breaks_alone now) (mx w)
+    bare_runs : FlowRuns E (body_way d false) 1 0 body same mx → HasAll E.site.funcs E.fn (suc N) (body (suc N)).seqs → size_of (body (suc N)) ≤ E.site.most → (now : Now) → IsAt E d now → (w : World) (m : Mem) → Kept E now w m
+        → Runs E.site (size_of (body (suc N))) m (at_work E m w vs (front (body (suc N)).instrs (front tail1 ring))) w to_body (GoodFlow E (body_way d false) now) (mx w)
     bare_runs h has small now le w m k =
         h (suc N) has small now le vs (front tail1 ring) r (front tail1 ring) rr caller
         (record {
@@ -141,16 +142,16 @@ module _ (E : Env) where
           returns = returns_past;
         }) dep_tail w m k
 
-    blocked_runs : FlowRuns E in_loop 2 0 body same mx → HasAll E.site.funcs E.fn (suc N) (block None body (suc N)).seqs → size_of (block None body (suc N)) ≤ E.site.most → (now : Now) → now.below ≤ E.bound → (w : World) (m : Mem) → Kept E now w m
-        → Runs E.site (size_of (block None body (suc N))) m (at_work E m w vs (front (block None body (suc N)).instrs (front tail1 ring))) w to_body (GoodFlow E in_loop now) (mx w)
+    blocked_runs : FlowRuns E (body_way d true) 2 0 body same mx → HasAll E.site.funcs E.fn (suc N) (block None body (suc N)).seqs → size_of (block None body (suc N)) ≤ E.site.most → (now : Now) → IsAt E d now → (w : World) (m : Mem) → Kept E now w m
+        → Runs E.site (size_of (block None body (suc N))) m (at_work E m w vs (front (block None body (suc N)).instrs (front tail1 ring))) w to_body (GoodFlow E (body_way d true) now) (mx w)
     blocked_runs h has small now le w m k =
         let cx = body (suc (suc N)) in
         let r' = Label None (length vs) None ∷ front tail1 ring in
         let same_to : to_flow E vs r' r (front tail1 ring) rr caller ≡ to_body = λ j f w1 m1. in_label E None (length vs) None vs (front tail1 ring) r (front tail1 ring) rr caller f w1 m1 j in
-        resize E.site (1 + size_of cx) (size_of (block None body (suc N))) m (at_work E m w vs (Do (Block None (suc N)) ∷ front tail1 ring)) w to_body (GoodFlow E in_loop now) (mx w) (omega arith)
-        (into E (Block None (suc N)) vs None (size_of cx) cx.instrs to_body (GoodFlow E in_loop now) (mx w) vs (front tail1 ring) w m
+        resize E.site (1 + size_of cx) (size_of (block None body (suc N))) m (at_work E m w vs (Do (Block None (suc N)) ∷ front tail1 ring)) w to_body (GoodFlow E (body_way d true) now) (mx w) (omega arith)
+        (into E (Block None (suc N)) vs None (size_of cx) cx.instrs to_body (GoodFlow E (body_way d true) now) (mx w) vs (front tail1 ring) w m
         (ap (λ (is : List Instr). step.Next (goes.store E.site m) (thread (frame_of E m w) vs (front is r')) None) has.0)
-        (subst (λ (q : Flow → World → Mem → Thread). Runs E.site (size_of cx) m (at_work E m w vs (front cx.instrs r')) w q (GoodFlow E in_loop now) (mx w)) same_to
+        (subst (λ (q : Flow → World → Mem → Thread). Runs E.site (size_of cx) m (at_work E m w vs (front cx.instrs r')) w q (GoodFlow E (body_way d true) now) (mx w)) same_to
         (h (suc (suc N)) has.1 (omega (arith, small)) now le vs r' r (front tail1 ring) rr caller
         (record {
           breaks = λ e fr. branch_past 1 fr vs tail1 ring ∙ to_outside fr;
@@ -158,11 +159,11 @@ module _ (E : Env) where
           returns = returns_past;
         }) dep_tail w m k)))
 
-    pub body_runs : HasAll E.site.funcs E.fn (suc N) (B (suc N)).seqs → sB ≤ E.site.most → (now : Now) → now.below ≤ E.bound → (w : World) (m : Mem) → Kept E now w m
-        → Runs E.site sB m (at_work E m w vs (front (B (suc N)).instrs (front tail1 ring))) w to_body (GoodFlow E (jumps_in C) now) (mx w)
+    pub body_runs : HasAll E.site.funcs E.fn (suc N) (B (suc N)).seqs → sB ≤ E.site.most → (now : Now) → IsAt E d now → (w : World) (m : Mem) → Kept E now w m
+        → Runs E.site sB m (at_work E m w vs (front (B (suc N)).instrs (front tail1 ring))) w to_body (GoodFlow E (body_way d C) now) (mx w)
     body_runs = by C rx where
-      by : (C' : Bool) → FlowRuns E (jumps_in C') (if C' then 2 else 1) 0 body same mx → HasAll E.site.funcs E.fn (suc N) (bodied body C' (suc N)).seqs → size_of (bodied body C' (suc N)) ≤ E.site.most → (now : Now) → now.below ≤ E.bound → (w : World) (m : Mem) → Kept E now w m
-          → Runs E.site (size_of (bodied body C' (suc N))) m (at_work E m w vs (front (bodied body C' (suc N)).instrs (front tail1 ring))) w (to_flow E vs (front tail1 ring) r (front tail1 ring) rr caller) (GoodFlow E (jumps_in C') now) (mx w)
+      by : (C' : Bool) → FlowRuns E (body_way d C') (if C' then 2 else 1) 0 body same mx → HasAll E.site.funcs E.fn (suc N) (bodied body C' (suc N)).seqs → size_of (bodied body C' (suc N)) ≤ E.site.most → (now : Now) → IsAt E d now → (w : World) (m : Mem) → Kept E now w m
+          → Runs E.site (size_of (bodied body C' (suc N))) m (at_work E m w vs (front (bodied body C' (suc N)).instrs (front tail1 ring))) w (to_flow E vs (front tail1 ring) r (front tail1 ring) rr caller) (GoodFlow E (body_way d C') now) (mx w)
       by false h = bare_runs h
       by true h = blocked_runs h
 
@@ -181,14 +182,14 @@ module _ (E : Env) where
           (λ ag. resize_to E.site 1 (1 + turn) m (thread (frame_of E m w) (I32 z ∷ vs) (Do (BrIf 0) ∷ ring)) w to (GoodFlow E l now) (gives next w) (omega arith)
           (m, (tt, k), one_here E.site w m m (BrIf 0) (frame_of E m w) (I32 z ∷ vs) ring (thread (frame_of E m w) vs ring) (ap (λ (y : ℕ). step.act (goes.store E.site m) (BrIf 0) (thread (frame_of E m w) (I32 y ∷ vs) ring)) ez)))
 
-      test_runs : (K : Does Flow) (now : Now) → now.below ≤ E.bound → ((w : World) (m : Mem) → Kept E now w m → Runs E.site turn m (head m w) w to (GoodFlow E l now) (K w)) → (w : World) (m : Mem) → Kept E now w m
+      test_runs : (K : Does Flow) (now : Now) → IsAt E d now → ((w : World) (m : Mem) → Kept E now w m → Runs E.site turn m (head m w) w to (GoodFlow E l now) (K w)) → (w : World) (m : Mem) → Kept E now w m
           → Runs E.site (sT + (1 + turn)) m (at_work E m w vs (front tail2 ring)) w to (GoodFlow E l now) ((meaning.test test >>= (λ t. if t then K else pure next)) w)
       test_runs K now le h w m k =
           let f = λ (t : Bool). if t then K else pure next in
           subst (λ (q : List Item). Runs E.site (sT + (1 + turn)) m (at_work E m w vs q) w to (GoodFlow E l now) ((meaning.test test >>= f) w)) (sym (front_append (T n2).instrs (BrIf 0 ∷ []) ring))
           (subst (λ (y : Result Flow). Runs E.site (sT + (1 + turn)) m (at_work E m w vs (front (T n2).instrs (Do (BrIf 0) ∷ ring))) w to (GoodFlow E l now) y) (sym (after_after (test w) is_true f))
           (bind E.site sT (1 + turn) m (at_work E m w vs (front (T n2).instrs (Do (BrIf 0) ∷ ring))) w (To_ E (pushed (integer u)) vs (Do (BrIf 0) ∷ ring)) (Good E (IsOf (integer u)) now) to (GoodFlow E l now) (test w) (λ v w1. after (is_true v w1) f)
-          (rt n2 hasT now le vs (Do (BrIf 0) ∷ ring) dep w m k)
+          (rt n2 hasT now le.below vs (Do (BrIf 0) ∷ ring) dep w m k)
           (λ v w1 m1 g.
           of_number E u (λ v. Runs E.site (1 + turn) m1 (at_work E m1 w1 (pushed (integer u) v vs) (Do (BrIf 0) ∷ ring)) w1 to (GoodFlow E l now) (after (is_true v w1) f))
           (λ z i.
@@ -222,25 +223,25 @@ module _ (E : Env) where
       hasT' = has_front E.site.funcs E.fn n2 (T n2).seqs [] (has_back E.site.funcs E.fn n1 (S n1).seqs ((T ⨾ one (BrIf 0)) n2).seqs has1)
 
       abbrev Iterates : ℕ → Type 0
-      Iterates n = (now : Now) → now.below ≤ E.bound → now.below ≤ suc n → (w : World) (m : Mem) → Kept E now w m → Runs E.site turn m (head m w) w to (GoodFlow E l now) (iteration n w)
+      Iterates n = (now : Now) → IsAt E d now → now.below ≤ suc n → (w : World) (m : Mem) → Kept E now w m → Runs E.site turn m (head m w) w to (GoodFlow E l now) (iteration n w)
 
       -- behind a unit that is spent
-      paid_runs : (n : ℕ) → ((k : ℕ) → n ≡ suc k → Iterates k) → (now : Now) → now.below ≤ E.bound → now.below ≤ suc n → (w : World) (m : Mem) (w2 : World) (m2 : Mem) (q : ℕ)
+      paid_runs : (n : ℕ) → ((k : ℕ) → n ≡ suc k → Iterates k) → (now : Now) → IsAt E d now → now.below ≤ suc n → (w : World) (m : Mem) (w2 : World) (m2 : Mem) (q : ℕ)
           → Kept E now (record w2 { fuel = q }) m2 → Leads E.site turn w (record w2 { fuel = q }) m (head m w) m2 (at_work E m2 w2 vs (front tail2 ring)) → Agrees (goes.store E.site m2) (at_work E m2 w2 vs (front tail2 ring)) (given w2) w2.grants
           → RunsTo E.site turn m (head m w) w to (GoodFlow E l now) (after (spend (record w2 { fuel = q })) (λ x. again n))
       paid_runs n ih now le le' w m w2 m2 zero k ld ag = leads_out E.site turn turn w (record w2 { fuel = 0 }) m m2 (head m w) (at_work E m2 w2 vs (front tail2 ring)) (omega arith) ld refl (waits (T n2).instrs (goes.store E.site m2) (frame_of E m2 w2) (given w2))
       paid_runs zero ih now le le' w m w2 m2 (suc f) k ld ag = absurd (let lt = k.less in omega (arith, lt, le'))
       paid_runs (suc n) ih now le le' w m w2 m2 (suc f) k ld ag =
           let w3 : World = record w2 { fuel = f } in
-          let now' : Now = record { below = suc f; temps = now.temps } in
+          let now' : Now = lower (suc f) now in
           let lt = k.less in
           let k3 : Kept E now' w3 m2 = record { held = k.held; deep = k.deep; less = omega arith; bytes = k.bytes; temps = k.temps } in
           leads_paid E.site turn (sT + (1 + turn)) turn f w (record w2 { fuel = suc f }) m m2 (head m w) (at_work E m2 w2 vs (front tail2 ring)) to (GoodFlow E l now) (again (suc n) w3) ld refl (omega (arith, room))
           (weaken l now (suc f) (sT + (1 + turn)) m2 (at_work E m2 w2 vs (front tail2 ring)) w3 to (again (suc n) w3) (omega (arith, lt))
-          (test_runs hasT' (iteration n) now' (omega (arith, lt, le)) (λ w' m' k'. ih n refl now' (omega (arith, lt, le)) (omega (arith, lt, le')) w' m' k') w3 m2 k3 ag))
+          (test_runs hasT' (iteration n) now' (record { below = omega (arith, lt, le.below); waits = le.waits }) (λ w' m' k'. ih n refl now' (record { below = omega (arith, lt, le.below); waits = le.waits }) (omega (arith, lt, le')) w' m' k') w3 m2 k3 ag))
 
       -- behind the body
-      module _ (n : ℕ) (ih : (k : ℕ) → n ≡ suc k → Iterates k) (now : Now) (le : now.below ≤ E.bound) (le' : now.below ≤ suc n) (w : World) (m : Mem) where
+      module _ (n : ℕ) (ih : (k : ℕ) → n ≡ suc k → Iterates k) (now : Now) (le : IsAt E d now) (le' : now.below ≤ suc n) (w : World) (m : Mem) where
         step_by : (w1 : World) (m1 : Mem) → Leads E.site (1 + sB) w w1 m (head m w) m1 (at_work E m1 w1 vs (front (S n1).instrs (front tail2 ring))) → Agrees (goes.store E.site m1) (at_work E m1 w1 vs (front (S n1).instrs (front tail2 ring))) (given w1) w1.grants
             → (y : Result (Unit {0})) → RunsTo E.site sS m1 (at_work E m1 w1 vs (front (S n1).instrs (front tail2 ring))) w1 (To_ E (gone E) vs (front tail2 ring)) (Good E (Always E) now) y
             → RunsTo E.site turn m (head m w) w to (GoodFlow E l now) (after y (λ x. spend >> again n))
@@ -256,7 +257,7 @@ module _ (E : Env) where
             let split = front_append (S n1).instrs tail2 ring in
             let ag' = subst (λ (q : List Item). Agrees (goes.store E.site m1) (at_work E m1 w1 vs q) (given w1) w1.grants) split ag in
             step_by w1 m1 (subst (λ (q : List Item). Leads E.site (1 + sB) w w1 m (head m w) m1 (at_work E m1 w1 vs q)) split ld) ag' (step' w1)
-            (rs n1 hasS now le vs (front tail2 ring) (depth_front tail2 ring ∙ dep) w1 m1 k1 ag')
+            (rs n1 hasS now le.below vs (front tail2 ring) (depth_front tail2 ring ∙ dep) w1 m1 k1 ag')
 
         first : Leads E.site 1 w w m (head m w) m (at_work E m w vs (front (B (suc N)).instrs (front tail1 ring)))
         first =
@@ -266,7 +267,7 @@ module _ (E : Env) where
         abbrev t0 : Thread
         t0 = at_work E m w vs (front (B (suc N)).instrs (front tail1 ring))
 
-        body_by : Agrees (goes.store E.site m) t0 (given w) w.grants → (y : Result Flow) → RunsTo E.site sB m t0 w to_body (GoodFlow E (jumps_in C) now) y → RunsTo E.site turn m (head m w) w to (GoodFlow E l now) (after y (behind_body (step' >> (spend >> again n))))
+        body_by : Agrees (goes.store E.site m) t0 (given w) w.grants → (y : Result Flow) → RunsTo E.site sB m t0 w to_body (GoodFlow E (body_way d C) now) y → RunsTo E.site turn m (head m w) w to (GoodFlow E l now) (after y (behind_body (step' >> (spend >> again n))))
         body_by ag (ends e w1) h = resize_to E.site (1 + sB) turn m (head m w) w to (GoodFlow E l now) (ends e w1) (omega arith) (stops_behind E.site 1 sB w w w1 m m (head m w) t0 e first.goes h)
         body_by ag (gives next w1) q =
             let t1 = at_work E q.0 w1 vs (front tail1 ring) in
@@ -290,17 +291,17 @@ module _ (E : Env) where
   -- ---- the loop: the test, and the iterations where it holds
 
   pub while_runs : (u : IntType) → width_of u ≡ W32 → (T : Code) (test : Does Value) → Leaves E T (integer u) test → (S : Code) (step' : Does (Unit {0})) → Op E S same (gone E) (Always E) step'
-      → (C : Bool) (body : Code) (mx : Does Flow) → FlowRuns E (jumps_in C) (if C then 2 else 1) 0 body same mx → (l : Jumps) (b c bound : ℕ) → E.bound ≤ bound
+      → (C : Bool) (body : Code) (mx : Does Flow) (d : ℕ) → FlowRuns E (body_way d C) (if C then 2 else 1) 0 body same mx → (l : Way) → l.depth ≡ d → (b c bound : ℕ) → E.bound ≤ bound
       → FlowRuns E l b c (T ⨾ choice None (repeat None (bodied body C ⨾ S ⨾ T ⨾ one (BrIf 0))) no_code) same (loops bound (meaning.test test) step' mx)
-  while_runs u narrow T test rt S step' rs C body mx rx l b c zero wide n has small now le vs r br cr rr caller a dep w m k = absurd (let lt = k.less in omega (arith, lt, le, wide))
-  while_runs u narrow T test rt S step' rs C body mx rx l b c (suc bound) wide n has small now le vs r br cr rr caller a dep w m k =
+  while_runs u narrow T test rt S step' rs C body mx d rx l at_depth b c zero wide n has small now le vs r br cr rr caller a dep w m k = absurd (let lt = k.less in omega (arith, lt, le.below, wide))
+  while_runs u narrow T test rt S step' rs C body mx d rx l at_depth b c (suc bound) wide n has small now le vs r br cr rr caller a dep w m k =
       let to' = to_flow E vs r br cr rr caller in
       let loop = repeat None (bodied body C ⨾ S ⨾ T ⨾ one (BrIf 0)) in
       let pick = choice None loop no_code in
       let ct = T n in
       let j = n + length ct.seqs in
       let cp = pick j in
-      let K = iteration u narrow T test rt S step' rs C body mx rx (suc j) vs r br cr rr caller b c l a dep bound in
+      let K = iteration u narrow T test rt S step' rs C body mx d rx (suc j) vs r br cr rr caller b c l at_depth a dep bound in
       let f = λ (t : Bool). if t then K else pure next in
       let sizes = size_joined ct cp in
       let hasP = has_back E.site.funcs E.fn n ct.seqs cp.seqs has in
@@ -308,7 +309,7 @@ module _ (E : Env) where
       (subst (λ (q : List Item). Runs E.site (size_of ct + size_of cp) m (at_work E m w vs q) w to' (GoodFlow E l now) ((meaning.test test >>= f) w)) (sym (front_append ct.instrs cp.instrs r))
       (subst (λ (y : Result Flow). Runs E.site (size_of ct + size_of cp) m (at_work E m w vs (front ct.instrs (front cp.instrs r))) w to' (GoodFlow E l now) y) (sym (after_after (test w) is_true f))
       (bind E.site (size_of ct) (size_of cp) m (at_work E m w vs (front ct.instrs (front cp.instrs r))) w (To_ E (pushed (integer u)) vs (front cp.instrs r)) (Good E (IsOf (integer u)) now) to' (GoodFlow E l now) (test w) (λ v w1. after (is_true v w1) f)
-      (rt n (has_front E.site.funcs E.fn n ct.seqs cp.seqs has) now le vs (front cp.instrs r) (depth_front cp.instrs r ∙ dep) w m k)
+      (rt n (has_front E.site.funcs E.fn n ct.seqs cp.seqs has) now le.below vs (front cp.instrs r) (depth_front cp.instrs r ∙ dep) w m k)
       (λ v w1 m1 g.
       of_number E u (λ v. Runs E.site (size_of cp) m1 (at_work E m1 w1 (pushed (integer u) v vs) (front cp.instrs r)) w1 to' (GoodFlow E l now) (after (is_true v w1) f))
       (λ z i.
@@ -334,7 +335,7 @@ module _ (E : Env) where
       enters : HasAll E.site.funcs E.fn (suc (n + length (T n).seqs)) (repeat None (bodied body C ⨾ S ⨾ T ⨾ one (BrIf 0)) (suc (n + length (T n).seqs))).seqs → (w1 : World) (m1 : Mem) → Kept E now w1 m1
           → Runs E.site (size_of (repeat None (bodied body C ⨾ S ⨾ T ⨾ one (BrIf 0)) (suc (n + length (T n).seqs)))) m1
           (at_work E m1 w1 vs (front (repeat None (bodied body C ⨾ S ⨾ T ⨾ one (BrIf 0)) (suc (n + length (T n).seqs))).instrs (Label None (length vs) None ∷ r))) w1 (to_flow E vs r br cr rr caller) (GoodFlow E l now)
-          (iteration u narrow T test rt S step' rs C body mx rx (suc (n + length (T n).seqs)) vs r br cr rr caller b c l a dep bound w1)
+          (iteration u narrow T test rt S step' rs C body mx d rx (suc (n + length (T n).seqs)) vs r br cr rr caller b c l at_depth a dep bound w1)
       enters h w1 m1 k1 =
           let j = n + length (T n).seqs in
           let N = suc j in
@@ -342,6 +343,6 @@ module _ (E : Env) where
           let parts = part_sizes N in
           let all = size_joined (T n) (choice None loop no_code j) in
           let inside = total_append (inner (loop (suc j))) [] in
-          resize E.site (turn u narrow T test rt S step' rs C body mx rx N vs r br cr rr caller b c l a dep) (size_of (loop N)) m1 (at_work E m1 w1 vs (Do (Loop None N) ∷ Label None (length vs) None ∷ r)) w1 (to_flow E vs r br cr rr caller) (GoodFlow E l now)
-          (iteration u narrow T test rt S step' rs C body mx rx N vs r br cr rr caller b c l a dep bound w1) (omega (arith, parts))
-          (all_iterate u narrow T test rt S step' rs C body mx rx N vs r br cr rr caller b c l a dep h.0 h.1 (omega (arith, parts, all, inside, small)) bound now le (omega (arith, le, wide)) w1 m1 k1)
+          resize E.site (turn u narrow T test rt S step' rs C body mx d rx N vs r br cr rr caller b c l at_depth a dep) (size_of (loop N)) m1 (at_work E m1 w1 vs (Do (Loop None N) ∷ Label None (length vs) None ∷ r)) w1 (to_flow E vs r br cr rr caller) (GoodFlow E l now)
+          (iteration u narrow T test rt S step' rs C body mx d rx N vs r br cr rr caller b c l at_depth a dep bound w1) (omega (arith, parts))
+          (all_iterate u narrow T test rt S step' rs C body mx d rx N vs r br cr rr caller b c l at_depth a dep h.0 h.1 (omega (arith, parts, all, inside, small)) bound now (record { below = le.below; waits = le.waits ∙ at_depth }) (omega (arith, le.below, wide)) w1 m1 k1)

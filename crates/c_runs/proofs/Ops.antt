@@ -230,7 +230,7 @@ module _ (E : Env) where
 
   -- ---- instructions on numbers
 
-  carried_is : (i : Instr) (m : Mem) (fr : Frame) (us vs : List Word) (r : List Item) → carried i us ≡ operate.Gives vs → act (store E.site m) i (thread fr us r) ≡ step.Next (store E.site m) (thread fr vs r) None
+  pub carried_is : (i : Instr) (m : Mem) (fr : Frame) (us vs : List Word) (r : List Item) → carried i us ≡ operate.Gives vs → act (store E.site m) i (thread fr us r) ≡ step.Next (store E.site m) (thread fr vs r) None
   carried_is (I32Const z) m fr us vs r e = ap (step.worked (store E.site m) (thread fr us r)) e
   carried_is (I64Const z) m fr us vs r e = ap (step.worked (store E.site m) (thread fr us r)) e
   carried_is (Numeric i) m fr us vs r e = ap (step.worked (store E.site m) (thread fr us r)) e

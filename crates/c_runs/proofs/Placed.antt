@@ -1,7 +1,8 @@
 -- What a call needs of each function, from what a store has of the unit.
-use Rattle.std.proofs.Common.{◌≡◌, ℕ, zero, suc, ◌+◌, ◌≤◌, List, [], ◌∷◌, length, map, true, false, Option, Some, None, refl, sym, ap, ◌∙◌, arith, subst}
-use Rattle.std.specs.Prelude.{slice_get, ◌&&◌}
-use Rattle.std.specs.List.{All}
+use Rattle.std.proofs.Common.{◌≡◌, ℕ, zero, suc, ◌+◌, ◌≤◌, List, [], ◌∷◌, length, map, max, Bool, true, false, is_some, Option, Some, None, refl, sym, ap, ◌∙◌, arith, subst}
+use Rattle.std.specs.Prelude.{not, slice_get, ◌&&◌}
+use Rattle.std.specs.List.{All, list_any}
+use Rattle.std.proofs.lemmas.Option.{slice_get_within}
 use Rattle.std.proofs.lemmas.List.{length-map}
 use Rattle.std.proofs.lemmas.List.Elements.{All-head, All-tail}
 use Rattle.ms_types.specs.declared.types.FuncType.{FuncType}
@@ -16,16 +17,19 @@ use Rattle.c_typed.specs.Tree.{Function, Made, Stmt, Typed}
 use Rattle.c_well_typed.specs.Units.{IsBody, IsFunction, IsWellTyped, list_of}
 use Rattle.ms_emit.specs.Codes.{total}
 use Rattle.c_code.specs.Functions.{body, held_as, listed, locals, params_in, result_in}
-use Rattle.c_code.specs.Modules.{index_of, target_of}
+use Rattle.c_code.specs.Modules.{index_of, is_call_of, is_defined, is_defined_at, target_of}
 use Rattle.c_code.specs.Operations.{val_of}
 use Rattle.c_code.specs.Stage.{are_integers, are_plain, in_body, in_functions, in_stage, in_stmt, is_empty, is_integer_or_void, is_plain_function}
+use Rattle.c_code.specs.Uses as uses
 use Rattle.c_code.specs.Uses.{waits_stmt}
-use Rattle.c_runs.specs.Placed.{IsPlaced, are_shown_functions, is_shown_body}
+use Rattle.c_runs.specs.Placed.{IsPlaced, instructions_in, longest_in, longest_of}
 use Rattle.c_runs.proofs.Goes.{Mem, Site}
 use Rattle.c_runs.proofs.Operations.{Linked}
 use Rattle.c_runs.proofs.Related.{HasAll}
 use Rattle.c_runs.proofs.Bodies.{IsResult, is_void}
 use Rattle.c_runs.proofs.Callees.{Compiled, slots_of}
+use Rattle.c_runs.proofs.Numbers.{never_passes}
+use Rattle.c_runs.proofs.Ready.{AreCallable, IsCallable, any_left, any_right}
 use Rattle.c_runs.proofs.Whole.{both}
 
 -- ---- one of a list
@@ -36,7 +40,7 @@ same_one {A = A} x y e = ap (λ (o : Option A). or o) e where
   or None = x
   or (Some z) = z
 
-all_at : {A : Type 0} (P : A → Type 0) (xs : List A) (n : ℕ) (x : A) → slice_get xs n ≡ Some x → All P xs → P x
+pub all_at : {A : Type 0} (P : A → Type 0) (xs : List A) (n : ℕ) (x : A) → slice_get xs n ≡ Some x → All P xs → P x
 all_at P [] n x e h = absurd cc
 all_at P (y ∷ xs) zero x e h = subst P (same_one y x e) (All-head P y xs h)
 all_at P (y ∷ xs) (suc n) x e h = all_at P xs n x e (All-tail P y xs h)
@@ -56,18 +60,46 @@ staged_at (g ∷ fs) zero f e h =
 staged_at (g ∷ fs) (suc n) f e h =
     let q = both (is_plain_function g.ty) (in_body g g.body && in_functions fs) h in staged_at fs n f e (both (in_body g g.body) (in_functions fs) q.1).1
 
-shown_at : (fs : List Function) (n : ℕ) (f : Function) → slice_get fs n ≡ Some f → are_shown_functions fs ≡ true → is_shown_body f.body ≡ true
-shown_at [] n f e h = absurd cc
-shown_at (g ∷ fs) zero f e h = subst (λ (x : Function). is_shown_body x.body ≡ true) (same_one g f e) (both (is_shown_body g.body) (are_shown_functions fs) h).0
-shown_at (g ∷ fs) (suc n) f e h = shown_at fs n f e (both (is_shown_body g.body) (are_shown_functions fs) h).1
-
-pub defined_by : (o : Option Stmt) → is_shown_body o ≡ true → (b : Stmt) × (o ≡ Some b)
+pub defined_by : (o : Option Stmt) → is_some o ≡ true → (b : Stmt) × (o ≡ Some b)
 defined_by None e = absurd cc
 defined_by (Some b) e = (b, refl)
 
+-- ---- what a body uses is used
+
+used_at : (m : ℕ) (fs : List Function) (n : ℕ) (f : Function) (b : Stmt) → slice_get fs n ≡ Some f → f.body ≡ Some b
+    → list_any (is_call_of m) (uses.in_stmt b) ≡ true → list_any (is_call_of m) (uses.in_functions fs) ≡ true
+used_at m [] n f b e h used = absurd cc
+used_at m (g ∷ fs) zero f b e h used =
+    any_left (is_call_of m) (uses.in_body g.body) (uses.in_functions fs)
+    (ap (λ (o : Option Stmt). list_any (is_call_of m) (uses.in_body o)) (ap (λ (x : Function). x.body) (same_one g f e) ∙ h) ∙ used)
+used_at m (g ∷ fs) (suc n) f b e h used = any_right (is_call_of m) (uses.in_body g.body) (uses.in_functions fs) (used_at m fs n f b e h used)
+
+defined_or : (d used : Bool) → (not d && used) ≡ false → used ≡ true → d ≡ true
+defined_or true used e h = refl
+defined_or false true e h = absurd cc
+defined_or false false e h = absurd cc
+
+-- ---- how many instructions a body has at most
+
+on_left : (m n : ℕ) → m ≤ max m n
+on_left m n = omega arith
+
+on_right : (k m n : ℕ) → k ≤ n → k ≤ max m n
+on_right k m n le = omega (arith, le)
+
+pub small_in : (u : Typed) (fs : List Function) (n : ℕ) (f : Function) (b : Stmt) → slice_get fs n ≡ Some f → f.body ≡ Some b
+    → total (body (target_of u f b) f b) ≤ longest_in u fs
+small_in u [] n f b e h = absurd cc
+small_in u (g ∷ fs) zero f b e h =
+    subst (λ (x : Function). total (body (target_of u f b) f b) ≤ longest_in u (x ∷ fs)) (sym (same_one g f e))
+    (subst (λ (o : Option Stmt). total (body (target_of u f b) f b) ≤ max (instructions_in u f o) (longest_in u fs)) (sym h)
+    (on_left (total (body (target_of u f b) f b)) (longest_in u fs)))
+small_in u (g ∷ fs) (suc n) f b e h =
+    on_right (total (body (target_of u f b) f b)) (instructions_in u g g.body) (longest_in u fs) (small_in u fs n f b e h)
+
 -- ---- the sequences of a body
 
-seq_is : (funcs : List FuncInst) (fn k : ℕ) → sequence funcs fn k ≡ sequence_at (body_of funcs fn) k
+pub seq_is : (funcs : List FuncInst) (fn k : ℕ) → sequence funcs fn k ≡ sequence_at (body_of funcs fn) k
 unfolding sequence
 seq_is funcs fn k = refl
 
@@ -97,14 +129,14 @@ result_kind _ e = absurd cc
 
 -- ---- the site of a store
 
-abbrev pub site_of : Store → (longest : ℕ) → Site
-site_of s longest = record { funcs = s.funcs; instances = s.instances; tables = s.tables; memories = s.memories; most = longest }
+abbrev pub site_of : Typed → Store → Site
+site_of u s = record { funcs = s.funcs; instances = s.instances; tables = s.tables; memories = s.memories; most = longest_of u }
 
 abbrev pub mem_of : Store → Mem
 mem_of s = record { globals = s.globals; segments = s.segments; ids = []; temps = [] }
 
-module _ (u : Typed) (s : Store) (longest : ℕ) (well : IsWellTyped u) (staged : in_stage u ≡ true) (shown : are_shown_functions u.functions ≡ true) (placed : IsPlaced u s longest) where
-  pub linked : Linked (site_of s longest)
+module _ (u : Typed) (s : Store) (well : IsWellTyped u) (staged : in_stage u ≡ true) (placed : IsPlaced u s) where
+  pub linked : Linked (site_of u s)
   linked = record { inst = placed.inst; alone = placed.alone; all = placed.all; three = placed.three; putchar = placed.putchar; getchar = placed.getchar; abort = placed.abort }
 
   split : (is_empty u.made ≡ true) × (in_functions u.functions ≡ true)
@@ -129,11 +161,17 @@ module _ (u : Typed) (s : Store) (longest : ℕ) (well : IsWellTyped u) (staged 
     pub params_are : are_integers ps ≡ true
     params_are = plain_here.1
 
-    pub compiled : Compiled (site_of s longest) u n t ps
-    compiled =
+    callable : (b : Stmt) → found.0.body ≡ Some b → AreCallable u (uses.in_stmt b)
+    callable b e' m used lt =
+        defined_or (is_defined_at u m) (list_any (is_call_of m) (uses.uses u))
+        (never_passes (λ k. not (is_defined_at u k) && list_any (is_call_of k) (uses.uses u)) (length u.functions) placed.none_imported m lt)
+        (any_right (is_call_of m) (uses.in_made u.made) (uses.in_functions u.functions) (used_at m u.functions n found.0 b found.1 e' used))
+
+    pub compiled : IsCallable u n → Compiled (site_of u s) u n t ps
+    compiled is_callable =
         let f = found.0 in
         let ty_is = found.2 in
-        let b = defined_by f.body (shown_at u.functions n f found.1 shown) in
+        let b = defined_by f.body (ap is_defined (sym found.1) ∙ is_callable (slice_get_within u.functions n f found.1)) in
         let at = placed.functions n f b.0 found.1 b.1 in
         let here = all_at (IsFunction u) u.functions n f found.1 well.functions in
         let r_is : here.0 ≡ t = ap result_in (sym here.2 ∙ ty_is) in
@@ -141,27 +179,26 @@ module _ (u : Typed) (s : Store) (longest : ℕ) (well : IsWellTyped u) (staged 
         let bd : IsBody u t ps f.slots (Some b.0) =
         subst (λ (r : Ty). IsBody u r ps f.slots (Some b.0)) r_is (subst (λ (qs : Tys). IsBody u here.0 qs f.slots (Some b.0)) ps_is (subst (λ (o : Option Stmt). IsBody u here.0 here.1 f.slots o) b.1 here.4)) in
         let st = both (are_plain b.0 0 f.slots) (in_stmt b.0) (ap (in_body f) (sym b.1) ∙ in_stage_here.1) in
-        let few : length (params_in f.ty) ≡ length (list_of ps) = ap (λ (ty : Ty). length (params_in ty)) ty_is in
+        let as_many : length (params_in f.ty) ≡ length (list_of ps) = ap (λ (ty : Ty). length (params_in ty)) ty_is in
         record {
           inst = at.inst;
           is_at = at.is_at;
           no_host = at.no_host;
           at_home = at.at_home;
-          takes = ap (λ (ty : FuncType). length ty.params) at.type_is ∙ length-map (params_in f.ty) (held_as false) ∙ few;
+          takes = ap (λ (ty : FuncType). length ty.params) at.type_is ∙ length-map (params_in f.ty) (held_as false) ∙ as_many;
           gives_one = ap (λ (ty : FuncType). slice_get ty.results 0) at.type_is ∙ ap (λ (ty : Ty). slice_get (listed (val_of (result_in ty))) 0) ty_is ∙ first_listed (val_of t);
           function_is = f;
           named = found.1;
           typed = ty_is;
           stmt_is = b.0;
           has_body = b.1;
-          locals_are = at.locals_are ∙ ap (λ (k : ℕ). locals (target_of u f b.0) k f.slots (waits_stmt b.0)) few;
+          locals_are = at.locals_are ∙ ap (λ (k : ℕ). locals (target_of u f b.0) k f.slots (waits_stmt b.0)) as_many;
           code = has_all s.funcs (index_of u n) (body (target_of u f b.0) f b.0) (ap body_in at.is_at ∙ at.body_is);
-          small = subst (λ (ss : List (List Instr)). total ss ≤ longest) at.body_is at.small;
+          small = small_in u u.functions n f b.0 found.1 b.1;
           others = bd.0.0;
           begins = bd.0.1;
           well = bd.2;
           slots_are = slots_of b.0 0 f.slots st.0;
-          staged = st.1;
-          shown = ap is_shown_body (sym b.1) ∙ shown_at u.functions n f found.1 shown;
+          ready = record { in_stage = st.1; callable = callable b.0 b.1 };
           result = result_kind t plain_here.0;
         }

@@ -60,23 +60,32 @@ pub record Env : Type 0 where
   pub slots : List Ty
   -- no slot is an object
   pub plain_slots : (x : ℕ) (t : Ty) → slice_get slots x ≡ Some t → target.is_object (Local x) ≡ false
+  -- behind them are the scratch locals, and those of so many values that wait
+  pub scratch_is : target.scratch ≡ length slots
+  pub waits : ℕ
   pub result : Ty
   pub depth : ℕ
 
 abbrev pub frame_of : Env → Mem → World → Frame
 frame_of E m w = record { function = E.fn; locals = words E.slots w.locals ++ m.temps }
 
--- what stands at the start of a piece of code: fuel is below, and the locals behind the slots
+-- what stands at the start of a piece of code: fuel is below, so many values wait, and the locals behind the slots
 pub record Now : Type 0 where
   pub below : ℕ
+  pub waits : ℕ
   pub temps : List Word
+
+-- the first values that wait are the same
+pub record Temps (E : Env) (waits : ℕ) (before after : List Word) : Type 0 where
+  pub long : length after ≡ 4 + E.waits
+  pub stay : (j : ℕ) → j < waits → slice_get after (4 + j) ≡ slice_get before (4 + j)
 
 pub record Kept (E : Env) (now : Now) (w : World) (m : Mem) : Type 0 where
   pub held : AreHeld E.slots w.locals
   pub deep : w.depth ≡ E.depth
   pub less : w.fuel < now.below
   pub bytes : AreBytes w.input
-  pub temps : m.temps ≡ now.temps
+  pub temps : Temps E now.waits now.temps m.temps
 
 -- ---- reading and writing
 

@@ -1,12 +1,14 @@
--- A unit that is compiled, linked alone, and behaves: the premises can be met at once.
-use Rattle.std.proofs.Common.{◌≡◌, ℕ, [], ◌∷◌, Some, None, Ok, Err, refl, arith}
+-- A unit that is compiled, linked alone, and run, and does what is meant: the premises can be met at once.
+use Rattle.std.proofs.Common.{◌≡◌, ℕ, List, map, [], ◌∷◌, Some, None, Ok, Err, refl, arith}
 use Rattle.std.specs.Prelude.{Result, codes}
 use Rattle.std.proofs.lemmas.List.Elements.{All-nil, All-cons}
 use Rattle.ms_host.specs.declared.trap.TrapKind.TheVariants as traps
-use Rattle.ms_machine.specs.Crews.{Task, Trap, bytes_of}
+use Rattle.ms_machine.specs.Crews.{Task, Trap, bytes_of, run_of, turns_from}
 use Rattle.ms_machine.specs.Externs.{Fault}
 use Rattle.ms_machine.specs.Linked.{linked, nothing_made, store_of}
+use Rattle.ms_machine.specs.Running.{func_thread}
 use Rattle.ms_machine.specs.Store.{Store}
+use Rattle.ms_tasks.specs.Tasks.{crew_of, threads_from}
 use Rattle.ms_task.specs.Thread.{sequence}
 use Rattle.c_types.specs.declared.integers.IntType.TheVariants.{Int}
 use Rattle.c_types.specs.declared.types.Scalar.TheVariants as scalars
@@ -16,15 +18,16 @@ use Rattle.c_typed.specs.declared.ops.BinaryOp.TheVariants as ops
 use Rattle.c_typed.specs.declared.ops.Variable.TheVariants.{Local}
 use Rattle.c_typed.specs.Tree as tree
 use Rattle.c_typed.specs.Tree.{Expr, Function, Made, Stmt, Typed}
+use Rattle.c_typed.specs.declared.tree.Case.{Case}
+use Rattle.c_well_typed.specs.Expressions.{Context, opened}
+use Rattle.c_well_typed.specs.Statements.{IsCase, IsStatement, in_loop}
 use Rattle.c_well_typed.specs.Types.{IsObject}
 use Rattle.c_well_typed.specs.Units.{HasIdentifier, IsFunction, IsMade, IsWellTyped, context_of}
 use Rattle.c_meaning.specs.Units.{means}
 use Rattle.c_meaning.specs.World.{zero_divide}
 use Rattle.c_code.specs.Modules.{compiled}
-use Rattle.c_runs.specs.Correct.{Behaves, run_at}
-use Rattle.c_runs.specs.Placed.{longest_of}
-use Rattle.c_runs.specs.Words.{left}
-use Rattle.c_runs.proofs.Linking.{linked_behaves}
+use Rattle.c_runs.specs.Correct.{AreBytes, MeansRun, run_at}
+use Rattle.c_runs.proofs.Executing.{executed_behaves}
 
 abbrev i : Ty
 i = integer Int
@@ -41,12 +44,24 @@ set_x e = tree.assign (scalars.Int Int) (tree.of (Local 0)) e
 abbrev more_than_x : ℕ → Expr
 more_than_x n = tree.binary ops.Add Int x (number n)
 
--- int main(void){int x; x=3; while(x){putchar(x+48); x=x+-1;} return f(x);}
+-- switch(x){case 3: putchar(51); break; default: putchar(x+48);}
+abbrev three : Case
+three = record { group = 0; label = Some 3 }
+
+abbrev other : Case
+other = record { group = 2; label = None }
+
+abbrev digit : Stmt
+digit =
+    tree.switch Int x [] (three ∷ other ∷ [])
+    (tree.seq (tree.perform (tree.putchar (number 51))) (tree.seq tree.break (tree.seq (tree.perform (tree.putchar (more_than_x 48))) tree.done)))
+
+-- int main(void){int x; x=3; while(x){switch(x){..} x=x+-1;} return f(x);}
 abbrev main_body : Stmt
 main_body =
     tree.scope (0 ∷ []) (tree.seq (tree.perform (set_x (number 3))) (tree.seq
-    (tree.loop x None (tree.scope [] (tree.seq (tree.perform (tree.putchar (more_than_x 48))) (tree.seq (tree.perform (set_x (more_than_x 4294967295))) tree.done))))
-    (tree.seq (tree.return (tree.call 1 (Some (scalars.Int Int)) (tree.more x tree.none))) tree.done)))
+    (tree.loop x None (tree.scope [] (tree.seq digit (tree.seq (tree.perform (set_x (more_than_x 4294967295))) tree.done))))
+    (tree.seq (tree.return (tree.call 2 (Some (scalars.Int Int)) (tree.more x tree.none))) tree.done)))
 
 -- int f(int n){return 7/n;}
 abbrev f_body : Stmt
@@ -58,16 +73,34 @@ main_is = record { name = codes "main"; ty = function i no_types; slots = i ∷ 
 abbrev f_is : Function
 f_is = record { name = codes "f"; ty = function i (types i no_types); slots = i ∷ []; body = Some f_body }
 
+-- int unused(void); it is declared alone
+abbrev unused_is : Function
+unused_is = record { name = codes "unused"; ty = function i no_types; slots = []; body = None }
+
 abbrev unit : Typed
-unit = record { tags = []; structs = []; members = []; enumerations = []; names = []; globals = []; made = []; functions = main_is ∷ f_is ∷ []; additions = [] }
+unit = record { tags = []; structs = []; members = []; enumerations = []; names = []; globals = []; made = []; functions = main_is ∷ unused_is ∷ f_is ∷ []; additions = [] }
 
 -- ---- it is well-typed
 
 no_layout : {A : Type 0} (n : ℕ) (l : Layout) → layout_at [] n ≡ Some l → A
 no_layout n l e = absurd cc
 
-differ : f_is.name ≡ main_is.name → ⊥
-differ e = absurd cc
+abbrev Other : Function → Function → Type 0
+Other f g = g.name ≡ f.name → ⊥
+
+abbrev context : Context
+context = context_of unit (i ∷ []) 0
+
+-- where its variable is visible
+digit_typed : IsStatement (opened context (0 ∷ [])) i in_loop digit
+digit_typed = (
+  refl,
+  (refl, (refl, refl)),
+  tt,
+  All-cons (IsCase Int 3) three (other ∷ []) (omega arith, omega arith) (All-cons (IsCase Int 3) other [] (omega arith, tt) (All-nil (IsCase Int 3))),
+  (All-cons (λ (y : Case). y.label ≡ Some 3 → ⊥) other [] (λ e. absurd cc) (All-nil (λ (y : Case). y.label ≡ Some 3 → ⊥)), (All-nil (λ (y : Case). y.label ≡ None → ⊥), tt)),
+  ((i, (refl, (refl, omega arith))), (refl, ((i, (refl, (refl, refl, (refl, (refl, refl)), (refl, omega arith)))), tt))),
+)
 
 main_typed : IsFunction unit main_is
 main_typed = (
@@ -86,7 +119,7 @@ main_typed = (
           (
             (Int, omega arith, (refl, (refl, refl))),
             tt,
-            (tt, ((i, (refl, (refl, refl, (refl, (refl, refl)), (refl, omega arith)))), ((i, (refl, (refl, refl), (refl, refl, (refl, (refl, refl)), (refl, omega arith)))), tt))),
+            (tt, (digit_typed, ((i, (refl, (refl, refl), (refl, refl, (refl, (refl, refl)), (refl, omega arith)))), tt))),
           ),
           ((tt, (types i no_types, refl, refl, ((refl, (refl, refl)), tt))), tt),
         ),
@@ -108,6 +141,9 @@ f_typed = (
   ),
 )
 
+unused_typed : IsFunction unit unused_is
+unused_typed = (i, no_types, refl, (tt, tt, tt), tt)
+
 well : IsWellTyped unit
 well = record {
   laid_out = record { sized = λ n l e. no_layout n l e; is = λ n l e. no_layout n l e };
@@ -117,9 +153,13 @@ well = record {
   globals = All-nil (IsObject []);
   variables = refl;
   made = All-nil (IsMade (context_of unit [] 0));
-  identifiers = All-cons HasIdentifier main_is (f_is ∷ []) refl (All-cons HasIdentifier f_is [] refl (All-nil HasIdentifier));
-  distinct = (All-cons (λ (g : Function). g.name ≡ main_is.name → ⊥) f_is [] differ (All-nil (λ (g : Function). g.name ≡ main_is.name → ⊥)), (All-nil (λ (g : Function). g.name ≡ f_is.name → ⊥), tt));
-  functions = All-cons (IsFunction unit) main_is (f_is ∷ []) main_typed (All-cons (IsFunction unit) f_is [] f_typed (All-nil (IsFunction unit)));
+  identifiers = All-cons HasIdentifier main_is (unused_is ∷ f_is ∷ []) refl (All-cons HasIdentifier unused_is (f_is ∷ []) refl (All-cons HasIdentifier f_is [] refl (All-nil HasIdentifier)));
+  distinct = (
+    All-cons (Other main_is) unused_is (f_is ∷ []) (λ e. absurd cc) (All-cons (Other main_is) f_is [] (λ e. absurd cc) (All-nil (Other main_is))),
+    (All-cons (Other unused_is) f_is [] (λ e. absurd cc) (All-nil (Other unused_is)), (All-nil (Other f_is), tt)),
+  );
+  functions = All-cons (IsFunction unit) main_is (unused_is ∷ f_is ∷ []) main_typed
+      (All-cons (IsFunction unit) unused_is (f_is ∷ []) unused_typed (All-cons (IsFunction unit) f_is [] f_typed (All-nil (IsFunction unit))));
 }
 
 -- ---- linked alone
@@ -134,16 +174,20 @@ st = store_in (linked (([], compiled unit) ∷ []) 64)
 linked_is : linked (([], compiled unit) ∷ []) 64 ≡ Ok st
 linked_is = refl
 
--- ---- so it behaves; and both, computed
+tasks_are : threads_from st ((0, codes "main") ∷ []) 0 ≡ Ok (func_thread st 3 ∷ [])
+tasks_are = refl
 
-sample_behaves : Behaves left unit st 3 i (longest_of unit)
-sample_behaves = linked_behaves unit [] 64 st 0 main_is i well refl refl refl refl refl linked_is
+-- ---- so it does what is meant; and both, computed
 
-sample_run : bytes_of (run_at st 3 [] 100).deeds ≡ codes "321"
+sample_executed : (input : List ℕ) → AreBytes input → (budget : ℕ) → MeansRun unit input budget (run_of (turns_from 1000 1 0 budget) (crew_of st (func_thread st 3 ∷ [])) (map Some input))
+sample_executed input bytes budget =
+    executed_behaves unit 64 1000 budget st (func_thread st 3 ∷ []) input well refl linked_is tasks_are bytes
+
+sample_run : bytes_of (run_at st 3 [] 200).deeds ≡ codes "321"
 unfolding sequence
 sample_run = refl
 
-sample_end : (run_at st 3 [] 100).end ≡ Trap (Task 0) traps.Zero
+sample_end : (run_at st 3 [] 200).end ≡ Trap (Task 0) traps.Zero
 unfolding sequence
 sample_end = refl
 

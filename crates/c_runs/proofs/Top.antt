@@ -1,6 +1,6 @@
 -- The run of a unit that was compiled against its meaning.
-use Rattle.std.proofs.Common.{◌≡◌, ◌≢◌, ℕ, zero, suc, ◌+◌, ◌*◌, ◌<◌, ◌≤◌, List, [], ◌∷◌, ◌++◌, map, Bool, true, Option, Some, None, refl, sym, ap, ◌∙◌, arith, subst}
-use Rattle.std.specs.Prelude.{slice_get}
+use Rattle.std.proofs.Common.{◌≡◌, ◌≢◌, ℕ, zero, suc, ◌+◌, ◌*◌, ◌<◌, ◌≤◌, List, [], ◌∷◌, ◌++◌, map, Bool, true, is_some, Option, Some, None, refl, sym, ap, ◌∙◌, arith, subst}
+use Rattle.std.specs.Prelude.{option_and_then, slice_get}
 use Rattle.std.proofs.Math.Nat.{mul-suc}
 use Rattle.ms_event.specs.Monitor.{grants, sizes_of}
 use Rattle.ms_linear.specs.Values.{default_of}
@@ -22,16 +22,16 @@ use Rattle.c_meaning.specs.Values.{Value}
 use Rattle.c_meaning.specs.World as world
 use Rattle.c_meaning.specs.World.{End, World, Result, gives, ends, Does, after, ◌>>=◌, ◌>>◌, pure}
 use Rattle.ms_emit.specs.Codes.{Coded, size_of}
-use Rattle.c_code.specs.Modules.{index_of}
+use Rattle.c_code.specs.Modules.{index_of, is_defined, is_defined_at}
 use Rattle.c_code.specs.Stage.{are_integers, in_stage}
-use Rattle.c_runs.specs.Correct.{AreBytes, Behaves, IsPrefix, Reports, meant, run_at}
+use Rattle.c_runs.specs.Correct.{AreBytes, Behaves, IsPrefix, Reports, main_result, meant, result_in, run_at}
 use Rattle.c_runs.specs.Crews.{Same, crew_end}
 use Rattle.c_runs.specs.Ends.{stop_of}
-use Rattle.c_runs.specs.Placed.{IsPlaced, are_shown_functions}
+use Rattle.c_runs.specs.Placed.{IsPlaced, longest_of}
 use Rattle.c_runs.specs.Threads.{Ended, Trapped, Paused, Stuck, Stop, steps}
-use Rattle.c_runs.specs.Words.{left, pushed}
+use Rattle.c_runs.specs.Words.{pushed}
 use Rattle.c_runs.proofs.Bodies.{IsResult, is_integer, is_void}
-use Rattle.c_runs.proofs.Callees.{Compiled, Callees, D, E, K, home, begun, callee_runs, calls_run, does, fits, frame_is, ints_of, sequence_is, start_kept, temps}
+use Rattle.c_runs.proofs.Callees.{Compiled, Callees, D, E, K, home, begun, callee_runs, calls_run, does, fits, frame_is, ints_of, sequence_is, start_kept, start_now, temps}
 use Rattle.c_runs.proofs.Exprs.{AreInts}
 use Rattle.c_runs.proofs.Goes.{Asks, IsEnd, Mem, Runs, RunsTo, Site, Stops, store}
 use Rattle.c_runs.proofs.Grants.{Agrees}
@@ -40,13 +40,14 @@ use Rattle.c_runs.proofs.Operations.{Linked}
 use Rattle.c_runs.proofs.Outcomes.{How, Known, agrees, asking, bound_law, end_law, output_law, over, prefix_law, sizes_law, spent}
 use Rattle.c_runs.proofs.Placed as stands
 use Rattle.c_runs.proofs.Placed.{mem_of, site_of}
+use Rattle.c_runs.proofs.Ready.{IsCallable}
 use Rattle.c_runs.proofs.Related.{IsOf, frame_of, front}
 
 -- ---- the meaning of the unit is that of main's body
 
-module _ (S : Site) (L : Linked S) (unit : Typed) (all : (f : ℕ) (t : Ty) (ps : Tys) → slice_get (map (λ (g : Function). g.ty) unit.functions) f ≡ Some (function t ps) → Compiled S unit f t ps)
+module _ (S : Site) (L : Linked S) (unit : Typed) (all : (f : ℕ) (t : Ty) (ps : Tys) → slice_get (map (λ (g : Function). g.ty) unit.functions) f ≡ Some (function t ps) → IsCallable unit f → Compiled S unit f t ps)
     (par_ints : (f : ℕ) (t : Ty) (ps : Tys) → slice_get (map (λ (g : Function). g.ty) unit.functions) f ≡ Some (function t ps) → are_integers ps ≡ true)
-    (m0 : Mem) (f : ℕ) (t : Ty) (p : Compiled S unit f t no_types) (is_main : main_number unit ≡ Some f) (none_made : unit.made ≡ []) where
+    (m0 : Mem) (f : ℕ) (t : Ty) (p : Compiled S unit f t no_types) (is_main : main_number unit ≡ Some f) (none_made : unit.made ≡ []) (longest_is : S.most ≡ longest_of unit) where
   abbrev pub here_store : Store
   here_store = store S m0
 
@@ -96,7 +97,7 @@ module _ (S : Site) (L : Linked S) (unit : Typed) (all : (f : ℕ) (t : Ty) (ps 
     main_runs : Runs S (size_of whole) m' start ws to_end AtEnd (body ws)
     main_runs =
         subst (λ (t0 : Thread). Runs S (size_of whole) m' t0 ws to_end AtEnd (body ws)) (sym start_is)
-        (callee_runs S L unit (suc fuel) f 1 t no_types p callees ints [] tt nobody' [] [] refl (record { below = suc fuel; temps = temps S L unit (suc fuel) f 1 t no_types p }) (omega arith) ws m' (start_kept S L unit (suc fuel) f 1 t no_types p [] tt (suc fuel) w m0 refl (omega arith) are_bytes))
+        (callee_runs S L unit (suc fuel) f 1 t no_types p callees ints [] tt nobody' [] [] refl (start_now S L unit (suc fuel) f 1 t no_types p (suc fuel)) (record { below = omega arith; waits = refl }) ws m' (start_kept S L unit (suc fuel) f 1 t no_types p [] tt (suc fuel) w m0 refl (omega arith) are_bytes))
 
     abbrev ending : Result Value → End × World
     ending x = closed unit (after (back_to w x) (λ v. pure (as_result unit t v)))
@@ -115,7 +116,7 @@ module _ (S : Site) (L : Linked S) (unit : Typed) (all : (f : ℕ) (t : Ty) (ps 
       pub st : Stop
       pub known : Known here_store start (map Some bytes) g S.most fuel st e w1
       pub how : How here_store start (map Some bytes) fuel st e w1 known.cost known.events
-      pub reports : (end : crews.End) → end ≡ crew_end st → Reports left t e end
+      pub reports : (end : crews.End) → end ≡ crew_end st → Reports t e end
 
     bounded : (cost f' : ℕ) → cost + S.most * f' ≤ size_of whole + S.most * fuel → cost ≤ S.most * (fuel + 1)
     bounded cost f' h =
@@ -123,11 +124,11 @@ module _ (S : Site) (L : Linked S) (unit : Typed) (all : (f : ℕ) (t : Ty) (ps 
         let more : S.most * (fuel + 1) ≡ S.most * fuel + S.most = ap (λ (n : ℕ). S.most * n) (let q : fuel + 1 ≡ suc fuel = omega arith in q) ∙ mul-suc S.most fuel in
         omega (arith, h, small, more)
 
-    reports_value : (v : Value) (end : crews.End) → end ≡ crews.Results (slice_get (pushed t v []) 0 ∷ []) → Reports left t (world.result (as_result unit t v)) end
+    reports_value : (v : Value) (end : crews.End) → end ≡ crews.Results (slice_get (pushed t v []) 0 ∷ []) → Reports t (world.result (as_result unit t v)) end
     reports_value v end e = go p.result where
-      go : IsResult t → Reports left t (world.result (as_result unit t v)) end
-      go (is_void q) = subst (λ (s : Ty). end ≡ crews.Results (slice_get (pushed s v []) 0 ∷ []) → Reports left s (world.result (as_result unit s v)) end) (sym q) (λ e'. e') e
-      go (is_integer u q) = subst (λ (s : Ty). end ≡ crews.Results (slice_get (pushed s v []) 0 ∷ []) → Reports left s (world.result (as_result unit s v)) end) (sym q) (λ e'. e') e
+      go : IsResult t → Reports t (world.result (as_result unit t v)) end
+      go (is_void q) = subst (λ (s : Ty). end ≡ crews.Results (slice_get (pushed s v []) 0 ∷ []) → Reports s (world.result (as_result unit s v)) end) (sym q) (λ e'. e') e
+      go (is_integer u q) = subst (λ (s : Ty). end ≡ crews.Results (slice_get (pushed s v []) 0 ∷ []) → Reports s (world.result (as_result unit s v)) end) (sym q) (λ e'. e') e
 
     known_end : (e : End) (w1 : World) → Stops S (size_of whole) ws w1 m' start e → Bundle e w1
     known_end e w1 h = record {
@@ -149,7 +150,7 @@ module _ (S : Site) (L : Linked S) (unit : Typed) (all : (f : ℕ) (t : Ty) (ps 
       how_of world.out_of_fuel is asks = spent refl refl (let l = h.least in omega (arith, l, is))
       how_of world.lost is asks = absurd is
 
-      reports_of : (e : End) → IsEnd S e w1 → (end : crews.End) → end ≡ crew_end (stop_of e) → Reports left t e end
+      reports_of : (e : End) → IsEnd S e w1 → (end : crews.End) → end ≡ crew_end (stop_of e) → Reports t e end
       reports_of (world.result v) is end q = absurd is
       reports_of (world.unsafe u) is end q = q
       reports_of world.zero_divide is end q = q
@@ -188,6 +189,11 @@ module _ (S : Site) (L : Linked S) (unit : Typed) (all : (f : ℕ) (t : Ty) (ps 
 
   -- ---- the theorem
 
+  result_is : main_result unit ≡ t
+  result_is =
+      ap (λ (o : Option ℕ). result_in (option_and_then (slice_get unit.functions) o)) is_main ∙ ap result_in p.named
+      ∙ ap (λ (ty : Ty). meaning.result_of ty) p.typed
+
   out_is : (st : Stop) → crew_end st ≡ crews.OutOfBudget → st ≡ Paused
   out_is (Ended v) e = absurd cc
   out_is (Trapped k) e = absurd cc
@@ -207,7 +213,7 @@ module _ (S : Site) (L : Linked S) (unit : Typed) (all : (f : ℕ) (t : Ty) (ps 
     grants_is : grants (events_of run.deeds) ≡ g
     grants_is = ap grants same.events
 
-    meant_is : (fuel : ℕ) → means unit bytes g fuel ≡ meant unit here_store (index_of unit f) bytes b fuel
+    meant_is : (fuel : ℕ) → means unit bytes g fuel ≡ meant unit bytes run fuel
     meant_is fuel = ap (λ (q : List Bool). means unit bytes q fuel) (sym grants_is)
 
     have : (fuel : ℕ) → Bundle bytes are_bytes g fuel (means unit bytes g fuel).0 (means unit bytes g fuel).1
@@ -219,45 +225,44 @@ module _ (S : Site) (L : Linked S) (unit : Typed) (all : (f : ℕ) (t : Ty) (ps 
     paused_is : run.end ≡ crews.OutOfBudget → (steps b here_store start (map Some bytes)).stop ≡ Paused
     paused_is e = out_is (steps b here_store start (map Some bytes)).stop (sym same.ends ∙ e)
 
-    sizes_are : sizes_of (events_of run.deeds) ≡ (meant unit here_store (index_of unit f) bytes b b).1.sizes
+    sizes_are : sizes_of (events_of run.deeds) ≡ (meant unit bytes run b).1.sizes
     sizes_are = let h = have b in ap sizes_of same.events ∙ sizes_law here_store start (map Some bytes) S.most b b h.st (means unit bytes g b).0 (means unit bytes g b).1 h.known h.how refl ∙ ap (λ (q : End × World). q.1.sizes) (meant_is b)
 
-    output_is : run.end ≢ crews.OutOfBudget → bytes_of run.deeds ≡ (meant unit here_store (index_of unit f) bytes b b).1.output
+    output_is : run.end ≢ crews.OutOfBudget → bytes_of run.deeds ≡ (meant unit bytes run b).1.output
     output_is d = let h = have b in same.bytes ∙ output_law here_store start (map Some bytes) S.most b b h.st (means unit bytes g b).0 (means unit bytes g b).1 h.known h.how refl (over_is d) ∙ ap (λ (q : End × World). q.1.output) (meant_is b)
 
-    end_is : run.end ≢ crews.OutOfBudget → Reports left t (meant unit here_store (index_of unit f) bytes b b).0 run.end
+    end_is : run.end ≢ crews.OutOfBudget → Reports (main_result unit) (meant unit bytes run b).0 run.end
     end_is d =
         let h = have b in
-        subst (λ (q : End × World). Reports left t q.0 run.end) (meant_is b)
-        (h.reports run.end (same.ends ∙ ap crew_end (end_law here_store start (map Some bytes) S.most b b h.st (means unit bytes g b).0 (means unit bytes g b).1 h.known h.how refl (over_is d))))
+        subst (λ (q : Ty). Reports q (meant unit bytes run b).0 run.end) (sym result_is)
+        (subst (λ (q : End × World). Reports t q.0 run.end) (meant_is b)
+        (h.reports run.end (same.ends ∙ ap crew_end (end_law here_store start (map Some bytes) S.most b b h.st (means unit bytes g b).0 (means unit bytes g b).1 h.known h.how refl (over_is d)))))
 
-    prints_is : run.end ≡ crews.OutOfBudget → IsPrefix (bytes_of run.deeds) (meant unit here_store (index_of unit f) bytes b b).1.output
+    prints_is : run.end ≡ crews.OutOfBudget → IsPrefix (bytes_of run.deeds) (meant unit bytes run b).1.output
     prints_is e =
         let h = have b in
         let q = prefix_law here_store start (map Some bytes) S.most b b h.st (means unit bytes g b).0 (means unit bytes g b).1 h.known h.how refl (paused_is e) in
         (q.0, ap (λ (x : End × World). x.1.output) (sym (meant_is b)) ∙ q.1 ∙ ap (λ (l : List ℕ). l ++ q.0) (sym same.bytes))
 
-    bound_is : (fuel : ℕ) → S.most * (fuel + 1) < b → run.end ≡ crews.OutOfBudget → (meant unit here_store (index_of unit f) bytes b fuel).0 ≡ world.out_of_fuel
+    bound_is : (fuel : ℕ) → longest_of unit * (fuel + 1) < b → run.end ≡ crews.OutOfBudget → (meant unit bytes run fuel).0 ≡ world.out_of_fuel
     bound_is fuel lt e =
         let h = have fuel in
-        ap (λ (x : End × World). x.0) (sym (meant_is fuel)) ∙ bound_law here_store start (map Some bytes) S.most b fuel h.st (means unit bytes g fuel).0 (means unit bytes g fuel).1 h.known h.how lt (paused_is e)
+        ap (λ (x : End × World). x.0) (sym (meant_is fuel)) ∙ bound_law here_store start (map Some bytes) S.most b fuel h.st (means unit bytes g fuel).0 (means unit bytes g fuel).1 h.known h.how (subst (λ (n : ℕ). n * (fuel + 1) < b) (sym longest_is) lt) (paused_is e)
 
-  pub behaves : Behaves left unit here_store (index_of unit f) t S.most
-  behaves = record {
-    sizes = λ bytes ok b. sizes_are bytes ok b;
-    output = λ bytes ok b d. output_is bytes ok b d;
-    end = λ bytes ok b d. end_is bytes ok b d;
-    prints = λ bytes ok b e. prints_is bytes ok b e;
-    bound = λ bytes ok b fuel lt e. bound_is bytes ok b fuel lt e;
-  }
+  pub behaves : Behaves unit here_store (index_of unit f)
+  behaves bytes ok b =
+      record { sizes = sizes_are bytes ok b; output = output_is bytes ok b; end = end_is bytes ok b; prints = prints_is bytes ok b; bound = bound_is bytes ok b }
 
 -- ---- a unit that a store has
 
-pub compiled_behaves : (u : Typed) (s : Store) (n longest : ℕ) (f : Function) (t : Ty) → IsWellTyped u → in_stage u ≡ true → are_shown_functions u.functions ≡ true → main_number u ≡ Some n → slice_get u.functions n ≡ Some f → f.ty ≡ function t no_types
-    → IsPlaced u s longest → Behaves left u s (index_of u n) t longest
-compiled_behaves u s n longest f t well staged shown is_main at ty_is placed =
-    let all = stands.compiled u s longest well staged shown placed in
-    behaves (site_of s longest) (stands.linked u s longest well staged shown placed) u all (stands.params_are u s longest well staged shown placed) (mem_of s) n t (all n t no_types (typed_at u.functions n at)) is_main (stands.none_made u s longest well staged shown placed)
+pub compiled_behaves : (u : Typed) (s : Store) (n : ℕ) (f : Function) (b : Stmt) (t : Ty) → IsWellTyped u → in_stage u ≡ true
+    → main_number u ≡ Some n → slice_get u.functions n ≡ Some f → f.body ≡ Some b
+    → f.ty ≡ function t no_types → IsPlaced u s → Behaves u s (index_of u n)
+compiled_behaves u s n f b t well staged is_main at has_body ty_is placed =
+    let all = stands.compiled u s well staged placed in
+    let there : is_defined_at u n ≡ true = ap is_defined at ∙ ap (λ (o : Option Stmt). is_some o) has_body in
+    behaves (site_of u s) (stands.linked u s well staged placed) u all (stands.params_are u s well staged placed) (mem_of s) n t
+    (all n t no_types (typed_at u.functions n at) (λ lt. there)) is_main (stands.none_made u s well staged placed) refl
   where
     typed_at : (fs : List Function) (k : ℕ) → slice_get fs k ≡ Some f → slice_get (map (λ (g : Function). g.ty) fs) k ≡ Some (function t no_types)
     typed_at [] k e = absurd cc

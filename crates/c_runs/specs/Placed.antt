@@ -1,5 +1,5 @@
 -- What a store has of a unit that was compiled: its functions, and three of the host.
-use Rattle.std.specs.Prelude.{◌≡◌, ℕ, ◌<◌, ◌≤◌, ◌&&◌, max, Bool, true, false, List, [], ◌∷◌, length, Option, Some, None, slice_get}
+use Rattle.std.specs.Prelude.{◌≡◌, ℕ, ◌<◌, ◌≤◌, max, List, [], ◌∷◌, length, Option, Some, None, slice_get}
 use Rattle.ms_host.specs.declared.host.Host.TheVariants as hosts
 use Rattle.ms_machine.specs.Step.{host_in}
 use Rattle.ms_machine.specs.Store.{Store}
@@ -8,12 +8,11 @@ use Rattle.ms_task.specs.declared.func.FuncInst.{FuncInst}
 use Rattle.c_typed.specs.Tree.{Function, Stmt, Typed}
 use Rattle.ms_emit.specs.Codes.{total}
 use Rattle.c_code.specs.Functions.{body, locals, params_in, signature}
-use Rattle.c_code.specs.Modules.{index_of, target_of}
+use Rattle.c_code.specs.Modules.{imported, index_of, target_of}
 use Rattle.c_code.specs.Uses.{waits_stmt}
-use Rattle.c_runs.specs.Parts.{is_shown}
 
--- at the address that is its index, the function of this number, with this body; it has at most so many instructions
-pub record IsFunctionAt (u : Typed) (s : Store) (longest n : ℕ) (f : Function) (b : Stmt) : Type 0 where
+-- at the address that is its index, the function of this number, with this body
+pub record IsFunctionAt (u : Typed) (s : Store) (n : ℕ) (f : Function) (b : Stmt) : Type 0 where
   pub inst : FuncInst
   pub is_at : slice_get s.funcs (index_of u n) ≡ Some inst
   pub no_host : inst.host ≡ None
@@ -21,10 +20,10 @@ pub record IsFunctionAt (u : Typed) (s : Store) (longest n : ℕ) (f : Function)
   pub type_is : inst.ty ≡ signature f.ty
   pub locals_are : inst.locals ≡ locals (target_of u f b) (length (params_in f.ty)) f.slots (waits_stmt b)
   pub body_is : inst.body ≡ body (target_of u f b) f b
-  pub small : total inst.body ≤ longest
 
--- one instance, in which each function has its address as its index
-pub record IsPlaced (u : Typed) (s : Store) (longest : ℕ) : Type 0 where
+-- one instance, in which each function has its address as its index; the unit imports none from `c`
+pub record IsPlaced (u : Typed) (s : Store) : Type 0 where
+  pub none_imported : imported u ≡ []
   pub inst : Instance
   pub alone : s.instances ≡ inst ∷ []
   pub all : (x : ℕ) → x < length s.funcs → slice_get inst.funcs x ≡ Some x
@@ -32,16 +31,7 @@ pub record IsPlaced (u : Typed) (s : Store) (longest : ℕ) : Type 0 where
   pub putchar : host_in (slice_get s.funcs 0) ≡ Some hosts.Putchar
   pub getchar : host_in (slice_get s.funcs 1) ≡ Some hosts.Getchar
   pub abort : host_in (slice_get s.funcs 2) ≡ Some hosts.Abort
-  pub functions : (n : ℕ) (f : Function) (b : Stmt) → slice_get u.functions n ≡ Some f → f.body ≡ Some b → IsFunctionAt u s longest n f b
-
--- each function is defined, by statements without `switch`
-abbrev pub is_shown_body : Option Stmt → Bool
-is_shown_body None = false
-is_shown_body (Some b) = is_shown b
-
-abbrev pub are_shown_functions : List Function → Bool
-are_shown_functions [] = true
-are_shown_functions (f ∷ fs) = is_shown_body f.body && are_shown_functions fs
+  pub functions : (n : ℕ) (f : Function) (b : Stmt) → slice_get u.functions n ≡ Some f → f.body ≡ Some b → IsFunctionAt u s n f b
 
 -- ---- how many instructions a body has at most
 
@@ -53,6 +43,6 @@ abbrev pub longest_in : Typed → List Function → ℕ
 longest_in u [] = 0
 longest_in u (f ∷ fs) = max (instructions_in u f f.body) (longest_in u fs)
 
--- of the functions of a unit
+-- of the functions of the unit
 abbrev pub longest_of : Typed → ℕ
 longest_of u = longest_in u u.functions

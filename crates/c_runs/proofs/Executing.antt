@@ -1,0 +1,246 @@
+-- What is run of a unit that was linked alone where its `main` is the one task: that task, behind a start function with no instruction.
+use Rattle.std.proofs.Common.{◌≡◌, ℕ, zero, suc, ◌+◌, ◌/◌, ◌<◌, List, [], ◌∷◌, ◌++◌, length, map, Bool, true, false, Option, Some, None, Ok, Err, refl, sym, ap, ◌∙◌, arith, subst}
+use Rattle.std.specs.Prelude.{Result, codes, cond, filter, find, is_some, nat_lt, not, option_and_then, option_map, replicate, slice_get, if◌then◌else◌}
+use Rattle.std.specs.List.{position_or_len}
+use Rattle.std.specs.Str.{bytes_eq}
+use Rattle.std.proofs.lemmas.Option.{slice_get-map, slice_get_within}
+use Rattle.std.proofs.lemmas.Slice.Eq.{bytes_eq-Decides}
+use Rattle.std.proofs.Math.Nat.{mod-one}
+use Rattle.ms_linear.specs.Values.{default_of}
+use Rattle.ms_module.specs.Numbered.{sequence_at}
+use Rattle.ms_module.specs.declared.instr.Instr.{Instr}
+use Rattle.ms_module.specs.declared.module.Export.{Export}
+use Rattle.ms_module.specs.declared.module.ExportDesc.TheVariants as exports
+use Rattle.ms_types.specs.declared.types.FuncType.{FuncType}
+use Rattle.ms_types.specs.declared.types.ValType.{ValType}
+use Rattle.ms_machine.specs.Crews.{Input, ahead, by_work, run_entries, run_of, turns_from}
+use Rattle.ms_machine.specs.Linked.{instance_in, linked, nothing_made, own_func, start_chain, with_start}
+use Rattle.ms_machine.specs.Running.{func_thread, start_of}
+use Rattle.ms_machine.specs.Store.{Store}
+use Rattle.ms_machine.specs.declared.store.Instance.{Instance}
+use Rattle.ms_task.specs.Control.{exit_ended, nobody}
+use Rattle.ms_task.specs.declared.func.FuncInst.{FuncInst}
+use Rattle.ms_task.specs.Thread.{Activation, Item, Thread, body_in, result_of, sequence}
+use Rattle.ms_tasks.specs.Tasks.{and_thread, crew_of, exported_task, is_task_result, is_task_type, of_task_type, takes_nothing, task_address, thread_at, threads_from}
+use Rattle.c_types.specs.Types.{Ty, function, Tys, no_types, types}
+use Rattle.c_typed.specs.Tree.{Function, Made, Stmt, Typed}
+use Rattle.c_well_typed.specs.Units.{HaveNames, IsFunction, IsWellTyped, list_of, numbers}
+use Rattle.c_meaning.specs.Units.{main_number}
+use Rattle.c_code.specs.Functions.{held_as, params_in, start}
+use Rattle.c_code.specs.Modules.{compiled, defined, export_of, exports_of, funcs_from, function_at, imported, index_of, is_defined, is_defined_at, is_exported, start_func, start_target}
+use Rattle.c_code.specs.Stage.{in_stage}
+use Rattle.c_runs.specs.Correct.{AreBytes, Behaves, MeansRun}
+use Rattle.c_runs.specs.Crews.{crew_of_one}
+use Rattle.c_runs.specs.Placed.{IsFunctionAt, IsPlaced}
+use Rattle.c_runs.proofs.Linking.{address_at, defined_are, is_made, none_imported, own_funcs, placed, st, three_hosts}
+use Rattle.c_runs.proofs.Numbers.{is_below}
+use Rattle.c_runs.proofs.Placed.{all_at, none_made, same_one, seq_is}
+use Rattle.c_runs.proofs.Related.{front}
+use Rattle.c_runs.proofs.Top.{compiled_behaves}
+use Rattle.c_runs.proofs.Whole.{both}
+
+-- ---- the turns of one task
+
+turns_are : (turns i count : ℕ) → turns_from turns 1 i count ≡ replicate count 0
+turns_are turns i zero = refl
+turns_are turns i (suc count) =
+    ap (λ (k : ℕ). k ∷ turns_from turns 1 (suc i) count) (mod-one (i / turns))
+    ∙ ap (λ (ks : List ℕ). 0 ∷ ks) (turns_are turns (suc i) count)
+
+-- ---- lists
+
+at_end : {A : Type 0} (xs : List A) (y : A) → slice_get (xs ++ y ∷ []) (length xs) ≡ Some y
+at_end [] y = refl
+at_end (x ∷ xs) y = at_end xs y
+
+-- ---- the first function of a name is the one that has it
+
+abbrev is_main : Function → Bool
+is_main f = bytes_eq (codes "main") f.name
+
+first_main : (fs : List Function) (n : ℕ) (f : Function) → slice_get fs n ≡ Some f → is_main f ≡ true → HaveNames fs → position_or_len is_main fs ≡ n
+first_main [] n f e m h = absurd cc
+first_main (g ∷ fs) zero f e m h =
+    ap (λ (x : Function). cond (not (is_main x)) (1 + position_or_len is_main fs) 0) (same_one g f e)
+    ∙ ap (λ (b : Bool). cond (not b) (1 + position_or_len is_main fs) 0) m
+first_main (g ∷ fs) (suc n) f e m h = by (is_main g) refl (first_main fs n f e m h.1) where
+  by : (b : Bool) → is_main g ≡ b → position_or_len is_main fs ≡ n → cond (not b) (1 + position_or_len is_main fs) 0 ≡ suc n
+  by true q r =
+      absurd (all_at (λ (x : Function). x.name ≡ g.name → ⊥) fs n f e h.0
+      (sym ((bytes_eq-Decides (codes "main") f.name).0 m) ∙ (bytes_eq-Decides (codes "main") g.name).0 q))
+  by false q r = let z : 1 + n ≡ suc n = omega arith in ap (λ (k : ℕ). 1 + k) r ∙ z
+
+number_is : (u : Typed) (n : ℕ) (f : Function) → slice_get u.functions n ≡ Some f → is_main f ≡ true → HaveNames u.functions → main_number u ≡ Some n
+number_is u n f e m h =
+    ap (λ (k : ℕ). cond (nat_lt k (length u.functions)) (Some k) None) (first_main u.functions n f e m h)
+    ∙ ap (λ (b : Bool). cond b (Some n) None) (is_below n (length u.functions) (slice_get_within u.functions n f e))
+
+-- ---- a function without parameters
+
+no_parameters : (ps : Tys) → list_of ps ≡ [] → ps ≡ no_types
+no_parameters no_types e = refl
+no_parameters (types t ps) e = absurd cc
+
+no_types_in : (vs : List ValType) → takes_nothing vs ≡ true → vs ≡ []
+no_types_in [] e = refl
+no_types_in (v ∷ vs) e = absurd cc
+
+none_mapped : {A B : Type 0} (g : A → B) (xs : List A) → map g xs ≡ [] → xs ≡ []
+none_mapped g [] e = refl
+none_mapped g (x ∷ xs) e = absurd cc
+
+-- ---- what an instance exports as `main`
+
+pub record IsMain (u : Typed) (funcs : List FuncInst) (i : Instance) (address : ℕ) : Type 0 where
+  pub number : ℕ
+  pub function_is : Function
+  pub stmt_is : Stmt
+  pub at : slice_get u.functions number ≡ Some function_is
+  pub has_body : function_is.body ≡ Some stmt_is
+  pub named : is_main function_is ≡ true
+  pub found : option_and_then (of_task_type funcs) (slice_get i.funcs (index_of u number)) ≡ Some address
+
+module _ (u : Typed) (funcs : List FuncInst) (i : Instance) (address : ℕ) where
+  abbrev in_exports : List Export → Option ℕ
+  in_exports es = option_and_then (exported_task funcs i) (find (λ (e : Export). bytes_eq (codes "main") e.name) es)
+
+  module _ (m : ℕ) (ns : List ℕ) (further : in_exports (exports_of u ns) ≡ Some address → IsMain u funcs i address) where
+    named_so : (f : Function) (s : Stmt) → slice_get u.functions m ≡ Some f → f.body ≡ Some s → (b : Bool) → is_main f ≡ b
+        → option_and_then (exported_task funcs i) (cond b (Some (record { name = f.name; desc = exports.Func (index_of u m) })) (find (λ (e : Export). bytes_eq (codes "main") e.name) (exports_of u ns))) ≡ Some address
+        → IsMain u funcs i address
+    named_so f s q d true n e = record { number = m; function_is = f; stmt_is = s; at = q; has_body = d; named = n; found = e }
+    named_so f s q d false n e = further e
+
+    exported : (f : Function) (s : Stmt) → slice_get u.functions m ≡ Some f → f.body ≡ Some s → (b : Bool)
+        → in_exports ((cond b (record { name = f.name; desc = exports.Func (index_of u m) } ∷ []) []) ++ exports_of u ns) ≡ Some address
+        → IsMain u funcs i address
+    exported f s q d true e = named_so f s q d (is_main f) refl e
+    exported f s q d false e = further e
+
+    with_body : (f : Function) → slice_get u.functions m ≡ Some f → (o : Option Stmt) → f.body ≡ o
+        → in_exports (exports_of u (cond (is_some o) (m ∷ ns) ns)) ≡ Some address → IsMain u funcs i address
+    with_body f q None d e = further e
+    with_body f q (Some s) d e =
+        exported f s q d (is_exported u f) (subst (λ (o : Option Function). in_exports (export_of u m o ++ exports_of u ns) ≡ Some address) q e)
+
+    of_number : (o : Option Function) → slice_get u.functions m ≡ o → in_exports (exports_of u (cond (is_defined o) (m ∷ ns) ns)) ≡ Some address → IsMain u funcs i address
+    of_number None q e = further e
+    of_number (Some f) q e = with_body f q f.body refl e
+
+  exported_main : (ms : List ℕ) → in_exports (exports_of u (filter (is_defined_at u) ms)) ≡ Some address → IsMain u funcs i address
+  exported_main [] e = absurd cc
+  exported_main (m ∷ ms) e = of_number m (filter (is_defined_at u) ms) (λ e'. exported_main ms e') (function_at u m) refl e
+
+if_true : (x a : ℕ) (b : Bool) → cond b (Some x) None ≡ Some a → (b ≡ true) × (x ≡ a)
+if_true x a true e = (refl, same_one x a e)
+if_true x a false e = absurd cc
+
+-- ---- the store of a unit that was linked alone
+
+module _ (u : Typed) (name : List ℕ) (c : ℕ) (well : IsWellTyped u) (staged : in_stage u ≡ true) (none : imported u ≡ []) where
+  abbrev s : Store
+  s = st u name c none
+
+  abbrev there : IsPlaced u s
+  there = placed u name c none
+
+  abbrev i : Instance
+  i = instance_in nothing_made (compiled u) three_hosts
+
+  its_address : (x : ℕ) → x < length s.funcs → slice_get i.funcs x ≡ Some x
+  its_address x lt = address_at (compiled u).funcs (own_func (compiled u) 0) x lt
+
+  -- ---- the start function
+
+  abbrev start_number : ℕ
+  start_number = 3 + length (imported u) + length (defined u)
+
+  start_number_is : start_number ≡ suc (suc (suc (length (funcs_from u 0 u.functions))))
+  start_number_is =
+      let a = ap (λ (l : List ℕ). length l) none in
+      let b = ap (λ (l : List ℕ). length l) (defined_are u) in
+      let d = own_funcs u 0 u.functions in
+      omega (arith, a, b, d)
+
+  abbrev start_inst : FuncInst
+  start_inst = own_func (compiled u) 0 (start_func u)
+
+  start_there : slice_get s.funcs start_number ≡ Some start_inst
+  start_there =
+      let k = length (funcs_from u 0 u.functions) in
+      ap (slice_get s.funcs) start_number_is ∙ slice_get-map (own_func (compiled u) 0) (compiled u).funcs k
+      ∙ ap (option_map (own_func (compiled u) 0)) (at_end (funcs_from u 0 u.functions) (start_func u))
+
+  start_sequence : sequence s.funcs start_number 0 ≡ []
+  start_sequence =
+      seq_is s.funcs start_number 0 ∙ ap (λ (o : Option FuncInst). sequence_at (body_in o) 0) start_there
+      ∙ ap (λ (ms : List Made). sequence_at (start (start_target u) u.globals ms) 0) (none_made u s well staged there)
+
+  -- so it has ended before its first turn
+  start_ended : (func_thread s start_number).work ≡ []
+  start_ended =
+      ap (λ (o : Option FuncInst). (start_of s start_number o).work) start_there
+      ∙ ap (λ (is : List Instr). (exit_ended (record { function = start_number; locals = map default_of start_inst.locals }) [] (front is (Activation (result_of start_inst) 0 (nobody s.funcs) ∷ []))).work) start_sequence
+
+  chain_is : ahead (map (func_thread s) (start_chain s.instances)) ≡ []
+  chain_is =
+      ap (λ (o : Option ℕ). ahead (map (func_thread s) (with_start o [])))
+      (its_address start_number (slice_get_within s.funcs start_number start_inst start_there))
+      ∙ ap (λ (w : List Item). by_work w [] (func_thread s start_number ∷ [])) start_ended
+
+  run_is : (turns budget : ℕ) (t : Thread) (input : Input)
+      → run_of (turns_from turns 1 0 budget) (crew_of s (t ∷ [])) input ≡ run_of (replicate budget 0) (crew_of_one s t) input
+  run_is turns budget t input =
+      ap (λ (ts : List Thread). run_entries (turns_from turns 1 0 budget) (record { store = s; chain = ts; tasks = t ∷ [] }) input) chain_is
+      ∙ ap (λ (ks : List ℕ). run_of ks (crew_of_one s t) input) (turns_are turns 0 budget)
+
+  -- ---- the task
+
+  module _ (a : ℕ) (p : IsMain u s.funcs i a) where
+    abbrev x : ℕ
+    x = index_of u p.number
+
+    abbrev inst : IsFunctionAt u s p.number p.function_is p.stmt_is
+    inst = there.functions p.number p.function_is p.stmt_is p.at p.has_body
+
+    if_task : (is_task_type inst.inst.ty ≡ true) × (x ≡ a)
+    if_task =
+        if_true x a (is_task_type inst.inst.ty)
+        (sym (ap (λ (o : Option ℕ). option_and_then (of_task_type s.funcs) o) (its_address x (slice_get_within s.funcs x inst.inst inst.is_at))
+        ∙ ap (λ (o : Option FuncInst). option_and_then (λ (f : FuncInst). if is_task_type f.ty then Some x else None) o) inst.is_at)
+        ∙ p.found)
+
+    typed : (t : Ty) × (p.function_is.ty ≡ function t no_types)
+    typed =
+        let here = all_at (IsFunction u) u.functions p.number p.function_is p.at well.functions in
+        let none = no_types_in inst.inst.ty.params (both (takes_nothing inst.inst.ty.params) (is_task_result inst.inst.ty.results) if_task.0).0 in
+        let ps = none_mapped (held_as false) (params_in p.function_is.ty) (sym (ap (λ (ty : FuncType). ty.params) inst.type_is) ∙ none) in
+        (here.0, here.2 ∙ ap (function here.0) (no_parameters here.1 (ap params_in (sym here.2) ∙ ps)))
+
+    main_behaves : Behaves u s a
+    main_behaves =
+        subst (Behaves u s) if_task.1
+        (compiled_behaves u s p.number p.function_is p.stmt_is typed.0 well staged (number_is u p.number p.function_is p.at p.named well.distinct) p.at p.has_body typed.1 there)
+
+  one_thread : (threads : List Thread) (o : Option ℕ) → and_thread (thread_at s o) 0 (Ok []) ≡ Ok threads → (a : ℕ) × (o ≡ Some a) × (func_thread s a ∷ [] ≡ threads)
+  one_thread threads None e = absurd cc
+  one_thread threads (Some a) e = (a, refl, ap (λ (r : Result (List Thread) ℕ). or r) e) where
+    or : Result (List Thread) ℕ → List Thread
+    or (Ok ts) = ts
+    or (Err k) = threads
+
+  executed : (turns budget : ℕ) (threads : List Thread) (input : List ℕ) → threads_from s ((0, codes "main") ∷ []) 0 ≡ Ok threads → AreBytes input
+      → MeansRun u input budget (run_of (turns_from turns 1 0 budget) (crew_of s threads) (map Some input))
+  executed turns budget threads input e bytes =
+      let q = one_thread threads (task_address s 0 (codes "main")) e in
+      subst (λ (ts : List Thread). MeansRun u input budget (run_of (turns_from turns 1 0 budget) (crew_of s ts) (map Some input))) q.2
+      (subst (MeansRun u input budget) (sym (run_is turns budget (func_thread s q.0) (map Some input)))
+      (main_behaves q.0 (exported_main u s.funcs i q.0 (numbers (length u.functions)) q.1) input bytes budget))
+
+pub executed_behaves : (u : Typed) (c turns budget : ℕ) (s : Store) (threads : List Thread) (input : List ℕ) → IsWellTyped u → in_stage u ≡ true
+    → linked (([], compiled u) ∷ []) c ≡ Ok s → threads_from s ((0, codes "main") ∷ []) 0 ≡ Ok threads
+    → AreBytes input → MeansRun u input budget (run_of (turns_from turns 1 0 budget) (crew_of s threads) (map Some input))
+executed_behaves u c turns budget s threads input well staged e tasks bytes =
+    let none = none_imported u [] c s e in
+    subst (λ (t : Store). threads_from t ((0, codes "main") ∷ []) 0 ≡ Ok threads → MeansRun u input budget (run_of (turns_from turns 1 0 budget) (crew_of t threads) (map Some input)))
+    (is_made u [] c none s e) (λ tasks'. executed u [] c well staged none turns budget threads input tasks' bytes) tasks
