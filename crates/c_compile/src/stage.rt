@@ -1,0 +1,280 @@
+//! The units of which it is shown that their code does what they mean.
+
+ghost use Rattle.std.specs.Prelude.{◌≡◌, ◌&&◌, map, nat_lt, not};
+ghost use Rattle.std.specs.List.{list_all};
+ghost use Rattle.c_types.specs.Types.{type_of};
+ghost use Rattle.c_typed.specs.Parts.{sequence};
+ghost use Rattle.c_typed.specs.Views.{body_of, expr_of, function_of, list_of, place_of, sized_of, step_of, stmt_of, typed_of};
+ghost use Rattle.c_code.specs.Stage as words;
+ghost use Rattle.c_well_typed.specs.Statements.{count};
+ghost use Rattle.c_place.specs.Flags.{flags, of_function};
+ghost use Rattle.c_place.specs.Lists.{exprs_in};
+
+use c_place::Objects;
+use c_typed::{Expr, Function, Place, Sized, Stmt, TypedUnit, Variable};
+use c_types::{CType, Scalar, Signature};
+use ms_types::Vector;
+
+/// Whether a unit, whose variables have these flags, is one of integers, variables that are no objects, control, and calls of
+/// functions by their names.
+pub fn is_in_stage(unit: &TypedUnit, objects: &Objects) -> bool
+    requires { objects.now.functions.items ≡ (flags (typed_of unit.now)).functions }
+    ensures { result ≡ words.in_stage (typed_of unit.now) }
+{
+    unit.made.is_empty()
+        && unit.globals.is_empty()
+        && in_functions(&unit.functions, &objects.functions)
+}
+
+fn is_integer(t: &CType) -> bool
+    ensures { result ≡ words.is_integer (type_of t.now) }
+{
+    match t {
+        CType::Int(_) => true,
+        CType::Void => false,
+        CType::Struct(_) => false,
+        CType::Pointer(_) => false,
+        CType::Array(_, _) => false,
+        CType::Function(_) => false,
+    }
+}
+
+fn are_integers(ts: &[CType]) -> bool
+    ensures { result ≡ list_all words.is_integer (map type_of ts.now) }
+{
+    for t in ts {
+        if !is_integer(t) {
+            return false;
+        }
+    }
+    true
+}
+
+fn is_integer_or_void(t: &CType) -> bool
+    ensures { result ≡ words.is_integer_or_void (type_of t.now) }
+{
+    match t {
+        CType::Void => true,
+        CType::Int(_) => true,
+        CType::Struct(_) => false,
+        CType::Pointer(_) => false,
+        CType::Array(_, _) => false,
+        CType::Function(_) => false,
+    }
+}
+
+fn is_plain_signature(f: &Signature) -> bool
+    ensures { result ≡ (words.is_integer_or_void (type_of f.now.result) && list_all words.is_integer (map type_of f.now.params.items)) }
+{
+    is_integer_or_void(&f.result) && are_integers(&f.params)
+}
+
+fn is_plain_function(t: &CType) -> bool
+    ensures { result ≡ words.is_plain_function (type_of t.now) }
+{
+    match t {
+        CType::Function(f) => is_plain_signature(f),
+        CType::Void => false,
+        CType::Int(_) => false,
+        CType::Struct(_) => false,
+        CType::Pointer(_) => false,
+        CType::Array(_, _) => false,
+    }
+}
+
+fn is_number(s: Scalar) -> bool
+    ensures { result ≡ words.is_number s }
+{
+    match s {
+        Scalar::Int(_) => true,
+        Scalar::Pointer => false,
+        Scalar::Function => false,
+    }
+}
+
+fn is_number_or_void(s: Option<Scalar>) -> bool
+    ensures { result ≡ words.is_number_or_void s }
+{
+    match s {
+        None => true,
+        Some(s) => is_number(s),
+    }
+}
+
+fn is_local(p: &Place) -> bool
+    ensures { result ≡ words.is_local (place_of p.now) }
+{
+    match p {
+        Place::Of(Variable::Local(_)) => true,
+        Place::Of(Variable::Global(_)) => false,
+        Place::Deref(_) => false,
+        Place::Member(_, _, _) => false,
+    }
+}
+
+/// A size, which is a number of 32 bits.
+fn in_size(n: u32, operand: &Sized) -> bool
+    ensures { result ≡ words.in_expr (sized_of operand.now n) }
+{
+    match operand {
+        Sized::Place(_) => true,
+        Sized::Value(_) => true,
+        Sized::Nothing => u64::from(n) < 1 << 32,
+    }
+}
+
+#[cycle(staged)]
+fn in_expr(e: &Expr) -> bool
+    ensures { result ≡ words.in_expr (expr_of e.now) }
+{
+    match e {
+        Expr::Number(_, _) => true,
+        Expr::Getchar => true,
+        Expr::Abort => true,
+        Expr::SizeOf(n, operand) => in_size(*n, operand),
+        Expr::Read(_, p) => is_local(p),
+        Expr::Convert(_, _, a) => in_expr(a),
+        Expr::Truth(s, a) => is_number(*s) && in_expr(a),
+        Expr::Not(a) => in_expr(a),
+        Expr::Unary(_, _, a) => in_expr(a),
+        Expr::Binary(_, _, a, b) => in_expr(a) && in_expr(b),
+        Expr::Compare(_, _, a, b) => in_expr(a) && in_expr(b),
+        Expr::And(a, b) => in_expr(a) && in_expr(b),
+        Expr::Or(a, b) => in_expr(a) && in_expr(b),
+        Expr::Choose(s, c, a, b) => {
+            is_number_or_void(*s) && in_expr(c) && in_expr(a) && in_expr(b)
+        }
+        Expr::Comma(a, b) => in_expr(a) && in_expr(b),
+        Expr::Assign(_, p, a) => is_local(p) && in_expr(a),
+        Expr::Update(_, _, _, _, p, a) => is_local(p) && in_expr(a),
+        Expr::Call(_, s, es) => is_number_or_void(*s) && in_exprs(es),
+        Expr::Putchar(a) => in_expr(a),
+        Expr::Discard(a) => in_expr(a),
+        Expr::Null => false,
+        Expr::NoFunction => false,
+        Expr::Function(_) => false,
+        Expr::Literal(_) => false,
+        Expr::Decay(_, _, _) => false,
+        Expr::Address(_) => false,
+        Expr::ComparePointers(_, _, _) => false,
+        Expr::SameFunction(_, _, _) => false,
+        Expr::Difference(_, _, _) => false,
+        Expr::Move(_, _, _, _) => false,
+        Expr::MoveBy(_, _, _) => false,
+        Expr::Advance(_, _, _, _, _) => false,
+        Expr::Copy(_, _, _) => false,
+        Expr::CallThrough(_, _, _, _) => false,
+        Expr::Malloc(_, _) => false,
+        Expr::Calloc(_, _, _) => false,
+        Expr::Free(_) => false,
+        Expr::Visit(_) => false,
+    }
+}
+
+#[cycle(staged)]
+fn in_exprs(es: &[Expr]) -> bool
+    ensures { result ≡ words.in_exprs (exprs_in es.now) }
+{
+    for e in es {
+        if !in_expr(e) {
+            return false;
+        }
+    }
+    true
+}
+
+fn in_step(e: &Option<Expr>) -> bool
+    ensures { result ≡ words.in_step (step_of e.now) }
+{
+    match e {
+        None => true,
+        Some(e) => in_expr(e),
+    }
+}
+
+/// Whether an i32 counts the groups of a switch, but for one number.
+#[tactic(auto, using(crate::proofs::Staging::counted))]
+fn are_few(groups: &[Stmt]) -> bool
+    ensures { result ≡ nat_lt (count (sequence (list_of groups.now))) 4294967295 }
+{
+    (groups.len() as u64) < u64::from(u32::MAX)
+}
+
+#[cycle(staged_statements)]
+fn in_stmt(s: &Stmt) -> bool
+    ensures { result ≡ words.in_stmt (stmt_of s.now) }
+{
+    match s {
+        Stmt::Nothing => true,
+        Stmt::ReturnNothing => true,
+        Stmt::Break => true,
+        Stmt::Continue => true,
+        Stmt::Perform(e) => in_expr(e),
+        Stmt::Fill(_, _, _) => false,
+        Stmt::If(c, a, b) => in_expr(c) && in_stmt(a) && in_stmt(b),
+        Stmt::Loop(c, after, s) => in_expr(c) && in_step(after) && in_stmt(s),
+        Stmt::DoWhile(s, c) => in_stmt(s) && in_expr(c),
+        Stmt::Switch(_, e, _, _, groups) => are_few(groups) && (in_expr(e) && in_stmts(groups)),
+        Stmt::Scope(_, ss) => in_stmts(ss),
+        Stmt::Return(e) => in_expr(e),
+    }
+}
+
+#[cycle(staged_statements)]
+fn in_stmts(ss: &[Stmt]) -> bool
+    ensures { result ≡ words.in_stmts (sequence (list_of ss.now)) }
+{
+    for s in ss {
+        if !in_stmt(s) {
+            return false;
+        }
+    }
+    true
+}
+
+fn no_objects(flags: &[bool]) -> bool
+    ensures { result ≡ list_all not flags.now }
+{
+    for flag in flags {
+        if *flag {
+            return false;
+        }
+    }
+    true
+}
+
+/// Whether slots of these types, with these flags, are integers that are no objects.
+fn are_plain(slots: &[CType], flags: &[bool]) -> bool
+    ensures { result ≡ (list_all words.is_integer (map type_of slots.now) && list_all not flags.now) }
+{
+    are_integers(slots) && no_objects(flags)
+}
+
+fn in_body(f: &Function, flags: &[bool]) -> bool
+    requires { flags.now ≡ of_function (function_of f.now) }
+    ensures { result ≡ words.in_body (function_of f.now) (body_of f.now.body) }
+{
+    match &f.body {
+        None => true,
+        Some(body) => are_plain(&f.slots, flags) && in_stmt(body),
+    }
+}
+
+fn in_function(f: &Function, flags: &[bool]) -> bool
+    requires { flags.now ≡ of_function (function_of f.now) }
+    ensures { result ≡ (words.is_plain_function (type_of f.now.ty) && words.in_body (function_of f.now) (body_of f.now.body)) }
+{
+    is_plain_function(&f.ty) && in_body(f, flags)
+}
+
+fn in_functions(fs: &[Function], flags: &[Vector<bool>]) -> bool
+    requires { flags.now ≡ map of_function (map function_of fs.now) }
+    ensures { result ≡ words.in_functions (map function_of fs.now) }
+{
+    for i in 0..fs.len() {
+        if !in_function(&fs[i], flags[i].as_slice()) {
+            return false;
+        }
+    }
+    true
+}
