@@ -62,7 +62,7 @@ same_place tokens f g t u p q = by_meet (meet f g t u p.rest q.rest (sym p.split
 not_all : (tokens f : List Token) (t : Token) → Place tokens f t → Begins 200 tokens → ⊥
 not_all tokens f t p b = none_longer tokens f t p.rest tokens p (p.split ∙ sym (append_assoc f (t ∷ []) p.rest)) b
 
-one_stop : (tokens : List Token) (end : ℕ) (a b : CParse) → Stops tokens end a → Stops tokens end b → a ≡ b
+pub one_stop : (tokens : List Token) (end : ℕ) (a b : CParse) → Stops tokens end a → Stops tokens end b → a ≡ b
 one_stop tokens end _ _ (syntax f t r e b n) (syntax g u q d c m) =
     let s = same_place tokens f g t u (record { rest = r; split = e; begun = b; none = n 200 }) (record { rest = q; split = d; begun = c; none = m 200 }) in
     ap (λ (x : Token). Syntax x.at) s.tokens
@@ -90,7 +90,7 @@ all_begins tokens whole p =
     let P : List Token → Type 0 = λ x. IsUnit x whole in
     record { rest = []; unit = whole; is_unit = subst P (sym (append_nil tokens)) p.is_unit; low = p.low }
 
-no_stop : (tokens : List Token) (end : ℕ) (e : CParse) (whole : List External) → Stops tokens end e → Parses tokens whole → ⊥
+pub no_stop : (tokens : List Token) (end : ℕ) (e : CParse) (whole : List External) → Stops tokens end e → Parses tokens whole → ⊥
 no_stop tokens end _ whole (syntax f t r e b n) p = not_all tokens f t (record { rest = r; split = e; begun = b; none = n 200 }) (all_begins tokens whole p)
 no_stop tokens end _ whole (too_deep f t r limit e b l n) p = not_all tokens f t (record { rest = r; split = e; begun = b; none = n }) (all_begins tokens whole p)
 no_stop tokens end _ whole (unfinished b n) p = n whole p.is_unit

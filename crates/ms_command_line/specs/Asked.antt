@@ -7,7 +7,7 @@ use Rattle.std.specs.Str.Parse.{digits_value, without_leading_plus}
 use Rattle.clap.specs.Words.{Row, Text, fault_of, first_of, subcommand_of}
 use Rattle.clap.specs.Walk.{is_empty}
 use Rattle.clap.specs.ValueTests.{is_unsigned_in}
-use Rattle.ms_command_line.specs.Commands.{IsWithinRange, NumberOption, asm, budget, check, commands, dis, exec, file, job, judge, memory, mswasm, out, run}
+use Rattle.ms_command_line.specs.Commands.{IsWithinRange, NumberOption, asm, budget, check, commands, compile, dis, exec, file, job, judge, memory, mswasm, out, run}
 use Rattle.ms_command_line.specs.declared.request.Request.{Request}
 use Rattle.ms_command_line.specs.declared.request.Request.TheVariants as request
 use Rattle.ms_command_line.specs.declared.request.WordsFault.{WordsFault}
@@ -22,6 +22,7 @@ pub data Asked : Type 0 where
   -- the file, and the file that is written
   Asm : Text → Text → Asked
   Dis : Text → Text → Asked
+  Compile : Text → Text → Asked
   -- the file of a trace, and the bytes of segment memory
   Judge : Text → ℕ → Asked
 
@@ -42,8 +43,9 @@ asked_by name rows =
     else (if bytes_eq name check.name then Some (Check (word file rows))
     else (if bytes_eq name asm.name then Some (Asm (word file rows) (word out rows))
     else (if bytes_eq name dis.name then Some (Dis (word file rows) (word out rows))
+    else (if bytes_eq name compile.name then Some (Compile (word file rows) (word out rows))
     else (if bytes_eq name judge.name then Some (Judge (word file rows) (number memory rows))
-    else None)))))
+    else None))))))
 
 -- ---- what the words ask for
 
@@ -84,6 +86,7 @@ view (request.Run j) = Run j.now
 view (request.Check f) = Check f.now
 view (request.Asm f o) = Asm f.now o.now
 view (request.Dis f o) = Dis f.now o.now
+view (request.Compile f o) = Compile f.now o.now
 view (request.Judge f bytes) = Judge f.now bytes
 
 -- the numbers lie in their ranges

@@ -65,11 +65,14 @@ asm = record { name = codes "asm"; places = file ∷ out ∷ []; options = [] }
 abbrev pub dis : CommandRow
 dis = record { name = codes "dis"; places = file ∷ out ∷ []; options = [] }
 
+abbrev pub compile : CommandRow
+compile = record { name = codes "compile"; places = file ∷ out ∷ []; options = [] }
+
 abbrev pub judge : CommandRow
 judge = record { name = codes "judge"; places = file ∷ []; options = memory ∷ [] }
 
 abbrev pub commands : List CommandRow
-commands = exec ∷ run ∷ check ∷ asm ∷ dis ∷ judge ∷ []
+commands = exec ∷ run ∷ check ∷ asm ∷ dis ∷ compile ∷ judge ∷ []
 
 abbrev pub default_budget : ℕ
 default_budget = default_of budget

@@ -95,6 +95,13 @@ pub const DIS: CommandRow = CommandRow {
     options: &[],
 };
 
+/// Compiles a file of C, and writes its module in the binary format.
+pub const COMPILE: CommandRow = CommandRow {
+    name: "compile",
+    places: &[FILE, OUT],
+    options: &[],
+};
+
 /// Judges the trace in a file.
 pub const JUDGE: CommandRow = CommandRow {
     name: "judge",
@@ -103,7 +110,7 @@ pub const JUDGE: CommandRow = CommandRow {
 };
 
 /// The commands, in the order of their usage lines.
-const COMMANDS: [CommandRow; 6] = [EXEC, RUN, CHECK, ASM, DIS, JUDGE];
+const COMMANDS: [CommandRow; 7] = [EXEC, RUN, CHECK, ASM, DIS, COMPILE, JUDGE];
 
 /// The command line of the program.
 pub fn command_line<'a>(alloc: Global) -> Result<Command<'a>, AllocError>

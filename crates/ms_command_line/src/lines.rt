@@ -13,6 +13,7 @@ pub fn usage() -> &'static str
         "usage: mswasm check FILE\n",
         "usage: mswasm asm FILE OUT\n",
         "usage: mswasm dis FILE OUT\n",
+        "usage: mswasm compile FILE OUT\n",
         "usage: mswasm judge FILE [--memory N]\n",
     )
 }

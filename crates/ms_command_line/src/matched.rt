@@ -8,7 +8,7 @@ ghost use Rattle.ms_command_line.specs.Commands.{IsWithinRange};
 ghost use Rattle.ms_command_line.specs.refinement.Rows.{option_said};
 
 use super::definition::{
-    ASM, BUDGET, CHECK, EXEC, FILE, JOB, JUDGE, MEMORY, NumberOption, OUT, RUN,
+    ASM, BUDGET, CHECK, COMPILE, EXEC, FILE, JOB, JUDGE, MEMORY, NumberOption, OUT, RUN,
 };
 use super::request::Request;
 use clap::ArgMatches;
@@ -52,6 +52,9 @@ fn request_by<'a>(name: &str, matches: &ArgMatches<'a>) -> Request<'a>
     let out = word(matches, OUT);
     if name == ASM.name {
         return Request::Asm { file, out };
+    }
+    if name == COMPILE.name {
+        return Request::Compile { file, out };
     }
     Request::Dis { file, out }
 }

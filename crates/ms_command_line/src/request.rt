@@ -29,6 +29,11 @@ pub enum Request<'a> {
         file: &'a str,
         out: &'a str,
     },
+    /// Write the module of the file, a unit of C, to `out` in the binary format.
+    Compile {
+        file: &'a str,
+        out: &'a str,
+    },
     /// Judge the trace in the file, of a run with `memory` bytes of segment memory.
     Judge {
         file: &'a str,

@@ -1,3 +1,4 @@
+pub mod Units
 pub mod Refusals
 pub mod Once
 pub mod Finding

@@ -30,12 +30,12 @@ use Rattle.ms_rules.specs.Modules.{FuncTyped, IsFirstUntyped, WellTyped}
 use Rattle.ms_valid.specs.Refusals.{IsWrong}
 use Rattle.ms_valid.specs.declared.refusal.Part.{Part}
 use Rattle.ms_valid.specs.declared.refusal.Part.TheVariants as parts
-use Rattle.ms_run.specs.Answers.{Answer, Assembles, Checks, Command, Contents, Disassembles, Fault, File, Found, HasBytes, HasModule, Judges, OnFile, Unfound, Unloaded, Verdict, accepted, assembled, checked, disassembled, invalid, judged, large, no_event, no_file, on_file, overlong, rejected, says, unchecked, unfound, unjudged, unread, unread_binary, unread_text, unreadable, writes}
+use Rattle.ms_run.specs.Answers.{Answer, Assembles, Checks, Command, Contents, Disassembles, Fault, File, Found, HasBytes, HasModule, Judges, OnFile, Unfound, Unloaded, Verdict, accepted, assembled, checked, disassembled, invalid, judged, large, no_event, no_file, on_file, overlong, rejected, says, unchecked, unfound, unjudged, unread, unread_binary, unread_form, unreadable, writes}
 use Rattle.ms_run.specs.Executions.{AnswersAs, EndsAs, Execution, NoTask, Ran, TellsOf, Unlinked, execution}
 use Rattle.ms_run.specs.Jobs.{AllLoaded, FirstUnloaded, HasEntries, HasNumbers, RunsFile, RunsJob, Unnumbered, Unscheduled, executed, here, in_turns, later, listed, no_job, no_job_file, no_more, no_number, one_more, unlisted, unloaded, unscheduled, what_of}
 use Rattle.ms_run.specs.Jobs as jobs
-use Rattle.ms_run.specs.Lines.{accepted_line, fault_words, job_line, part_words, refused_line, rejected_line, schedule_line, text_fault_words, trace_line}
-use Rattle.ms_run.specs.Loading.{Binary, Form, Spells, Text, Unread, binary, form_of, text}
+use Rattle.ms_run.specs.Lines.{accepted_line, fault_words, job_line, part_words, refused_line, rejected_line, schedule_line, source_fault_words, text_fault_words, trace_line}
+use Rattle.ms_run.specs.Loading.{Binary, Form, Source, Spells, Text, Unread, binary, form_of, source, text}
 use Rattle.ms_run.specs.Observed.{Shelved}
 use Rattle.ms_run.specs.Reporting.{Holds, IsFound}
 use Rattle.ms_run.specs.Telling.{dumped, telling_of}
@@ -45,6 +45,8 @@ use Rattle.ms_run.specs.declared.status.Status.{Status}
 use Rattle.ms_run.specs.declared.status.Status.TheVariants as statuses
 use Rattle.ms_run.specs.declared.telling.Telling.{Telling}
 use Rattle.ms_text_grammar.proofs.Files.{one_module as one_text}
+use Rattle.ms_run.proofs.Units as units
+use Rattle.ms_run.proofs.Units.{one_reason}
 use Rattle.ms_run.proofs.Refusals.{OfRefusals, of_first, of_unfound, of_unloaded, of_unscheduled}
 
 -- ---- bytes that spell no module
@@ -55,14 +57,17 @@ one_fault bytes a b h k = let both = sym h ∙ k in cc
 one_wording : (bytes : List ℕ) (form : Form) (a b : List ℕ) → Unread bytes form a → Unread bytes form b → a ≡ b
 one_wording bytes Binary a b (binary f h) (binary g k) = ap fault_words (one_fault bytes f g h k)
 one_wording bytes Text a b (text f h) (text g k) = ap text_fault_words (reasons_alike bytes f g h k)
+one_wording bytes Source a b (source f h) (source g k) = ap source_fault_words (one_reason bytes f g h k)
 
 pub never_both : (bytes : List ℕ) (form : Form) (words : List ℕ) (m : Module) → Unread bytes form words → Spells form bytes m → ⊥
 never_both bytes Binary words m (binary f h) k = let both = sym ((module_format usual).again (length bytes) bytes m [] k) ∙ h in cc
 never_both bytes Text words m (text f h) k = no_reason bytes m f k h
+never_both bytes Source words m (source f h) k = units.never_both bytes f m h k
 
 pub one_module : (form : Form) (bytes : List ℕ) (m n : Module) → Spells form bytes m → Spells form bytes n → m ≡ n
 one_module Binary bytes m n h k = one_binary usual bytes m n h k
 one_module Text bytes m n h k = one_text bytes m n h k
+one_module Source bytes m n h k = units.one_module bytes m n h k
 
 -- ---- the wrong part of a module
 
@@ -121,16 +126,16 @@ same_answer a a' same_status same_report same_file =
 
 -- ---- what is made of a module
 
-pub assembles_once : (out bytes : List ℕ) → GivesOne (Assembles out bytes)
-assembles_once out bytes a a' (unread_text {words = v} h) (unread_text {words = w} k) = ap (λ (x : List ℕ). says statuses.Refused (refused_line [] x)) (one_wording bytes Text v w h k)
-assembles_once out bytes a a' (unread_text {words = v} h) (large m k is) = absurd (never_both bytes Text v m h k)
-assembles_once out bytes a a' (unread_text {words = v} h) (assembled m k not) = absurd (never_both bytes Text v m h k)
-assembles_once out bytes a a' (large m h is) (unread_text {words = w} k) = absurd (never_both bytes Text w m k h)
-assembles_once out bytes a a' (large m h is) (large n k is') = refl
-assembles_once out bytes a a' (large m h is) (assembled n k not) = absurd (not (subst IsLarge (one_text bytes m n h k) is))
-assembles_once out bytes a a' (assembled m h not) (unread_text {words = w} k) = absurd (never_both bytes Text w m k h)
-assembles_once out bytes a a' (assembled m h not) (large n k is) = absurd (not (subst IsLarge (one_text bytes n m k h) is))
-assembles_once out bytes a a' (assembled m h not) (assembled n k not') = ap (λ (x : Module). writes out (written x)) (one_text bytes m n h k)
+pub assembles_once : (form : Form) (out bytes : List ℕ) → GivesOne (Assembles form out bytes)
+assembles_once form out bytes a a' (unread_form {words = v} h) (unread_form {words = w} k) = ap (λ (x : List ℕ). says statuses.Refused (refused_line [] x)) (one_wording bytes form v w h k)
+assembles_once form out bytes a a' (unread_form {words = v} h) (large m k is) = absurd (never_both bytes form v m h k)
+assembles_once form out bytes a a' (unread_form {words = v} h) (assembled m k not) = absurd (never_both bytes form v m h k)
+assembles_once form out bytes a a' (large m h is) (unread_form {words = w} k) = absurd (never_both bytes form w m k h)
+assembles_once form out bytes a a' (large m h is) (large n k is') = refl
+assembles_once form out bytes a a' (large m h is) (assembled n k not) = absurd (not (subst IsLarge (one_module form bytes m n h k) is))
+assembles_once form out bytes a a' (assembled m h not) (unread_form {words = w} k) = absurd (never_both bytes form w m k h)
+assembles_once form out bytes a a' (assembled m h not) (large n k is) = absurd (not (subst IsLarge (one_module form bytes n m k h) is))
+assembles_once form out bytes a a' (assembled m h not) (assembled n k not') = ap (λ (x : Module). writes out (written x)) (one_module form bytes m n h k)
 
 pub disassembles_once : (out bytes : List ℕ) → GivesOne (Disassembles out bytes)
 disassembles_once out bytes a a' (unread_binary {words = v} h) (unread_binary {words = w} k) = ap (λ (x : List ℕ). says statuses.Refused (refused_line [] x)) (one_wording bytes Binary v w h k)
@@ -499,10 +504,10 @@ verdict_ordinary capacity bytes a (no_event n h) = tt
 verdict_ordinary capacity bytes a (rejected es n h bad) = tt
 verdict_ordinary capacity bytes a (accepted es h good) = tt
 
-pub assembles_ordinary : (out bytes : List ℕ) (a : Answer) → Assembles out bytes a → IsOrdinary a.status
-assembles_ordinary out bytes a (unread_text h) = tt
-assembles_ordinary out bytes a (large m h is) = tt
-assembles_ordinary out bytes a (assembled m h not) = tt
+pub assembles_ordinary : (form : Form) (out bytes : List ℕ) (a : Answer) → Assembles form out bytes a → IsOrdinary a.status
+assembles_ordinary form out bytes a (unread_form h) = tt
+assembles_ordinary form out bytes a (large m h is) = tt
+assembles_ordinary form out bytes a (assembled m h not) = tt
 
 pub disassembles_ordinary : (out bytes : List ℕ) (a : Answer) → Disassembles out bytes a → IsOrdinary a.status
 disassembles_ordinary out bytes a (unread_binary h) = tt

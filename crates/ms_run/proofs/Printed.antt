@@ -11,8 +11,8 @@ use Rattle.ms_rules.specs.Modules.{WellTyped}
 use Rattle.ms_valid.specs.declared.refusal.Refusal.{Refusal}
 use Rattle.ms_valid.specs.declared.refusal.Refusal.TheVariants as refusals
 use Rattle.ms_run.specs.Answers.{Found, HasBytes, Judges, Unloaded, invalid, judged, says, unread}
-use Rattle.ms_run.specs.Lines.{fault_words, refused_line, text_fault_words}
-use Rattle.ms_run.specs.Loading.{Binary, Form, IsInvalid, IsRead, Refuses, Spells, Text, Unread, binary, form_of, load_words, text}
+use Rattle.ms_run.specs.Lines.{fault_words, refused_line, source_fault_words, text_fault_words}
+use Rattle.ms_run.specs.Loading.{Binary, Form, IsInvalid, IsRead, Refuses, Source, Spells, Text, Unread, binary, form_of, load_words, source, text}
 use Rattle.ms_run.specs.Observed.{Report, Shelved}
 use Rattle.ms_run.specs.Reporting.{KeepsFiles, Reports, ReportsFault, ReportsVerdict, Tells, no_verdict, printed, unprinted, verdict_put}
 use Rattle.ms_run.specs.declared.loading.LoadFault.{LoadFault}
@@ -40,6 +40,14 @@ module _ (Has : List ℕ → Found → Type 0) (what name bytes : List ℕ) (has
   of_form Text is (faults.Read fault) not h = absurd h
   of_form Binary is (faults.Text fault) not h = absurd h
   of_form Text is (faults.Text fault) not h = unread bytes has (subst (λ (f : Form). Unread bytes f (text_fault_words fault)) (sym is) (unread_text bytes fault h.0 h.1 h.2))
+  of_form Source is (faults.Read fault) not h = absurd h
+  of_form Source is (faults.Text fault) not h = absurd h
+  of_form Binary is (faults.Source fault) not h = absurd h
+  of_form Text is (faults.Source fault) not h = absurd h
+  of_form Source is (faults.Source fault) not h = unread bytes has (subst (λ (f : Form). Unread bytes f (source_fault_words fault)) (sym is) (source fault h))
+  of_form Source is (faults.Invalid (refusals.Invalid part)) not h = invalid bytes h.0 part has (subst (λ (f : Form). Spells f bytes h.0) (sym is) h.1) h.2
+  of_form Source is (faults.Invalid refusals.Memory) not h = absurd h
+  of_form Source is faults.Memory not h = absurd (not refl)
   of_form Binary is (faults.Invalid (refusals.Invalid part)) not h = invalid bytes h.0 part has (subst (λ (f : Form). Spells f bytes h.0) (sym is) h.1) h.2
   of_form Text is (faults.Invalid (refusals.Invalid part)) not h = invalid bytes h.0 part has (subst (λ (f : Form). Spells f bytes h.0) (sym is) h.1) h.2
   of_form Binary is (faults.Invalid refusals.Memory) not h = absurd h
@@ -51,6 +59,7 @@ module _ (Has : List ℕ → Found → Type 0) (what name bytes : List ℕ) (has
   pub fault_printed : (s : Shelved) (r : Report) (result : Status) → SameCounts s.reads_old s.reads_new → KeepsFiles s → (fault : LoadFault) → Refuses (form_of name) bytes fault → ReportsFault what fault r result → Tells (Unloaded Has what name) s r result
   fault_printed s r result counts files (faults.Read fault) h reports = printed Refused (refused_line what (fault_words fault)) (of_form (form_of name) refl (faults.Read fault) (λ e. let n = e in cc) h) (inr counts) files reports
   fault_printed s r result counts files (faults.Text fault) h reports = printed Refused (refused_line what (text_fault_words fault)) (of_form (form_of name) refl (faults.Text fault) (λ e. let n = e in cc) h) (inr counts) files reports
+  fault_printed s r result counts files (faults.Source fault) h reports = printed Refused (refused_line what (source_fault_words fault)) (of_form (form_of name) refl (faults.Source fault) (λ e. let n = e in cc) h) (inr counts) files reports
   fault_printed s r result counts files (faults.Invalid refusal) h reports = printed Refused (refused_line what (load_words (faults.Invalid refusal))) (of_form (form_of name) refl (faults.Invalid refusal) (λ e. let n = e in cc) h) (inr counts) files reports
   fault_printed s r result counts files faults.Memory h reports = subst (λ (x : Status). Tells (Unloaded Has what name) s r x) (sym reports.0) (unprinted counts files reports.1)
 
@@ -59,6 +68,7 @@ module _ (Has : List ℕ → Found → Type 0) (what name bytes : List ℕ) (has
 pub fault_reported : (what : List ℕ) (fault : LoadFault) (r : Report) (result : Status) → fault ≢ faults.Memory → Reports Refused (refused_line what (load_words fault)) r result → ReportsFault what fault r result
 fault_reported what (faults.Read fault) r result not h = h
 fault_reported what (faults.Text fault) r result not h = h
+fault_reported what (faults.Source fault) r result not h = h
 fault_reported what (faults.Invalid refusal) r result not h = h
 fault_reported what faults.Memory r result not h = absurd (not refl)
 
@@ -78,6 +88,13 @@ refused_only Binary bytes (faults.Read fault) h m spelled well = absurd (never_b
 refused_only Text bytes (faults.Read fault) h m spelled well = absurd h
 refused_only Binary bytes (faults.Text fault) h m spelled well = absurd h
 refused_only Text bytes (faults.Text fault) h m spelled well = absurd (never_both bytes Text (text_fault_words fault) m (unread_text bytes fault h.0 h.1 h.2) spelled)
+refused_only Source bytes (faults.Read fault) h m spelled well = absurd h
+refused_only Source bytes (faults.Text fault) h m spelled well = absurd h
+refused_only Binary bytes (faults.Source fault) h m spelled well = absurd h
+refused_only Text bytes (faults.Source fault) h m spelled well = absurd h
+refused_only Source bytes (faults.Source fault) h m spelled well = absurd (never_both bytes Source (source_fault_words fault) m (source fault h) spelled)
+refused_only Source bytes (faults.Invalid refusal) h m spelled well = absurd (never_invalid Source bytes refusal h m spelled well)
+refused_only Source bytes faults.Memory h m spelled well = refl
 refused_only Binary bytes (faults.Invalid refusal) h m spelled well = absurd (never_invalid Binary bytes refusal h m spelled well)
 refused_only Text bytes (faults.Invalid refusal) h m spelled well = absurd (never_invalid Text bytes refusal h m spelled well)
 refused_only Binary bytes faults.Memory h m spelled well = refl

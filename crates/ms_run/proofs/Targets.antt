@@ -8,6 +8,7 @@ use Rattle.ms_run.specs.Answers as table
 use Rattle.ms_run.specs.Executions.{AnswersAs, Execution, NoTask, Ran, Unlinked, execution}
 use Rattle.ms_run.specs.Jobs.{RunsJob}
 use Rattle.ms_run.specs.Jobs as jobs
+use Rattle.ms_run.specs.Loading.{Form}
 use Rattle.ms_run.specs.Telling.{telling_of}
 use Rattle.ms_run.specs.declared.gathering.Naming.{Naming}
 use Rattle.ms_run.specs.declared.status.Status.{Status}
@@ -33,10 +34,10 @@ verdict_target capacity bytes file a (table.no_event n h) e = cc
 verdict_target capacity bytes file a (table.rejected es n h bad) e = cc
 verdict_target capacity bytes file a (table.accepted es h good) e = cc
 
-pub assembled_target : (out bytes : List ℕ) (file : File) (a : Answer) → Assembles out bytes a → a.file ≡ Some file → file.name ≡ out
-assembled_target out bytes file a (table.unread_text h) e = absurd cc
-assembled_target out bytes file a (table.large m h is) e = absurd cc
-assembled_target out bytes file a (table.assembled m h not) e = ap (λ (x : File). x.name) (sym (same_file _ file e))
+pub assembled_target : (form : Form) (out bytes : List ℕ) (file : File) (a : Answer) → Assembles form out bytes a → a.file ≡ Some file → file.name ≡ out
+assembled_target form out bytes file a (table.unread_form h) e = absurd cc
+assembled_target form out bytes file a (table.large m h is) e = absurd cc
+assembled_target form out bytes file a (table.assembled m h not) e = ap (λ (x : File). x.name) (sym (same_file _ file e))
 
 pub disassembled_target : (out bytes : List ℕ) (file : File) (a : Answer) → Disassembles out bytes a → a.file ≡ Some file → file.name ≡ out
 disassembled_target out bytes file a (table.unread_binary h) e = absurd cc

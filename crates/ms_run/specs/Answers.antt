@@ -7,13 +7,12 @@ use Rattle.ms_monitor.specs.Traces.{IsNoTrace, IsTrace, RejectsAt}
 use Rattle.ms_bin_grammar.specs.Bounds.{usual}
 use Rattle.ms_bin_grammar.specs.Module.{SpellsWithin}
 use Rattle.ms_bin_write.specs.Written.{IsLarge, written}
-use Rattle.ms_text_grammar.specs.TextSpells.{TextSpells}
 use Rattle.ms_text_write.specs.Shown.{shown}
 use Rattle.ms_rules.specs.Modules.{WellTyped}
 use Rattle.ms_valid.specs.declared.refusal.Part.{Part}
 use Rattle.ms_valid.specs.Refusals.{IsWrong}
 use Rattle.ms_run.specs.Lines.{accepted_line, large_line, part_words, read_fault_line, refused_line, rejected_line, too_long_line, trace_line, valid_line, written_line}
-use Rattle.ms_run.specs.Loading.{Binary, Spells, Text, Unread, form_of}
+use Rattle.ms_run.specs.Loading.{Binary, Form, Spells, Unread, form_of}
 use Rattle.ms_run.specs.declared.status.Status.{Status}
 use Rattle.ms_run.specs.declared.status.Status.TheVariants.{Done, ReadFault, Refused, TooLong, Trapped}
 
@@ -101,17 +100,17 @@ pub data Judges (Has : List ℕ → Found → Type 0) (name : List ℕ) (capacit
   unjudged : {a : Answer} → Unfound Has name a → Judges Has name capacity a
   judged : (bytes : List ℕ) {a : Answer} → HasBytes Has name bytes → Verdict capacity bytes a → Judges Has name capacity a
 
--- ---- commands that write a module in the other form, whether it is well typed or not
+-- ---- commands that write a module: `asm` a text and `compile` a file of C in binary, `dis` a binary one in text
 
 -- what a command answers to a file's bytes
 abbrev pub Command : Type 1
 Command = List ℕ → Answer → Type 0
 
--- `asm`: from text to binary
-pub data Assembles (out : List ℕ) (bytes : List ℕ) : Answer → Type 0 where
-  unread_text : {words : List ℕ} → Unread bytes Text words → Assembles out bytes (says Refused (refused_line [] words))
-  large : (m : Module) → TextSpells bytes m → IsLarge m → Assembles out bytes (says Refused large_line)
-  assembled : (m : Module) → TextSpells bytes m → ¬ IsLarge m → Assembles out bytes (writes out (written m))
+-- from this form to binary
+pub data Assembles (form : Form) (out : List ℕ) (bytes : List ℕ) : Answer → Type 0 where
+  unread_form : {words : List ℕ} → Unread bytes form words → Assembles form out bytes (says Refused (refused_line [] words))
+  large : (m : Module) → Spells form bytes m → IsLarge m → Assembles form out bytes (says Refused large_line)
+  assembled : (m : Module) → Spells form bytes m → ¬ IsLarge m → Assembles form out bytes (writes out (written m))
 
 -- `dis`: from binary to text
 pub data Disassembles (out : List ℕ) (bytes : List ℕ) : Answer → Type 0 where

@@ -1,3 +1,4 @@
+pub mod Source
 pub mod Observed
 pub mod Telling
 pub mod Lines

@@ -21,6 +21,16 @@ use Rattle.ms_text_grammar.specs.declared.fault.TextFault.{TextFault}
 use Rattle.ms_text_grammar.specs.declared.fault.TextFault.TheVariants as text
 use Rattle.ms_text_lex.specs.declared.fault.LexFault.{LexFault}
 use Rattle.ms_text_lex.specs.declared.fault.LexFault.TheVariants as lexing
+use Rattle.c_check.specs.declared.fault.CCheck.{CCheck}
+use Rattle.c_check.specs.declared.fault.CCheck.TheVariants as checking
+use Rattle.c_compile.specs.declared.fault.Limit.{Limit as CLimit}
+use Rattle.c_compile.specs.declared.fault.Limit.TheVariants as limits
+use Rattle.c_lex.specs.declared.fault.CLex.{CLex}
+use Rattle.c_lex.specs.declared.fault.CLex.TheVariants as tokens
+use Rattle.c_parse.specs.declared.fault.CParse.{CParse}
+use Rattle.c_parse.specs.declared.fault.CParse.TheVariants as parsing
+use Rattle.ms_run.specs.declared.source.SourceFault.{SourceFault}
+use Rattle.ms_run.specs.declared.source.SourceFault.TheVariants as source
 use Rattle.ms_valid.specs.declared.refusal.Part.{Part}
 use Rattle.ms_valid.specs.declared.refusal.Part.TheVariants.{Function, Head}
 
@@ -88,6 +98,36 @@ text_fault_words (text.Float at) = codes "float " ++ decimal at
 text_fault_words (text.Limit which at) = codes "limit " ++ text_counted_word which ++ codes " " ++ decimal at
 text_fault_words (text.Name at) = codes "name " ++ decimal at
 text_fault_words text.Memory = []
+
+-- of C: its tokens, its syntax, its typing, and a limit of the compiler
+abbrev pub token_words : CLex → List ℕ
+token_words (tokens.Char at) = codes "c char " ++ decimal at
+token_words (tokens.Unclosed at) = codes "c unclosed " ++ decimal at
+token_words (tokens.Directive at) = codes "c directive " ++ decimal at
+token_words (tokens.TooBig at) = codes "c number " ++ decimal at
+token_words tokens.Memory = []
+
+abbrev pub parsing_words : CParse → List ℕ
+parsing_words (parsing.Syntax at) = codes "c syntax " ++ decimal at
+parsing_words (parsing.TooDeep at) = codes "c deep " ++ decimal at
+parsing_words parsing.Memory = []
+
+abbrev pub typing_words : CCheck → List ℕ
+typing_words (checking.NoTyping at) = codes "c type " ++ decimal at
+typing_words checking.Memory = []
+
+abbrev pub climit_words : CLimit → List ℕ
+climit_words limits.Stage = codes "c limit stage"
+climit_words limits.Locals = codes "c limit locals"
+climit_words limits.Copy = codes "c limit copy"
+climit_words limits.Functions = codes "c limit functions"
+
+abbrev pub source_fault_words : SourceFault → List ℕ
+source_fault_words (source.Lex fault) = token_words fault
+source_fault_words (source.Parse fault) = parsing_words fault
+source_fault_words (source.Check fault) = typing_words fault
+source_fault_words (source.Limit limit) = climit_words limit
+source_fault_words source.Memory = []
 
 abbrev pub part_words : Part → List ℕ
 part_words Head = codes "invalid head"

@@ -3,10 +3,15 @@
 ghost use Rattle.std.specs.Prelude.{◌≡◌, ◌++◌, IfOk, codes, string_bytes};
 ghost use Rattle.std.specs.Fmt.{decimal};
 ghost use Rattle.ms_num.specs.Integers.{signed};
-ghost use Rattle.ms_run.specs.Lines.{accepted_line, budget_line, counted_word, fault_words, input_fault_line, job_line, large_line, lexing_words, line, link_line, part_words, refused_line, rejected_line, result_line, schedule_line, task_line, text_counted_word, text_fault_words, trace_line, trap_line, valid_line, why_word, written_line};
+ghost use Rattle.ms_run.specs.Lines.{accepted_line, budget_line, climit_words, counted_word, fault_words, input_fault_line, job_line, large_line, lexing_words, line, link_line, parsing_words, part_words, refused_line, rejected_line, result_line, schedule_line, source_fault_words, task_line, text_counted_word, text_fault_words, token_words, trace_line, trap_line, typing_words, valid_line, why_word, written_line};
 ghost use Rattle.ms_run.specs.Loading.{load_words, refusal_words};
 
 use crate::loading::LoadFault;
+use crate::source::SourceFault;
+use c_check::CCheck;
+use c_compile::Limit;
+use c_lex::CLex;
+use c_parse::CParse;
 use ms_bin_read::{Counted, ReadFault};
 use ms_host::TrapKind;
 use ms_job::JobFault;
@@ -107,6 +112,61 @@ fn text_fault_words(alloc: Global, fault: TextFault) -> Result<String, AllocErro
     }
 }
 
+fn token_words(alloc: Global, fault: CLex) -> Result<String, AllocError>
+    ensures { IfOk result (λ t. string_bytes t ≡ token_words fault) }
+{
+    match fault {
+        CLex::Char { at } => format!(in alloc; "c char {at}"),
+        CLex::Unclosed { at } => format!(in alloc; "c unclosed {at}"),
+        CLex::Directive { at } => format!(in alloc; "c directive {at}"),
+        CLex::TooBig { at } => format!(in alloc; "c number {at}"),
+        CLex::Memory => Err(AllocError),
+    }
+}
+
+fn parsing_words(alloc: Global, fault: CParse) -> Result<String, AllocError>
+    ensures { IfOk result (λ t. string_bytes t ≡ parsing_words fault) }
+{
+    match fault {
+        CParse::Syntax { at } => format!(in alloc; "c syntax {at}"),
+        CParse::TooDeep { at } => format!(in alloc; "c deep {at}"),
+        CParse::Memory => Err(AllocError),
+    }
+}
+
+fn typing_words(alloc: Global, fault: CCheck) -> Result<String, AllocError>
+    ensures { IfOk result (λ t. string_bytes t ≡ typing_words fault) }
+{
+    match fault {
+        CCheck::NoTyping { at } => format!(in alloc; "c type {at}"),
+        CCheck::Memory => Err(AllocError),
+    }
+}
+
+fn climit_words(alloc: Global, limit: Limit) -> Result<String, AllocError>
+    ensures { IfOk result (λ t. string_bytes t ≡ climit_words limit) }
+{
+    match limit {
+        Limit::Stage => format!(in alloc; "c limit stage"),
+        Limit::Locals => format!(in alloc; "c limit locals"),
+        Limit::Copy => format!(in alloc; "c limit copy"),
+        Limit::Functions => format!(in alloc; "c limit functions"),
+    }
+}
+
+/// Why a file of C has no module. Want of memory has no words.
+fn source_fault_words(alloc: Global, fault: SourceFault) -> Result<String, AllocError>
+    ensures { IfOk result (λ t. string_bytes t ≡ source_fault_words fault) }
+{
+    match fault {
+        SourceFault::Lex(fault) => token_words(alloc, fault),
+        SourceFault::Parse(fault) => parsing_words(alloc, fault),
+        SourceFault::Check(fault) => typing_words(alloc, fault),
+        SourceFault::Limit(limit) => climit_words(alloc, limit),
+        SourceFault::Memory => Err(AllocError),
+    }
+}
+
 /// The part of a module that isn't well typed.
 fn part_words(alloc: Global, part: Part) -> Result<String, AllocError>
     ensures { IfOk result (λ t. string_bytes t ≡ part_words part) }
@@ -133,6 +193,7 @@ fn load_words(alloc: Global, fault: LoadFault) -> Result<String, AllocError>
     match fault {
         LoadFault::Read(fault) => fault_words(alloc, fault),
         LoadFault::Text(fault) => text_fault_words(alloc, fault),
+        LoadFault::Source(fault) => source_fault_words(alloc, fault),
         LoadFault::Invalid(refusal) => refusal_words(alloc, refusal),
         LoadFault::Memory => Err(AllocError),
     }

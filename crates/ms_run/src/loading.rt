@@ -7,11 +7,12 @@ ghost use Rattle.ms_rules.specs.Modules.{WellTyped};
 ghost use Rattle.ms_run.specs.Answers.{HasModule, Unloaded};
 ghost use Rattle.ms_run.specs.Observed.{reported, shelved};
 ghost use Rattle.ms_run.specs.Reporting.{Holds, IsFound, IsUntouched, Tells};
-ghost use Rattle.ms_run.specs.Loading.{Binary, IsOfReading, ReadsForm, Refuses, Spells, Text, form_of, text_ending};
+ghost use Rattle.ms_run.specs.Loading.{Binary, IsOfReading, ReadsForm, Refuses, Source, Spells, Text, form_of, source_ending, text_ending};
 ghost use Rattle.ms_run.specs.declared.loading.LoadFault.TheVariants.{Memory};
 
 use crate::fetch::fetch;
 use crate::report::answer_fault;
+use crate::source::{SourceFault, module_of};
 use crate::status::Status;
 use ms_bin_read::ReadFault;
 use ms_module::Module;
@@ -30,6 +31,9 @@ pub enum LoadFault {
     /// The file is a text by its name, and its bytes spell no module: why, with its place.
     #[error("{0}")]
     Text(TextFault),
+    /// The file is C by its name, and its bytes are no unit that is compiled: why, with its place.
+    #[error("{0}")]
+    Source(SourceFault),
     /// They spell a module that is not well typed: its first part that is wrong.
     #[error("{0}")]
     Invalid(Refusal),
@@ -43,6 +47,13 @@ fn is_text(name: &str) -> bool
     ensures { result ≡ ends_with ◌==◌ name.now text_ending }
 {
     name.as_bytes().ends_with(b".wat")
+}
+
+/// Whether a file of this name is C: its name ends in `.c`.
+fn is_source(name: &str) -> bool
+    ensures { result ≡ ends_with ◌==◌ name.now source_ending }
+{
+    name.as_bytes().ends_with(b".c")
 }
 
 /// Reads the module that the bytes of a binary file spell.
@@ -69,10 +80,25 @@ pub fn read_text(alloc: Global, bytes: &[u8]) -> Result<Module, LoadFault>
     }
 }
 
+/// Reads the module of the unit that the bytes of a file of C are.
+pub fn read_source(alloc: Global, bytes: &[u8]) -> Result<Module, LoadFault>
+    ensures reads { ReadsForm Source bytes.now result }
+    ensures reading { IfErr result IsOfReading }
+{
+    match module_of(alloc, bytes) {
+        Ok(module) => Ok(module),
+        Err(SourceFault::Memory) => Err(LoadFault::Memory),
+        Err(fault) => Err(LoadFault::Source(fault)),
+    }
+}
+
 /// Reads the module of a file of this name.
 fn read_module(alloc: Global, name: &str, bytes: &[u8]) -> Result<Module, LoadFault>
     ensures { ReadsForm (form_of name.now) bytes.now result }
 {
+    if is_source(name) {
+        return read_source(alloc, bytes);
+    }
     if is_text(name) {
         read_text(alloc, bytes)
     } else {
@@ -80,8 +106,8 @@ fn read_module(alloc: Global, name: &str, bytes: &[u8]) -> Result<Module, LoadFa
     }
 }
 
-/// Reads and validates the module of a file: a text (WebAssembly 1.0, chapter 6) where its name ends in `.wat`, else a
-/// binary module (chapter 5). At most 500 blocks may be in one another, 1,000 parentheses, and 50,000 locals in a
+/// Reads and validates the module of a file: that of a unit of C (C11, 6.9) where its name ends in `.c`, a text (WebAssembly 1.0,
+/// chapter 6) where it ends in `.wat`, else a binary module (chapter 5). At most 500 blocks may be in one another, 1,000 parentheses, and 50,000 locals in a
 /// function.
 ///
 /// An error says why the bytes are no valid module, with its place; `Memory` may stand in place of any answer.

@@ -11,7 +11,7 @@ use Rattle.ms_outside.specs.Shelf.{SameCounts, Writes}
 use Rattle.ms_outside.specs.declared.sink.Put.TheVariants as putting
 use Rattle.ms_job.proofs.Bounded.{job_is_bounded}
 use Rattle.ms_job.specs.declared.job.Job.{Job}
-use Rattle.ms_command_line.specs.Asked.{Asked, Asm, Check, Dis, Exec, Judge, Run, asked_of, is_taken}
+use Rattle.ms_command_line.specs.Asked.{Asked, Asm, Check, Compile, Dis, Exec, Judge, Run, asked_of, is_taken}
 use Rattle.ms_command_line.specs.Commands as options
 use Rattle.ms_command_line.specs.Commands.{usage_lines}
 use Rattle.ms_machine.specs.Crews.{Input, Run as MachineRun}
@@ -22,6 +22,7 @@ use Rattle.ms_run.specs.Flows.{DidRun, Flowed, Flows, FlowsAs, IsQuiet, cut, del
 use Rattle.ms_run.specs.Jobs.{FirstUnloaded, HasJob, RunOfFile, RunOfJob, RunsFile, RunsJob, Unnumbered, Unscheduled, exec_job}
 use Rattle.ms_run.specs.Jobs as jobs
 use Rattle.ms_run.specs.Lines.{input_fault_line}
+use Rattle.ms_run.specs.Loading.{Source, Text, form_of}
 use Rattle.ms_run.specs.Observed.{Flow, Report, Shelved}
 use Rattle.ms_run.specs.Reporting.{CountsReads, Delivers, Did, Grows, HasFailed, HasWritten, Holds, IsFound, IsKept, KeepsFiles, Reports, Tells, answered, failed, put, ran_out, starved, printed, unprinted}
 use Rattle.ms_run.specs.SafeRuns.{IsEnd, RanSafely}
@@ -32,9 +33,11 @@ use Rattle.ms_run.proofs.Jobs.{flows_more}
 use Rattle.ms_run.proofs.Safe.{run_is_accepted}
 use Rattle.ms_run.proofs.Once.{IsOrdinary, RunsOne, assembles_once, assembles_ordinary, checks_known, checks_once, checks_ordinary, disassembles_once, disassembles_ordinary, file_known, file_once, file_ordinary, found_held, holds_one, judges_known, judges_once, judges_ordinary, runs_file_known, runs_file_once, runs_file_ordinary, runs_job_known, runs_job_once, runs_job_ordinary}
 use Rattle.ms_run.proofs.Targets.{assembled_target, checks_target, disassembled_target, file_target, job_target, judges_target, unfound_target, wrote_none}
+use Rattle.ms_tool.specs.Meaning.{RanAsMeant}
 use Rattle.ms_tool.specs.Outside.{Outside, flow_of, report_of, shelf_of}
 use Rattle.ms_tool.specs.refinement.Responding.{Responded, Responds, gave, nothing, stopped}
 use Rattle.ms_tool.specs.Top.{AsksJob, AsksRun, FlowsFor, Gives, GivesFor, IsAnswer, IsCutOff, IsFaulty, IsOutFault, IsPutFault, IsStarved, IsTarget, IsUnwritten, Keeps, Stays}
+use Rattle.ms_tool.proofs.Meaning.{ran_as_meant}
 
 -- ---- the table, by what the words ask for
 
@@ -49,16 +52,18 @@ module _ (Has : List ℕ → Found → Type 0) (given : Input) where
     once (Some (Exec name budget memory)) p a p' a' h k = runs_job_once Has one_found Only given (exec_job name budget memory) p a p' a' h k
     once (Some (Run name)) p a p' a' h k = runs_file_once Has one_found given name p a p' a' h k
     once (Some (Check name)) p a p' a' h k = (h.0 ∙ sym k.0, checks_once Has one_found name a a' h.1 k.1)
-    once (Some (Asm name out)) p a p' a' h k = (h.0 ∙ sym k.0, file_once Has one_found name (Assembles out) (assembles_once out) a a' h.1 k.1)
+    once (Some (Asm name out)) p a p' a' h k = (h.0 ∙ sym k.0, file_once Has one_found name (Assembles Text out) (assembles_once Text out) a a' h.1 k.1)
     once (Some (Dis name out)) p a p' a' h k = (h.0 ∙ sym k.0, file_once Has one_found name (Disassembles out) (disassembles_once out) a a' h.1 k.1)
+    once (Some (Compile name out)) p a p' a' h k = (h.0 ∙ sym k.0, file_once Has one_found name (Assembles Source out) (assembles_once Source out) a a' h.1 k.1)
     once (Some (Judge name memory)) p a p' a' h k = (h.0 ∙ sym k.0, judges_once Has one_found name memory a a' h.1 k.1)
 
   ordinary : (asked : Asked) (which : Option MachineRun) (a : Answer) → GivesFor Has given asked which a → IsOrdinary a.status
   ordinary (Exec name budget memory) which a h = runs_job_ordinary Has Only given (exec_job name budget memory) which a h
   ordinary (Run name) which a h = runs_file_ordinary Has given name which a h
   ordinary (Check name) which a h = checks_ordinary Has name a h.1
-  ordinary (Asm name out) which a h = file_ordinary Has name (Assembles out) (assembles_ordinary out) a h.1
+  ordinary (Asm name out) which a h = file_ordinary Has name (Assembles Text out) (assembles_ordinary Text out) a h.1
   ordinary (Dis name out) which a h = file_ordinary Has name (Disassembles out) (disassembles_ordinary out) a h.1
+  ordinary (Compile name out) which a h = file_ordinary Has name (Assembles Source out) (assembles_ordinary Source out) a h.1
   ordinary (Judge name memory) which a h = judges_ordinary Has name memory a h.1
 
 -- what it gives for what was found it gives for known files, or a read fault
@@ -73,12 +78,17 @@ given_known Has Has' given known (Some (Check name)) which a h =
       | inr k ↦ inr (h.0, k)
     ]
 given_known Has Has' given known (Some (Asm name out)) which a h =
-    elim (file_known Has Has' known name (Assembles out) a h.1) [
+    elim (file_known Has Has' known name (Assembles Text out) a h.1) [
       | inl e ↦ inl e
       | inr k ↦ inr (h.0, k)
     ]
 given_known Has Has' given known (Some (Dis name out)) which a h =
     elim (file_known Has Has' known name (Disassembles out) a h.1) [
+      | inl e ↦ inl e
+      | inr k ↦ inr (h.0, k)
+    ]
+given_known Has Has' given known (Some (Compile name out)) which a h =
+    elim (file_known Has Has' known name (Assembles Source out) a h.1) [
       | inl e ↦ inl e
       | inr k ↦ inr (h.0, k)
     ]
@@ -152,8 +162,9 @@ module _ (Has Holds_it : List ℕ → Found → Type 0) (known : (name bytes : L
   target_given given (Some (Exec name budget memory)) which file a h e = absurd (let trace = job_target Has Only given (exec_job name budget memory) which file a h e in cc)
   target_given given (Some (Run name)) which file a h e = run_target given name which file a h e
   target_given given (Some (Check name)) which file a h e = absurd (checks_target Has name file a h.1 e)
-  target_given given (Some (Asm name out)) which file a h e = file_target Has name out (Assembles out) file a (λ b x. assembled_target out b file x) h.1 e
-  target_given given (Some (Dis name out)) which file a h e = file_target Has name out (Disassembles out) file a (λ b x. disassembled_target out b file x) h.1 e
+  target_given given (Some (Asm name out)) which file a h e = file_target Has name out (Assembles Text out) file a (λ b x. assembled_target Text out b file x) h.1 e
+  target_given given (Some (Dis name out)) which file a h e = file_target Has name out (Disassembles out) file a (λ b x. disassembled_target Text out b file x) h.1 e
+  target_given given (Some (Compile name out)) which file a h e = file_target Has name out (Assembles Source out) file a (λ b x. assembled_target Source out b file x) h.1 e
   target_given given (Some (Judge name memory)) which file a h e = absurd (judges_target Has name memory file a h.1 e)
 
 -- ---- names of files
@@ -380,6 +391,7 @@ module _ (s : Shelved) (given : Input) (f : Flow) where
   quiet_for (Some (Check file)) still = still
   quiet_for (Some (Asm file out)) still = still
   quiet_for (Some (Dis file out)) still = still
+  quiet_for (Some (Compile file out)) still = still
   quiet_for (Some (Judge file memory)) still = still
 
   takes_still : (result : Status) → IsQuiet f → f.takes_old < f.takes_new → IsFaulty result
@@ -406,6 +418,7 @@ module _ (s : Shelved) (given : Input) (f : Flow) where
   takes_clause (Some (Check file)) result still lt = takes_still result still lt
   takes_clause (Some (Asm file out)) result still lt = takes_still result still lt
   takes_clause (Some (Dis file out)) result still lt = takes_still result still lt
+  takes_clause (Some (Compile file out)) result still lt = takes_still result still lt
   takes_clause (Some (Judge file memory)) result still lt = takes_still result still lt
 
   outs_still : (result : Status) → IsQuiet f → f.puts_old < f.puts_new → IsPutFault result
@@ -432,6 +445,7 @@ module _ (s : Shelved) (given : Input) (f : Flow) where
   outs_clause (Some (Check file)) result still lt = outs_still result still lt
   outs_clause (Some (Asm file out)) result still lt = outs_still result still lt
   outs_clause (Some (Dis file out)) result still lt = outs_still result still lt
+  outs_clause (Some (Compile file out)) result still lt = outs_still result still lt
   outs_clause (Some (Judge file memory)) result still lt = outs_still result still lt
 
 module _ (words : List (List ℕ)) (given : Input) (s : Shelved) (r : Report) (f : Flow) where
@@ -474,15 +488,20 @@ module _ (words : List (List ℕ)) (s : Shelved) (r : Report) (f : Flow) where
         let asked = Check file in
         responded_as asked result e (tells_gave words given s r f asked e (Checks (IsFound s) file) (λ a gives. (refl, gives)) still result done) still (λ asks end. absurd asks)
 
-    pub asm_responded : (file out : List ℕ) (result : Status) → asked_of words ≡ Some (Asm file out) → Did (OnFile (IsFound s) file (Assembles out)) s r result → IsQuiet f → Responded words s r f result
+    pub asm_responded : (file out : List ℕ) (result : Status) → asked_of words ≡ Some (Asm file out) → Did (OnFile (IsFound s) file (Assembles Text out)) s r result → IsQuiet f → Responded words s r f result
     asm_responded file out result e did still =
         let asked = Asm file out in
-        responded_as asked result e (did_gave words given s r f asked e (OnFile (IsFound s) file (Assembles out)) (λ a gives. (refl, gives)) still result did) still (λ asks end. absurd asks)
+        responded_as asked result e (did_gave words given s r f asked e (OnFile (IsFound s) file (Assembles Text out)) (λ a gives. (refl, gives)) still result did) still (λ asks end. absurd asks)
 
     pub dis_responded : (file out : List ℕ) (result : Status) → asked_of words ≡ Some (Dis file out) → Did (OnFile (IsFound s) file (Disassembles out)) s r result → IsQuiet f → Responded words s r f result
     dis_responded file out result e did still =
         let asked = Dis file out in
         responded_as asked result e (did_gave words given s r f asked e (OnFile (IsFound s) file (Disassembles out)) (λ a gives. (refl, gives)) still result did) still (λ asks end. absurd asks)
+
+    pub compile_responded : (file out : List ℕ) (result : Status) → asked_of words ≡ Some (Compile file out) → Did (OnFile (IsFound s) file (Assembles Source out)) s r result → IsQuiet f → Responded words s r f result
+    compile_responded file out result e did still =
+        let asked = Compile file out in
+        responded_as asked result e (did_gave words given s r f asked e (OnFile (IsFound s) file (Assembles Source out)) (λ a gives. (refl, gives)) still result did) still (λ asks end. absurd asks)
 
     pub judge_responded : (file : List ℕ) (memory : ℕ) (result : Status) → asked_of words ≡ Some (Judge file memory) → Tells (Judges (IsFound s) file memory) s r result → IsQuiet f → Responded words s r f result
     judge_responded file memory result e done still =
@@ -496,6 +515,16 @@ module _ (words : List (List ℕ)) (s : Shelved) (r : Report) (f : Flow) where
     pub nothing_responded : SameCounts s.reads_old s.reads_new → KeepsFiles s → IsKept r → IsQuiet f → Responded words s r f statuses.OutOfMemory
     nothing_responded same files kept still = (given, may, nothing same files kept, quiet_for s given f (asked_of words) still, λ asks end. absurd end)
 
+-- ---- a program of C
+
+means_clause : (s : Shelved) (r : Report) (f : Flow) (name : List ℕ) (budget memory : ℕ) (o : Option Asked) (status : Status)
+    → o ≡ Some (Exec name budget memory) → form_of name ≡ Source → IsEnd status
+    → (AsksRun o → IsEnd status → (job : Job) × AsksJob (Holds s.old) o job × RanSafely s r f job status)
+    → RanAsMeant s r f name budget memory status
+means_clause s r f name budget memory o status asked form end safe =
+    let ran = subst (λ (x : Option Asked). AsksRun x → IsEnd status → (job : Job) × AsksJob (Holds s.old) x job × RanSafely s r f job status) asked safe tt end in
+    ran_as_meant s r f name budget memory status form (subst (λ (j : Job). RanSafely s r f j status) ran.1 ran.2)
+
 -- ---- the contract
 
 pub keeps : (words : List (List ℕ)) (before after : Outside) (status : Status)
@@ -508,6 +537,7 @@ keeps words before after status h = let given = h.0 in record {
   memory = memory_clause words given before after status h.1 h.2;
   complete = λ known ran answer is gives. complete_clause words given before after known (ran given) answer status h.2 is (gives given h.1);
   safe = h.4;
+  means = λ name budget memory asked form end. means_clause (shelf_of before after) (report_of before after) (flow_of before after) name budget memory (asked_of words) status asked form end h.4;
   reads = λ name lt. reads_clause words given before after status h.2 name lt;
   writes = λ lt. writes_clause words given before after status h.2 lt;
   puts = λ lt. puts_clause words given before after status h.2 lt;

@@ -1,1 +1,2 @@
+mod Meaning
 pub mod Complete

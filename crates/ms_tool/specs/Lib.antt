@@ -1,3 +1,4 @@
 pub mod Outside
+pub mod Meaning
 pub mod Top
 pub mod refinement

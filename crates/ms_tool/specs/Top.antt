@@ -5,7 +5,7 @@ use Rattle.std.specs.FinMap.{get}
 use Rattle.ms_outside.specs.Faults.{Rose}
 use Rattle.ms_outside.specs.Files.{Files}
 use Rattle.ms_outside.specs.Sink.{IsFront}
-use Rattle.ms_command_line.specs.Asked.{Asked, Asm, Check, Dis, Exec, Judge, Run, asked_of, is_taken}
+use Rattle.ms_command_line.specs.Asked.{Asked, Asm, Check, Compile, Dis, Exec, Judge, Run, asked_of, is_taken}
 use Rattle.ms_command_line.specs.Commands.{usage_lines}
 use Rattle.ms_event.specs.Monitor.{Accepts}
 use Rattle.ms_job.specs.declared.job.Job.{Job}
@@ -15,12 +15,14 @@ use Rattle.ms_machine.specs.Running.{MayGive}
 use Rattle.ms_run.specs.Flows.{Flows, FlowsAs, IsQuiet}
 use Rattle.ms_run.specs.Jobs.{HasJob, RunOfFile, RunOfJob, RunsFile, RunsJob, exec_job}
 use Rattle.ms_run.specs.Lines.{input_fault_line}
+use Rattle.ms_run.specs.Loading.{Source, Text, form_of}
 use Rattle.ms_run.specs.Observed.{Flow}
 use Rattle.ms_run.specs.Reporting.{AreLines, Grows, HasFailed, HasWritten, Holds, IsFound, KeepsFiles}
 use Rattle.ms_run.specs.SafeRuns.{IsEnd, RanSafely}
 use Rattle.ms_run.specs.declared.gathering.Naming.TheVariants.{Only}
 use Rattle.ms_run.specs.declared.status.Status.{Status}
 use Rattle.ms_run.specs.declared.status.Status.TheVariants.{OutOfMemory, ReadFault, Usage, WriteFault}
+use Rattle.ms_tool.specs.Meaning.{RanAsMeant}
 use Rattle.ms_tool.specs.Outside.{Outside, flow_of, report_of, shelf_of}
 
 -- ---- the table
@@ -31,8 +33,9 @@ GivesFor Has given (Exec name budget memory) ran answer =
     RunsJob Has Only given (exec_job name budget memory) ran answer
 GivesFor Has given (Run name) ran answer = RunsFile Has given name ran answer
 GivesFor Has given (Check name) ran answer = (ran ≡ None) × Checks Has name answer
-GivesFor Has given (Asm name out) ran answer = (ran ≡ None) × OnFile Has name (Assembles out) answer
+GivesFor Has given (Asm name out) ran answer = (ran ≡ None) × OnFile Has name (Assembles Text out) answer
 GivesFor Has given (Dis name out) ran answer = (ran ≡ None) × OnFile Has name (Disassembles out) answer
+GivesFor Has given (Compile name out) ran answer = (ran ≡ None) × OnFile Has name (Assembles Source out) answer
 GivesFor Has given (Judge name memory) ran answer = (ran ≡ None) × Judges Has name memory answer
 
 -- The words, what was found of files, and what the input gives, give this answer; and it tells of this run, if they ask
@@ -50,6 +53,7 @@ AsksRun (Some (Run name)) = Unit {0}
 AsksRun (Some (Check name)) = ⊥
 AsksRun (Some (Asm name out)) = ⊥
 AsksRun (Some (Dis name out)) = ⊥
+AsksRun (Some (Compile name out)) = ⊥
 AsksRun (Some (Judge name memory)) = ⊥
 
 -- of this job
@@ -141,6 +145,7 @@ abbrev pub IsTarget : Finds → Option Asked → List ℕ → Type 0
 IsTarget Has (Some (Run job)) name = (j : Job) × AsksJob Has (Some (Run job)) j × (j.trace ≡ Some name)
 IsTarget Has (Some (Asm file out)) name = name ≡ out
 IsTarget Has (Some (Dis file out)) name = name ≡ out
+IsTarget Has (Some (Compile file out)) name = name ≡ out
 IsTarget Has _ name = ⊥
 
 -- the file of this name is as before, where the shelf tells its files
@@ -175,6 +180,10 @@ pub record Keeps (words : List (List ℕ)) (before after : Outside) (status : St
   pub safe : AsksRun (asked_of words) → IsEnd status
       → (job : Job) × AsksJob (Holds before.files) (asked_of words) job
       × RanSafely (shelf_of before after) (report_of before after) (flow_of before after) job status
+  -- Where the words ask for the run of a file of C and it has come to an end, its unit has a typing, and status, report and output are
+  -- those of a run that does what the unit means.
+  pub means : (name : List ℕ) (budget memory : ℕ) → asked_of words ≡ Some (Exec name budget memory) → form_of name ≡ Source → IsEnd status
+      → RanAsMeant (shelf_of before after) (report_of before after) (flow_of before after) name budget memory status
   -- A fault that was counted is never passed over.
   pub reads : (name : List ℕ) → before.read_faults name < after.read_faults name → IsFaulty status
   pub writes : before.write_faults < after.write_faults → IsPutFault status

@@ -10,7 +10,7 @@ struct Taken {
     request: Request<'static>,
 }
 
-const TAKEN: [Taken; 18] = [
+const TAKEN: [Taken; 19] = [
     Taken {
         words: &["mswasm", "exec", "a"],
         request: Request::Exec {
@@ -125,6 +125,13 @@ const TAKEN: [Taken; 18] = [
         },
     },
     Taken {
+        words: &["mswasm", "compile", "a.c", "a.wasm"],
+        request: Request::Compile {
+            file: "a.c",
+            out: "a.wasm",
+        },
+    },
+    Taken {
         words: &["mswasm", "judge", "a"],
         request: Request::Judge {
             file: "a",
@@ -211,5 +218,5 @@ fn expect_refused<R: Abort>(rt: &R, alloc: Global, rows: &[&[&str]]) {
 fn words_ask_or_are_refused(rt: HostRuntime) {
     expect_taken(&rt, rt.alloc(), &TAKEN);
     expect_refused(&rt, rt.alloc(), &REFUSED);
-    assert_eq!(rt; usage().lines().count(), 6);
+    assert_eq!(rt; usage().lines().count(), 7);
 }

@@ -86,6 +86,7 @@ usage: mswasm run JOB
 usage: mswasm check FILE
 usage: mswasm asm FILE OUT
 usage: mswasm dis FILE OUT
+usage: mswasm compile FILE OUT
 usage: mswasm judge FILE [--memory N]
 ";
 
@@ -192,7 +193,7 @@ fn expect<R: Abort + AllocGlobal>(
     Ok(())
 }
 
-/// Words, the file `a.wat`, and what is wanted: the status, the report, the output, and what the input gives next.
+/// Words, the file `a.wat`, which is `a.c`, too, and what is wanted: the status, the report, the output, and what the input gives next.
 #[derive(Clone, Copy)]
 struct Row {
     words: &'static str,
@@ -203,7 +204,7 @@ struct Row {
     next: Got,
 }
 
-const ROWS: [Row; 43] = [
+const ROWS: [Row; 57] = [
     Row {
         words: "judge a.wat",
         text: "alloc 1 0 4\nalloc 2 0 4\n",
@@ -554,11 +555,125 @@ const ROWS: [Row; 43] = [
         output: "",
         next: Got::Byte(b'h'),
     },
+    // Units of C.
+    Row {
+        words: "exec a.c",
+        text: "int main(void){return 7;}",
+        status: Status::Done,
+        report: "result 7\n",
+        output: "",
+        next: Got::Byte(b'h'),
+    },
+    Row {
+        words: "exec a.c --budget 1000",
+        text: "int main(void){for(;;){}}",
+        status: Status::OutOfBudget,
+        report: "out of budget\n",
+        output: "",
+        next: Got::Byte(b'h'),
+    },
+    Row {
+        words: "exec a.c --budget 0",
+        text: "int main(void){return 7;}",
+        status: Status::OutOfBudget,
+        report: "out of budget\n",
+        output: "",
+        next: Got::Byte(b'h'),
+    },
+    Row {
+        words: "exec a.c",
+        text: "int main(void){return (-2147483647-1)/-1;}",
+        status: Status::Trapped,
+        report: "trap overflow\n",
+        output: "",
+        next: Got::Byte(b'h'),
+    },
+    Row {
+        words: "exec a.c",
+        text: "int main(void){return (-2147483647-1)%-1;}",
+        status: Status::Done,
+        report: "result 0\n",
+        output: "",
+        next: Got::Byte(b'h'),
+    },
+    Row {
+        words: "exec a.c",
+        text: "int main(void){return 1/0;}",
+        status: Status::Trapped,
+        report: "trap zero\n",
+        output: "",
+        next: Got::Byte(b'h'),
+    },
+    Row {
+        words: "exec a.c",
+        text: "int main(void){int c; while((c=getchar())!=-1) putchar(c); return 0;}",
+        status: Status::Done,
+        report: "result 0\n",
+        output: "hi",
+        next: Got::End,
+    },
+    Row {
+        words: "exec a.c",
+        text: "int main(void){int n=0; do n=n+1; while(n<3); return n;}",
+        status: Status::Done,
+        report: "result 3\n",
+        output: "",
+        next: Got::Byte(b'h'),
+    },
+    Row {
+        words: "exec a.c",
+        text: "enum e{A,B=5,C}; int main(void){enum e v=C; switch(v){case A: return 1; case 6: putchar(120); default: putchar(121); break; case B: putchar(122);} return C;}",
+        status: Status::Done,
+        report: "result 6\n",
+        output: "xy",
+        next: Got::Byte(b'h'),
+    },
+    Row {
+        words: "exec a.c",
+        text: "int main(void){int a[4]; return 0;}",
+        status: Status::Refused,
+        report: "refused c limit stage\n",
+        output: "",
+        next: Got::Byte(b'h'),
+    },
+    Row {
+        words: "exec a.c",
+        text: "int main(void){return 7}",
+        status: Status::Refused,
+        report: "refused c syntax 23\n",
+        output: "",
+        next: Got::Byte(b'h'),
+    },
+    Row {
+        words: "check a.c",
+        text: "int main(void){return x;}",
+        status: Status::Refused,
+        report: "refused c type 0\n",
+        output: "",
+        next: Got::Byte(b'h'),
+    },
+    Row {
+        words: "check a.c",
+        text: "int main(void){switch(0){case 1: case 1: ;} return 0;}",
+        status: Status::Refused,
+        report: "refused c type 0\n",
+        output: "",
+        next: Got::Byte(b'h'),
+    },
+    Row {
+        words: "exec a.c --memory 8",
+        text: "int main(void){return 7;}",
+        status: Status::Usage,
+        report: USAGE,
+        output: "",
+        next: Got::Byte(b'h'),
+    },
 ];
 
 /// Whether a row comes out so.
 fn expect_row<R: Abort + AllocGlobal>(rt: &R, row: &Row) -> Result<(), Fail> {
-    let world = world(rt.alloc(), "a.wat", row.text.as_bytes())?;
+    let mut world = world(rt.alloc(), "a.wat", row.text.as_bytes())?;
+    add_file(rt.alloc(), &mut world.shelf, "a.c", row.text.as_bytes())?;
     let words = row.words;
     let line = format!(in rt.alloc(); "mswasm {words}")?;
     let flow = (row.output, row.next);

@@ -1,4 +1,5 @@
 use Rattle.ms_run.specs.Answers.{Assembles, OnFile, Unfound, no_file, on_file}
+use Rattle.ms_run.specs.Loading.{Text}
 use Rattle.ms_run.specs.Observed.{shelved}
 use Rattle.ms_run.specs.Reporting.{Holds, IsFound}
 use Rattle.ms_run.proofs.Finding.{bytes_more, held_found}
@@ -11,11 +12,11 @@ returns-in-Ok-clause-did g c =
     let s = shelved g.F.Shelf.files g.F.Shelf.read_faults g.F.Shelf.write_faults c.args.shelf.now c.asm_bytes.new.shelf in
     let bytes = c.in-Ok.bytes.items in
     let has = bytes_more (Holds s.old) (IsFound s) (held_found s) name bytes c.in-Ok.ensures.bytes in
-    makes_later _ _ _ _ _ _ _ _ _ _ _ _ _ _ _ (OnFile (IsFound s) name (Assembles c.args.target.now)) (Assembles c.args.target.now) bytes (λ a does. on_file bytes has does)
-    c.in-Ok.ensures.untouched c.asm_bytes.ensures.reads c.asm_bytes.result (rw c.as_slice.ensures.value at c.asm_bytes.ensures.makes)
+    makes_later _ _ _ _ _ _ _ _ _ _ _ _ _ _ _ (OnFile (IsFound s) name (Assembles Text c.args.target.now)) (Assembles Text c.args.target.now) bytes (λ a does. on_file bytes has does)
+    c.in-Ok.ensures.untouched c.asm_bytes.ensures.reads c.asm_bytes.result c.asm_bytes.ensures.makes
 
 pub returns-in-Err-clause-did : goal.returns-in-Err-clause-did
 returns-in-Err-clause-did g c =
     let name = c.args.file.now in
     let s = shelved g.F.Shelf.files g.F.Shelf.read_faults g.F.Shelf.write_faults c.args.shelf.now c.fetch.new.shelf in
-    did_without (Unfound (IsFound s) name) (OnFile (IsFound s) name (Assembles c.args.target.now)) (λ a h. no_file h) s _ c.in-Err.status c.in-Err.ensures.printed
+    did_without (Unfound (IsFound s) name) (OnFile (IsFound s) name (Assembles Text c.args.target.now)) (λ a h. no_file h) s _ c.in-Err.status c.in-Err.ensures.printed

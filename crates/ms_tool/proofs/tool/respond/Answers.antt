@@ -4,7 +4,7 @@ use Rattle.ms_machine.proofs.Outsides.{some_input}
 use Rattle.ms_command_line.specs.Asked.{IsRequest, IsInRange, view}
 use Rattle.ms_command_line.specs.declared.request.Request.{Request}
 use Rattle.ms_command_line.specs.declared.request.WordsFault.{WordsFault}
-use Rattle.ms_tool.proofs.Complete.{asm_responded, check_responded, dis_responded, exec_responded, judge_responded, nothing_responded, run_responded, usage_responded}
+use Rattle.ms_tool.proofs.Complete.{asm_responded, check_responded, compile_responded, dis_responded, exec_responded, judge_responded, nothing_responded, run_responded, usage_responded}
 use Rattle.ms_tool.proofs.tool.respond.Goals as goal
 
 pub returns-in-Ok-Exec : goal.returns-in-Ok-Exec
@@ -50,6 +50,15 @@ returns-in-Ok-Dis g c =
     let input = some_input (g.I.Source.left c.args.input.now) in
     let e = c.dis_file.ensures in
     dis_responded words _ _ _ input.0 input.1 it.file.now it.target.now c.dis_file.result asked e.did (e.input.0, e.input.1, e.out.0, e.out.1)
+
+pub returns-in-Ok-Compile : goal.returns-in-Ok-Compile
+returns-in-Ok-Compile g c =
+    let it = c.in-Ok-Compile in
+    let words = map (λ w. w.now) c.args.words.now in
+    let asked = it.ensures.answers ∙ ap (λ (r : Request). Some (view r)) it.field-0-is in
+    let input = some_input (g.I.Source.left c.args.input.now) in
+    let e = c.compile_file.ensures in
+    compile_responded words _ _ _ input.0 input.1 it.file.now it.target.now c.compile_file.result asked e.did (e.input.0, e.input.1, e.out.0, e.out.1)
 
 pub returns-in-Ok-Judge : goal.returns-in-Ok-Judge
 returns-in-Ok-Judge g c =

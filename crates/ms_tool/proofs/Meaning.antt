@@ -1,0 +1,104 @@
+-- A run of a file of C that has come to an end does what its unit means: it is the run of one module, linked alone, which is compiled.
+use Rattle.std.proofs.Common.{◌≡◌, ◌∙◌, ℕ, List, [], ◌∷◌, refl, sym, ap, subst}
+use Rattle.std.specs.Prelude.{Option, Some, None, Result, Ok, Err, codes, map, false, not, true}
+use Rattle.ms_run.specs.Source.{IsModule, IsUnit}
+use Rattle.c_check.proofs.WellTyped.{typing_well}
+use Rattle.c_code.specs.Limits.{first_true, limit_of, refusal_of, stage}
+use Rattle.c_code.specs.Modules.{compiled}
+use Rattle.c_code.specs.Stage.{in_stage}
+use Rattle.c_runs.proofs.Executing.{executed_behaves}
+use Rattle.c_runs.specs.Correct.{AreBytes, MeansRun}
+use Rattle.c_typed.specs.Tree.{Typed}
+use Rattle.c_well_typed.specs.Units.{IsWellTyped}
+use Rattle.ms_job.specs.Jobs.{most_turns}
+use Rattle.ms_machine.specs.Crews.{Input, Run, run_of, turns_from}
+use Rattle.ms_machine.specs.Externs.{Fault}
+use Rattle.ms_machine.specs.Linked.{linked}
+use Rattle.ms_machine.specs.Running.{MayGive}
+use Rattle.ms_machine.specs.Store.{Store}
+use Rattle.ms_module.specs.declared.module.Module.{Module}
+use Rattle.ms_run.specs.Answers.{Found, HasBytes, HasModule}
+use Rattle.ms_run.specs.Executions.{Ran, execution, if_linked, in_store, with_threads}
+use Rattle.ms_run.specs.Jobs.{AllLoaded, HasEntries, RunOfJob, exec_job, in_turns, listed, no_more, one_more}
+use Rattle.ms_run.specs.Loading.{Form, Source, Spells, form_of}
+use Rattle.ms_run.specs.Observed.{Flow, Report, Shelved}
+use Rattle.ms_run.specs.Reporting.{Holds}
+use Rattle.ms_run.specs.SafeRuns.{RanSafely}
+use Rattle.ms_run.specs.declared.status.Status.{Status}
+use Rattle.ms_task.specs.Thread.{Thread}
+use Rattle.ms_tasks.specs.Tasks.{crew_of, threads_from}
+use Rattle.ms_tool.specs.Meaning.{RanAsMeant}
+
+-- a unit that isn't refused is of the stage
+is_staged : (u : Typed) → refusal_of u ≡ None → in_stage u ≡ true
+is_staged u e = by (in_stage u) refl where
+  by : (b : _) → in_stage u ≡ b → in_stage u ≡ true
+  by true is = is
+  by false is = absurd (let f = ap (λ b. first_true (not b) stage (limit_of u)) (sym is) ∙ e in cc)
+
+module _ (u : Typed) (budget memory : ℕ) (input : List ℕ) (given : Input) (is_given : given ≡ map Some input) (bytes : AreBytes input)
+    (well : IsWellTyped u) (staged : in_stage u ≡ true) where
+  tasks : List (ℕ × List ℕ)
+  tasks = (0, codes "main") ∷ []
+
+  entries : List ℕ
+  entries = turns_from most_turns 1 0 budget
+
+  of_threads : (s : Store) (r : Result (List Thread) ℕ) (run : Run) → linked (([], compiled u) ∷ []) memory ≡ Ok s → threads_from s tasks 0 ≡ r
+      → with_threads entries s given r ≡ Ran run → MeansRun u input budget run
+  of_threads s (Err n) run e h k = absurd cc
+  of_threads s (Ok threads) run e h k =
+      let same : run_of entries (crew_of s threads) given ≡ run = cc in
+      subst (λ (x : Run). MeansRun u input budget x) same
+      (subst (λ (i : Input). MeansRun u input budget (run_of entries (crew_of s threads) i)) (sym is_given)
+      (executed_behaves u memory most_turns budget s threads input well staged e h bytes))
+
+  of_store : (r : Result Store Fault) (run : Run) → linked (([], compiled u) ∷ []) memory ≡ r → if_linked tasks entries given r ≡ Ran run → MeansRun u input budget run
+  of_store (Err fault) run e k = absurd cc
+  of_store (Ok s) run e k = of_threads s (threads_from s tasks 0) run e refl k
+
+  of_execution : (run : Run) → execution (([], compiled u) ∷ []) tasks entries memory given ≡ Ran run → MeansRun u input budget run
+  of_execution run k = of_store (linked (([], compiled u) ∷ []) memory) run refl k
+
+-- the one module that was loaded
+record Loaded (Has : List ℕ → Found → Type 0) (name : List ℕ) (modules : List (List ℕ × Module)) : Type 0 where
+  pub m : Module
+  pub has : HasModule Has name m
+  pub are : modules ≡ ([], m) ∷ []
+
+the_one : (Has : List ℕ → Found → Type 0) (name : List ℕ) (modules : List (List ℕ × Module)) → AllLoaded Has (([], name) ∷ []) modules → Loaded Has name modules
+the_one Has name _ (one_more _ _ m has no_more) = record { m = m; has = has; are = refl }
+
+-- the entries of `exec`
+the_entries : (Has : List ℕ → Found → Type 0) (name : List ℕ) (budget memory : ℕ) (entries : List ℕ) → HasEntries Has (exec_job name budget memory) entries
+    → entries ≡ turns_from most_turns 1 0 budget
+the_entries Has name budget memory _ (in_turns none) = refl
+the_entries Has name budget memory _ (listed file numbers some has) = absurd cc
+
+given_bytes : (left : Option (List ℕ)) (given : Input) (input : List ℕ) → left ≡ Some input → MayGive left given → given ≡ map Some input
+given_bytes None given input e may = absurd cc
+given_bytes (Some held) given input e may = may ∙ ap (λ (l : List ℕ). map Some l) (let same : held ≡ input = cc in same)
+
+pub ran_as_meant : (s : Shelved) (r : Report) (f : Flow) (name : List ℕ) (budget memory : ℕ) (status : Status)
+    → form_of name ≡ Source → RanSafely s r f (exec_job name budget memory) status → RanAsMeant s r f name budget memory status
+ran_as_meant s r f name budget memory status form ran =
+    let job = ran.of_job in
+    let loaded = the_one (Holds s.old) name job.modules job.loaded in
+    let has = loaded.has in
+    let module' : IsModule has.bytes loaded.m = subst (λ (x : Form). Spells x has.bytes loaded.m) form has.spelled in
+    let u = module'.unit in
+    record {
+      ran = ran;
+      bytes = has.bytes;
+      found = has.found;
+      unit = u;
+      is_unit = module'.is_unit;
+      means = λ input left bytes.
+          let same : execution (([], compiled u) ∷ []) ((0, codes "main") ∷ []) (turns_from most_turns 1 0 budget) memory ran.given ≡ Ran ran.run =
+          ap (λ (x : Module). execution (([], x) ∷ []) ((0, codes "main") ∷ []) (turns_from most_turns 1 0 budget) memory ran.given) (sym module'.module')
+          ∙ ap (λ (ms : List (List ℕ × Module)). execution ms ((0, codes "main") ∷ []) (turns_from most_turns 1 0 budget) memory ran.given) (sym loaded.are)
+          ∙ ap (λ (es : List ℕ). execution job.modules ((0, codes "main") ∷ []) es memory ran.given) (sym (the_entries (Holds s.old) name budget memory job.entries job.scheduled))
+          ∙ job.ran in
+          of_execution u budget memory input ran.given (given_bytes f.left_old ran.given input left ran.may) bytes
+          (typing_well module'.is_unit.externals u module'.is_unit.typed) (is_staged u module'.within) ran.run same;
+    }
