@@ -1,7 +1,7 @@
 -- Units of C, computed: how each ends, what it writes, and the sizes of the objects that it asks for, as the rules of C have it. In
 -- front of each stands its text.
 use Rattle.std.proofs.Common.{◌≡◌, ℕ, List, [], ◌∷◌, true, false, Option, Some, None, refl}
-use Rattle.std.specs.Prelude.{codes, pos, negsuc}
+use Rattle.std.specs.Prelude.{codes, map, pos, negsuc}
 use Rattle.c_types.specs.declared.integers.IntType.TheVariants.{Char, UnsignedChar, Int, UnsignedInt, LongLong}
 use Rattle.c_types.specs.declared.types.Scalar.TheVariants as scalars
 use Rattle.c_types.specs.Types.{Ty, void, integer, struct, pointer, array, function, no_types, types}
@@ -313,7 +313,7 @@ copies_its_input = unit_of [] [] []
     (tree.number Int 1))) None (perform (tree.putchar (tree.read (scalars.Int Int) (of (Local 0)))))) (seq (return (tree.number
     Int 0)) done))))) ∷ [])
 
-copies_its_input_is : seen (means copies_its_input (codes "hi") [] 9) ≡ (result (Some (number (pos 0))), codes "hi", [])
+copies_its_input_is : seen (means copies_its_input (map Some (codes "hi")) [] 9) ≡ (result (Some (number (pos 0))), codes "hi", [])
 copies_its_input_is = refl
 
 -- int main(void){int c; while((c=getchar())!=-1) putchar(c); return 0;}

@@ -96,7 +96,7 @@ module _ (unit : Typed) where
 
   -- ---- from the start, with this input, these grants and so much fuel
 
-  abbrev pub first_world : List ℕ → List Bool → ℕ → World
+  abbrev pub first_world : List (Option ℕ) → List Bool → ℕ → World
   first_world input grants fuel = record {
     objects = [];
     literals = [];
@@ -115,6 +115,6 @@ module _ (unit : Typed) where
   closed (ends e w) = (e, w)
 
   -- the end, and the world then: its output, the input left, and the sizes of what was created
-  abbrev pub means : (input : List ℕ) → (grants : List Bool) → (fuel : ℕ) → End × World
+  abbrev pub means : (input : List (Option ℕ)) → (grants : List Bool) → (fuel : ℕ) → End × World
   means input grants fuel =
       closed ((make_each unit.made >> (give_each 0 unit.made >> run_main (suc fuel) main_number)) (first_world input grants fuel))

@@ -34,7 +34,8 @@ pub record World : Type 0 where
   pub depth : ℕ
   -- how many iterations of loops and calls may still come
   pub fuel : ℕ
-  pub input : List ℕ
+  -- what the next takes of the input give: a byte, or that there is none; behind these there is none
+  pub input : List (Option ℕ)
   pub output : List ℕ
   -- whether the next creations of objects succeed
   pub grants : List Bool
@@ -106,9 +107,9 @@ spend = λ w. spent w.fuel w where
 abbrev pub write_byte : ℕ → Does (Unit {0})
 write_byte b = change (λ w. record w { output = w.output ++ b ∷ [] })
 
-abbrev pub took : List ℕ → World → Result (Option ℕ)
+abbrev pub took : List (Option ℕ) → World → Result (Option ℕ)
 took [] w = gives None w
-took (b ∷ bs) w = gives (Some b) (record w { input = bs })
+took (b ∷ bs) w = gives b (record w { input = bs })
 
 -- a byte, or none at the end
 abbrev pub take_byte : Does (Option ℕ)

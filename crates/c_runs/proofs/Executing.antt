@@ -229,18 +229,18 @@ module _ (u : Typed) (name : List ℕ) (c : ℕ) (well : IsWellTyped u) (staged 
     or (Ok ts) = ts
     or (Err k) = threads
 
-  executed : (turns budget : ℕ) (threads : List Thread) (input : List ℕ) → threads_from s ((0, codes "main") ∷ []) 0 ≡ Ok threads → AreBytes input
-      → MeansRun u input budget (run_of (turns_from turns 1 0 budget) (crew_of s threads) (map Some input))
+  executed : (turns budget : ℕ) (threads : List Thread) (input : Input) → threads_from s ((0, codes "main") ∷ []) 0 ≡ Ok threads → AreBytes input
+      → MeansRun u input budget (run_of (turns_from turns 1 0 budget) (crew_of s threads) input)
   executed turns budget threads input e bytes =
       let q = one_thread threads (task_address s 0 (codes "main")) e in
-      subst (λ (ts : List Thread). MeansRun u input budget (run_of (turns_from turns 1 0 budget) (crew_of s ts) (map Some input))) q.2
-      (subst (MeansRun u input budget) (sym (run_is turns budget (func_thread s q.0) (map Some input)))
+      subst (λ (ts : List Thread). MeansRun u input budget (run_of (turns_from turns 1 0 budget) (crew_of s ts) input)) q.2
+      (subst (MeansRun u input budget) (sym (run_is turns budget (func_thread s q.0) input))
       (main_behaves q.0 (exported_main u s.funcs i q.0 (numbers (length u.functions)) q.1) input bytes budget))
 
-pub executed_behaves : (u : Typed) (c turns budget : ℕ) (s : Store) (threads : List Thread) (input : List ℕ) → IsWellTyped u → in_stage u ≡ true
+pub executed_behaves : (u : Typed) (c turns budget : ℕ) (s : Store) (threads : List Thread) (input : Input) → IsWellTyped u → in_stage u ≡ true
     → linked (([], compiled u) ∷ []) c ≡ Ok s → threads_from s ((0, codes "main") ∷ []) 0 ≡ Ok threads
-    → AreBytes input → MeansRun u input budget (run_of (turns_from turns 1 0 budget) (crew_of s threads) (map Some input))
+    → AreBytes input → MeansRun u input budget (run_of (turns_from turns 1 0 budget) (crew_of s threads) input)
 executed_behaves u c turns budget s threads input well staged e tasks bytes =
     let none = none_imported u [] c s e in
-    subst (λ (t : Store). threads_from t ((0, codes "main") ∷ []) 0 ≡ Ok threads → MeansRun u input budget (run_of (turns_from turns 1 0 budget) (crew_of t threads) (map Some input)))
+    subst (λ (t : Store). threads_from t ((0, codes "main") ∷ []) 0 ≡ Ok threads → MeansRun u input budget (run_of (turns_from turns 1 0 budget) (crew_of t threads) input))
     (is_made u [] c none s e) (λ tasks'. executed u [] c well staged none turns budget threads input tasks' bytes) tasks

@@ -1,6 +1,6 @@
 -- The machine goes from one state to another, within counts of steps. Each unit of fuel that is spent between them costs at
 -- least one step; the steps are at most so many instructions, and `most` for each unit that is spent.
-use Rattle.std.proofs.Common.{◌≡◌, ℕ, suc, ◌+◌, ◌*◌, ◌≤◌, List, [], ◌∷◌, ◌++◌, map, length, Bool, false, Some, None, refl, sym, ap, ◌∙◌, arith, append_assoc, append-nil, length-append}
+use Rattle.std.proofs.Common.{◌≡◌, ℕ, suc, ◌+◌, ◌*◌, ◌≤◌, List, [], ◌∷◌, ◌++◌, length, Bool, false, Some, None, refl, sym, ap, ◌∙◌, arith, append_assoc, append-nil, length-append}
 use Rattle.std.proofs.Math.Nat.{mul-suc}
 use Rattle.ms_event.specs.declared.event.Event.{Event}
 use Rattle.ms_event.specs.declared.event.Event.TheVariants.{Alloc, Free, Read, Refused, Seal, Slice, Write}
@@ -50,7 +50,7 @@ abbrev pub store : Site → Mem → Store
 store S m = record { funcs = S.funcs; instances = S.instances; tables = S.tables; memories = S.memories; globals = m.globals; segments = m.segments }
 
 abbrev pub given : World → Input
-given w = map Some w.input
+given w = w.input
 
 pub sizes_append : (a b : List Event) → sizes_of (a ++ b) ≡ sizes_of a ++ sizes_of b
 sizes_append [] b = refl
@@ -229,7 +229,7 @@ module _ (S : Site) where
     cost = 0;
     least = omega (arith, ef);
     greatest = let e = ap (λ (n : ℕ). S.most * n) ef in omega (arith, e);
-    by = λ k. let e : 0 + k ≡ k = omega arith in ap (λ (n : ℕ). steps n (store S m) t (given w)) e ∙ ap (λ (l : List ℕ). steps k (store S m) t (map Some l)) (sym ei);
+    by = λ k. let e : 0 + k ≡ k = omega arith in ap (λ (n : ℕ). steps n (store S m) t (given w)) e ∙ ap (λ (l : Input). steps k (store S m) t l) (sym ei);
   }
 
   pub sized : (s s' : ℕ) (w w' : World) (m m' : Mem) (t t' : Thread) → s ≤ s' → Goes s w w' m t m' t' → Goes s' w w' m t m' t'
@@ -257,7 +257,7 @@ module _ (S : Site) where
     cost = 1;
     least = omega (arith, ef);
     greatest = let q = ap (λ (n : ℕ). S.most * n) ef in omega (arith, q);
-    by = λ k. step_is k m m' i fr vs r t' (given w) e ∙ ap (λ (l : List ℕ). steps k (store S m') (exited t') (map Some l)) (sym ei);
+    by = λ k. step_is k m m' i fr vs r t' (given w) e ∙ ap (λ (l : Input). steps k (store S m') (exited t') l) (sym ei);
   }
 
   -- in one world
@@ -297,7 +297,7 @@ module _ (S : Site) where
         ∙ ap (λ (o : Outcome). after_move (move_on (store S m) (first_of (given w)) (step.exited o)) (given w) (steps k)) e
         ∙ ap (λ (x : hosting.Effect). after_move (hosted (store S m) (thread fr us r) (takes h) x) (given w) (steps k)) g
         ∙ ap (λ (t : Bool). before (Some b) None (steps k (store S m) (exited (thread fr vs r)) (rest_of t (given w)))) calm
-        ∙ ap (λ (l : List ℕ). before (Some b) None (steps k (store S m) (exited (thread fr vs r)) (map Some l))) (sym ei);
+        ∙ ap (λ (l : Input). before (Some b) None (steps k (store S m) (exited (thread fr vs r)) l)) (sym ei);
   }
 
   pub takes_one : (w w' : World) (m : Mem) (i : Instr) (fr : Frame) (us vs : List Value) (r : List Item) (h : Host)

@@ -1,5 +1,5 @@
 -- Operators, conversions, assignments with an operator, and calls of the host, on the values of their parts.
-use Rattle.std.proofs.Common.{◌≡◌, ◌⊎◌, inl, inr, ℕ, ◌%◌, ◌^◌, ◌<◌, ◌≤◌, List, [], ◌∷◌, ◌++◌, length, map, append-nil, Bool, true, false, Option, Some, None, refl, sym, ap, ◌∙◌, arith, subst}
+use Rattle.std.proofs.Common.{◌≡◌, ◌⊎◌, inl, inr, ℕ, ◌%◌, ◌^◌, ◌<◌, ◌≤◌, List, [], ◌∷◌, ◌++◌, length, append-nil, Bool, true, false, Option, Some, None, refl, sym, ap, ◌∙◌, arith, subst}
 use Rattle.std.specs.Prelude.{ℤ, pos, negsuc, neg_ℤ, ◌-ℤ◌, not, slice_get, if◌then◌else◌}
 use Rattle.std.proofs.lemmas.Bool.{lt-ltb}
 use Rattle.ms_host.specs.declared.host.Host.TheVariants as hosts
@@ -48,6 +48,7 @@ use Rattle.c_numbers.proofs.Operators.{comparison, complement, negation, operati
 use Rattle.c_numbers.proofs.Ranges.{wrap_in}
 use Rattle.c_runs.proofs.Goes as goes
 use Rattle.c_runs.proofs.Goes.{Mem, Site, after_after, puts_one, takes_one, tells_nothing}
+use Rattle.ms_machine.specs.Crews.{Input}
 use Rattle.c_runs.specs.Correct.{AreBytes}
 use Rattle.c_runs.specs.Words.{pushed}
 use Rattle.c_runs.proofs.Related.{Env, IsOf, Kept, Now, frame_of}
@@ -287,7 +288,7 @@ module _ (E : Env) where
         → Leaves E (c ⨾ one (Call 0)) (integer Int) (meaning.integer x >>= (λ z. let b = bits_of UnsignedChar z in write_byte b >> pure (number (pos b))))
     putchar_runs c x h = op_integer_then E Int c (one (Call 0)) x _ (pushed (integer Int)) (IsOf (integer Int)) h putchar_at
 
-    getchar_by : (now : Now) (vs : List Word) (r : List Item) (w : World) (m : Mem) → Kept E now w m → (input : List ℕ) → w.input ≡ input
+    getchar_by : (now : Now) (vs : List Word) (r : List Item) (w : World) (m : Mem) → Kept E now w m → (input : Input) → w.input ≡ input
         → goes.RunsTo E.site 1 m (at_work E m w vs (Do (Call 1) ∷ r)) w (To_ E (pushed (integer Int)) vs r) (Good E (IsOf (integer Int)) now) (after (took input w) (λ b. pure (byte_value b)))
     getchar_by now vs r w m k [] e =
         let room : 1 < length E.site.funcs = let t = L.three in omega (arith, t) in (
@@ -295,20 +296,31 @@ module _ (E : Env) where
           (refl, k),
           takes_one E.site w w m (Call 1) (frame_of E m w) vs (I32 4294967295 ∷ vs) r hosts.Getchar
               (call_is m w 1 vs r room ∙ ap (called (goes.store E.site m) 1 (thread (frame_of E m w) vs r)) L.getchar)
-              (ap (λ (l : List ℕ). host_on hosts.Getchar (first_of (map Some l)) vs) e) refl
-              (ap (λ (l : List ℕ). rest_of true (map Some l)) e ∙ ap (map Some) (sym e)) (tells_nothing w w refl refl refl),
+              (ap (λ (l : Input). host_on hosts.Getchar (first_of l) vs) e) refl
+              (ap (rest_of true) e ∙ sym e) (tells_nothing w w refl refl refl),
         )
-    getchar_by now vs r w m k (b ∷ bs) e =
+    getchar_by now vs r w m k (None ∷ bs) e =
         let room : 1 < length E.site.funcs = let t = L.three in omega (arith, t) in
-        let bytes : AreBytes (b ∷ bs) = subst AreBytes e k.bytes in
+        let bytes : AreBytes (None ∷ bs) = subst AreBytes e k.bytes in
+        let w' : World = record w { input = bs } in (
+          m,
+          (refl, record { held = k.held; deep = k.deep; less = k.less; bytes = bytes.1; temps = k.temps }),
+          takes_one E.site w w' m (Call 1) (frame_of E m w) vs (I32 4294967295 ∷ vs) r hosts.Getchar
+              (call_is m w 1 vs r room ∙ ap (called (goes.store E.site m) 1 (thread (frame_of E m w) vs r)) L.getchar)
+              (ap (λ (l : Input). host_on hosts.Getchar (first_of l) vs) e) refl
+              (ap (rest_of true) e) (tells_nothing w w' refl refl refl),
+        )
+    getchar_by now vs r w m k (Some b ∷ bs) e =
+        let room : 1 < length E.site.funcs = let t = L.three in omega (arith, t) in
+        let bytes : AreBytes (Some b ∷ bs) = subst AreBytes e k.bytes in
         let lt : b < 256 = bytes.0 in
         let w' : World = record w { input = bs } in (
           m,
           (small_is b lt, record { held = k.held; deep = k.deep; less = k.less; bytes = bytes.1; temps = k.temps }),
           takes_one E.site w w' m (Call 1) (frame_of E m w) vs (I32 (wrapped 32 (pos b)) ∷ vs) r hosts.Getchar
               (call_is m w 1 vs r room ∙ ap (called (goes.store E.site m) 1 (thread (frame_of E m w) vs r)) L.getchar)
-              (ap (λ (l : List ℕ). host_on hosts.Getchar (first_of (map Some l)) vs) e ∙ ap (λ (q : ℕ). hosting.Gives (I32 q ∷ vs) None) (sym (small_same b lt))) refl
-              (ap (λ (l : List ℕ). rest_of true (map Some l)) e) (tells_nothing w w' refl refl refl),
+              (ap (λ (l : Input). host_on hosts.Getchar (first_of l) vs) e ∙ ap (λ (q : ℕ). hosting.Gives (I32 q ∷ vs) None) (sym (small_same b lt))) refl
+              (ap (rest_of true) e) (tells_nothing w w' refl refl refl),
         )
 
     pub getchar_runs : Leaves E (one (Call 1)) (integer Int) (take_byte >>= (λ b. pure (byte_value b)))

@@ -3,7 +3,7 @@ use Rattle.std.proofs.Common.{◌≡◌, ℕ, List, map, [], ◌∷◌, Some, No
 use Rattle.std.specs.Prelude.{Result, codes}
 use Rattle.std.proofs.lemmas.List.Elements.{All-nil, All-cons}
 use Rattle.ms_host.specs.declared.trap.TrapKind.TheVariants as traps
-use Rattle.ms_machine.specs.Crews.{Task, Trap, bytes_of, run_of, turns_from}
+use Rattle.ms_machine.specs.Crews.{Input, Task, Trap, bytes_of, run_of, turns_from}
 use Rattle.ms_machine.specs.Externs.{Fault}
 use Rattle.ms_machine.specs.Linked.{linked, nothing_made, store_of}
 use Rattle.ms_machine.specs.Running.{func_thread}
@@ -179,7 +179,7 @@ tasks_are = refl
 
 -- ---- so it does what is meant; and both, computed
 
-sample_executed : (input : List ℕ) → AreBytes input → (budget : ℕ) → MeansRun unit input budget (run_of (turns_from 1000 1 0 budget) (crew_of st (func_thread st 3 ∷ [])) (map Some input))
+sample_executed : (input : Input) → AreBytes input → (budget : ℕ) → MeansRun unit input budget (run_of (turns_from 1000 1 0 budget) (crew_of st (func_thread st 3 ∷ [])) input)
 sample_executed input bytes budget =
     executed_behaves unit 64 1000 budget st (func_thread st 3 ∷ []) input well refl linked_is tasks_are bytes
 

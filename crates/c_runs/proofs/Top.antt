@@ -6,7 +6,7 @@ use Rattle.ms_event.specs.Monitor.{grants, sizes_of}
 use Rattle.ms_linear.specs.Values.{default_of}
 use Rattle.ms_module.specs.declared.instr.Instr.{Instr}
 use Rattle.ms_machine.specs.Crews as crews
-use Rattle.ms_machine.specs.Crews.{Run, bytes_of, events_of}
+use Rattle.ms_machine.specs.Crews.{Input, Run, bytes_of, events_of}
 use Rattle.ms_machine.specs.Running.{func_thread, start_of}
 use Rattle.ms_machine.specs.Store.{Store}
 use Rattle.ms_task.specs.Control.{exit_ended, nobody}
@@ -54,9 +54,9 @@ module _ (S : Site) (L : Linked S) (unit : Typed) (all : (f : ℕ) (t : Ty) (ps 
   abbrev pub start : Thread
   start = func_thread here_store (index_of unit f)
 
-  module _ (bytes : List ℕ) (are_bytes : AreBytes bytes) (g : List Bool) (fuel : ℕ) where
+  module _ (input : Input) (are_bytes : AreBytes input) (g : List Bool) (fuel : ℕ) where
     abbrev w : World
-    w = first_world unit bytes g fuel
+    w = first_world unit input g fuel
 
     callees : Callees S L unit all par_ints (suc fuel) f 1 t no_types p
     callees = calls_run S L unit all par_ints (suc fuel) f 1 t no_types p
@@ -102,7 +102,7 @@ module _ (S : Site) (L : Linked S) (unit : Typed) (all : (f : ℕ) (t : Ty) (ps 
     abbrev ending : Result Value → End × World
     ending x = closed unit (after (back_to w x) (λ v. pure (as_result unit t v)))
 
-    means_is : means unit bytes g fuel ≡ ending (body ws)
+    means_is : means unit input g fuel ≡ ending (body ws)
     means_is =
         let go : Function → Stmt → Does (Option Value) = λ h b. called unit (calls_at unit (suc fuel)) (suc (suc fuel)) [] h b >>= (λ v. pure (as_result unit (meaning.result_of h.ty) v)) in
         ap (λ (ms : List Made). closed unit ((make_each unit ms >> (give_each unit 0 ms >> run_main unit (suc fuel) (main_number unit))) w)) none_made
@@ -114,8 +114,8 @@ module _ (S : Site) (L : Linked S) (unit : Typed) (all : (f : ℕ) (t : Ty) (ps 
 
     pub record Bundle (e : End) (w1 : World) : Type 0 where
       pub st : Stop
-      pub known : Known here_store start (map Some bytes) g S.most fuel st e w1
-      pub how : How here_store start (map Some bytes) fuel st e w1 known.cost known.events
+      pub known : Known here_store start input g S.most fuel st e w1
+      pub how : How here_store start input fuel st e w1 known.cost known.events
       pub reports : (end : crews.End) → end ≡ crew_end st → Reports t e end
 
     bounded : (cost f' : ℕ) → cost + S.most * f' ≤ size_of whole + S.most * fuel → cost ≤ S.most * (fuel + 1)
@@ -137,7 +137,7 @@ module _ (S : Site) (L : Linked S) (unit : Typed) (all : (f : ℕ) (t : Ty) (ps 
       how = how_of e h.is h.asks;
       reports = reports_of e h.is;
     } where
-      how_of : (e : End) → IsEnd S e w1 → Asks S e h.cost m' start ws h.events → How here_store start (map Some bytes) fuel (stop_of e) e w1 h.cost h.events
+      how_of : (e : End) → IsEnd S e w1 → Asks S e h.cost m' start ws h.events → How here_store start input fuel (stop_of e) e w1 h.cost h.events
       how_of (world.result v) is asks = absurd is
       how_of (world.unsafe u) is asks = over (λ q. absurd cc)
       how_of world.zero_divide is asks = over (λ q. absurd cc)
@@ -173,7 +173,7 @@ module _ (S : Site) (L : Linked S) (unit : Typed) (all : (f : ℕ) (t : Ty) (ps 
             puts = h.puts;
             events = h.events;
             cost = h.cost;
-            so = ap (λ (n : ℕ). steps n here_store start (map Some bytes)) (sym none_more) ∙ h.by 0;
+            so = ap (λ (n : ℕ). steps n here_store start input) (sym none_more) ∙ h.by 0;
             output = h.tells.output;
             sizes = h.tells.sizes;
             taken = h.tells.grants;
@@ -184,7 +184,7 @@ module _ (S : Site) (L : Linked S) (unit : Typed) (all : (f : ℕ) (t : Ty) (ps 
         }
     bundle_of (ends e w1) r = known_end e w1 r
 
-    pub bundle : Agrees here_store start (map Some bytes) g → Bundle (means unit bytes g fuel).0 (means unit bytes g fuel).1
+    pub bundle : Agrees here_store start input g → Bundle (means unit input g fuel).0 (means unit input g fuel).1
     bundle ag = subst (λ (q : End × World). Bundle q.0 q.1) (sym means_is) (bundle_of (body ws) (main_runs ag))
 
   -- ---- the theorem
@@ -200,58 +200,58 @@ module _ (S : Site) (L : Linked S) (unit : Typed) (all : (f : ℕ) (t : Ty) (ps 
   out_is Paused e = refl
   out_is Stuck e = absurd cc
 
-  module _ (bytes : List ℕ) (are_bytes : AreBytes bytes) (b : ℕ) where
+  module _ (input : Input) (are_bytes : AreBytes input) (b : ℕ) where
     abbrev run : Run
-    run = run_at here_store (index_of unit f) bytes b
+    run = run_at here_store (index_of unit f) input b
 
-    same : Same run (steps b here_store start (map Some bytes))
-    same = same_run b here_store start (map Some bytes)
+    same : Same run (steps b here_store start input)
+    same = same_run b here_store start input
 
     abbrev g : List Bool
-    g = grants (steps b here_store start (map Some bytes)).events
+    g = grants (steps b here_store start input).events
 
     grants_is : grants (events_of run.deeds) ≡ g
     grants_is = ap grants same.events
 
-    meant_is : (fuel : ℕ) → means unit bytes g fuel ≡ meant unit bytes run fuel
-    meant_is fuel = ap (λ (q : List Bool). means unit bytes q fuel) (sym grants_is)
+    meant_is : (fuel : ℕ) → means unit input g fuel ≡ meant unit input run fuel
+    meant_is fuel = ap (λ (q : List Bool). means unit input q fuel) (sym grants_is)
 
-    have : (fuel : ℕ) → Bundle bytes are_bytes g fuel (means unit bytes g fuel).0 (means unit bytes g fuel).1
-    have fuel = bundle bytes are_bytes g fuel (agrees here_store start (map Some bytes) S.most b)
+    have : (fuel : ℕ) → Bundle input are_bytes g fuel (means unit input g fuel).0 (means unit input g fuel).1
+    have fuel = bundle input are_bytes g fuel (agrees here_store start input S.most b)
 
-    over_is : run.end ≢ crews.OutOfBudget → (steps b here_store start (map Some bytes)).stop ≢ Paused
+    over_is : run.end ≢ crews.OutOfBudget → (steps b here_store start input).stop ≢ Paused
     over_is d q = d (same.ends ∙ ap crew_end q)
 
-    paused_is : run.end ≡ crews.OutOfBudget → (steps b here_store start (map Some bytes)).stop ≡ Paused
-    paused_is e = out_is (steps b here_store start (map Some bytes)).stop (sym same.ends ∙ e)
+    paused_is : run.end ≡ crews.OutOfBudget → (steps b here_store start input).stop ≡ Paused
+    paused_is e = out_is (steps b here_store start input).stop (sym same.ends ∙ e)
 
-    sizes_are : sizes_of (events_of run.deeds) ≡ (meant unit bytes run b).1.sizes
-    sizes_are = let h = have b in ap sizes_of same.events ∙ sizes_law here_store start (map Some bytes) S.most b b h.st (means unit bytes g b).0 (means unit bytes g b).1 h.known h.how refl ∙ ap (λ (q : End × World). q.1.sizes) (meant_is b)
+    sizes_are : sizes_of (events_of run.deeds) ≡ (meant unit input run b).1.sizes
+    sizes_are = let h = have b in ap sizes_of same.events ∙ sizes_law here_store start input S.most b b h.st (means unit input g b).0 (means unit input g b).1 h.known h.how refl ∙ ap (λ (q : End × World). q.1.sizes) (meant_is b)
 
-    output_is : run.end ≢ crews.OutOfBudget → bytes_of run.deeds ≡ (meant unit bytes run b).1.output
-    output_is d = let h = have b in same.bytes ∙ output_law here_store start (map Some bytes) S.most b b h.st (means unit bytes g b).0 (means unit bytes g b).1 h.known h.how refl (over_is d) ∙ ap (λ (q : End × World). q.1.output) (meant_is b)
+    output_is : run.end ≢ crews.OutOfBudget → bytes_of run.deeds ≡ (meant unit input run b).1.output
+    output_is d = let h = have b in same.bytes ∙ output_law here_store start input S.most b b h.st (means unit input g b).0 (means unit input g b).1 h.known h.how refl (over_is d) ∙ ap (λ (q : End × World). q.1.output) (meant_is b)
 
-    end_is : run.end ≢ crews.OutOfBudget → Reports (main_result unit) (meant unit bytes run b).0 run.end
+    end_is : run.end ≢ crews.OutOfBudget → Reports (main_result unit) (meant unit input run b).0 run.end
     end_is d =
         let h = have b in
-        subst (λ (q : Ty). Reports q (meant unit bytes run b).0 run.end) (sym result_is)
+        subst (λ (q : Ty). Reports q (meant unit input run b).0 run.end) (sym result_is)
         (subst (λ (q : End × World). Reports t q.0 run.end) (meant_is b)
-        (h.reports run.end (same.ends ∙ ap crew_end (end_law here_store start (map Some bytes) S.most b b h.st (means unit bytes g b).0 (means unit bytes g b).1 h.known h.how refl (over_is d)))))
+        (h.reports run.end (same.ends ∙ ap crew_end (end_law here_store start input S.most b b h.st (means unit input g b).0 (means unit input g b).1 h.known h.how refl (over_is d)))))
 
-    prints_is : run.end ≡ crews.OutOfBudget → IsPrefix (bytes_of run.deeds) (meant unit bytes run b).1.output
+    prints_is : run.end ≡ crews.OutOfBudget → IsPrefix (bytes_of run.deeds) (meant unit input run b).1.output
     prints_is e =
         let h = have b in
-        let q = prefix_law here_store start (map Some bytes) S.most b b h.st (means unit bytes g b).0 (means unit bytes g b).1 h.known h.how refl (paused_is e) in
+        let q = prefix_law here_store start input S.most b b h.st (means unit input g b).0 (means unit input g b).1 h.known h.how refl (paused_is e) in
         (q.0, ap (λ (x : End × World). x.1.output) (sym (meant_is b)) ∙ q.1 ∙ ap (λ (l : List ℕ). l ++ q.0) (sym same.bytes))
 
-    bound_is : (fuel : ℕ) → longest_of unit * (fuel + 1) < b → run.end ≡ crews.OutOfBudget → (meant unit bytes run fuel).0 ≡ world.out_of_fuel
+    bound_is : (fuel : ℕ) → longest_of unit * (fuel + 1) < b → run.end ≡ crews.OutOfBudget → (meant unit input run fuel).0 ≡ world.out_of_fuel
     bound_is fuel lt e =
         let h = have fuel in
-        ap (λ (x : End × World). x.0) (sym (meant_is fuel)) ∙ bound_law here_store start (map Some bytes) S.most b fuel h.st (means unit bytes g fuel).0 (means unit bytes g fuel).1 h.known h.how (subst (λ (n : ℕ). n * (fuel + 1) < b) (sym longest_is) lt) (paused_is e)
+        ap (λ (x : End × World). x.0) (sym (meant_is fuel)) ∙ bound_law here_store start input S.most b fuel h.st (means unit input g fuel).0 (means unit input g fuel).1 h.known h.how (subst (λ (n : ℕ). n * (fuel + 1) < b) (sym longest_is) lt) (paused_is e)
 
   pub behaves : Behaves unit here_store (index_of unit f)
-  behaves bytes ok b =
-      record { sizes = sizes_are bytes ok b; output = output_is bytes ok b; end = end_is bytes ok b; prints = prints_is bytes ok b; bound = bound_is bytes ok b }
+  behaves input ok b =
+      record { sizes = sizes_are input ok b; output = output_is input ok b; end = end_is input ok b; prints = prints_is input ok b; bound = bound_is input ok b }
 
 -- ---- a unit that a store has
 

@@ -1,8 +1,8 @@
 -- What is said of the run of a compiled unit.
-use Rattle.std.specs.Prelude.{◌≡◌, ◌≢◌, ℕ, ◌+◌, ◌*◌, ◌<◌, List, [], ◌∷◌, ◌++◌, map, option_and_then, replicate, slice_get, Option, Some, None}
+use Rattle.std.specs.Prelude.{◌≡◌, ◌≢◌, ℕ, ◌+◌, ◌*◌, ◌<◌, List, [], ◌∷◌, ◌++◌, option_and_then, replicate, slice_get, Option, Some, None}
 use Rattle.ms_event.specs.Monitor.{grants, sizes_of}
 use Rattle.ms_machine.specs.Crews as crews
-use Rattle.ms_machine.specs.Crews.{OutOfBudget, Run, bytes_of, events_of, run_of}
+use Rattle.ms_machine.specs.Crews.{Input, OutOfBudget, Run, bytes_of, events_of, run_of}
 use Rattle.ms_machine.specs.Running.{func_thread}
 use Rattle.ms_machine.specs.Store.{Store}
 use Rattle.c_types.specs.Types.{Ty, void}
@@ -15,9 +15,14 @@ use Rattle.c_runs.specs.Ends.{stop_of}
 use Rattle.c_runs.specs.Placed.{longest_of}
 use Rattle.c_runs.specs.Words.{left}
 
-abbrev pub AreBytes : List ℕ → Type 0
+abbrev pub IsByte : Option ℕ → Type 0
+IsByte None = Unit {0}
+IsByte (Some b) = b < 256
+
+-- what the takes of an input give are bytes, or none
+abbrev pub AreBytes : Input → Type 0
 AreBytes [] = Unit {0}
-AreBytes (b ∷ bs) = (b < 256) × AreBytes bs
+AreBytes (b ∷ bs) = IsByte b × AreBytes bs
 
 abbrev pub IsPrefix : List ℕ → List ℕ → Type 0
 IsPrefix a b = (c : List ℕ) × (b ≡ a ++ c)
@@ -37,11 +42,11 @@ Reports t (result None) end = end ≡ crews.Results (None ∷ [])
 Reports t e end = end ≡ crew_end (stop_of e)
 
 -- the meaning over the same input, with what the run was granted: the end, and the world then
-abbrev pub meant : Typed → (input : List ℕ) → Run → (fuel : ℕ) → End × World
+abbrev pub meant : Typed → Input → Run → (fuel : ℕ) → End × World
 meant u input run fuel = means u input (grants (events_of run.deeds)) fuel
 
--- a run of the unit within a budget, over these bytes of input, does what is meant
-pub record MeansRun (u : Typed) (input : List ℕ) (budget : ℕ) (run : Run) : Type 0 where
+-- a run of the unit within a budget, over this input, does what is meant
+pub record MeansRun (u : Typed) (input : Input) (budget : ℕ) (run : Run) : Type 0 where
   -- the sizes that it asks for are those of the meaning with as much fuel
   pub sizes : sizes_of (events_of run.deeds) ≡ (meant u input run budget).1.sizes
   -- where it has ended, it has the output and the end of the meaning
@@ -53,9 +58,9 @@ pub record MeansRun (u : Typed) (input : List ℕ) (budget : ℕ) (run : Run) : 
   pub bound : (fuel : ℕ) → longest_of u * (fuel + 1) < budget → run.end ≡ OutOfBudget → (meant u input run fuel).0 ≡ out_of_fuel
 
 -- the run of the task of the function at an address, with no start function
-abbrev pub run_at : Store → (address : ℕ) → (input : List ℕ) → (budget : ℕ) → Run
-run_at s address input budget = run_of (replicate budget 0) (crew_of_one s (func_thread s address)) (map Some input)
+abbrev pub run_at : Store → (address : ℕ) → Input → (budget : ℕ) → Run
+run_at s address input budget = run_of (replicate budget 0) (crew_of_one s (func_thread s address)) input
 
 -- each run of the unit's `main`, which stands at an address of a store
 abbrev pub Behaves : Typed → Store → (main : ℕ) → Type 0
-Behaves u s main = (input : List ℕ) → AreBytes input → (budget : ℕ) → MeansRun u input budget (run_at s main input budget)
+Behaves u s main = (input : Input) → AreBytes input → (budget : ℕ) → MeansRun u input budget (run_at s main input budget)

@@ -1,6 +1,6 @@
 //! What is true of the steps of one thread, and of the run of a unit of C that was compiled.
 
-ghost use Rattle.std.specs.Prelude.{◌≡◌, ◌≤◌, ℕ, List, [], ◌∷◌, None, Ok, Some, codes, map, replicate, slice_get, true};
+ghost use Rattle.std.specs.Prelude.{◌≡◌, ◌≤◌, ℕ, List, [], ◌∷◌, None, Ok, Some, codes, replicate, slice_get, true};
 ghost use Rattle.ms_machine.specs.Crews.{Input, run_entries, run_of, turns_from};
 ghost use Rattle.ms_machine.specs.Linked.{linked};
 ghost use Rattle.ms_machine.specs.Store.{Store};
@@ -56,8 +56,8 @@ pub fn linked_behaves()
 /// What `exec` runs of such a unit, linked alone, does what is meant, where its `main` is a task: the one task behind the start
 /// function, which has nothing to do.
 pub fn executed_behaves()
-    ensures { (u : Typed) (c turns budget : ℕ) (s : Store) (threads : List Thread) (input : List ℕ) → IsWellTyped u → in_stage u ≡ true
+    ensures { (u : Typed) (c turns budget : ℕ) (s : Store) (threads : List Thread) (input : Input) → IsWellTyped u → in_stage u ≡ true
         → linked (([], compiled u) ∷ []) c ≡ Ok s
         → threads_from s ((0, codes "main") ∷ []) 0 ≡ Ok threads → AreBytes input
-        → MeansRun u input budget (run_of (turns_from turns 1 0 budget) (crew_of s threads) (map Some input)) }
+        → MeansRun u input budget (run_of (turns_from turns 1 0 budget) (crew_of s threads) input) }
 {}

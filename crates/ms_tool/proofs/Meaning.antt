@@ -14,7 +14,6 @@ use Rattle.ms_job.specs.Jobs.{most_turns}
 use Rattle.ms_machine.specs.Crews.{Input, Run, run_of, turns_from}
 use Rattle.ms_machine.specs.Externs.{Fault}
 use Rattle.ms_machine.specs.Linked.{linked}
-use Rattle.ms_machine.specs.Running.{MayGive}
 use Rattle.ms_machine.specs.Store.{Store}
 use Rattle.ms_module.specs.declared.module.Module.{Module}
 use Rattle.ms_run.specs.Answers.{Found, HasBytes, HasModule}
@@ -36,7 +35,7 @@ is_staged u e = by (in_stage u) refl where
   by true is = is
   by false is = absurd (let f = ap (λ b. first_true (not b) stage (limit_of u)) (sym is) ∙ e in cc)
 
-module _ (u : Typed) (budget memory : ℕ) (input : List ℕ) (given : Input) (is_given : given ≡ map Some input) (bytes : AreBytes input)
+module _ (u : Typed) (budget memory : ℕ) (given : Input) (bytes : AreBytes given)
     (well : IsWellTyped u) (staged : in_stage u ≡ true) where
   tasks : List (ℕ × List ℕ)
   tasks = (0, codes "main") ∷ []
@@ -45,19 +44,18 @@ module _ (u : Typed) (budget memory : ℕ) (input : List ℕ) (given : Input) (i
   entries = turns_from most_turns 1 0 budget
 
   of_threads : (s : Store) (r : Result (List Thread) ℕ) (run : Run) → linked (([], compiled u) ∷ []) memory ≡ Ok s → threads_from s tasks 0 ≡ r
-      → with_threads entries s given r ≡ Ran run → MeansRun u input budget run
+      → with_threads entries s given r ≡ Ran run → MeansRun u given budget run
   of_threads s (Err n) run e h k = absurd cc
   of_threads s (Ok threads) run e h k =
       let same : run_of entries (crew_of s threads) given ≡ run = cc in
-      subst (λ (x : Run). MeansRun u input budget x) same
-      (subst (λ (i : Input). MeansRun u input budget (run_of entries (crew_of s threads) i)) (sym is_given)
-      (executed_behaves u memory most_turns budget s threads input well staged e h bytes))
+      subst (λ (x : Run). MeansRun u given budget x) same
+      (executed_behaves u memory most_turns budget s threads given well staged e h bytes)
 
-  of_store : (r : Result Store Fault) (run : Run) → linked (([], compiled u) ∷ []) memory ≡ r → if_linked tasks entries given r ≡ Ran run → MeansRun u input budget run
+  of_store : (r : Result Store Fault) (run : Run) → linked (([], compiled u) ∷ []) memory ≡ r → if_linked tasks entries given r ≡ Ran run → MeansRun u given budget run
   of_store (Err fault) run e k = absurd cc
   of_store (Ok s) run e k = of_threads s (threads_from s tasks 0) run e refl k
 
-  of_execution : (run : Run) → execution (([], compiled u) ∷ []) tasks entries memory given ≡ Ran run → MeansRun u input budget run
+  of_execution : (run : Run) → execution (([], compiled u) ∷ []) tasks entries memory given ≡ Ran run → MeansRun u given budget run
   of_execution run k = of_store (linked (([], compiled u) ∷ []) memory) run refl k
 
 -- the one module that was loaded
@@ -75,10 +73,6 @@ the_entries : (Has : List ℕ → Found → Type 0) (name : List ℕ) (budget me
 the_entries Has name budget memory _ (in_turns none) = refl
 the_entries Has name budget memory _ (listed file numbers some has) = absurd cc
 
-given_bytes : (left : Option (List ℕ)) (given : Input) (input : List ℕ) → left ≡ Some input → MayGive left given → given ≡ map Some input
-given_bytes None given input e may = absurd cc
-given_bytes (Some held) given input e may = may ∙ ap (λ (l : List ℕ). map Some l) (let same : held ≡ input = cc in same)
-
 pub ran_as_meant : (s : Shelved) (r : Report) (f : Flow) (name : List ℕ) (budget memory : ℕ) (status : Status)
     → form_of name ≡ Source → RanSafely s r f (exec_job name budget memory) status → RanAsMeant s r f name budget memory status
 ran_as_meant s r f name budget memory status form ran =
@@ -93,12 +87,12 @@ ran_as_meant s r f name budget memory status form ran =
       found = has.found;
       unit = u;
       is_unit = module'.is_unit;
-      means = λ input left bytes.
+      means = λ bytes.
           let same : execution (([], compiled u) ∷ []) ((0, codes "main") ∷ []) (turns_from most_turns 1 0 budget) memory ran.given ≡ Ran ran.run =
           ap (λ (x : Module). execution (([], x) ∷ []) ((0, codes "main") ∷ []) (turns_from most_turns 1 0 budget) memory ran.given) (sym module'.module')
           ∙ ap (λ (ms : List (List ℕ × Module)). execution ms ((0, codes "main") ∷ []) (turns_from most_turns 1 0 budget) memory ran.given) (sym loaded.are)
           ∙ ap (λ (es : List ℕ). execution job.modules ((0, codes "main") ∷ []) es memory ran.given) (sym (the_entries (Holds s.old) name budget memory job.entries job.scheduled))
           ∙ job.ran in
-          of_execution u budget memory input ran.given (given_bytes f.left_old ran.given input left ran.may) bytes
+          of_execution u budget memory ran.given bytes
           (typing_well module'.is_unit.externals u module'.is_unit.typed) (is_staged u module'.within) ran.run same;
     }

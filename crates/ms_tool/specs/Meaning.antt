@@ -1,5 +1,5 @@
 -- The run of a program of C that has come to an end: it is the one that the answer tells of, and does what the program means.
-use Rattle.std.specs.Prelude.{◌≡◌, ℕ, List, Some}
+use Rattle.std.specs.Prelude.{ℕ, List}
 use Rattle.c_typed.specs.Tree.{Typed}
 use Rattle.ms_run.specs.Source.{IsUnit}
 use Rattle.c_runs.specs.Correct.{AreBytes, MeansRun}
@@ -18,5 +18,5 @@ pub record RanAsMeant (s : Shelved) (r : Report) (f : Flow) (name : List ℕ) (b
   pub found : HasBytes (Holds s.old) name bytes
   pub unit : Typed
   pub is_unit : IsUnit bytes unit
-  -- over an input that tells its bytes it has the output and the end that are meant
-  pub means : (input : List ℕ) → f.left_old ≡ Some input → AreBytes input → MeansRun unit input budget ran.run
+  -- over what the input gave, where that are bytes, it has the output and the end that are meant
+  pub means : AreBytes ran.given → MeansRun unit ran.given budget ran.run
