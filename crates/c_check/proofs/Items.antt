@@ -2,7 +2,7 @@
 use Rattle.std.proofs.Common.{◌≡◌, ℕ, zero, suc, ◌+◌, ◌<◌, arith, List, [], ◌∷◌, length, get_or, ap}
 use Rattle.c_tree.specs.declared.statement.Item.{Item}
 use Rattle.c_tree.specs.declared.statement.Item.TheVariants as code
-use Rattle.c_tree.specs.StatementViews.{items_of, items_nodes, statement_nodes}
+use Rattle.c_tree.specs.refinement.StatementViews.{items_of, items_nodes, statement_nodes}
 
 abbrev pub item_nodes : Item → ℕ
 item_nodes (code.Statement s) = statement_nodes s

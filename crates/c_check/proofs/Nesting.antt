@@ -13,7 +13,7 @@ use Rattle.c_tree.specs.StatementHeights.{tallest_item}
 use Rattle.c_tree.specs.Statements.{Items}
 use Rattle.c_tree.specs.Tree.{Declarator, Initialiser}
 use Rattle.c_typed.specs.declared.ops.Variable.TheVariants as variables
-use Rattle.c_typed.specs.Nesting.{stmt_nesting, deepest, made_nesting, function_nesting, unit_nesting}
+use Rattle.c_typed.specs.refinement.Nesting.{stmt_nesting, deepest, made_nesting, function_nesting, unit_nesting}
 use Rattle.c_typed.specs.Tree as to
 use Rattle.c_typed.specs.Tree.{Function, Stmt, Typed}
 use Rattle.c_check_types.specs.Scopes.{no_names, outer as outside}

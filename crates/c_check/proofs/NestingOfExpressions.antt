@@ -14,7 +14,7 @@ use Rattle.c_tree.specs.Tree as tree
 use Rattle.c_tree.specs.Tree.{Expr, Exprs, Declarator, Parameters}
 use Rattle.c_typed.specs.declared.ops.UnaryOp.{UnaryOp}
 use Rattle.c_typed.specs.declared.ops.UnaryOp.TheVariants as signs
-use Rattle.c_typed.specs.Nesting.{place_nesting, exprs_nesting}
+use Rattle.c_typed.specs.refinement.Nesting.{place_nesting, exprs_nesting}
 use Rattle.c_typed.specs.Tree as to
 use Rattle.c_typed.specs.Tree.{Place}
 use Rattle.c_check_types.specs.declared.entity.Entity.{Entity}

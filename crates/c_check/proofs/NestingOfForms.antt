@@ -12,7 +12,7 @@ use Rattle.c_typed.specs.Forms.{promoted_value, at_one_type, arithmetic, shift, 
 use Rattle.c_operators.specs.Operations.{moved, moved_by, difference, equal_pointers, sum, minus, ordered_pointers, order, Both, integers, pointers, voids, beside, equality_of, equality, choice_of, choice}
 use Rattle.c_typed.specs.Tree as to
 use Rattle.c_typed.specs.Tree.{Expr, Place}
-use Rattle.c_typed.specs.Nesting.{place_nesting, expr_nesting, deepest, made_nesting, function_nesting}
+use Rattle.c_typed.specs.refinement.Nesting.{place_nesting, expr_nesting, deepest, made_nesting, function_nesting}
 use Rattle.c_check_types.specs.State.{State, Rule, followed, ◌>>=◌, pure, none, given, only_if, and_then}
 use Rattle.c_check_types.specs.TypeEquality.{same_integer, same_type}
 use Rattle.c_check_types.specs.Types.{measured, size_of}

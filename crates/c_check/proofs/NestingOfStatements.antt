@@ -17,7 +17,7 @@ use Rattle.c_tree.specs.Statements.{Statement, Items}
 use Rattle.c_tree.specs.Tree as written
 use Rattle.c_tree.specs.Tree.{Expr, Declarator, Initialiser, Initialisers}
 use Rattle.c_typed.specs.declared.ops.Variable.TheVariants as variables
-use Rattle.c_typed.specs.Nesting.{place_nesting, expr_nesting, continues, any_continues, one_if, step_nesting, stmt_nesting, stmts_nesting}
+use Rattle.c_typed.specs.refinement.Nesting.{place_nesting, expr_nesting, continues, any_continues, one_if, step_nesting, stmt_nesting, stmts_nesting}
 use Rattle.c_typed.specs.Parts.{element_place, sequence}
 use Rattle.c_typed.specs.Tree as to
 use Rattle.c_typed.specs.Tree.{Place, Stmt}

@@ -17,7 +17,7 @@ use Rattle.c_tree.specs.Tree.{Expr, Declarator, Parameters, Initialiser}
 use Rattle.c_typed.specs.declared.unit.Enumerator.{Enumerator}
 use Rattle.c_typed.specs.declared.unit.Subject.TheVariants as subjects
 use Rattle.c_typed.specs.Identifiers.{is_identifier}
-use Rattle.c_typed.specs.Nesting.{function_nesting}
+use Rattle.c_typed.specs.refinement.Nesting.{function_nesting}
 use Rattle.c_check_types.specs.declared.constants.Constant.{Constant}
 use Rattle.c_check_types.specs.declared.entity.Entity.{Entity}
 use Rattle.c_check_types.specs.declared.entity.Entity.TheVariants as entities

@@ -1,7 +1,7 @@
 -- The initializers in braces: each is smaller than all of them.
 use Rattle.std.proofs.Common.{◌≡◌, ℕ, zero, suc, ◌<◌, arith, List, [], ◌∷◌, length, get_or, ap}
 use Rattle.c_tree.specs.Tree.{Initialiser}
-use Rattle.c_tree.specs.InitialiserViews.{initialisers_of, initialiser_nodes, initialisers_nodes}
+use Rattle.c_tree.specs.refinement.InitialiserViews.{initialisers_of, initialiser_nodes, initialisers_nodes}
 
 pub one_falls : (vs : List Initialiser) (i : ℕ) (v : Initialiser) → i < length vs → v ≡ get_or vs i v → initialiser_nodes v < initialisers_nodes (initialisers_of vs)
 one_falls [] i v lt e = absurd (omega arith)

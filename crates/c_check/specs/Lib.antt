@@ -2,4 +2,4 @@ pub mod Initialisers
 pub mod Statements
 pub mod Declarations
 pub mod Units
-pub mod Views
+pub mod refinement

@@ -2,11 +2,11 @@
 
 ghost use Rattle.std.specs.Prelude.{◌≡◌, ◌++◌, ◌∷◌, [], IfOk, OnOk};
 ghost use Rattle.c_types.specs.Types.{type_of};
-ghost use Rattle.c_typed.specs.Views.{list_of, stmt_of};
+ghost use Rattle.c_typed.specs.refinement.Views.{list_of, stmt_of};
 ghost use Rattle.c_check_types.specs.Types.{whole};
-ghost use Rattle.c_check_types.specs.Views.{Obeys, Gives, derived_of, name_of, state_of};
+ghost use Rattle.c_check_types.specs.refinement.Views.{Obeys, Gives, derived_of, name_of, state_of};
 ghost use Rattle.c_check.specs.Statements as words;
-ghost use Rattle.c_check.specs.Views.{declaring_of};
+ghost use Rattle.c_check.specs.refinement.Views.{declaring_of};
 
 use crate::initialiser::initialised;
 use crate::labels::Labels;

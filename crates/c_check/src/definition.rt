@@ -2,7 +2,7 @@
 
 ghost use Rattle.std.specs.Prelude.{◌≡◌};
 ghost use Rattle.c_types.specs.Types.{type_of};
-ghost use Rattle.c_check_types.specs.Views.{Obeys, parameters_in, state_of};
+ghost use Rattle.c_check_types.specs.refinement.Views.{Obeys, parameters_in, state_of};
 ghost use Rattle.c_check.specs.Declarations as words;
 
 use crate::declaring::{nothing_done, scope_of};

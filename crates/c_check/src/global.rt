@@ -2,9 +2,9 @@
 
 ghost use Rattle.std.specs.Prelude.{◌≡◌, slice_set};
 ghost use Rattle.c_types.specs.Types.{type_of};
-ghost use Rattle.c_typed.specs.Views.{list_of};
+ghost use Rattle.c_typed.specs.refinement.Views.{list_of};
 ghost use Rattle.c_check_types.specs.Types.{whole};
-ghost use Rattle.c_check_types.specs.Views.{Obeys, derived_of, state_of};
+ghost use Rattle.c_check_types.specs.refinement.Views.{Obeys, derived_of, state_of};
 ghost use Rattle.c_check.specs.Declarations as words;
 
 use crate::declaring::is_missing;

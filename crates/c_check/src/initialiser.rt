@@ -2,10 +2,10 @@
 
 ghost use Rattle.std.specs.Prelude.{◌≡◌, false};
 ghost use Rattle.c_types.specs.Types.{integer, type_of};
-ghost use Rattle.c_typed.specs.Views.{list_of, path_place};
+ghost use Rattle.c_typed.specs.refinement.Views.{list_of, path_place};
 ghost use Rattle.c_tree.specs.Tree as tree;
-ghost use Rattle.c_check_types.specs.Views.{Obeys, Gives, state_of};
-ghost use Rattle.c_typed.specs.FormViews.{boxed_expr, form_of, place_pair};
+ghost use Rattle.c_check_types.specs.refinement.Views.{Obeys, Gives, state_of};
+ghost use Rattle.c_typed.specs.refinement.FormViews.{boxed_expr, form_of, place_pair};
 ghost use Rattle.c_check.specs.Initialisers as words;
 
 use c_check_exprs::{member_type, typed_as, typed_place, typing};

@@ -2,13 +2,13 @@
 
 ghost use Rattle.std.specs.Prelude.{◌≡◌, IfOk};
 ghost use Rattle.c_types.specs.Types.{type_of};
-ghost use Rattle.c_typed.specs.Views.{boxed_step, stmt_of};
+ghost use Rattle.c_typed.specs.refinement.Views.{boxed_step, stmt_of};
 ghost use Rattle.c_tree.specs.Statements as tree;
-ghost use Rattle.c_check_types.specs.Views.{Obeys, state_of};
-ghost use Rattle.c_typed.specs.FormViews.{boxed_expr};
+ghost use Rattle.c_check_types.specs.refinement.Views.{Obeys, state_of};
+ghost use Rattle.c_typed.specs.refinement.FormViews.{boxed_expr};
 ghost use Rattle.c_well_typed.specs.Statements.{in_loop, in_switch, no_jumps};
 ghost use Rattle.c_check.specs.Statements as words;
-ghost use Rattle.c_check.specs.Views.{boxed_stmt, declaring_of, item_rule};
+ghost use Rattle.c_check.specs.refinement.Views.{boxed_stmt, declaring_of, item_rule};
 
 use crate::declaring::{Declaring, and_done, declaration_of, nothing_done, scope_of};
 use crate::switch::{case_label, default_label, switch_of, switched_on};

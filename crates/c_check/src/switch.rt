@@ -2,12 +2,12 @@
 
 ghost use Rattle.std.specs.Prelude.{◌≡◌, ◌∷◌, ◌++◌, IfOk, OnOk};
 ghost use Rattle.c_types.specs.Types.{type_of};
-ghost use Rattle.c_typed.specs.FormViews.{integer_pair};
-ghost use Rattle.c_typed.specs.Views.{list_of, stmt_of};
-ghost use Rattle.c_check_types.specs.Views.{Obeys, state_of};
+ghost use Rattle.c_typed.specs.refinement.FormViews.{integer_pair};
+ghost use Rattle.c_typed.specs.refinement.Views.{list_of, stmt_of};
+ghost use Rattle.c_check_types.specs.refinement.Views.{Obeys, state_of};
 ghost use Rattle.c_check_exprs.specs.Expressions.{typing};
 ghost use Rattle.c_check.specs.Statements as words;
-ghost use Rattle.c_check.specs.Views.{declaring_of};
+ghost use Rattle.c_check.specs.refinement.Views.{declaring_of};
 
 use crate::declaring::Declaring;
 use c_check_exprs::typed_integer;

@@ -3,13 +3,13 @@
 ghost use Rattle.std.specs.Prelude.{◌≡◌, ◌≤◌, ◌*◌, IfOk};
 ghost use Rattle.c_types.specs.Types.{type_of};
 ghost use Rattle.c_tree.specs.ExternalHeights.{unit_height};
-ghost use Rattle.c_typed.specs.Nesting.{unit_nesting};
-ghost use Rattle.c_typed.specs.Views.{names_in, typed_of};
-ghost use Rattle.c_check_types.specs.Views.{Obeys, state_of};
+ghost use Rattle.c_typed.specs.refinement.Nesting.{unit_nesting};
+ghost use Rattle.c_typed.specs.refinement.Views.{names_in, typed_of};
+ghost use Rattle.c_check_types.specs.refinement.Views.{Obeys, state_of};
 ghost use Rattle.c_well_typed.specs.Units.{IsWellTyped};
 ghost use Rattle.c_check.specs.Declarations as words;
 ghost use Rattle.c_check.specs.Units.{start, typed_state};
-ghost use Rattle.c_check.specs.Views.{Checks, GoesOn};
+ghost use Rattle.c_check.specs.refinement.Views.{Checks, GoesOn};
 
 use crate::definition::definition;
 use crate::fault::CCheck;

@@ -2,10 +2,10 @@
 use Rattle.std.proofs.Common.{◌≡◌, ◌∙◌, ℕ, zero, suc, ◌+◌, ◌<◌, arith, List, [], ◌∷◌, ◌++◌, length, get_or, drop, Some, None, sym, refl, ap}
 use Rattle.std.proofs.Math.Seq.{drop-cons}
 use Rattle.c_types.specs.Types.{type_of}
-use Rattle.c_types.specs.Views.{types_in}
+use Rattle.c_types.specs.refinement.Views.{types_in}
 use Rattle.c_types.specs.declared.types.CType.{CType}
 use Rattle.c_tree.specs.Tree.{Expr}
-use Rattle.c_tree.specs.Views.{exprs_of, exprs_nodes, expr_nodes}
+use Rattle.c_tree.specs.refinement.Views.{exprs_of, exprs_nodes, expr_nodes}
 use Rattle.c_typed.specs.Tree as to
 use Rattle.c_check_types.specs.State.{State, Rule, followed}
 use Rattle.c_check_types.specs.TypeEquality.{tys_of}

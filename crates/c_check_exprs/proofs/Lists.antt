@@ -3,15 +3,15 @@ use Rattle.std.proofs.Common.{◌≡◌, ◌∙◌, ◌==◌, List, [], ◌∷�
 use Rattle.std.proofs.lemmas.Bool.Decides.{nat_tests}
 use Rattle.c_types.specs.Types.{type_of}
 use Rattle.c_tree.specs.Tree as tree
-use Rattle.c_tree.specs.Views as written
+use Rattle.c_tree.specs.refinement.Views as written
 use mathlib.Core.Former.{Count}
 use Rattle.c_typed.specs.declared.tree.Expr.{Expr, Row_of-Expr, end_of-Expr, more_of-Expr, items-the_row-Expr, items_hidden-the_row-Expr-0}
 use Rattle.c_typed.specs.declared.tree.Expr.TheVariants as code
 use Rattle.c_typed.specs.Tree as to
-use Rattle.c_typed.specs.Views as views
-use Rattle.c_typed.specs.Views.{expr_of}
+use Rattle.c_typed.specs.refinement.Views as views
+use Rattle.c_typed.specs.refinement.Views.{expr_of}
 use Rattle.c_check_exprs.specs.Expressions.{exprs_of, no_arguments}
-use Rattle.c_check_exprs.specs.Views.{exprs_in}
+use Rattle.c_check_exprs.specs.refinement.Views.{exprs_in}
 
 row_is : (n : _) (row : Row_of-Expr n) → views.exprs_of row ≡ exprs_of (exprs_in (items-the_row-Expr n row))
 row_is n end_of-Expr = refl

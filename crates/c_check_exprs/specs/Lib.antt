@@ -1,2 +1,2 @@
 pub mod Expressions
-pub mod Views
+pub mod refinement

@@ -2,10 +2,10 @@
 
 ghost use Rattle.std.specs.Prelude.{◌≡◌};
 ghost use Rattle.c_types.specs.Types.{integer, pointer, type_of};
-ghost use Rattle.c_typed.specs.Views.{expr_of, place_of};
-ghost use Rattle.c_check_types.specs.Views.{Obeys, state_of};
+ghost use Rattle.c_typed.specs.refinement.Views.{expr_of, place_of};
+ghost use Rattle.c_check_types.specs.refinement.Views.{Obeys, state_of};
 ghost use Rattle.c_check_exprs.specs.Expressions as words;
-ghost use Rattle.c_typed.specs.FormViews.{form_of, integer_pair, place_pair};
+ghost use Rattle.c_typed.specs.refinement.FormViews.{form_of, integer_pair, place_pair};
 
 use c_check_types::{Checker, Operator, Stop, same_type};
 use c_conversions::{as_place, assigned_to, integer_of};

@@ -2,15 +2,15 @@
 
 ghost use Rattle.std.specs.Prelude.{◌≡◌, IfOk};
 ghost use Rattle.c_types.specs.Types.{function, type_of};
-ghost use Rattle.c_types.specs.Views.{types_in};
+ghost use Rattle.c_types.specs.refinement.Views.{types_in};
 ghost use Rattle.c_check_types.specs.TypeEquality.{tys_of};
 ghost use Rattle.c_typed.specs.Tree as to;
-ghost use Rattle.c_typed.specs.Views.{expr_of};
-ghost use Rattle.c_check_types.specs.Views.{Obeys, Gives, state_of};
+ghost use Rattle.c_typed.specs.refinement.Views.{expr_of};
+ghost use Rattle.c_check_types.specs.refinement.Views.{Obeys, Gives, state_of};
 ghost use Rattle.c_check_exprs.specs.Expressions as words;
 ghost use Rattle.c_typed.specs.Forms as forms;
-ghost use Rattle.c_typed.specs.FormViews.{boxed_expr, form_of};
-ghost use Rattle.c_check_exprs.specs.Views.{exprs_in};
+ghost use Rattle.c_typed.specs.refinement.FormViews.{boxed_expr, form_of};
+ghost use Rattle.c_check_exprs.specs.refinement.Views.{exprs_in};
 
 use c_check_types::{Checker, Stop};
 use c_conversions::{assigned_to, integer_of, operand, thrown_away};

@@ -2,15 +2,15 @@
 
 ghost use Rattle.std.specs.Prelude.{◌≡◌, [], IfOk};
 ghost use Rattle.c_types.specs.Types.{function, type_of};
-ghost use Rattle.c_types.specs.Views.{types_in};
-ghost use Rattle.c_typed.specs.Views.{expr_of};
+ghost use Rattle.c_types.specs.refinement.Views.{types_in};
+ghost use Rattle.c_typed.specs.refinement.Views.{expr_of};
 ghost use Rattle.c_tree.specs.Tree as tree;
 ghost use Rattle.c_check_types.specs.TypeEquality.{tys_of};
 ghost use Rattle.c_check_types.specs.declared.operators.Operator.TheVariants.{And, Equality, Or};
-ghost use Rattle.c_check_types.specs.Views.{Obeys, state_of};
-ghost use Rattle.c_typed.specs.FormViews.{boxed_expr, form_of, integer_pair, place_pair, value_pair};
+ghost use Rattle.c_check_types.specs.refinement.Views.{Obeys, state_of};
+ghost use Rattle.c_typed.specs.refinement.FormViews.{boxed_expr, form_of, integer_pair, place_pair, value_pair};
 ghost use Rattle.c_check_exprs.specs.Expressions as words;
-ghost use Rattle.c_check_exprs.specs.Views.{exprs_in};
+ghost use Rattle.c_check_exprs.specs.refinement.Views.{exprs_in};
 
 use crate::assign::{assign_operator, assigning, step_operator, stepped};
 use crate::call::{allocating, call_of, cast, freeing, putting};

@@ -3,11 +3,11 @@
 ghost use Rattle.std.specs.Prelude.{◌≡◌, slice_get};
 ghost use Rattle.c_types.specs.Layout.{members_of};
 ghost use Rattle.c_types.specs.Types.{struct, type_of};
-ghost use Rattle.c_typed.specs.Views.{place_of};
-ghost use Rattle.c_check_types.specs.Views.{Obeys, Gives, state_of};
+ghost use Rattle.c_typed.specs.refinement.Views.{place_of};
+ghost use Rattle.c_check_types.specs.refinement.Views.{Obeys, Gives, state_of};
 ghost use Rattle.c_check_exprs.specs.Expressions as words;
-ghost use Rattle.c_typed.specs.FormViews.{form_of, integer_pair, value_pair};
-ghost use Rattle.c_check_exprs.specs.Views.{numbered_type};
+ghost use Rattle.c_typed.specs.refinement.FormViews.{form_of, integer_pair, value_pair};
+ghost use Rattle.c_check_exprs.specs.refinement.Views.{numbered_type};
 
 use crate::name::type_at;
 use crate::unary::place_at;

@@ -3,11 +3,11 @@
 ghost use Rattle.std.specs.Prelude.{◌≡◌, slice_get, IfOk, None};
 ghost use Rattle.c_types.specs.Types.{integer, type_of};
 ghost use Rattle.c_typed.specs.Tree as to;
-ghost use Rattle.c_types.specs.Views.{types_in};
+ghost use Rattle.c_types.specs.refinement.Views.{types_in};
 ghost use Rattle.c_check_types.specs.Scopes as scopes;
-ghost use Rattle.c_check_types.specs.Views.{Obeys, Gives, state_of};
+ghost use Rattle.c_check_types.specs.refinement.Views.{Obeys, Gives, state_of};
 ghost use Rattle.c_check_exprs.specs.Expressions as words;
-ghost use Rattle.c_typed.specs.FormViews.{form_of};
+ghost use Rattle.c_typed.specs.refinement.FormViews.{form_of};
 ghost use Rattle.c_typed.specs.Forms as forms;
 
 use c_check_types::{Checker, Entity, LibraryName, Stop, entity_of, library};

@@ -3,11 +3,11 @@
 ghost use Rattle.std.specs.Prelude.{◌≡◌, IfOk};
 ghost use Rattle.c_types.specs.Types.{integer, type_of};
 ghost use Rattle.c_typed.specs.Tree as to;
-ghost use Rattle.c_typed.specs.Views.{expr_of, sized_of};
-ghost use Rattle.c_check_types.specs.Views.{Obeys, state_of};
+ghost use Rattle.c_typed.specs.refinement.Views.{expr_of, sized_of};
+ghost use Rattle.c_check_types.specs.refinement.Views.{Obeys, state_of};
 ghost use Rattle.c_check_exprs.specs.Expressions as words;
 ghost use Rattle.c_typed.specs.Forms as forms;
-ghost use Rattle.c_typed.specs.FormViews.{form_of};
+ghost use Rattle.c_typed.specs.refinement.FormViews.{form_of};
 
 use c_check_types::{Checker, Stop};
 use c_conversions::{condition_of, integer_of, pointer_of};

@@ -3,7 +3,7 @@ use Rattle.std.proofs.Common.{◌≡◌, ◌∙◌, ℕ, zero, suc, ◌+◌, ◌
 use Rattle.std.proofs.Math.Seq.{drop-cons}
 use Rattle.c_tree.specs.declared.tree.Parameter.{Parameter as Written}
 use Rattle.c_tree.specs.Tree.{Parameters}
-use Rattle.c_tree.specs.Views.{parameters_of, parameters_nodes, declarator_nodes}
+use Rattle.c_tree.specs.refinement.Views.{parameters_of, parameters_nodes, declarator_nodes}
 use Rattle.c_check_types.specs.State.{Names, Rule, State, followed}
 use Rattle.c_check_types.specs.Types.{Parameter, whole, a_parameter, declared, parameters}
 

@@ -3,7 +3,7 @@ use Rattle.std.proofs.Common.{◌≡◌, ◌∙◌, sym, ap, Result, Ok, Err}
 use Rattle.c_check_types.specs.declared.fault.Stop.{Stop}
 use Rattle.c_check_types.specs.declared.fault.Stop.TheVariants as stops
 use Rattle.c_check_types.specs.State.{Rule, State, followed}
-use Rattle.c_check_types.specs.Views.{Obeys}
+use Rattle.c_check_types.specs.refinement.Views.{Obeys}
 
 -- a rule ends where a part of it has no answer
 pub stopped : {A B C D : Type 0} (view : B → A) (w : D → C) (rule : Rule A) (all : Rule C) (s t old new : State) (next : A → Rule C) (e : Stop)

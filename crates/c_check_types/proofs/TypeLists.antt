@@ -4,7 +4,7 @@ use mathlib.Core.Former.{Count}
 use Rattle.c_types.specs.declared.types.CType.{CType, Row_of-CType, end_of-CType, more_of-CType, items-the_row-CType, items_hidden-the_row-CType-0}
 use Rattle.c_types.specs.declared.types.CType.TheVariants as code
 use Rattle.c_types.specs.Types.{types, function, type_of, types_of}
-use Rattle.c_types.specs.Views.{types_in}
+use Rattle.c_types.specs.refinement.Views.{types_in}
 use Rattle.c_check_types.specs.TypeEquality.{tys_of, same_type, same_types}
 
 pub row_is : (n : _) (row : Row_of-CType n) → types_of row ≡ tys_of (types_in (items-the_row-CType n row))

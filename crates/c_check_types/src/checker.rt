@@ -7,7 +7,7 @@ ghost use Rattle.c_check_types.specs.Scopes as scopes;
 ghost use Rattle.c_check_types.specs.Scopes.{new_tag, tag_number};
 ghost use Rattle.c_check_types.specs.Types as words;
 ghost use Rattle.c_check_types.specs.State.{added, number_of};
-ghost use Rattle.c_check_types.specs.Views.{Obeys, scope_of, scopes_of, state_of};
+ghost use Rattle.c_check_types.specs.refinement.Views.{Obeys, scope_of, scopes_of, state_of};
 
 use crate::entity::Entity;
 use crate::fault::Stop;

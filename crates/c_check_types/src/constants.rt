@@ -6,7 +6,7 @@ ghost use Rattle.ms_num.specs.Integers.{IsWidth};
 ghost use Rattle.c_types.specs.Integers as types;
 ghost use Rattle.c_types.specs.Integers.{bits};
 ghost use Rattle.c_check_types.specs.Constants as words;
-ghost use Rattle.c_check_types.specs.Ranges.{InRange, IsInRange, IsBits};
+ghost use Rattle.c_check_types.specs.refinement.Ranges.{InRange, IsInRange, IsBits};
 
 use crate::operators::Operator;
 use c_token::IntegerType;

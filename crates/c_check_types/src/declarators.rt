@@ -2,10 +2,10 @@
 
 ghost use Rattle.std.specs.Prelude.{◌≡◌, [], IfOk, map};
 ghost use Rattle.c_types.specs.Types.{type_of};
-ghost use Rattle.c_types.specs.Views.{types_in};
-ghost use Rattle.c_check_types.specs.Ranges.{IsInRange};
+ghost use Rattle.c_types.specs.refinement.Views.{types_in};
+ghost use Rattle.c_check_types.specs.refinement.Ranges.{IsInRange};
 ghost use Rattle.c_check_types.specs.Types as words;
-ghost use Rattle.c_check_types.specs.Views.{Obeys, Gives, declared_of, derived_of, name_of, parameter_of, parameters_in, state_of};
+ghost use Rattle.c_check_types.specs.refinement.Views.{Obeys, Gives, declared_of, derived_of, name_of, parameter_of, parameters_in, state_of};
 
 use crate::checker::{Checker, entity_of};
 use crate::constants::{

@@ -3,7 +3,7 @@
 ghost use Rattle.std.specs.Prelude.{◌≡◌};
 ghost use Rattle.c_types.specs.Types.{type_of};
 ghost use Rattle.c_check_types.specs.Types as words;
-ghost use Rattle.c_check_types.specs.Views.{Gives, derived_of};
+ghost use Rattle.c_check_types.specs.refinement.Views.{Gives, derived_of};
 
 use crate::fault::Stop;
 use c_types::CType;

@@ -4,7 +4,7 @@ ghost use Rattle.std.specs.Prelude.{◌≡◌, ◌≤◌, ◌&&◌, IfOk, IfSome
 ghost use Rattle.c_types.specs.Layout.{most_bytes};
 ghost use Rattle.c_types.specs.Layout as layout;
 ghost use Rattle.c_types.specs.Types.{function, type_of};
-ghost use Rattle.c_types.specs.Views.{types_in};
+ghost use Rattle.c_types.specs.refinement.Views.{types_in};
 ghost use Rattle.c_check_types.specs.TypeEquality as words;
 ghost use Rattle.c_check_types.specs.TypeEquality.{tys_of};
 ghost use Rattle.c_check_types.specs.Types.{limited, measured, so_many};

@@ -3,7 +3,7 @@ use Rattle.std.proofs.Common.{◌≡◌, ◌∷◌, ℕ, Bool, true, false, List
 use Rattle.std.specs.Prelude.{Result, OnOk}
 use Rattle.ms_module.specs.Building.{State}
 use Rattle.ms_emit.specs.Codes.{Code, one, ◌⨾◌}
-use Rattle.ms_emit.specs.Parts.{Adds}
+use Rattle.ms_emit.specs.refinement.Parts.{Adds}
 use Rattle.ms_emit.proofs.Adding.{adds_then}
 use Rattle.ms_module.specs.declared.instr.Instr.TheVariants.{Drop}
 use Rattle.c_types.specs.declared.integers.IntType.{IntType}
@@ -13,8 +13,8 @@ use Rattle.c_typed.specs.declared.ops.UnaryOp.TheVariants.{Complement, Negate}
 use Rattle.c_typed.specs.declared.tree.Expr.{Expr}
 use Rattle.c_typed.specs.declared.tree.Place.{Place}
 use Rattle.c_typed.specs.Tree as tree
-use Rattle.c_typed.specs.Views.{expr_of, place_of}
-use Rattle.c_place.specs.Lists.{exprs_in}
+use Rattle.c_typed.specs.refinement.Views.{expr_of, place_of}
+use Rattle.c_place.specs.refinement.Lists.{exprs_in}
 use Rattle.c_code.specs.Expressions.{expr, exprs, left}
 use Rattle.c_code.specs.Targets.{Target}
 

@@ -7,7 +7,7 @@ use Rattle.ms_types.specs.declared.types.ValType.{ValType}
 use Rattle.ms_module.specs.Building.{State, first_state}
 use Rattle.ms_emit.proofs.Adding.{adds_nothing, adds_then}
 use Rattle.ms_emit.specs.Codes.{Code, inner, no_code, plain, ◌⨾◌}
-use Rattle.ms_emit.specs.Parts.{Adds}
+use Rattle.ms_emit.specs.refinement.Parts.{Adds}
 use Rattle.ms_module.specs.declared.instr.Instr.TheVariants.{LocalGet}
 use Rattle.ms_module.specs.declared.module.Func.{Func}
 use Rattle.c_types.specs.Layout.{size}
@@ -22,7 +22,7 @@ use Rattle.c_code.specs.Modules.{first_of, func_of, is_object_in, target}
 use Rattle.c_code.specs.Statements.{at_body, freed, made, objects_in, stmt}
 use Rattle.c_code.specs.Targets.{Target, get}
 use Rattle.c_code.specs.Uses.{waits_stmt}
-use Rattle.c_compile.specs.Sites.{Site}
+use Rattle.c_compile.specs.refinement.Sites.{Site}
 
 -- the code of a whole body
 pub whole_body : (st : State) (c : Code) → Adds first_state st c → st.seqs ≡ inner (c 1)

@@ -11,10 +11,10 @@ use Rattle.c_code.specs.Leaves.{leaves}
 use Rattle.c_code.specs.Operations.{load, store}
 use Rattle.c_code.specs.Targets.{Target, scratch_handle, scratch_place}
 use Rattle.ms_emit.specs.Codes.{Code, plain, ◌⨾◌}
-use Rattle.ms_emit.specs.Parts.{Adds}
+use Rattle.ms_emit.specs.refinement.Parts.{Adds}
 use Rattle.ms_module.specs.Building.{State}
 use Rattle.c_compile.specs.declared.leaves.Leaf.{Leaf}
-use Rattle.c_compile.specs.Leaves.{AreLeaves, IsLeaf, copies_of, handle_of, moved}
+use Rattle.c_compile.specs.refinement.Leaves.{AreLeaves, IsLeaf, copies_of, handle_of, moved}
 use Rattle.c_compile.proofs.Items.{IsLeft, none_is_left}
 
 -- those that are left, from a place on

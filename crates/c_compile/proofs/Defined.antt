@@ -7,16 +7,16 @@ use Rattle.std.proofs.lemmas.Option.{slice_get-map, slice_get_read}
 use Rattle.c_typed.specs.declared.tree.Stmt.{Stmt}
 use Rattle.c_typed.specs.declared.unit.Function.{Function}
 use Rattle.c_typed.specs.declared.unit.TypedUnit.{TypedUnit}
-use Rattle.c_typed.specs.Views.{body_of, function_of, typed_of}
+use Rattle.c_typed.specs.refinement.Views.{body_of, function_of, typed_of}
 use Rattle.c_well_typed.specs.Units.{numbers}
 use Rattle.c_code.specs.Modules.{defined, imported, is_call_of, is_defined, is_defined_at, is_name_of, named}
 use Rattle.c_code.specs.Uses.{uses}
 use Rattle.c_compile.proofs.Ranks.{both_flagged, flagged, found_over, index_over, long, passed, picked}
 use Rattle.c_compile.specs.declared.tables.Tables.{Tables}
 use Rattle.c_compile.specs.declared.uses.Uses.{Uses}
-use Rattle.c_compile.specs.Placed.{placed}
-use Rattle.c_compile.specs.Sites.{AreTables}
-use Rattle.c_compile.specs.Used.{AreUses}
+use Rattle.c_compile.specs.refinement.Placed.{placed}
+use Rattle.c_compile.specs.refinement.Sites.{AreTables}
+use Rattle.c_compile.specs.refinement.Used.{AreUses}
 
 same_body : (o : Option Stmt) → is_some (body_of o) ≡ is_some o
 same_body None = refl

@@ -7,7 +7,7 @@ use Rattle.ms_module.specs.declared.numeric.Width.TheVariants.{W32, W64}
 use Rattle.ms_module.specs.Numbered.{IsPlain}
 use Rattle.ms_emit.proofs.Adding.{adds_nothing, adds_then}
 use Rattle.ms_emit.specs.Codes.{Code, no_code, ◌⨾◌}
-use Rattle.ms_emit.specs.Parts.{Adds}
+use Rattle.ms_emit.specs.refinement.Parts.{Adds}
 use Rattle.c_types.specs.declared.types.Scalar.{Scalar}
 use Rattle.c_types.specs.declared.types.Scalar.TheVariants as scalars
 use Rattle.c_code.specs.Operations.{constant, width_of, zero_of}

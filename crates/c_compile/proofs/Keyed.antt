@@ -12,7 +12,7 @@ use Rattle.ms_types.specs.declared.types.ValType.{ValType}
 use Rattle.ms_types.specs.declared.types.ValType.TheVariants.{I32, I64, Handle}
 use Rattle.ms_linear.specs.Table.{same_sig, same_type, same_types}
 use Rattle.c_code.specs.Modules.{place_of}
-use Rattle.c_compile.specs.Keys.{code, key, keys_in}
+use Rattle.c_compile.specs.refinement.Keys.{code, key, keys_in}
 
 -- ---- keys tell types apart
 

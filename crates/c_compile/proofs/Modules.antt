@@ -10,10 +10,10 @@ use Rattle.ms_module.specs.declared.module.Func.{Func}
 use Rattle.ms_module.specs.declared.module.Global.{Global as GlobalEntry}
 use Rattle.c_types.specs.Types.{Ty}
 use Rattle.c_typed.specs.Tree.{Function, Made, Typed, text}
-use Rattle.c_typed.specs.Views.{typed_of}
+use Rattle.c_typed.specs.refinement.Views.{typed_of}
 use Rattle.c_typed.specs.declared.ops.Variable.TheVariants.{Global}
 use Rattle.c_typed.specs.declared.unit.TypedUnit.{TypedUnit}
-use Rattle.c_place.specs.Flags.{globals_from as flags_from}
+use Rattle.c_place.specs.refinement.Flags.{globals_from as flags_from}
 use Rattle.c_well_typed.specs.Units.{literals_in}
 use Rattle.c_code.specs.Functions.{held_as}
 use Rattle.c_code.specs.Limits as words

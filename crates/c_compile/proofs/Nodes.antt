@@ -4,8 +4,8 @@ use Rattle.c_typed.specs.declared.tree.Expr.{Expr as Code}
 use Rattle.c_typed.specs.declared.tree.Expr.TheVariants.{Call, CallThrough}
 use Rattle.c_typed.specs.Tree as tree
 use Rattle.c_typed.specs.Tree.{Place, of, deref, member, Expr, Exprs, none, more}
-use Rattle.c_typed.specs.Views.{expr_of}
-use Rattle.c_place.specs.Lists.{exprs_in}
+use Rattle.c_typed.specs.refinement.Views.{expr_of}
+use Rattle.c_place.specs.refinement.Lists.{exprs_in}
 use Rattle.c_place.proofs.Lists.{call_is, call_through_is}
 
 abbrev mutual

@@ -4,7 +4,7 @@ use Rattle.c_types.specs.Layout.{IsLaidOut, Layout, Table, deepest_from, depth, 
 use Rattle.c_types.specs.Types.{Ty, void, integer, struct, pointer, array, function}
 use Rattle.c_meaning.specs.Shapes as shapes
 use Rattle.c_meaning.specs.Shapes.{Shape, elements, record', member, members_with, shape, shape_in, shape_with, struct_shape}
-use Rattle.c_compile.specs.LeafWalk.{own}
+use Rattle.c_compile.specs.refinement.LeafWalk.{own}
 
 -- ---- a struct in a struct is less deep
 

@@ -5,7 +5,7 @@ use Rattle.c_typed.specs.declared.tree.Expr.TheVariants.{SizeOf}
 use Rattle.c_typed.specs.declared.tree.Sized.{Sized}
 use Rattle.c_typed.specs.declared.tree.Sized.TheVariants.{Place', Value', Nothing}
 use Rattle.c_typed.specs.Tree as tree
-use Rattle.c_typed.specs.Views.{expr_of, place_of, sized_of}
+use Rattle.c_typed.specs.refinement.Views.{expr_of, place_of, sized_of}
 
 of_each : (P : tree.Expr → Type 0) (n : ℕ) (o : Sized)
     → ((p : tree.Place) → P (tree.size_of_place n p)) → ((e : tree.Expr) → P (tree.size_of_value n e)) → P (tree.size_of_type n) → P (sized_of o n)

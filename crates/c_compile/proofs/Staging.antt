@@ -13,13 +13,13 @@ use Rattle.c_typed.specs.Objects.{is_object}
 use Rattle.c_typed.specs.Parts.{sequence}
 use Rattle.c_typed.specs.Tree as tree
 use Rattle.c_well_typed.specs.Statements.{count}
-use Rattle.c_typed.specs.Views.{body_of, expr_of, function_of, list_of, stmt_of}
+use Rattle.c_typed.specs.refinement.Views.{body_of, expr_of, function_of, list_of, stmt_of}
 use Rattle.c_typed.proofs.Sequences.{scope_is, switch_is}
 use Rattle.c_well_typed.specs.Units.{list_of as tys_in}
 use Rattle.c_code.specs.Functions.{params_in, result_in}
 use Rattle.c_code.specs.Stage.{are_integers, are_plain, in_body, in_expr, in_exprs, in_stmt, in_stmts, is_integer, is_integer_or_void, is_number_or_void, is_plain_function}
-use Rattle.c_place.specs.Flags.{of_body, of_function, slots_from}
-use Rattle.c_place.specs.Lists.{exprs_in}
+use Rattle.c_place.specs.refinement.Flags.{of_body, of_function, slots_from}
+use Rattle.c_place.specs.refinement.Lists.{exprs_in}
 use Rattle.c_place.proofs.Lists.{call_is}
 use Rattle.c_compile.proofs.ParameterTypes.{params_are}
 use Rattle.c_compile.proofs.Walk.{count_is}

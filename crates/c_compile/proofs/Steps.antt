@@ -9,8 +9,8 @@ use Rattle.ms_module.specs.declared.builder.Opening.TheVariants.{Block, Loop, If
 use Rattle.ms_module.specs.declared.instr.Instr.{Instr}
 use Rattle.ms_emit.proofs.Adding.{adds_block, adds_choice, adds_nothing, adds_one, adds_only, adds_repeat, adds_then, block_is_open, else_may_come, second_is_open}
 use Rattle.ms_emit.specs.Codes.{Code, block, choice, no_code, one, plain, repeat, ◌⨾◌}
-use Rattle.ms_emit.specs.Parts.{Adds}
-use Rattle.c_compile.specs.Steps.{Begins, Ends, Turns}
+use Rattle.ms_emit.specs.refinement.Parts.{Adds}
+use Rattle.c_compile.specs.refinement.Steps.{Begins, Ends, Turns}
 
 -- ---- instructions, and parts
 

@@ -23,20 +23,20 @@ use Rattle.c_typed.specs.declared.unit.Made.TheVariants as mades
 use Rattle.c_typed.specs.declared.unit.TypedUnit.{TypedUnit}
 use Rattle.c_typed.specs.Parts.{sequence}
 use Rattle.c_typed.specs.Tree as tree
-use Rattle.c_typed.specs.Views.{expr_of, function_of, list_of, made_of, place_of, sized_of, step_of, stmt_of, typed_of}
+use Rattle.c_typed.specs.refinement.Views.{expr_of, function_of, list_of, made_of, place_of, sized_of, step_of, stmt_of, typed_of}
 use Rattle.c_typed.proofs.Sequences.{scope_is, switch_is}
 use Rattle.c_well_typed.specs.Units.{numbers}
 use Rattle.c_code.specs.Functions.{signature}
 use Rattle.c_code.specs.Limits.{is_long_copy}
 use Rattle.c_code.specs.Modules.{all_functions, distinct_behind, is_call_of, is_name_of, through_in}
 use Rattle.c_code.specs.Uses.{Use, calls, copies, names, through, in_expr, in_exprs, in_functions, in_made, in_place, in_step, in_stmt, in_stmts, in_values, uses}
-use Rattle.c_place.specs.Lists.{exprs_in}
-use Rattle.c_place.specs.Marks.{marked_from}
+use Rattle.c_place.specs.refinement.Lists.{exprs_in}
+use Rattle.c_place.specs.refinement.Marks.{marked_from}
 use Rattle.c_place.proofs.Lists.{call_is, call_through_is}
 use Rattle.c_place.proofs.Marking.{before, from_none, set_is}
 use Rattle.c_compile.specs.declared.uses.Uses.{Uses}
-use Rattle.c_compile.specs.Found.{Finds, Found, found, in_one, no_uses, with_uses}
-use Rattle.c_compile.specs.Used.{AreUses}
+use Rattle.c_compile.specs.refinement.Found.{Finds, Found, found, in_one, no_uses, with_uses}
+use Rattle.c_compile.specs.refinement.Used.{AreUses}
 
 or_none : (b : Bool) → b ≡ (b || false)
 or_none true = refl

@@ -12,11 +12,11 @@ use Rattle.c_typed.specs.declared.unit.Made.{Made}
 use Rattle.c_typed.specs.declared.unit.Made.TheVariants as mades
 use Rattle.c_typed.specs.Parts.{sequence}
 use Rattle.c_typed.specs.Tree as tree
-use Rattle.c_typed.specs.Views.{expr_of, list_of, made_of, sized_of, stmt_of}
+use Rattle.c_typed.specs.refinement.Views.{expr_of, list_of, made_of, sized_of, stmt_of}
 use Rattle.c_typed.proofs.Sequences.{scope_is, switch_is}
 use Rattle.c_code.specs.Modules.{waits_made, waits_values}
 use Rattle.c_code.specs.Uses.{waits, waits_all, waits_stmt, waits_stmts}
-use Rattle.c_place.specs.Lists.{exprs_in}
+use Rattle.c_place.specs.refinement.Lists.{exprs_in}
 use Rattle.c_place.proofs.Lists.{call_is, call_through_is}
 
 sized_none : (n : ℕ) (o : Sized) → 0 ≡ waits (sized_of o n)

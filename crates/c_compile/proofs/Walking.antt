@@ -13,8 +13,8 @@ use Rattle.c_compile.specs.declared.leaves.Leaf.{Leaf}
 use Rattle.c_compile.specs.declared.leaves.Part.{Part}
 use Rattle.c_compile.specs.declared.leaves.Parts.{Parts}
 use Rattle.c_compile.specs.declared.leaves.Parts.TheVariants.{Members}
-use Rattle.c_compile.specs.Leaves.{AreLeaves, IsLeaf}
-use Rattle.c_compile.specs.LeafWalk.{Goes, IsFound, Walks, elements_left, members_left, own, part_left, parts_left, stack_left}
+use Rattle.c_compile.specs.refinement.Leaves.{AreLeaves, IsLeaf}
+use Rattle.c_compile.specs.refinement.LeafWalk.{Goes, IsFound, Walks, elements_left, members_left, own, part_left, parts_left, stack_left}
 use Rattle.c_compile.proofs.Shapes.{own_same, size_is, struct_is}
 
 -- ---- members

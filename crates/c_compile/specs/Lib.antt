@@ -1,12 +1,2 @@
-pub mod Steps
-pub mod Keys
-pub mod Used
-pub mod Placed
-pub mod Found
-pub mod Sites
-pub mod Codes
-pub mod Leaves
-pub mod LeafWalk
-pub mod Exits
-pub mod Known
 pub mod Refusals
+pub mod refinement

@@ -3,13 +3,13 @@
 ghost use Rattle.std.specs.Prelude.{◌+◌, [], ◌∷◌, None, Some, OnOk};
 ghost use Rattle.c_types.specs.Layout.{size};
 ghost use Rattle.c_types.specs.Types.{type_of};
-ghost use Rattle.c_typed.specs.Views.{place_of};
+ghost use Rattle.c_typed.specs.refinement.Views.{place_of};
 ghost use Rattle.c_code.specs.Expressions as words;
 ghost use Rattle.c_code.specs.Leaves.{leaves};
 ghost use Rattle.c_code.specs.Operations as operations;
 ghost use Rattle.c_code.specs.Targets as targets;
 ghost use Rattle.ms_emit.specs.Codes.{Code, choice, no_code, one, plain, ◌⨾◌};
-ghost use Rattle.ms_emit.specs.Parts.{Adds};
+ghost use Rattle.ms_emit.specs.refinement.Parts.{Adds};
 ghost use Rattle.ms_handle.specs.declared.handle.Kind.TheVariants as kinds;
 ghost use Rattle.ms_module.specs.declared.access.Segment.TheVariants as segments;
 ghost use Rattle.ms_module.specs.declared.instr.Instr.TheVariants as instrs;

@@ -2,10 +2,10 @@
 
 ghost use Rattle.std.specs.Prelude.{◌≡◌, ◌<◌, ◌∷◌, [], length, true, OnOk};
 ghost use Rattle.ms_emit.specs.Codes.{one, plain};
-ghost use Rattle.ms_emit.specs.Parts.{Adds};
+ghost use Rattle.ms_emit.specs.refinement.Parts.{Adds};
 ghost use Rattle.ms_module.specs.Building.{may_else};
 ghost use Rattle.ms_module.specs.Numbered.{IsPlain};
-ghost use Rattle.c_compile.specs.Steps.{Begins, Ends, Turns};
+ghost use Rattle.c_compile.specs.refinement.Steps.{Begins, Ends, Turns};
 
 use ms_module::{Builder, Instr, Opening};
 use ms_types::ValType;

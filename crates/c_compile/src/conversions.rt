@@ -5,7 +5,7 @@ ghost use Rattle.ms_emit.specs.Codes.{one};
 ghost use Rattle.ms_module.specs.declared.instr.Instr.TheVariants as instrs;
 ghost use Rattle.ms_module.specs.declared.numeric.Numeric.TheVariants as numerics;
 ghost use Rattle.c_code.specs.Operations as words;
-ghost use Rattle.ms_emit.specs.Parts.{Adds};
+ghost use Rattle.ms_emit.specs.refinement.Parts.{Adds};
 
 use crate::adding::{add, add_four, add_two};
 use crate::operations::{eqz, i32_of, op, rel, width_of, zero_of_width};

@@ -1,9 +1,9 @@
 //! What is known of an expression by its own node, as the code around it asks.
 
 ghost use Rattle.std.specs.Prelude.{◌≡◌};
-ghost use Rattle.c_typed.specs.Views.{expr_of};
+ghost use Rattle.c_typed.specs.refinement.Views.{expr_of};
 ghost use Rattle.c_code.specs.Expressions as words;
-ghost use Rattle.c_compile.specs.Known as known;
+ghost use Rattle.c_compile.specs.refinement.Known as known;
 
 use c_typed::Expr;
 use c_types::IntType;

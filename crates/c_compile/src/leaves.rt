@@ -7,10 +7,10 @@ ghost use Rattle.c_code.specs.Expressions as code;
 ghost use Rattle.c_code.specs.Leaves as words;
 ghost use Rattle.c_code.specs.Leaves.{leaves};
 ghost use Rattle.c_code.specs.Targets.{scratch_handle, scratch_place};
-ghost use Rattle.c_compile.specs.Leaves.{AreLeaves, IsLeaf, copies_of, handle_of, moved, narrowed};
-ghost use Rattle.c_compile.specs.LeafWalk.{Goes, Walks, elements_left, leaf_in, members_left, part_left, parts_left, stack_left};
+ghost use Rattle.c_compile.specs.refinement.Leaves.{AreLeaves, IsLeaf, copies_of, handle_of, moved, narrowed};
+ghost use Rattle.c_compile.specs.refinement.LeafWalk.{Goes, Walks, elements_left, leaf_in, members_left, part_left, parts_left, stack_left};
 ghost use Rattle.ms_emit.specs.Codes.{◌⨾◌};
-ghost use Rattle.ms_emit.specs.Parts.{Adds};
+ghost use Rattle.ms_emit.specs.refinement.Parts.{Adds};
 
 use crate::adding::{add, add_three, add_two};
 use crate::operations::{i32_of, i64_of, load, store};

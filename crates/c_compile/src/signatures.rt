@@ -9,7 +9,7 @@ ghost use Rattle.c_code.specs.Functions as words;
 ghost use Rattle.c_code.specs.Modules.{place_of};
 ghost use Rattle.c_code.specs.Operations.{val_of, val_option};
 ghost use Rattle.ms_linear.specs.Table.{same_sig};
-ghost use Rattle.c_compile.specs.Keys.{code, key};
+ghost use Rattle.c_compile.specs.refinement.Keys.{code, key};
 
 use crate::operations::{val_option, val_type};
 use crate::tables::number;
@@ -143,7 +143,7 @@ impl Model for Signatures {
     ghost use Rattle.std.specs.Prelude.{◌≡◌, List, map};
     ghost use Rattle.indexmap.specs.IndexMap.{values};
     ghost use Rattle.ms_types.specs.declared.types.FuncType.{FuncType};
-    ghost use Rattle.c_compile.specs.Keys.{key, keys_in};
+    ghost use Rattle.c_compile.specs.refinement.Keys.{key, keys_in};
 
     ghost Value = { List FuncType };
 

@@ -4,11 +4,11 @@ ghost use Rattle.std.specs.Prelude.{◌≡◌, ◌&&◌, map, nat_lt, not};
 ghost use Rattle.std.specs.List.{list_all};
 ghost use Rattle.c_types.specs.Types.{type_of};
 ghost use Rattle.c_typed.specs.Parts.{sequence};
-ghost use Rattle.c_typed.specs.Views.{body_of, expr_of, function_of, list_of, place_of, sized_of, step_of, stmt_of, typed_of};
+ghost use Rattle.c_typed.specs.refinement.Views.{body_of, expr_of, function_of, list_of, place_of, sized_of, step_of, stmt_of, typed_of};
 ghost use Rattle.c_code.specs.Stage as words;
 ghost use Rattle.c_well_typed.specs.Statements.{count};
-ghost use Rattle.c_place.specs.Flags.{flags, of_function};
-ghost use Rattle.c_place.specs.Lists.{exprs_in};
+ghost use Rattle.c_place.specs.refinement.Flags.{flags, of_function};
+ghost use Rattle.c_place.specs.refinement.Lists.{exprs_in};
 
 use c_place::Objects;
 use c_typed::{Expr, Function, Place, Sized, Stmt, TypedUnit, Variable};

@@ -8,13 +8,13 @@ ghost use Rattle.ms_module.specs.declared.instr.Instr.TheVariants.{Br, BrIf, Loc
 ghost use Rattle.ms_module.specs.declared.numeric.RelOp.TheVariants.{LeU, Ne};
 ghost use Rattle.ms_module.specs.declared.numeric.Width.TheVariants.{W32};
 ghost use Rattle.ms_emit.specs.Codes.{◌⨾◌, block, choice, no_code, one, plain};
-ghost use Rattle.ms_emit.specs.Parts.{Adds};
+ghost use Rattle.ms_emit.specs.refinement.Parts.{Adds};
 ghost use Rattle.c_types.specs.Types.{scalar_of, type_of, void};
 ghost use Rattle.c_typed.specs.declared.ops.Variable.{Variable};
 ghost use Rattle.c_typed.specs.declared.ops.Variable.TheVariants.{Local};
 ghost use Rattle.c_typed.specs.Parts.{sequence};
 ghost use Rattle.c_typed.specs.Tree as tree;
-ghost use Rattle.c_typed.specs.Views.{expr_of, list_of, place_of, step_of, stmt_of};
+ghost use Rattle.c_typed.specs.refinement.Views.{expr_of, list_of, place_of, step_of, stmt_of};
 ghost use Rattle.c_meaning.specs.Integers.{value_of};
 ghost use Rattle.c_meaning.specs.Statements.{group_at, or_else};
 ghost use Rattle.c_code.specs.Expressions.{decayed as array, expr, is_deref, place, step};
@@ -22,7 +22,7 @@ ghost use Rattle.c_code.specs.Operations.{constant, i32, i64, new_frame, rel as 
 ghost use Rattle.c_code.specs.Statements as words;
 ghost use Rattle.c_code.specs.Targets as targets;
 ghost use Rattle.c_code.specs.Targets.{Target as Site, scratch_handle, scratch_of_width, waiting};
-ghost use Rattle.c_compile.specs.Exits.{exits_of, leaving_of};
+ghost use Rattle.c_compile.specs.refinement.Exits.{exits_of, leaving_of};
 
 use crate::adding::{add, add_three, add_two, begin, end, turn};
 use crate::leaves::sum;

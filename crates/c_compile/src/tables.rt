@@ -3,13 +3,13 @@
 
 ghost use Rattle.std.specs.Prelude.{◌≡◌, ◌+◌, ◌&&◌, not, false, filter, get_or, is_some, length, map, replicate, Some, slice_get, IfOk, OnOk};
 ghost use Rattle.c_types.specs.Types.{type_of};
-ghost use Rattle.c_typed.specs.Views.{function_of, typed_of};
+ghost use Rattle.c_typed.specs.refinement.Views.{function_of, typed_of};
 ghost use Rattle.c_well_typed.specs.Units.{numbers};
 ghost use Rattle.c_code.specs.Functions.{signature};
 ghost use Rattle.c_code.specs.Modules as words;
-ghost use Rattle.c_compile.specs.Placed.{placed};
-ghost use Rattle.c_compile.specs.Sites.{AreTables};
-ghost use Rattle.c_compile.specs.Used.{AreUses};
+ghost use Rattle.c_compile.specs.refinement.Placed.{placed};
+ghost use Rattle.c_compile.specs.refinement.Sites.{AreTables};
+ghost use Rattle.c_compile.specs.refinement.Used.{AreUses};
 
 use crate::signatures::Signatures;
 use crate::uses::Uses;

@@ -3,11 +3,11 @@
 ghost use Rattle.std.specs.Prelude.{◌≡◌, ◌+◌, ◌*◌, ◌<◌, ◌^◌, [], get_or, map, IfOk, IfSome};
 ghost use Rattle.c_types.specs.Layout as layout;
 ghost use Rattle.c_types.specs.Types.{struct, type_of, void};
-ghost use Rattle.c_typed.specs.Views.{place_of, stmt_of, typed_of};
+ghost use Rattle.c_typed.specs.refinement.Views.{place_of, stmt_of, typed_of};
 ghost use Rattle.c_code.specs.Expressions.{member_size};
 ghost use Rattle.c_code.specs.Modules.{is_object_in, no_slots, start_target, target};
 ghost use Rattle.c_code.specs.Targets as words;
-ghost use Rattle.c_compile.specs.Sites.{AreFlags, AreTables};
+ghost use Rattle.c_compile.specs.refinement.Sites.{AreFlags, AreTables};
 ghost use Rattle.ms_module.specs.Numbered.{IsPlain};
 
 use crate::operations::width_of;
@@ -45,9 +45,9 @@ pub struct Target<'u> {
 impl<'u> Model for Target<'u> {
     ghost use Rattle.std.specs.Prelude.{map};
     ghost use Rattle.c_types.specs.Types.{type_of};
-    ghost use Rattle.c_typed.specs.Views.{typed_of};
-    ghost use Rattle.c_compile.specs.Codes.{coded_body};
-    ghost use Rattle.c_compile.specs.Sites.{AreFlags, AreTables, Body, body_of};
+    ghost use Rattle.c_typed.specs.refinement.Views.{typed_of};
+    ghost use Rattle.c_compile.specs.refinement.Codes.{coded_body};
+    ghost use Rattle.c_compile.specs.refinement.Sites.{AreFlags, AreTables, Body, body_of};
 
     ghost Value = { Body };
 

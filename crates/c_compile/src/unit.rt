@@ -4,17 +4,17 @@ ghost use Rattle.std.specs.Prelude.{◌≡◌, ◌+◌, ◌∷◌, ◌++◌, Lis
 ghost use Rattle.std.specs.List.{list_any};
 ghost use Rattle.c_types.specs.Types.{Ty, Tys, function, type_of};
 ghost use Rattle.c_typed.specs.Tree as tree;
-ghost use Rattle.c_typed.specs.Views.{function_of, made_of, typed_of};
+ghost use Rattle.c_typed.specs.refinement.Views.{function_of, made_of, typed_of};
 ghost use Rattle.c_typed.specs.declared.ops.Variable.TheVariants as variables;
 ghost use Rattle.c_well_typed.specs.Units.{literals_in};
 ghost use Rattle.c_code.specs.Functions.{held_as, listed, signature};
 ghost use Rattle.c_code.specs.Limits as bounds;
 ghost use Rattle.c_code.specs.Limits.{refusal_of};
 ghost use Rattle.c_code.specs.Modules as words;
-ghost use Rattle.c_place.specs.Flags.{flags};
+ghost use Rattle.c_place.specs.refinement.Flags.{flags};
 ghost use Rattle.c_compile.specs.Refusals.{IsRefused, limit as word_of};
-ghost use Rattle.c_compile.specs.Sites.{AreTables};
-ghost use Rattle.c_compile.specs.Used.{AreUses};
+ghost use Rattle.c_compile.specs.refinement.Sites.{AreTables};
+ghost use Rattle.c_compile.specs.refinement.Used.{AreUses};
 ghost use Rattle.ms_module.specs.Numbered.{IsPlain};
 ghost use Rattle.ms_module.specs.declared.module.ImportDesc.TheVariants as descs;
 

@@ -5,13 +5,13 @@ ghost use Rattle.std.specs.Prelude.{◌≡◌, ◌==◌, ◌||◌, ◌∷◌, []
 ghost use Rattle.c_types.specs.Layout.{Table};
 ghost use Rattle.c_types.specs.Types.{type_of};
 ghost use Rattle.c_typed.specs.Parts.{sequence};
-ghost use Rattle.c_typed.specs.Views.{body_of, expr_of, function_of, list_of, made_of, place_of, step_of, stmt_of, typed_of};
+ghost use Rattle.c_typed.specs.refinement.Views.{body_of, expr_of, function_of, list_of, made_of, place_of, step_of, stmt_of, typed_of};
 ghost use Rattle.c_code.specs.Limits.{is_long_copy};
 ghost use Rattle.c_code.specs.Uses as words;
-ghost use Rattle.c_place.specs.Lists.{exprs_in};
-ghost use Rattle.c_place.specs.Marks.{marked_from};
-ghost use Rattle.c_compile.specs.Found.{Finds, found, in_one, no_uses};
-ghost use Rattle.c_compile.specs.Used.{AreUses};
+ghost use Rattle.c_place.specs.refinement.Lists.{exprs_in};
+ghost use Rattle.c_place.specs.refinement.Marks.{marked_from};
+ghost use Rattle.c_compile.specs.refinement.Found.{Finds, found, in_one, no_uses};
+ghost use Rattle.c_compile.specs.refinement.Used.{AreUses};
 
 use crate::leaves::{MOST_LEAVES, leaves};
 use crate::signatures::Signatures;

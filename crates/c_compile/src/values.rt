@@ -8,14 +8,14 @@ ghost use Rattle.c_types.specs.declared.types.Scalar.TheVariants as scalars;
 ghost use Rattle.c_typed.specs.declared.ops.RelOp.TheVariants as relations;
 ghost use Rattle.c_typed.specs.declared.ops.UnaryOp.TheVariants as unaries;
 ghost use Rattle.c_typed.specs.Tree as tree;
-ghost use Rattle.c_typed.specs.Views.{expr_of, place_of};
-ghost use Rattle.c_place.specs.Lists.{exprs_in};
+ghost use Rattle.c_typed.specs.refinement.Views.{expr_of, place_of};
+ghost use Rattle.c_place.specs.refinement.Lists.{exprs_in};
 ghost use Rattle.c_code.specs.Expressions as words;
 ghost use Rattle.c_code.specs.Expressions.{is_deref};
 ghost use Rattle.c_code.specs.Operations as operations;
 ghost use Rattle.c_code.specs.Targets as targets;
 ghost use Rattle.ms_emit.specs.Codes.{one, plain, ◌⨾◌};
-ghost use Rattle.ms_emit.specs.Parts.{Adds};
+ghost use Rattle.ms_emit.specs.refinement.Parts.{Adds};
 ghost use Rattle.ms_module.specs.declared.access.Segment.TheVariants as segments;
 ghost use Rattle.ms_module.specs.declared.instr.Instr.TheVariants as instrs;
 

@@ -5,10 +5,10 @@ ghost use Rattle.std.specs.Prelude.{◌≡◌, ◌+◌, List, ◌∷◌, map, ma
 ghost use Rattle.c_typed.specs.Parts.{sequence};
 ghost use Rattle.c_typed.specs.Tree as tree;
 ghost use Rattle.c_typed.specs.Tree.{Typed};
-ghost use Rattle.c_typed.specs.Views.{expr_of, list_of, made_of, place_of, step_of, stmt_of};
+ghost use Rattle.c_typed.specs.refinement.Views.{expr_of, list_of, made_of, place_of, step_of, stmt_of};
 ghost use Rattle.c_code.specs.Modules.{waits_made};
 ghost use Rattle.c_code.specs.Uses as words;
-ghost use Rattle.c_place.specs.Lists.{exprs_in};
+ghost use Rattle.c_place.specs.refinement.Lists.{exprs_in};
 
 use c_typed::{Expr, Made, Place, Stmt};
 use std::alloc::AllocError;

@@ -3,11 +3,11 @@
 ghost use Rattle.std.specs.Prelude.{◌≡◌, IfOk, Some};
 ghost use Rattle.c_types.specs.Types.{integer, pointer, scalar_of, struct, type_of};
 ghost use Rattle.c_typed.specs.Tree as to;
-ghost use Rattle.c_typed.specs.Views.{expr_of, place_of};
+ghost use Rattle.c_typed.specs.refinement.Views.{expr_of, place_of};
 ghost use Rattle.c_conversions.specs.Conversions as words;
-ghost use Rattle.c_typed.specs.FormViews.{amount_of, boxed_expr, form_of, integer_pair, place_pair, value_pair};
+ghost use Rattle.c_typed.specs.refinement.FormViews.{amount_of, boxed_expr, form_of, integer_pair, place_pair, value_pair};
 ghost use Rattle.c_check_types.specs.State.{followed, given, pure};
-ghost use Rattle.c_check_types.specs.Views.{Obeys, Gives, state_of};
+ghost use Rattle.c_check_types.specs.refinement.Views.{Obeys, Gives, state_of};
 
 use c_check_types::{Checker, Stop, same_type};
 use c_typed::{Amount, Expr, Form, Made, Place, at_type, boxed, null_at, pointer_scalar, zero_of};

@@ -5,7 +5,7 @@ use Rattle.std.proofs.lemmas.Option.{slice_get-map, slice_get-get_or}
 use Rattle.std.specs.Option.{option_map}
 use Rattle.c_types.specs.Types.{Ty}
 use Rattle.c_typed.specs.Tree.{Function, Stmt}
-use Rattle.c_typed.specs.Views.{function_of}
+use Rattle.c_typed.specs.refinement.Views.{function_of}
 use Rattle.c_typed.specs.declared.unit.Function.{Function as Code}
 use Rattle.c_check_types.specs.State.{and_then}
 use Rattle.c_declare.specs.Functions.{defined, with_definition}

@@ -2,7 +2,7 @@
 use Rattle.std.proofs.Common.{◌≡◌, ℕ, zero, suc, arith, List, [], ◌∷◌, length, get_or, Some, sym, ap}
 use Rattle.c_check_types.specs.declared.checker.Scope.{Scope}
 use Rattle.c_check_types.specs.Scopes.{file_scope}
-use Rattle.c_check_types.specs.Views.{scope_of, scopes_of}
+use Rattle.c_check_types.specs.refinement.Views.{scope_of, scopes_of}
 
 pub outermost : (ss : List Scope) (x : Scope) (k : ℕ) → suc k ≡ length ss → x ≡ get_or ss k x → file_scope (scopes_of ss) ≡ Some (scope_of x)
 outermost [] x k n e = absurd (omega arith)

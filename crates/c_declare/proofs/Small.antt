@@ -5,7 +5,7 @@ use Rattle.std.proofs.lemmas.List.Elements.{All-cons}
 use Rattle.std.specs.List.{All}
 use Rattle.c_types.specs.Layout.{Table, IsSmall}
 use Rattle.c_types.specs.Types.{Ty, type_of}
-use Rattle.c_types.specs.Views.{types_in}
+use Rattle.c_types.specs.refinement.Views.{types_in}
 use Rattle.c_types.specs.declared.types.CType.{CType}
 use Rattle.c_check_types.specs.Types.{measured}
 use Rattle.c_declare.proofs.Sizes.{small_if_measured}

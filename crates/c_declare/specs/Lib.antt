@@ -2,4 +2,4 @@ pub mod Enumerations
 pub mod Structs
 pub mod Functions
 pub mod Initials
-pub mod Views
+pub mod refinement

@@ -2,9 +2,9 @@
 
 ghost use Rattle.std.specs.Prelude.{◌≡◌, map, slice_get};
 ghost use Rattle.c_types.specs.Types.{type_of};
-ghost use Rattle.c_types.specs.Views.{types_in};
-ghost use Rattle.c_typed.specs.Views.{function_of, stmt_of};
-ghost use Rattle.c_check_types.specs.Views.{Obeys, Gives, name_of, parameters_in, state_of};
+ghost use Rattle.c_types.specs.refinement.Views.{types_in};
+ghost use Rattle.c_typed.specs.refinement.Views.{function_of, stmt_of};
+ghost use Rattle.c_check_types.specs.refinement.Views.{Obeys, Gives, name_of, parameters_in, state_of};
 ghost use Rattle.c_declare.specs.Functions as words;
 
 use crate::scope::{enters_local, new_slot};

@@ -2,7 +2,7 @@
 
 ghost use Rattle.std.specs.Prelude.{◌≡◌, Some};
 ghost use Rattle.c_types.specs.Types.{type_of};
-ghost use Rattle.c_check_types.specs.Views.{Obeys, derived_of, name_of, state_of};
+ghost use Rattle.c_check_types.specs.refinement.Views.{Obeys, derived_of, name_of, state_of};
 ghost use Rattle.c_declare.specs.Initials as words;
 
 use c_check_types::{Checker, Derived, Stop};

@@ -2,10 +2,10 @@
 
 ghost use Rattle.std.specs.Prelude.{◌≡◌, ◌++◌, ◌∷◌, [], false, map, slice_get, IfOk, None, OnOk};
 ghost use Rattle.c_types.specs.Types.{type_of};
-ghost use Rattle.c_typed.specs.Views.{function_of};
+ghost use Rattle.c_typed.specs.refinement.Views.{function_of};
 ghost use Rattle.c_check_types.specs.Scopes as words;
 ghost use Rattle.c_check_types.specs.State.{number_of};
-ghost use Rattle.c_check_types.specs.Views.{Obeys, scope_of, scopes_of, state_of};
+ghost use Rattle.c_check_types.specs.refinement.Views.{Obeys, scope_of, scopes_of, state_of};
 
 use c_check_types::{Checker, Entity, Names, Scope, Stop, entity_in, library, owned, same_type};
 use c_typed::{Function, Subject, is_identifier};

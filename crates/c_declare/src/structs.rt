@@ -4,10 +4,10 @@ ghost use Rattle.std.specs.Prelude.{◌≡◌, IsTrue, slice_set};
 ghost use Rattle.std.specs.List.{All};
 ghost use Rattle.c_types.specs.Layout.{IsSmall};
 ghost use Rattle.c_types.specs.Types.{type_of};
-ghost use Rattle.c_types.specs.Views.{types_in};
-ghost use Rattle.c_check_types.specs.Views.{Obeys, state_of};
+ghost use Rattle.c_types.specs.refinement.Views.{types_in};
+ghost use Rattle.c_check_types.specs.refinement.Views.{Obeys, state_of};
 ghost use Rattle.c_declare.specs.Structs as words;
-ghost use Rattle.c_declare.specs.Views.{open_of, opens_of};
+ghost use Rattle.c_declare.specs.refinement.Views.{open_of, opens_of};
 
 use crate::enumerations::enumeration;
 use c_check_types::{Checker, Derived, Names, Stop, measured, whole_type};

@@ -8,7 +8,7 @@ use Rattle.c_token.specs.declared.word.Word.TheVariants as words
 use Rattle.c_lex.specs.declared.leads.Lead.{Lead}
 use Rattle.c_lex.specs.declared.leads.Lead.TheVariants as leads
 use Rattle.c_lex.specs.Keywords.{word_of}
-use Rattle.c_lex.specs.Places.{Rises}
+use Rattle.c_lex.specs.refinement.Places.{Rises}
 use Rattle.c_lex.specs.Literals.{Text, string, string_goes, string_inside, string_step}
 use Rattle.c_lex.specs.Lexing.{Lexed, Lexes, behind, closed, joined, lead_of, lexeme, lexeme_takes, lexemes, lexing_goes, token, token_list, tokens_of, with_fresh, with_text, with_word}
 

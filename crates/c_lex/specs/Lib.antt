@@ -1,9 +1,9 @@
 pub mod Fault
 pub mod Classes
 pub mod Numbers
-pub mod Places
 pub mod Keywords
 pub mod Marks
 pub mod Literals
 pub mod Lexing
 pub mod Readers
+pub mod refinement

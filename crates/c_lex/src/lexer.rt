@@ -4,7 +4,7 @@ ghost use Rattle.std.specs.Prelude.{◌≡◌, ◌⊎◌, ℕ, List, length, IfE
 ghost use Rattle.c_token.specs.declared.word.Token.{Token};
 ghost use Rattle.c_lex.specs.Fault.{Fault};
 ghost use Rattle.c_lex.specs.Lexing.{Lexes, Stops, behind, lexeme, lexemes, lexing_goes, constant_word, token_list, tokens_of, with_fresh, with_text, with_word, word_text};
-ghost use Rattle.c_lex.specs.Places.{Rises};
+ghost use Rattle.c_lex.specs.refinement.Places.{Rises};
 ghost use Rattle.c_lex.specs.Readers.{FailsBy, FirstFault, Reads, ReadsPart, fault_of, error_of};
 
 use crate::class::{Class, run_len};

@@ -1,11 +1,11 @@
 //! Two operands beside each other (C11, 6.5.9 and 6.5.15): a null constant takes the type of the pointer beside it.
 
 ghost use Rattle.c_types.specs.Types.{integer, pointer, type_of, void as type_void};
-ghost use Rattle.c_typed.specs.Views.{expr_of};
-ghost use Rattle.c_check_types.specs.Views.{Gives};
+ghost use Rattle.c_typed.specs.refinement.Views.{expr_of};
+ghost use Rattle.c_check_types.specs.refinement.Views.{Gives};
 ghost use Rattle.c_typed.specs.Forms as forms;
-ghost use Rattle.c_typed.specs.FormViews.{form_of};
-ghost use Rattle.c_operators.specs.Views.{both_of};
+ghost use Rattle.c_typed.specs.refinement.FormViews.{form_of};
+ghost use Rattle.c_operators.specs.refinement.Views.{both_of};
 ghost use Rattle.c_operators.specs.Operations as words;
 
 use c_check_types::{Stop, same_type};

@@ -3,10 +3,10 @@
 ghost use Rattle.std.specs.Prelude.{◌≡◌, IfOk};
 ghost use Rattle.c_types.specs.Types.{pointer, type_of};
 ghost use Rattle.c_typed.specs.Tree as to;
-ghost use Rattle.c_typed.specs.Views.{expr_of};
-ghost use Rattle.c_check_types.specs.Views.{Gives};
-ghost use Rattle.c_typed.specs.FormViews.{form_of, integer_pair};
-ghost use Rattle.c_operators.specs.Views.{both_of};
+ghost use Rattle.c_typed.specs.refinement.Views.{expr_of};
+ghost use Rattle.c_check_types.specs.refinement.Views.{Gives};
+ghost use Rattle.c_typed.specs.refinement.FormViews.{form_of, integer_pair};
+ghost use Rattle.c_operators.specs.refinement.Views.{both_of};
 ghost use Rattle.c_operators.specs.Operations as words;
 
 use crate::beside::{Both, beside};

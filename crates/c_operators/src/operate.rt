@@ -2,10 +2,10 @@
 
 ghost use Rattle.std.specs.Prelude.{◌≡◌};
 ghost use Rattle.c_types.specs.Types.{integer, pointer, type_of};
-ghost use Rattle.c_typed.specs.Views.{expr_of};
-ghost use Rattle.c_check_types.specs.Views.{Obeys, Gives, state_of};
+ghost use Rattle.c_typed.specs.refinement.Views.{expr_of};
+ghost use Rattle.c_check_types.specs.refinement.Views.{Obeys, Gives, state_of};
 ghost use Rattle.c_operators.specs.Operations as words;
-ghost use Rattle.c_typed.specs.FormViews.{form_of, value_pair};
+ghost use Rattle.c_typed.specs.refinement.FormViews.{form_of, value_pair};
 
 use crate::pointers::{difference, moved, moved_by, ordered_pointers};
 use c_check_types::{Checker, Stop};

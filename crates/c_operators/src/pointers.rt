@@ -4,11 +4,11 @@ ghost use Rattle.std.specs.Prelude.{◌≡◌, false, IfOk};
 ghost use Rattle.c_types.specs.declared.integers.IntType.TheVariants.{LongLong};
 ghost use Rattle.c_types.specs.Types.{pointer, type_of};
 ghost use Rattle.c_typed.specs.Tree as to;
-ghost use Rattle.c_typed.specs.Views.{expr_of};
-ghost use Rattle.c_check_types.specs.Views.{Obeys, Gives, state_of};
+ghost use Rattle.c_typed.specs.refinement.Views.{expr_of};
+ghost use Rattle.c_check_types.specs.refinement.Views.{Obeys, Gives, state_of};
 ghost use Rattle.c_typed.specs.Forms as forms;
 ghost use Rattle.c_operators.specs.Operations as words;
-ghost use Rattle.c_typed.specs.FormViews.{form_of, integer_pair};
+ghost use Rattle.c_typed.specs.refinement.FormViews.{form_of, integer_pair};
 
 use c_check_types::{Checker, Stop, same_type};
 use c_typed::{Expr, Form, RelOp, at_type, boxed};

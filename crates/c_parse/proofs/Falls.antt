@@ -25,8 +25,8 @@ use Rattle.c_tree.specs.Statements.{empty, jump, Items, no_items}
 use Rattle.c_tree.specs.StatementHeights.{ends_open}
 use Rattle.c_tree.specs.Operators.{makes, left_of, extended, a_choice, an_or, a_cast, a_postfix}
 use Rattle.c_tree.specs.Grammar.{level, may_name, may_be_nothing}
-use Rattle.c_tree.specs.Views.{are_none}
-use Rattle.c_productions.specs.Classes.{infix_at, prefix_at, step_at, access_at, integer_at, specifier_at, is_specifier, is_struct, is_sizeof, is_else, is_mark, is, is_enum, is_case, is_default}
+use Rattle.c_tree.specs.refinement.Views.{are_none}
+use Rattle.c_productions.specs.refinement.Classes.{infix_at, prefix_at, step_at, access_at, integer_at, specifier_at, is_specifier, is_struct, is_sizeof, is_else, is_mark, is, is_enum, is_case, is_default}
 use Rattle.c_productions.specs.declared.kind.Terminal.TheVariants as at
 use Rattle.c_productions.specs.declared.kind.Kind.{Kind}
 use Rattle.c_productions.specs.declared.kind.Kind.TheVariants as kinds
@@ -38,7 +38,7 @@ use Rattle.c_productions.specs.declared.value.Holder.TheVariants as holders
 use Rattle.c_productions.specs.declared.value.Value.{Value}
 use Rattle.c_productions.specs.declared.value.Value.TheVariants as values
 use Rattle.c_productions.specs.declared.frame.Frame.{Frame}
-use Rattle.c_productions.specs.Table.{Action, joined, opens, begins, stuck, only, if_some, on_mark, on_keyword, Goal as Wanted, made, expects, State, opened, with_part, first_frame, symbols, Move, takes, goes, stops, resumes, acted, rests, nothing_at, action, step, is_pointer, are_no_args, are_no_values, are_no, has_no_value, is_single, takes_type, level_at, core_at, operand, declarator_word, specifier_keyword, statement_keyword, statement_word, begin, postfix, tail, type_in_parens, next_argument, access_name, direct_mark, closed, next_parameter, open_declarator, and_integer, specifier_tail, tag_name, next_element, form_end, inits_tail, items_tail, members_end, members_tail, member_tail, may_define, members_begin, braces_begin, enum_tag_name, has_no_constant, enumerator_name, enumerators_tail, items_end, takes_labels, statement_item}
+use Rattle.c_productions.specs.refinement.Table.{Action, joined, opens, begins, stuck, only, if_some, on_mark, on_keyword, Goal as Wanted, made, expects, State, opened, with_part, first_frame, symbols, Move, takes, goes, stops, resumes, acted, rests, nothing_at, action, step, is_pointer, are_no_args, are_no_values, are_no, has_no_value, is_single, takes_type, level_at, core_at, operand, declarator_word, specifier_keyword, statement_keyword, statement_word, begin, postfix, tail, type_in_parens, next_argument, access_name, direct_mark, closed, next_parameter, open_declarator, and_integer, specifier_tail, tag_name, next_element, form_end, inits_tail, items_tail, members_end, members_tail, member_tail, may_define, members_begin, braces_begin, enum_tag_name, has_no_constant, enumerator_name, enumerators_tail, items_end, takes_labels, statement_item}
 
 -- how much is left to be read of open productions: each production, and each word and part of it
 abbrev pub amount : List Frame → ℕ

@@ -9,15 +9,15 @@ use Rattle.c_tree.specs.declared.external.ExternalForm.{ExternalForm}
 use Rattle.c_tree.specs.Grammar.{IsUnit, empty_unit}
 use Rattle.c_productions.specs.declared.kind.Kind.TheVariants as kinds
 use Rattle.c_productions.specs.declared.value.Value.TheVariants as values
-use Rattle.c_productions.specs.Table.{State}
-use Rattle.c_productions.specs.Meaning.{first_state, lowest}
+use Rattle.c_productions.specs.refinement.Table.{State}
+use Rattle.c_productions.specs.refinement.Meaning.{first_state, lowest}
 use Rattle.c_parse_steps.proofs.Units.{At, at_first, at_next, closes, at_start, goes_on, refused, risen, unfinished as never}
 use Rattle.c_parse.specs.declared.fault.CParse.{CParse}
 use Rattle.c_parse.specs.declared.fault.CParse.TheVariants.{Syntax, TooDeep, Memory}
 use Rattle.c_parse.specs.declared.parser.Parser.{Parser}
 use Rattle.c_parse.specs.declared.steps.Goal.TheVariants as goals
 use Rattle.c_parse.specs.Units.{Parses, Begins, NoneBegins, Stops, syntax, too_deep, unfinished, Tells, ParsesTo}
-use Rattle.c_parse.specs.Calls.{whole, is_whole, Takes, Comes, Refuses, Unfinished, state_of, placed, Goes, Fails, further, anew, ReadsToken, Starts, IsLow, Finished, Finishes}
+use Rattle.c_parse.specs.refinement.Calls.{whole, is_whole, Takes, Comes, Refuses, Unfinished, state_of, placed, Goes, Fails, further, anew, ReadsToken, Starts, IsLow, Finished, Finishes}
 
 -- these tokens are read, those lie ahead, and what goes on so may be low enough
 pub record Stands (front ahead : List Token) (p : Parser) : Type 0 where

@@ -2,10 +2,10 @@
 use Rattle.std.proofs.Common.{◌≡◌, ℕ, ◌+◌, max, List, [], ◌∷◌, ◌++◌, reverse, sym, ◌∙◌, ap, subst, arith}
 use Rattle.std.proofs.lemmas.List.{reverse-append}
 use Rattle.c_productions.specs.declared.frame.Frame.{Frame}
-use Rattle.c_productions.specs.Table.{rise}
-use Rattle.c_productions.specs.Meaning.{over, overs, leasts}
+use Rattle.c_productions.specs.refinement.Table.{rise}
+use Rattle.c_productions.specs.refinement.Meaning.{over, overs, leasts}
 use Rattle.c_parse.specs.declared.waiting.Entry.{Entry}
-use Rattle.c_parse.specs.Waiting.{frames_of, rises, AreSummed}
+use Rattle.c_parse.specs.refinement.Waiting.{frames_of, rises, AreSummed}
 
 pub overs_is : (fs : List Frame) (n : ℕ) → overs fs n ≡ max (overs fs 0) (n + rises fs)
 overs_is [] n = omega arith

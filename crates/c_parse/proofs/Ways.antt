@@ -3,10 +3,10 @@ use Rattle.std.proofs.Common.{◌≡◌, [], ◌∷◌, subst}
 use Rattle.c_token.specs.declared.word.Word.{Word}
 use Rattle.c_tree.specs.declared.external.OuterSpecifier.{OuterSpecifier}
 use Rattle.c_tree.specs.declared.external.ExternalForm.{ExternalForm}
-use Rattle.c_productions.specs.Table.{State, takes, goes, step, end_step}
-use Rattle.c_productions.specs.Meaning.{Reaches, here, taking, going, ending}
+use Rattle.c_productions.specs.refinement.Table.{State, takes, goes, step, end_step}
+use Rattle.c_productions.specs.refinement.Meaning.{Reaches, here, taking, going, ending}
 use Rattle.c_parse_steps.proofs.Reach.{followed}
-use Rattle.c_parse.specs.Calls.{whole, Takes, Comes}
+use Rattle.c_parse.specs.refinement.Calls.{whole, Takes, Comes}
 
 pub taken : (s t u : State) (w : Word) → Comes s w t → step t.goal t.waiting w ≡ takes u → Takes s w u
 taken s t u w c e = λ q. followed s t u (w ∷ q) (w ∷ q) q (c q) (taking t u u w q q e (here u q))

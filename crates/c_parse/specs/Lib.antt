@@ -1,3 +1,2 @@
 pub mod Units
-pub mod Waiting
-pub mod Calls
+pub mod refinement

@@ -2,8 +2,8 @@
 
 ghost use Rattle.std.specs.Prelude.{◌≡◌, ◌⊎◌, List, [], IfErr, IfOk, MatchResult, Ok, Err};
 ghost use Rattle.c_tree.specs.declared.external.External.{External};
-ghost use Rattle.c_productions.specs.Meaning.{lowest};
-ghost use Rattle.c_parse.specs.Calls.{Finishes, IsLow, ReadsToken, Starts, goal_of};
+ghost use Rattle.c_productions.specs.refinement.Meaning.{lowest};
+ghost use Rattle.c_parse.specs.refinement.Calls.{Finishes, IsLow, ReadsToken, Starts, goal_of};
 ghost use Rattle.c_parse.specs.Units.{ParsesTo, Parses, Stops, Tells};
 
 use crate::fault::CParse;

@@ -1,6 +1,6 @@
 //! All steps at a word, and at the end.
 
-ghost use Rattle.c_parse.specs.Calls.{Advances, Ends, state};
+ghost use Rattle.c_parse.specs.refinement.Calls.{Advances, Ends, state};
 
 use crate::steps::{Goal, Resumed, Step, advance, resume};
 use crate::waiting::Waiting;

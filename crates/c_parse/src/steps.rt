@@ -1,9 +1,9 @@
 //! Single steps of the table.
 
 ghost use Rattle.std.specs.Prelude.{◌≡◌, IfOk};
-ghost use Rattle.c_productions.specs.Table.{first_frame, opened, symbols, with_part};
-ghost use Rattle.c_productions.specs.Meaning.{lowest};
-ghost use Rattle.c_parse.specs.Calls.{IsLast, Resumes, Steps, Sticks, goal_of, state};
+ghost use Rattle.c_productions.specs.refinement.Table.{first_frame, opened, symbols, with_part};
+ghost use Rattle.c_productions.specs.refinement.Meaning.{lowest};
+ghost use Rattle.c_parse.specs.refinement.Calls.{IsLast, Resumes, Steps, Sticks, goal_of, state};
 
 use crate::waiting::{Waiting, higher, sum};
 use c_parse_steps::{Outcome, action, least, rests};

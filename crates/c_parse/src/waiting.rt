@@ -1,7 +1,7 @@
 //! The stack of productions that stand open.
 
 ghost use Rattle.std.specs.Prelude.{◌≡◌, ◌+◌, [], ◌∷◌, max, IfSome, IfNone, OnOk, IfOk};
-ghost use Rattle.c_productions.specs.Meaning.{overs};
+ghost use Rattle.c_productions.specs.refinement.Meaning.{overs};
 
 use c_productions::Frame;
 use std::alloc::{AllocError, Global};
@@ -35,7 +35,7 @@ impl Model for Waiting {
 
     ghost coded = { coded_list frame_row.the_row.coded };
 
-    ghost use Rattle.c_parse.specs.Waiting.{AreSummed, frames_of};
+    ghost use Rattle.c_parse.specs.refinement.Waiting.{AreSummed, frames_of};
 
     ghost view = { λ w. frames_of (reverse w.entries.items) };
 

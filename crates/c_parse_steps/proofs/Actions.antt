@@ -50,11 +50,11 @@ use Rattle.c_productions.specs.declared.value.Holder.{Holder}
 use Rattle.c_productions.specs.declared.value.Holder.TheVariants as holders
 use Rattle.c_productions.specs.declared.value.Value.{Value}
 use Rattle.c_productions.specs.declared.value.Value.TheVariants as values
-use Rattle.c_productions.specs.Classes.{infix_at, prefix_at, step_at, access_at, integer_at, specifier_at, is_struct, is_sizeof, is_specifier, is_else, word_of, is_mark, is, is_enum, is_case, is_default}
-use Rattle.c_productions.specs.Table.{Action, joined, opens, begins, stuck, only, if_some, on_mark, on_keyword, level_at, core_at, takes_type, operand_mark, operand, declarator_mark, declarator_word, specifier_keyword, statement_mark, statement_keyword, statement_word, first_word, begin, postfix, tail, type_in_parens, next_argument, access_name, direct_mark, declarator_tail, sole_void, closed, next_parameter, open_declarator, and_integer, specifier_tail, tag_name, next_element, has_no_value, is_single, form_end, inits_tail, items_tail, members_end, members_tail, member_tail, action, symbols, build, height, least_of, least, lift, rise, first_frame, may_define, members_begin, braces_begin, enum_tag_name, has_no_constant, enumerator_name, enumerator_tail, enumerators_tail, items_end, takes_labels, statement_item, are_no}
-use Rattle.c_productions.specs.Table as table
-use Rattle.c_productions.specs.Meaning.{inits_then, written, Val, OperandVal, an_expr, a_type, MemberVal, a_specifier, an_opening, value_of, OfExpr, OfSizeof, OfDeclarator, OfSpecifier, OfOuter, OfInitialiser, OfInits, OfStatement, MayComma, OfMembers, OfHead, IsHand, Parts, written_rest, highest, leasts, Text, Made, Framed, OfDefinition, OfHolder, an_enumeration}
-use Rattle.c_productions.specs.Meaning as meaning
+use Rattle.c_productions.specs.refinement.Classes.{infix_at, prefix_at, step_at, access_at, integer_at, specifier_at, is_struct, is_sizeof, is_specifier, is_else, word_of, is_mark, is, is_enum, is_case, is_default}
+use Rattle.c_productions.specs.refinement.Table.{Action, joined, opens, begins, stuck, only, if_some, on_mark, on_keyword, level_at, core_at, takes_type, operand_mark, operand, declarator_mark, declarator_word, specifier_keyword, statement_mark, statement_keyword, statement_word, first_word, begin, postfix, tail, type_in_parens, next_argument, access_name, direct_mark, declarator_tail, sole_void, closed, next_parameter, open_declarator, and_integer, specifier_tail, tag_name, next_element, has_no_value, is_single, form_end, inits_tail, items_tail, members_end, members_tail, member_tail, action, symbols, build, height, least_of, least, lift, rise, first_frame, may_define, members_begin, braces_begin, enum_tag_name, has_no_constant, enumerator_name, enumerator_tail, enumerators_tail, items_end, takes_labels, statement_item, are_no}
+use Rattle.c_productions.specs.refinement.Table as table
+use Rattle.c_productions.specs.refinement.Meaning.{inits_then, written, Val, OperandVal, an_expr, a_type, MemberVal, a_specifier, an_opening, value_of, OfExpr, OfSizeof, OfDeclarator, OfSpecifier, OfOuter, OfInitialiser, OfInits, OfStatement, MayComma, OfMembers, OfHead, IsHand, Parts, written_rest, highest, leasts, Text, Made, Framed, OfDefinition, OfHolder, an_enumeration}
+use Rattle.c_productions.specs.refinement.Meaning as meaning
 use Rattle.c_parse_steps.proofs.Words.{infix_is, step_is, access_is, prefix_is, integer_is, specifier_is, struct_is, sizeof_is, else_is, mark_is, word_is, enum_is, case_is, default_is}
 use Rattle.c_parse_steps.proofs.Closed.{closed_same, closed_fits, closed_high}
 use Rattle.c_parse_steps.proofs.Lists.{append_nil, arguments_last, fit_last, parameters_last, fit_parameters_last, initialisers_last, fit_initialisers_last, inits_then_last, inits_are, each_last, tallest_of_last, fit_inits_last, items_last, fit_items_last, tallest_item_last, members_last, declarators_last, named_high, before_commas_last, separated_are, separated_moved, fit_enumerators_last}

@@ -7,7 +7,7 @@ use Rattle.c_tree.specs.declared.tree.Core.{Core}
 use Rattle.c_tree.specs.Tree.{Declarator, nothing, Parameters, no_parameters, parameter_and}
 use Rattle.c_tree.specs.Heights.{declarator_height, tallest_parameter}
 use Rattle.c_tree.specs.Grammar.{mark, spell_declarator, spell_parameters, IsDirect, IsSomething, FitsDeclarator, FitParameters}
-use Rattle.c_productions.specs.Table.{closed}
+use Rattle.c_productions.specs.refinement.Table.{closed}
 
 pub closed_same : (d : Declarator) (ps : Parameters) (q : List Word) → spell_declarator (closed d ps) q ≡ spell_declarator d (mark marks.OpenParen (spell_parameters ps (mark marks.CloseParen q)))
 closed_same d no_parameters q = refl

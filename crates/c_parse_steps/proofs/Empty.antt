@@ -6,9 +6,9 @@ use Rattle.c_tree.specs.declared.specifier.SpecifierNode.{SpecifierNode}
 use Rattle.c_tree.specs.declared.specifier.SpecifierNode.TheVariants as specifiers
 use Rattle.c_tree.specs.Tree.{Declarator, nothing, Parameters, parameter_and}
 use Rattle.c_tree.specs.declared.tree.Parameter.{Parameter}
-use Rattle.c_tree.specs.Views.{exprs_of, parameters_of}
-use Rattle.c_tree.specs.InitialiserViews.{initialisers_of}
-use Rattle.c_productions.specs.Table.{are_no_args, are_no_values, are_no, sole_void}
+use Rattle.c_tree.specs.refinement.Views.{exprs_of, parameters_of}
+use Rattle.c_tree.specs.refinement.InitialiserViews.{initialisers_of}
+use Rattle.c_productions.specs.refinement.Table.{are_no_args, are_no_values, are_no, sole_void}
 
 pub no_args : (es : List Expr) → (length es == 0) ≡ are_no_args (exprs_of es)
 no_args [] = refl

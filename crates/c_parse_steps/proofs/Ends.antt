@@ -37,8 +37,8 @@ use Rattle.c_productions.specs.declared.value.Holder.{Holder}
 use Rattle.c_productions.specs.declared.value.Holder.TheVariants as holders
 use Rattle.c_productions.specs.declared.value.Value.{Value}
 use Rattle.c_productions.specs.declared.value.Value.TheVariants as values
-use Rattle.c_productions.specs.Table.{core_at, nothing_at, specifier_rests, inits_rest, rests, height, least, closed, enum_rests}
-use Rattle.c_productions.specs.Meaning.{written, IsAsked, TypeVal, an_expr, a_type, a_specifier, an_opening, Val, value_of, OfExpr, OfDeclarator, OfSpecifier, OfStatement, OfHead, IsStart, IsHand, an_enumeration, OfDefinition}
+use Rattle.c_productions.specs.refinement.Table.{core_at, nothing_at, specifier_rests, inits_rest, rests, height, least, closed, enum_rests}
+use Rattle.c_productions.specs.refinement.Meaning.{written, IsAsked, TypeVal, an_expr, a_type, a_specifier, an_opening, Val, value_of, OfExpr, OfDeclarator, OfSpecifier, OfStatement, OfHead, IsStart, IsHand, an_enumeration, OfDefinition}
 use Rattle.c_parse_steps.proofs.Lists.{inits_are, fit_inits_last, tallest_of_last, separated_are, separated_moved, fit_enumerators_last}
 use Rattle.c_parse_steps.proofs.Closed.{closed_same, closed_fits, closed_high}
 

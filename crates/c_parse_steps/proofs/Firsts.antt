@@ -31,9 +31,9 @@ use Rattle.c_productions.specs.declared.kind.Kind.TheVariants as kinds
 use Rattle.c_productions.specs.declared.kind.Production.TheVariants as productions
 use Rattle.c_productions.specs.declared.kind.Terminal.TheVariants as at
 use Rattle.c_productions.specs.declared.value.Value.TheVariants as values
-use Rattle.c_productions.specs.Classes.{infix_at, step_at, access_at, is_sizeof, begins_specifier, is_specifier, is_else, is_mark, is, is_case, is_default}
-use Rattle.c_productions.specs.Table.{Action, joined, opens, begins, stuck, only, if_some, on_mark, level_at, operand, begin, statement_word}
-use Rattle.c_productions.specs.Meaning.{OfExpr}
+use Rattle.c_productions.specs.refinement.Classes.{infix_at, step_at, access_at, is_sizeof, begins_specifier, is_specifier, is_else, is_mark, is, is_case, is_default}
+use Rattle.c_productions.specs.refinement.Table.{Action, joined, opens, begins, stuck, only, if_some, on_mark, level_at, operand, begin, statement_word}
+use Rattle.c_productions.specs.refinement.Meaning.{OfExpr}
 use Rattle.c_parse_steps.proofs.Reach.{IsStuck}
 
 -- ---- tests

@@ -14,11 +14,11 @@ use Rattle.c_tree.specs.declared.statement.Item.{Item}
 use Rattle.c_tree.specs.Heights.{declarator_height, tallest_of}
 use Rattle.c_tree.specs.StatementHeights.{tallest_item}
 use Rattle.c_tree.specs.declared.external.Piece.{Piece}
-use Rattle.c_tree.specs.Views.{with_expr, with_parameter}
-use Rattle.c_tree.specs.InitialiserViews.{with_initialiser}
-use Rattle.c_tree.specs.StatementViews.{with_item}
+use Rattle.c_tree.specs.refinement.Views.{with_expr, with_parameter}
+use Rattle.c_tree.specs.refinement.InitialiserViews.{with_initialiser}
+use Rattle.c_tree.specs.refinement.StatementViews.{with_item}
 use Rattle.c_tree.specs.Grammar.{mark, behind_commas, each, are_some, spell_specifier, spell, spell_arguments, spell_rest, spell_declarator, spell_parameters, spell_more, spell_initialiser, spell_initialisers, spell_values, spell_init, spell_inits, spell_statement, spell_items, spell_declarators, spell_piece, spell_members, FitsSpecifier, level, FitsExpr, FitArguments, FitsDeclarator, FitParameters, FitsInitialiser, FitInitialisers, FitsInit, FitInits, FitItems, keyword, separated, FitsEnumerator, FitEnumerators}
-use Rattle.c_productions.specs.Meaning.{inits_then, before_commas}
+use Rattle.c_productions.specs.refinement.Meaning.{inits_then, before_commas}
 
 pub append_nil : {A : Type 0} → (xs : List A) → xs ++ [] ≡ xs
 append_nil [] = refl

@@ -10,9 +10,9 @@ use Rattle.c_productions.specs.declared.kind.Symbol.TheVariants.{Part, Word as S
 use Rattle.c_productions.specs.declared.value.Value.{Value}
 use Rattle.c_productions.specs.declared.value.Value.TheVariants as values
 use Rattle.c_productions.specs.declared.frame.Frame.{Frame}
-use Rattle.c_productions.specs.Classes.{word_of, is}
-use Rattle.c_productions.specs.Table.{joined, opens, begins, stuck, action, rests, symbols, build, first_frame, with_part, with_rest, made, expects, State, opened, Move, takes, goes, stops, resumes, acted, step, end_step}
-use Rattle.c_productions.specs.Meaning.{written, Val, value_of, Parts, onto, written_rest, Stands, lowest, Reaches, here, taking, going, ending}
+use Rattle.c_productions.specs.refinement.Classes.{word_of, is}
+use Rattle.c_productions.specs.refinement.Table.{joined, opens, begins, stuck, action, rests, symbols, build, first_frame, with_part, with_rest, made, expects, State, opened, Move, takes, goes, stops, resumes, acted, step, end_step}
+use Rattle.c_productions.specs.refinement.Meaning.{written, Val, value_of, Parts, onto, written_rest, Stands, lowest, Reaches, here, taking, going, ending}
 use Rattle.c_parse_steps.proofs.States.{Moves, moves, EndSteps, end_steps}
 
 pub followed : (s t u : State) (ws vs us : List Word) → Reaches s ws t vs → Reaches t vs u us → Reaches s ws u us

@@ -24,7 +24,7 @@ use Rattle.c_tree.specs.Operators.{infix_mark, unary_word, step_mark, access_mar
 use Rattle.c_tree.specs.declared.tree.Core.{Core}
 use Rattle.c_tree.specs.declared.tree.Core.TheVariants as cores
 use Rattle.c_tree.specs.Tree.{Expr, name, integer, character, string, paren, index, call, member, after, unary, size_of_type, cast, between, choice, Exprs, no_exprs, expr_and, Declarator, named, nothing, pointer, array, sized, wrapped, function, function_void, Parameters, no_parameters, parameter_and}
-use Rattle.c_tree.specs.Views.{with_expr, with_parameter}
+use Rattle.c_tree.specs.refinement.Views.{with_expr, with_parameter}
 use Rattle.c_tree.specs.Grammar.{mark, keyword, spell_integer, spell_specifier, spell, spell_rest, spell_declarator, spell_parameters, spell_more, FitsSpecifier, level, IsDirect, IsSomething, AreParameters, FitsExpr, FitArguments, FitsDeclarator, FitParameters}
 use Rattle.c_productions.specs.declared.kind.Kind.{Kind}
 use Rattle.c_productions.specs.declared.kind.Kind.TheVariants as kinds
@@ -34,9 +34,9 @@ use Rattle.c_productions.specs.declared.kind.Terminal.TheVariants as at
 use Rattle.c_productions.specs.declared.value.Value.{Value}
 use Rattle.c_productions.specs.declared.value.Value.TheVariants as values
 use Rattle.c_productions.specs.declared.frame.Frame.{Frame}
-use Rattle.c_productions.specs.Classes.{infix_at, step_at, access_at, integer_at, begins_specifier, is_specifier, is_mark, is}
-use Rattle.c_productions.specs.Table.{joined, opens, begins, only, if_some, on_mark, on_keyword, level_at, operand, specifier_keyword, begin, closed, action, rests, symbols, build, State}
-use Rattle.c_productions.specs.Meaning.{IsAsked, ExprVal, an_expr, a_type, DeclaratorVal, SpecifierVal, OfExpr, OfSpecifier, Parts, onto, written_rest, Reaches, here}
+use Rattle.c_productions.specs.refinement.Classes.{infix_at, step_at, access_at, integer_at, begins_specifier, is_specifier, is_mark, is}
+use Rattle.c_productions.specs.refinement.Table.{joined, opens, begins, only, if_some, on_mark, on_keyword, level_at, operand, specifier_keyword, begin, closed, action, rests, symbols, build, State}
+use Rattle.c_productions.specs.refinement.Meaning.{IsAsked, ExprVal, an_expr, a_type, DeclaratorVal, SpecifierVal, OfExpr, OfSpecifier, Parts, onto, written_rest, Reaches, here}
 use Rattle.c_parse_steps.proofs.Reach.{followed, st, joins, production_said, production_begun, rests_reach, IsStuck, ReadsPart, AllRead}
 use Rattle.c_parse_steps.proofs.Firsts.{le_test, right_small, makes_left, infix_of, strength, first_strength, infix_strength_of, floor, low_floor, floor_of_postfix, floor_left, stops_expr, begins_operand, begins_with, operand_no_specifier, operand_no_close, operand_no_bracket, begin_expr, specifier_begins, EndsSpecifier, specifier_stops, EndsDeclarator, declarator_stops, nothing_stops, declarator_first}
 

@@ -14,9 +14,9 @@ use Rattle.c_productions.specs.declared.kind.Symbol.TheVariants.{Part, Word as S
 use Rattle.c_productions.specs.declared.value.Value.{Value}
 use Rattle.c_productions.specs.declared.value.Value.TheVariants as values
 use Rattle.c_productions.specs.declared.frame.Frame.{Frame}
-use Rattle.c_productions.specs.Classes.{word_of, is}
-use Rattle.c_productions.specs.Table.{Action, joined, opens, begins, stuck, action, rests, symbols, build, height, least, rise, first_frame, with_part, with_rest, Goal, made, expects, State, opened, Move, takes, goes, stops, resumes, acted, step, end_step}
-use Rattle.c_productions.specs.Meaning.{written, Val, value_of, IsStart, IsHand, Parts, onto, written_rest, highest, leasts, Text, Framed, AreStarts, Leads, bottom, waits, Stands, over, overs, lowest}
+use Rattle.c_productions.specs.refinement.Classes.{word_of, is}
+use Rattle.c_productions.specs.refinement.Table.{Action, joined, opens, begins, stuck, action, rests, symbols, build, height, least, rise, first_frame, with_part, with_rest, Goal, made, expects, State, opened, Move, takes, goes, stops, resumes, acted, step, end_step}
+use Rattle.c_productions.specs.refinement.Meaning.{written, Val, value_of, IsStart, IsHand, Parts, onto, written_rest, highest, leasts, Text, Framed, AreStarts, Leads, bottom, waits, Stands, over, overs, lowest}
 use Rattle.c_parse_steps.proofs.Words.{word_is}
 use Rattle.c_parse_steps.proofs.Actions.{Acts, Opened, acts, right_small}
 use Rattle.c_parse_steps.proofs.Ends.{Rested, Rests, rested, ends}

@@ -13,8 +13,8 @@ use Rattle.c_tree.specs.declared.external.ExternalForm.{ExternalForm}
 use Rattle.c_tree.specs.Grammar.{spell_outer, spell_form, FitsOuter, FitsForm}
 use Rattle.c_productions.specs.declared.kind.Kind.TheVariants as kinds
 use Rattle.c_productions.specs.declared.value.Value.TheVariants as values
-use Rattle.c_productions.specs.Table.{made, State, stops, step, end_step}
-use Rattle.c_productions.specs.Meaning.{Text, Leads, bottom, Stands, lowest, first_state, Reaches, here, taking, going, ending}
+use Rattle.c_productions.specs.refinement.Table.{made, State, stops, step, end_step}
+use Rattle.c_productions.specs.refinement.Meaning.{Text, Leads, bottom, Stands, lowest, first_state, Reaches, here, taking, going, ending}
 use Rattle.c_parse_steps.proofs.Lists.{append_nil}
 use Rattle.c_parse_steps.proofs.States.{Moves, moves, EndSteps, end_steps, completed, first_stands}
 use Rattle.c_parse_steps.proofs.Reach.{followed, IsEnd, meets, end_stays, rises_on}

@@ -28,8 +28,8 @@ use Rattle.c_tree.specs.declared.external.OuterSpecifier.{OuterSpecifier}
 use Rattle.c_tree.specs.declared.external.OuterSpecifier.TheVariants as outers
 use Rattle.c_tree.specs.declared.external.ExternalForm.{ExternalForm}
 use Rattle.c_tree.specs.declared.external.ExternalForm.TheVariants as forms
-use Rattle.c_tree.specs.InitialiserViews.{with_initialiser}
-use Rattle.c_tree.specs.StatementViews.{with_item}
+use Rattle.c_tree.specs.refinement.InitialiserViews.{with_initialiser}
+use Rattle.c_tree.specs.refinement.StatementViews.{with_item}
 use Rattle.c_tree.specs.Grammar.{mark, keyword, behind_commas, each, spell_specifier, spell, spell_declarator, spell_initialiser, spell_values, spell_init, spell_inits, spell_clause, spell_first, spell_statement, spell_items, spell_declarators, spell_members, spell_outer, spell_form, FitsSpecifier, level, IsSomething, FitsExpr, FitsDeclarator, FitsInitialiser, FitInitialisers, FitsInit, FitInits, FitsClause, FitsFirst, FitsStatement, FitItems, FitDeclarators, FitMembers, FitsOuter, FitsForm, spell_enumerator, spell_last_comma, spell_tag, spell_enum, FitsEnumerator, FitEnumerators}
 use Rattle.c_productions.specs.declared.kind.Kind.{Kind}
 use Rattle.c_productions.specs.declared.kind.Kind.TheVariants as kinds
@@ -40,9 +40,9 @@ use Rattle.c_productions.specs.declared.value.Holder.TheVariants as holders
 use Rattle.c_productions.specs.declared.value.Value.{Value}
 use Rattle.c_productions.specs.declared.value.Value.TheVariants as values
 use Rattle.c_productions.specs.declared.frame.Frame.{Frame}
-use Rattle.c_productions.specs.Classes.{begins_specifier, is_specifier, is_else, is, is_case, is_default}
-use Rattle.c_productions.specs.Table.{begins, begin, items_end, with_part, opened, may_define, takes_labels, are_no}
-use Rattle.c_productions.specs.Meaning.{inits_then, InitialiserVal, InitsVal, a_specifier, an_opening, OfInits, Reaches, first_state, EnumVal, an_enumeration, OfSpecifier}
+use Rattle.c_productions.specs.refinement.Classes.{begins_specifier, is_specifier, is_else, is, is_case, is_default}
+use Rattle.c_productions.specs.refinement.Table.{begins, begin, items_end, with_part, opened, may_define, takes_labels, are_no}
+use Rattle.c_productions.specs.refinement.Meaning.{inits_then, InitialiserVal, InitsVal, a_specifier, an_opening, OfInits, Reaches, first_state, EnumVal, an_enumeration, OfSpecifier}
 use Rattle.c_parse_steps.proofs.Lists.{append_nil, inits_are}
 use Rattle.c_parse_steps.proofs.Reach.{st, joins, production_said, production_begun, rests_reach, IsStuck, ReadsPart}
 use Rattle.c_parse_steps.proofs.Firsts.{le_test, less_test, first_strength, begins_with, operand_no_specifier, operand_no_semicolon, operand_no_close, operand_no_brace, operand_no_end, operand_no_else, operand_is_plain, EndsSpecifier, specifier_stops, EndsDeclarator, specifier_begins, name_first, operand_no_case, operand_no_default}

@@ -16,7 +16,7 @@ use Rattle.c_tree.specs.Operators.{infix_mark, unary_word, step_mark, access_mar
 use Rattle.c_tree.specs.Grammar.{keyword, spell_specifier, FitsSpecifier}
 use Rattle.c_productions.specs.declared.kind.Terminal.{Terminal}
 use Rattle.c_productions.specs.declared.kind.Terminal.TheVariants as at
-use Rattle.c_productions.specs.Classes.{infix_at, prefix_at, step_at, access_at, integer_at, specifier_at, is_struct, is_sizeof, is_else, word_of, is_mark, is, is_enum, is_case, is_default, is_keyword}
+use Rattle.c_productions.specs.refinement.Classes.{infix_at, prefix_at, step_at, access_at, integer_at, specifier_at, is_struct, is_sizeof, is_else, word_of, is_mark, is, is_enum, is_case, is_default, is_keyword}
 
 IsFor : {A : Type 0} → (A → Mark) → Mark → Option A → Type 0
 IsFor spelled m None = Unit {0}

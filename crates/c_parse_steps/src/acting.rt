@@ -1,8 +1,8 @@
 //! What becomes of a value in hand at a word.
 
 ghost use Rattle.std.specs.Prelude.{◌≡◌};
-ghost use Rattle.c_parse_steps.specs.Calls.{Acted};
-ghost use Rattle.c_productions.specs.Table.{action};
+ghost use Rattle.c_parse_steps.specs.refinement.Calls.{Acted};
+ghost use Rattle.c_productions.specs.refinement.Table.{action};
 
 use crate::begin::begin;
 use crate::declarator_actions::{array_action, declarator_tail, function_action, open_declarator};

@@ -1,9 +1,9 @@
 //! The words that begin each kind.
 
 ghost use Rattle.std.specs.Prelude.{◌≡◌, Ok};
-ghost use Rattle.c_parse_steps.specs.Calls.{Acted};
-ghost use Rattle.c_productions.specs.Classes.{specifier_at};
-ghost use Rattle.c_productions.specs.Table.{begin, if_said, declarator_mark, declarator_word, first_word, on_keyword, operand, operand_mark, specifier_keyword, statement_keyword, statement_mark, statement_word};
+ghost use Rattle.c_parse_steps.specs.refinement.Calls.{Acted};
+ghost use Rattle.c_productions.specs.refinement.Classes.{specifier_at};
+ghost use Rattle.c_productions.specs.refinement.Table.{begin, if_said, declarator_mark, declarator_word, first_word, on_keyword, operand, operand_mark, specifier_keyword, statement_keyword, statement_mark, statement_word};
 ghost use Rattle.c_tree.specs.Grammar.{may_be_nothing, may_name};
 
 use crate::acting::Outcome;

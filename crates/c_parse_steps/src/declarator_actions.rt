@@ -1,8 +1,8 @@
 //! The words that go on behind a declarator.
 
 ghost use Rattle.std.specs.Prelude.{◌≡◌, IfOk, Ok};
-ghost use Rattle.c_parse_steps.specs.Calls.{Acted};
-ghost use Rattle.c_productions.specs.Table.{closed, core_at, declarator_tail, direct_mark, is_pointer, open_declarator, sole_void, action};
+ghost use Rattle.c_parse_steps.specs.refinement.Calls.{Acted};
+ghost use Rattle.c_productions.specs.refinement.Table.{closed, core_at, declarator_tail, direct_mark, is_pointer, open_declarator, sole_void, action};
 ghost use Rattle.c_tree.specs.Tree.{function, nothing, no_parameters};
 
 use crate::acting::Outcome;

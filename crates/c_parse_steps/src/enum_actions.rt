@@ -1,8 +1,8 @@
 //! The words that go on in the braces of an enumeration (C11, 6.7.2.2).
 
 ghost use Rattle.std.specs.Prelude.{◌≡◌, None, Some};
-ghost use Rattle.c_parse_steps.specs.Calls.{Acted};
-ghost use Rattle.c_productions.specs.Table.{are_no, enumerator_name, enumerator_tail, enumerators_tail, has_no_constant};
+ghost use Rattle.c_parse_steps.specs.refinement.Calls.{Acted};
+ghost use Rattle.c_productions.specs.refinement.Table.{are_no, enumerator_name, enumerator_tail, enumerators_tail, has_no_constant};
 
 use crate::acting::Outcome;
 use c_productions::{Production, Terminal, Value};

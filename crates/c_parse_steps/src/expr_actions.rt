@@ -1,8 +1,8 @@
 //! The words that go on behind an expression.
 
 ghost use Rattle.std.specs.Prelude.{◌≡◌};
-ghost use Rattle.c_parse_steps.specs.Calls.{Acted};
-ghost use Rattle.c_productions.specs.Table.{access_name, are_no_args, next_argument, level_at, on_mark, postfix, tail, takes_type, action, type_in_parens};
+ghost use Rattle.c_parse_steps.specs.refinement.Calls.{Acted};
+ghost use Rattle.c_productions.specs.refinement.Table.{access_name, are_no_args, next_argument, level_at, on_mark, postfix, tail, takes_type, action, type_in_parens};
 
 use crate::acting::Outcome;
 use c_productions::{

@@ -1,8 +1,8 @@
 //! The words that go on behind initializers and declarators with initializers.
 
 ghost use Rattle.std.specs.Prelude.{◌≡◌};
-ghost use Rattle.c_parse_steps.specs.Calls.{Acted};
-ghost use Rattle.c_productions.specs.Table.{are_no_values, form_end, has_no_value, inits_tail, is_single, next_element};
+ghost use Rattle.c_parse_steps.specs.refinement.Calls.{Acted};
+ghost use Rattle.c_productions.specs.refinement.Table.{are_no_values, form_end, has_no_value, inits_tail, is_single, next_element};
 
 use crate::acting::Outcome;
 use c_productions::{Holder, Kind, Production, Terminal, Value};

@@ -1,8 +1,8 @@
 //! The words that go on in statements and in structures.
 
 ghost use Rattle.std.specs.Prelude.{◌≡◌, IfOk, Ok, true};
-ghost use Rattle.c_parse_steps.specs.Calls.{Acted};
-ghost use Rattle.c_productions.specs.Table.{action, are_no, items_end, items_tail, member_tail, members_end, members_tail, statement_item, takes_labels};
+ghost use Rattle.c_parse_steps.specs.refinement.Calls.{Acted};
+ghost use Rattle.c_productions.specs.refinement.Table.{action, are_no, items_end, items_tail, member_tail, members_end, members_tail, statement_item, takes_labels};
 
 use crate::acting::Outcome;
 use c_productions::{

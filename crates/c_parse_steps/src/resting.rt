@@ -1,7 +1,7 @@
 //! Values that are complete, and how high the others will be.
 
 ghost use Rattle.std.specs.Prelude.{◌≡◌, None, IfOk};
-ghost use Rattle.c_productions.specs.Table.{enum_rests, inits_rest, least, nothing_at, rests, specifier_rests};
+ghost use Rattle.c_productions.specs.refinement.Table.{enum_rests, inits_rest, least, nothing_at, rests, specifier_rests};
 
 use crate::inits_actions::are_no_values;
 use c_productions::{Kind, Value};

@@ -1,8 +1,8 @@
 //! The words that go on behind a specifier.
 
 ghost use Rattle.std.specs.Prelude.{◌≡◌, Ok};
-ghost use Rattle.c_parse_steps.specs.Calls.{Acted};
-ghost use Rattle.c_productions.specs.Table.{and_integer, braces_begin, enum_tag_name, may_define, members_begin, specifier_tail, stuck, tag_name};
+ghost use Rattle.c_parse_steps.specs.refinement.Calls.{Acted};
+ghost use Rattle.c_productions.specs.refinement.Table.{and_integer, braces_begin, enum_tag_name, may_define, members_begin, specifier_tail, stuck, tag_name};
 
 use crate::acting::Outcome;
 use c_productions::{Kind, Terminal, Value, integer_at};

@@ -5,8 +5,8 @@ use Rattle.c_types.specs.Types.{type_of}
 use Rattle.c_typed.specs.declared.tree.Expr.{Expr, Row_of-Expr, end_of-Expr, more_of-Expr, items-the_row-Expr, items_hidden-the_row-Expr-0}
 use Rattle.c_typed.specs.declared.tree.Expr.TheVariants as code
 use Rattle.c_typed.specs.Tree as to
-use Rattle.c_typed.specs.Views.{expr_of, exprs_of}
-use Rattle.c_place.specs.Lists.{exprs_in}
+use Rattle.c_typed.specs.refinement.Views.{expr_of, exprs_of}
+use Rattle.c_place.specs.refinement.Lists.{exprs_in}
 
 row_is : (n : _) (row : Row_of-Expr n) → exprs_of row ≡ exprs_in (items-the_row-Expr n row)
 row_is n end_of-Expr = refl

@@ -17,11 +17,11 @@ use Rattle.c_typed.specs.declared.unit.TypedUnit.{TypedUnit}
 use Rattle.c_typed.specs.Objects.{in_expr, in_exprs, in_place, in_stmt, in_stmts, is_whole}
 use Rattle.c_typed.specs.Parts.{sequence}
 use Rattle.c_typed.specs.Tree as to
-use Rattle.c_typed.specs.Views.{body_of, expr_of, function_of, list_of, made_of, place_of, sized_of, step_of, stmt_of, typed_of}
+use Rattle.c_typed.specs.refinement.Views.{body_of, expr_of, function_of, list_of, made_of, place_of, sized_of, step_of, stmt_of, typed_of}
 use Rattle.c_meaning.specs.Units.{in_body, in_functions, in_made, in_values}
-use Rattle.c_place.specs.Flags.{flags, globals_from, of_body, of_function, slots_from}
-use Rattle.c_place.specs.Lists.{exprs_in}
-use Rattle.c_place.specs.Marks.{Marks, in_iteration, in_one, marked, marked_from}
+use Rattle.c_place.specs.refinement.Flags.{flags, globals_from, of_body, of_function, slots_from}
+use Rattle.c_place.specs.refinement.Lists.{exprs_in}
+use Rattle.c_place.specs.refinement.Marks.{Marks, in_iteration, in_one, marked, marked_from}
 
 or_none : (b : Bool) → b ≡ (b || false)
 or_none true = refl

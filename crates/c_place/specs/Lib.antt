@@ -1,3 +1,1 @@
-pub mod Lists
-pub mod Marks
-pub mod Flags
+pub mod refinement

@@ -4,7 +4,7 @@ ghost use Rattle.std.specs.Prelude.{◌≡◌, ◌==◌, ◌||◌, false, [], ma
 ghost use Rattle.c_types.specs.Types.{type_of};
 ghost use Rattle.c_typed.specs.Objects.{in_expr, is_whole};
 ghost use Rattle.c_typed.specs.Tree.{address, of};
-ghost use Rattle.c_place.specs.Marks.{marked, marked_from};
+ghost use Rattle.c_place.specs.refinement.Marks.{marked, marked_from};
 
 use c_typed::Variable;
 use c_types::CType;
@@ -21,7 +21,7 @@ pub struct Marks {
 }
 
 impl Model for Marks {
-    ghost use Rattle.c_place.specs.Marks.{Marks};
+    ghost use Rattle.c_place.specs.refinement.Marks.{Marks};
 
     ghost Value = { Marks };
 

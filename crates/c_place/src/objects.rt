@@ -2,9 +2,9 @@
 
 ghost use Rattle.std.specs.Prelude.{◌≡◌, [], map, IfOk, OnOk};
 ghost use Rattle.c_meaning.specs.Units.{in_body, in_functions, in_made, in_values};
-ghost use Rattle.c_typed.specs.Views.{body_of, function_of, list_of, made_of, typed_of};
-ghost use Rattle.c_place.specs.Flags.{flags, of_function};
-ghost use Rattle.c_place.specs.Marks.{in_one, marked_from};
+ghost use Rattle.c_typed.specs.refinement.Views.{body_of, function_of, list_of, made_of, typed_of};
+ghost use Rattle.c_place.specs.refinement.Flags.{flags, of_function};
+ghost use Rattle.c_place.specs.refinement.Marks.{in_one, marked_from};
 
 use crate::marks::Marks;
 use crate::walk::stmt;

@@ -3,9 +3,9 @@
 ghost use Rattle.std.specs.Prelude.{◌≡◌, ◌||◌, ℕ};
 ghost use Rattle.c_typed.specs.Objects.{in_expr, in_exprs, in_place, in_stmt, in_stmts, is_of};
 ghost use Rattle.c_typed.specs.Parts.{sequence};
-ghost use Rattle.c_typed.specs.Views.{expr_of, list_of, place_of, sized_of, step_of, stmt_of};
-ghost use Rattle.c_place.specs.Lists.{exprs_in};
-ghost use Rattle.c_place.specs.Marks.{in_iteration, marked};
+ghost use Rattle.c_typed.specs.refinement.Views.{expr_of, list_of, place_of, sized_of, step_of, stmt_of};
+ghost use Rattle.c_place.specs.refinement.Lists.{exprs_in};
+ghost use Rattle.c_place.specs.refinement.Marks.{in_iteration, marked};
 
 use crate::marks::Marks;
 use c_typed::{Expr, Place, Sized, Stmt};

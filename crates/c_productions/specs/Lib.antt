@@ -1,5 +1,1 @@
-pub mod Listed
-pub mod Classes
-pub mod Table
-pub mod Meaning
-pub mod Built
+pub mod refinement

@@ -1,8 +1,8 @@
 //! What is built of a production's parts, the latest of which is taken first.
 
 ghost use Rattle.std.specs.Prelude.{◌≡◌, ◌∷◌, IfOk};
-ghost use Rattle.c_productions.specs.Table.{argument_of, build, element_of, else_of, enum_value_of, init_value_of, item_of, member_declarator_of, member_head_of, member_specifier_of, next_init_of, opened_of, parameter_of, returned, sized_of, sizeof_of};
-ghost use Rattle.c_productions.specs.Built.{AreInits};
+ghost use Rattle.c_productions.specs.refinement.Table.{argument_of, build, element_of, else_of, enum_value_of, init_value_of, item_of, member_declarator_of, member_head_of, member_specifier_of, next_init_of, opened_of, parameter_of, returned, sized_of, sizeof_of};
+ghost use Rattle.c_productions.specs.refinement.Built.{AreInits};
 
 use crate::frame::{Parts, unexpected};
 use crate::kind::Production;

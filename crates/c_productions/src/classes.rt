@@ -1,7 +1,7 @@
 //! What a word may be at a place.
 
 ghost use Rattle.std.specs.Prelude.{◌≡◌};
-ghost use Rattle.c_productions.specs.Classes.{access_at, infix_at, integer_at, is, is_case, is_default, is_else, is_enum, is_keyword, is_mark, is_sizeof, is_specifier, is_struct, begins_specifier, prefix_at, step_at};
+ghost use Rattle.c_productions.specs.refinement.Classes.{access_at, infix_at, integer_at, is, is_case, is_default, is_else, is_enum, is_keyword, is_mark, is_sizeof, is_specifier, is_struct, begins_specifier, prefix_at, step_at};
 
 use crate::kind::Terminal;
 use c_token::{Keyword, Mark, Word};

@@ -1,7 +1,7 @@
 //! Productions that stand open: what each still wants, and the parts that it has.
 
 ghost use Rattle.std.specs.Prelude.{◌≡◌, [], ◌∷◌, IfSome, IfNone, OnOk, IfOk};
-ghost use Rattle.c_productions.specs.Meaning.{leasts};
+ghost use Rattle.c_productions.specs.refinement.Meaning.{leasts};
 
 use crate::kind::{Kind, Production, Symbol};
 use crate::value::Value;
@@ -35,7 +35,7 @@ impl Model for Rest {
 
     ghost Value = { List Symbol };
 
-    ghost use Rattle.c_productions.specs.Listed.{listed};
+    ghost use Rattle.c_productions.specs.refinement.Listed.{listed};
 
     ghost view = { λ r. listed r.symbols };
 }

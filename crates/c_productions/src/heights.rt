@@ -1,7 +1,7 @@
 //! How high a value in hand makes what it becomes.
 
 ghost use Rattle.std.specs.Prelude.{◌≡◌, IfOk};
-ghost use Rattle.c_productions.specs.Table.{height, holder_height, last_height, least, least_braces, least_of, least_open, least_paren};
+ghost use Rattle.c_productions.specs.refinement.Table.{height, holder_height, last_height, least, least_braces, least_of, least_open, least_paren};
 ghost use Rattle.c_tree.specs.StatementHeights.{clause_height};
 ghost use Rattle.c_tree.specs.Heights.{init_height, value_height};
 

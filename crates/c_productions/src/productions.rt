@@ -1,7 +1,7 @@
 //! What productions want.
 
 ghost use Rattle.std.specs.Prelude.{◌≡◌};
-ghost use Rattle.c_productions.specs.Table.{lift, rise, symbols};
+ghost use Rattle.c_productions.specs.refinement.Table.{lift, rise, symbols};
 
 use crate::frame::Rest;
 use crate::kind::{Kind, Production, Symbol, Terminal};

@@ -26,7 +26,7 @@ use Rattle.c_typed.specs.declared.ops.Variable.{Variable}
 use Rattle.c_typed.specs.declared.ops.Variable.TheVariants.{Local}
 use Rattle.c_typed.specs.Objects.{is_object}
 use Rattle.c_typed.specs.Tree.{Stmt, Function, Typed}
-use Rattle.c_well_typed.specs.Expressions as well
+use Rattle.c_well_typed.specs.refinement.Expressions as well
 use Rattle.c_well_typed.specs.Statements.{IsStatement, no_jumps}
 use Rattle.c_well_typed.specs.Units.{context_of, list_of, numbers}
 use Rattle.c_meaning.specs.Values.{Value, zero_value}

@@ -18,8 +18,8 @@ use Rattle.c_typed.specs.declared.ops.Variable.{Variable}
 use Rattle.c_typed.specs.declared.ops.Variable.TheVariants.{Local, Global}
 use Rattle.c_typed.specs.Tree as tree
 use Rattle.c_typed.specs.Tree.{Place, of, deref, member, Expr, Exprs, none, more}
-use Rattle.c_well_typed.specs.Expressions as well
-use Rattle.c_well_typed.specs.Expressions.{HasType, HaveTypes, IsNarrow, IsPlace}
+use Rattle.c_well_typed.specs.refinement.Expressions as well
+use Rattle.c_well_typed.specs.refinement.Expressions.{HasType, HaveTypes, IsNarrow, IsPlace}
 use Rattle.c_meaning.specs.Values.{Value, number}
 use Rattle.c_meaning.specs.World.{plain, World, Result, gives, ends, Does, after, ◌>>=◌, ◌>>◌, pure, stop, abort}
 use Rattle.c_meaning.specs.Integers as meant

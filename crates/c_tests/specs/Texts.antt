@@ -7,7 +7,7 @@ use Rattle.c_typed.specs.declared.unit.TypedUnit.{TypedUnit}
 use Rattle.c_lex.specs.Lexing.{Lexes}
 use Rattle.c_lex.specs.Readers.{FirstFault, fault_of}
 use Rattle.c_parse.specs.Units.{Parses, Tells}
-use Rattle.c_check.specs.Views.{Checks}
+use Rattle.c_check.specs.refinement.Views.{Checks}
 use Rattle.c_tests.specs.declared.refusal.Refusal.{Refusal}
 use Rattle.c_tests.specs.declared.refusal.Refusal.TheVariants.{Check, Lex, Parse}
 

@@ -7,9 +7,9 @@ use Rattle.c_tree.specs.declared.statement.Item.{Item}
 use Rattle.c_tree.specs.declared.statement.Item.TheVariants as item
 use Rattle.c_tree.specs.Tree.{Expr, Exprs, no_exprs, expr_and, Declarator, Parameters, no_parameters, parameter_and, Initialiser, Initialisers, no_initialisers, initialiser_and}
 use Rattle.c_tree.specs.Statements.{Items, no_items, statement_and, declaration_and, case_and, default_and}
-use Rattle.c_tree.specs.Views.{exprs_of, parameters_of, with_parameter, with_expr, are_none}
-use Rattle.c_tree.specs.InitialiserViews.{initialisers_of, with_initialiser}
-use Rattle.c_tree.specs.StatementViews.{item_height, items_of, with_item}
+use Rattle.c_tree.specs.refinement.Views.{exprs_of, parameters_of, with_parameter, with_expr, are_none}
+use Rattle.c_tree.specs.refinement.InitialiserViews.{initialisers_of, with_initialiser}
+use Rattle.c_tree.specs.refinement.StatementViews.{item_height, items_of, with_item}
 use Rattle.c_tree.specs.Heights.{declarator_height, tallest_parameter, expr_height, tallest, initialiser_height, tallest_initialiser, tallest_of}
 use Rattle.c_tree.specs.StatementHeights.{tallest_item}
 

@@ -27,7 +27,7 @@ pub struct Enumerators {
 impl Model for Enumerators {
     ghost use Rattle.std.specs.Prelude.{List};
     ghost use Rattle.c_tree.specs.declared.enumerator.Enumerator.{Enumerator};
-    ghost use Rattle.c_tree.specs.EnumeratorCodes.{coded_enumerators};
+    ghost use Rattle.c_tree.specs.refinement.EnumeratorCodes.{coded_enumerators};
 
     ghost Value = { List Enumerator };
 

@@ -24,7 +24,7 @@ impl Model for Declarators {
     ghost use Rattle.std.specs.Prelude.{List};
     ghost use Rattle.std.specs.Coded.{coded_list};
     ghost use Rattle.c_tree.specs.Tree.{Declarator as Meaning};
-    ghost use Rattle.c_tree.specs.Codes.{coded_declarator};
+    ghost use Rattle.c_tree.specs.refinement.Codes.{coded_declarator};
 
     ghost Value = { List Meaning };
 
@@ -68,7 +68,7 @@ pub struct Members {
 impl Model for Members {
     ghost use Rattle.std.specs.Prelude.{List};
     ghost use Rattle.c_tree.specs.declared.external.Piece.{Piece};
-    ghost use Rattle.c_tree.specs.PieceCodes.{coded_pieces};
+    ghost use Rattle.c_tree.specs.refinement.PieceCodes.{coded_pieces};
 
     ghost Value = { List Piece };
 
@@ -122,7 +122,7 @@ pub struct Unit {
 impl Model for Unit {
     ghost use Rattle.std.specs.Prelude.{List};
     ghost use Rattle.c_tree.specs.declared.external.External.{External};
-    ghost use Rattle.c_tree.specs.UnitCodes.{coded_unit};
+    ghost use Rattle.c_tree.specs.refinement.UnitCodes.{coded_unit};
 
     ghost Value = { List External };
 

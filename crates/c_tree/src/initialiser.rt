@@ -2,7 +2,7 @@
 
 ghost use Rattle.std.specs.Prelude.{◌≡◌, ◌+◌, [], ◌∷◌, ◌++◌, IfOk};
 ghost use Rattle.c_tree.specs.Heights.{init_height, initialiser_height, tallest_initialiser, tallest_of, value_height};
-ghost use Rattle.c_tree.specs.InitialiserViews.{initialiser_of, initialisers_of, with_initialiser};
+ghost use Rattle.c_tree.specs.refinement.InitialiserViews.{initialiser_of, initialisers_of, with_initialiser};
 ghost use Rattle.c_tree.specs.Tree.{no_initialisers};
 
 use crate::tree::{Declarator, Expr, above};
@@ -28,13 +28,13 @@ pub enum InitialiserNode {
 
 impl Model for Initialiser {
     ghost use Rattle.c_tree.specs.Tree.{Initialiser as Meaning};
-    ghost use Rattle.c_tree.specs.Codes.{coded_initialiser};
+    ghost use Rattle.c_tree.specs.refinement.Codes.{coded_initialiser};
 
     ghost Value = { Meaning };
 
     ghost coded = { coded_initialiser };
 
-    ghost use Rattle.c_tree.specs.InitialiserViews.{initialiser_of, initialiser_nodes};
+    ghost use Rattle.c_tree.specs.refinement.InitialiserViews.{initialiser_of, initialiser_nodes};
 
     ghost view = { λ v. initialiser_of v.node.value };
 
@@ -45,7 +45,7 @@ impl Model for Initialiser {
 
     ghost size = { initialiser_nodes };
 
-    ghost use Rattle.c_tree.specs.InitialiserFalls.{initialiser_falls};
+    ghost use Rattle.c_tree.specs.refinement.InitialiserFalls.{initialiser_falls};
 
     ghost size_decreases = { λ a h. initialiser_falls a.node.value };
 }
@@ -60,13 +60,13 @@ pub struct Initialisers {
 
 impl Model for Initialisers {
     ghost use Rattle.c_tree.specs.Tree.{Initialisers as Meaning};
-    ghost use Rattle.c_tree.specs.Codes.{coded_initialisers};
+    ghost use Rattle.c_tree.specs.refinement.Codes.{coded_initialisers};
 
     ghost Value = { Meaning };
 
     ghost coded = { coded_initialisers };
 
-    ghost use Rattle.c_tree.specs.InitialiserViews.{initialisers_of, initialisers_nodes};
+    ghost use Rattle.c_tree.specs.refinement.InitialiserViews.{initialisers_of, initialisers_nodes};
 
     ghost view = { λ a. initialisers_of a.items.items };
 
@@ -77,7 +77,7 @@ impl Model for Initialisers {
 
     ghost size = { initialisers_nodes };
 
-    ghost use Rattle.c_tree.specs.InitialiserFalls.{initialisers_fall};
+    ghost use Rattle.c_tree.specs.refinement.InitialiserFalls.{initialisers_fall};
 
     ghost size_decreases = { λ a h. initialisers_fall a.items.items };
 }
@@ -164,7 +164,7 @@ pub struct Inits {
 impl Model for Inits {
     ghost use Rattle.std.specs.Prelude.{List};
     ghost use Rattle.c_tree.specs.declared.initialiser.Init.{Init};
-    ghost use Rattle.c_tree.specs.InitCodes.{coded_inits};
+    ghost use Rattle.c_tree.specs.refinement.InitCodes.{coded_inits};
 
     ghost Value = { List Init };
 

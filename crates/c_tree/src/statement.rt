@@ -3,7 +3,7 @@
 ghost use Rattle.std.specs.Prelude.{◌≡◌, ◌+◌, IfOk};
 ghost use Rattle.c_tree.specs.Statements.{no_items};
 ghost use Rattle.c_tree.specs.StatementHeights.{clause_height, ends_open, statement_height, tallest_item};
-ghost use Rattle.c_tree.specs.StatementViews.{item_height, items_of, statement_of, with_item};
+ghost use Rattle.c_tree.specs.refinement.StatementViews.{item_height, items_of, statement_of, with_item};
 
 use crate::first::{ForFirst, Jump};
 use crate::initialiser::Inits;
@@ -45,13 +45,13 @@ pub enum StatementNode {
 
 impl Model for Statement {
     ghost use Rattle.c_tree.specs.Statements.{Statement as Meaning};
-    ghost use Rattle.c_tree.specs.StatementCodes.{coded_statement};
+    ghost use Rattle.c_tree.specs.refinement.StatementCodes.{coded_statement};
 
     ghost Value = { Meaning };
 
     ghost coded = { coded_statement };
 
-    ghost use Rattle.c_tree.specs.StatementViews.{statement_of, statement_nodes};
+    ghost use Rattle.c_tree.specs.refinement.StatementViews.{statement_of, statement_nodes};
 
     ghost view = { λ s. statement_of s.node.value };
 
@@ -62,7 +62,7 @@ impl Model for Statement {
 
     ghost size = { statement_nodes };
 
-    ghost use Rattle.c_tree.specs.StatementFalls.{statement_falls};
+    ghost use Rattle.c_tree.specs.refinement.StatementFalls.{statement_falls};
 
     ghost size_decreases = { λ a h. statement_falls a.node.value };
 }
@@ -89,13 +89,13 @@ pub struct Block {
 
 impl Model for Block {
     ghost use Rattle.c_tree.specs.Statements.{Items};
-    ghost use Rattle.c_tree.specs.StatementCodes.{coded_items};
+    ghost use Rattle.c_tree.specs.refinement.StatementCodes.{coded_items};
 
     ghost Value = { Items };
 
     ghost coded = { coded_items };
 
-    ghost use Rattle.c_tree.specs.StatementViews.{items_of, items_nodes};
+    ghost use Rattle.c_tree.specs.refinement.StatementViews.{items_of, items_nodes};
 
     ghost view = { λ a. items_of a.items.items };
 
@@ -106,7 +106,7 @@ impl Model for Block {
 
     ghost size = { items_nodes };
 
-    ghost use Rattle.c_tree.specs.StatementFalls.{items_fall};
+    ghost use Rattle.c_tree.specs.refinement.StatementFalls.{items_fall};
 
     ghost size_decreases = { λ a h. items_fall a.items.items };
 }

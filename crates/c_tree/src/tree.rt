@@ -4,7 +4,7 @@ ghost use Rattle.std.specs.Prelude.{◌≡◌, ◌+◌, IfOk};
 ghost use Rattle.c_tree.specs.Grammar.{level};
 ghost use Rattle.c_tree.specs.Heights.{declarator_height, expr_height, tallest, tallest_parameter};
 ghost use Rattle.c_tree.specs.Tree.{no_exprs, no_parameters};
-ghost use Rattle.c_tree.specs.Views.{are_none, declarator_of, expr_of, exprs_of, parameters_of, with_expr, with_parameter};
+ghost use Rattle.c_tree.specs.refinement.Views.{are_none, declarator_of, expr_of, exprs_of, parameters_of, with_expr, with_parameter};
 
 use crate::operators::{Access, Infix, StepOp, UnaryOp};
 use crate::specifier::Specifier;
@@ -45,13 +45,13 @@ pub enum ExprNode {
 
 impl Model for Expr {
     ghost use Rattle.c_tree.specs.Tree.{Expr as Meaning};
-    ghost use Rattle.c_tree.specs.Codes.{coded_expr};
+    ghost use Rattle.c_tree.specs.refinement.Codes.{coded_expr};
 
     ghost Value = { Meaning };
 
     ghost coded = { coded_expr };
 
-    ghost use Rattle.c_tree.specs.Views.{expr_of, expr_nodes};
+    ghost use Rattle.c_tree.specs.refinement.Views.{expr_of, expr_nodes};
 
     ghost view = { λ e. expr_of e.node.value };
 
@@ -62,7 +62,7 @@ impl Model for Expr {
 
     ghost size = { expr_nodes };
 
-    ghost use Rattle.c_tree.specs.Falls.{expr_falls};
+    ghost use Rattle.c_tree.specs.refinement.Falls.{expr_falls};
 
     ghost size_decreases = { λ a h. expr_falls a.node.value };
 }
@@ -77,13 +77,13 @@ pub struct Args {
 
 impl Model for Args {
     ghost use Rattle.c_tree.specs.Tree.{Exprs};
-    ghost use Rattle.c_tree.specs.Codes.{coded_exprs};
+    ghost use Rattle.c_tree.specs.refinement.Codes.{coded_exprs};
 
     ghost Value = { Exprs };
 
     ghost coded = { coded_exprs };
 
-    ghost use Rattle.c_tree.specs.Views.{exprs_of, exprs_nodes};
+    ghost use Rattle.c_tree.specs.refinement.Views.{exprs_of, exprs_nodes};
 
     ghost view = { λ a. exprs_of a.items.items };
 
@@ -94,7 +94,7 @@ impl Model for Args {
 
     ghost size = { exprs_nodes };
 
-    ghost use Rattle.c_tree.specs.Falls.{exprs_fall};
+    ghost use Rattle.c_tree.specs.refinement.Falls.{exprs_fall};
 
     ghost size_decreases = { λ a h. exprs_fall a.items.items };
 }
@@ -139,13 +139,13 @@ pub enum DeclaratorNode {
 
 impl Model for Declarator {
     ghost use Rattle.c_tree.specs.Tree.{Declarator as Meaning};
-    ghost use Rattle.c_tree.specs.Codes.{coded_declarator};
+    ghost use Rattle.c_tree.specs.refinement.Codes.{coded_declarator};
 
     ghost Value = { Meaning };
 
     ghost coded = { coded_declarator };
 
-    ghost use Rattle.c_tree.specs.Views.{declarator_of, declarator_nodes};
+    ghost use Rattle.c_tree.specs.refinement.Views.{declarator_of, declarator_nodes};
 
     ghost view = { λ d. declarator_of d.node.value };
 
@@ -156,7 +156,7 @@ impl Model for Declarator {
 
     ghost size = { declarator_nodes };
 
-    ghost use Rattle.c_tree.specs.Falls.{declarator_falls};
+    ghost use Rattle.c_tree.specs.refinement.Falls.{declarator_falls};
 
     ghost size_decreases = { λ a h. declarator_falls a.node.value };
 }
@@ -179,13 +179,13 @@ pub struct Parameters {
 
 impl Model for Parameters {
     ghost use Rattle.c_tree.specs.Tree.{Parameters as Meaning};
-    ghost use Rattle.c_tree.specs.Codes.{coded_parameters};
+    ghost use Rattle.c_tree.specs.refinement.Codes.{coded_parameters};
 
     ghost Value = { Meaning };
 
     ghost coded = { coded_parameters };
 
-    ghost use Rattle.c_tree.specs.Views.{parameters_of, parameters_nodes};
+    ghost use Rattle.c_tree.specs.refinement.Views.{parameters_of, parameters_nodes};
 
     ghost view = { λ a. parameters_of a.items.items };
 
@@ -196,7 +196,7 @@ impl Model for Parameters {
 
     ghost size = { parameters_nodes };
 
-    ghost use Rattle.c_tree.specs.Falls.{parameters_fall};
+    ghost use Rattle.c_tree.specs.refinement.Falls.{parameters_fall};
 
     ghost size_decreases = { λ a h. parameters_fall a.items.items };
 }

@@ -7,8 +7,8 @@ use Rattle.c_typed.specs.declared.tree.Expr.{Expr}
 use Rattle.c_typed.specs.declared.tree.Stmt.{Stmt, Row_of-Stmt, end_of-Stmt, more_of-Stmt, items-the_row-Stmt, items_hidden-the_row-Stmt-0}
 use Rattle.c_typed.specs.declared.tree.Stmt.TheVariants as code
 use Rattle.c_typed.specs.Tree as to
-use Rattle.c_typed.specs.Views as views
-use Rattle.c_typed.specs.Views.{stmt_of, list_of, expr_of}
+use Rattle.c_typed.specs.refinement.Views as views
+use Rattle.c_typed.specs.refinement.Views.{stmt_of, list_of, expr_of}
 use Rattle.c_typed.specs.Parts.{sequence}
 
 row_is : (n : _) (row : Row_of-Stmt n) → views.stmts_of row ≡ sequence (list_of (items-the_row-Stmt n row))

@@ -3,7 +3,7 @@
 ghost use Rattle.std.specs.Prelude.{◌≡◌, ◌++◌, ◌∷◌, [], IfOk, OnOk};
 ghost use Rattle.c_typed.specs.Tree as to;
 ghost use Rattle.c_typed.specs.Parts as words;
-ghost use Rattle.c_typed.specs.Views.{boxed_step, expr_of, list_of, path_place, place_of, stmt_of};
+ghost use Rattle.c_typed.specs.refinement.Views.{boxed_step, expr_of, list_of, path_place, place_of, stmt_of};
 
 use crate::make::boxed;
 use crate::path::{Path, place_at};

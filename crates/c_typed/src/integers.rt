@@ -1,9 +1,9 @@
 //! Operators on integers (C11, 6.3.1.1, 6.3.1.8, 6.5.3.3, 6.5.5 to 6.5.12).
 
 ghost use Rattle.std.specs.Prelude.{◌≡◌, IfOk};
-ghost use Rattle.c_typed.specs.Views.{expr_of};
+ghost use Rattle.c_typed.specs.refinement.Views.{expr_of};
 ghost use Rattle.c_typed.specs.Forms as words;
-ghost use Rattle.c_typed.specs.FormViews.{form_of, integer_pair};
+ghost use Rattle.c_typed.specs.refinement.FormViews.{form_of, integer_pair};
 
 use crate::form::Form;
 use crate::make::{at_type, boxed};

@@ -4,7 +4,7 @@ ghost use Rattle.std.specs.Prelude.{◌≡◌, IfOk, Some};
 ghost use Rattle.c_types.specs.Types.{pointer, scalar_of, type_of};
 ghost use Rattle.c_typed.specs.Forms as words;
 ghost use Rattle.c_typed.specs.Tree as tree;
-ghost use Rattle.c_typed.specs.Views.{expr_of};
+ghost use Rattle.c_typed.specs.refinement.Views.{expr_of};
 
 use crate::tree::Expr;
 use c_types::{CType, IntType, Scalar, same_integer};

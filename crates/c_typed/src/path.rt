@@ -3,7 +3,7 @@
 ghost use Rattle.std.specs.Prelude.{◌≡◌, IfOk};
 ghost use Rattle.c_types.specs.Types.{type_of};
 ghost use Rattle.c_typed.specs.Parts as words;
-ghost use Rattle.c_typed.specs.Views.{path_place, place_of};
+ghost use Rattle.c_typed.specs.refinement.Views.{path_place, place_of};
 
 use crate::make::boxed;
 use crate::ops::Variable;

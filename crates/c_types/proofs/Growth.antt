@@ -4,7 +4,7 @@ use Rattle.std.specs.Prelude.{slice_get, IsSome}
 use Rattle.std.specs.List.{All}
 use Rattle.std.proofs.lemmas.List.Elements.{All-head, All-tail, All-weaker}
 use Rattle.std.proofs.lemmas.List.{map-append, map-set}
-use Rattle.c_types.specs.Views.{layout_of, layout_of_option, table_of}
+use Rattle.c_types.specs.refinement.Views.{layout_of, layout_of_option, table_of}
 use Rattle.c_types.specs.declared.definition.Definition.{Definition}
 use Rattle.c_types.specs.Layout.{Table, IsSmall, Layout, layout_at, HasSize, IsLaidOut, size_in, align_in, size, align, round_up, offsets_from, end_from, greatest_from, depth_in, depth, deepest_from, laid_out}
 use Rattle.c_types.specs.Types.{Ty, void, integer, struct, pointer, array, function}

@@ -4,7 +4,7 @@ use Rattle.std.specs.List.{All}
 use Rattle.std.proofs.lemmas.List.{get_or-map, length-map}
 use Rattle.c_types.specs.Layout.{Table, IsCounted, IsSmall, size, align, round_up, offsets_from, end_from, greatest_from, greatest, most_bytes}
 use Rattle.c_types.specs.Types.{Ty, void, integer, struct, pointer, array, function, type_of}
-use Rattle.c_types.specs.Views.{types_in}
+use Rattle.c_types.specs.refinement.Views.{types_in}
 use Rattle.c_types.specs.declared.types.CType.{CType}
 
 -- the first i members are placed

@@ -1,5 +1,4 @@
 pub mod Integers
 pub mod Types
-pub mod Codes
 pub mod Layout
-pub mod Views
+pub mod refinement

@@ -5,7 +5,7 @@ ghost use Rattle.std.specs.List.{All};
 ghost use Rattle.c_types.specs.Layout as words;
 ghost use Rattle.c_types.specs.Layout.{HasSize, IsCounted, IsSmall, laid_out, pointer_size, most_bytes};
 ghost use Rattle.c_types.specs.Types.{type_of};
-ghost use Rattle.c_types.specs.Views.{layout_of, table_of, types_in};
+ghost use Rattle.c_types.specs.refinement.Views.{layout_of, table_of, types_in};
 
 use crate::definition::Definition;
 use crate::types::CType;

@@ -5,7 +5,7 @@ ghost use Rattle.std.specs.List.{All};
 ghost use Rattle.c_types.specs.Layout as words;
 ghost use Rattle.c_types.specs.Layout.{HasSmallParts, HasSize, IsDefined, IsLaidOut, IsSmall, laid_out, members_of, most_bytes};
 ghost use Rattle.c_types.specs.Types.{struct, type_of};
-ghost use Rattle.c_types.specs.Views.{types_in};
+ghost use Rattle.c_types.specs.refinement.Views.{types_in};
 
 use crate::definition::Definition;
 use crate::layout::{align_in, defined, lay_out, size_in};
@@ -21,9 +21,9 @@ pub struct Structs {
 }
 
 impl Model for Structs {
-    ghost use Rattle.c_types.specs.Codes.{coded_table};
+    ghost use Rattle.c_types.specs.refinement.Codes.{coded_table};
     ghost use Rattle.c_types.specs.Layout.{IsLaidOut, Table};
-    ghost use Rattle.c_types.specs.Views.{table_of};
+    ghost use Rattle.c_types.specs.refinement.Views.{table_of};
 
     ghost Value = { Table };
 

@@ -21,7 +21,7 @@ use Rattle.c_typed.specs.declared.ops.RelOp.TheVariants as relations
 use Rattle.c_typed.specs.declared.ops.UnaryOp.TheVariants.{Negate, Complement}
 use Rattle.c_typed.specs.declared.ops.Variable.{Variable}
 use Rattle.c_typed.specs.declared.ops.Variable.TheVariants.{Local, Global}
-use Rattle.c_typed.specs.Nesting.{expr_nesting, exprs_nesting, place_nesting}
+use Rattle.c_typed.specs.refinement.Nesting.{expr_nesting, exprs_nesting, place_nesting}
 use Rattle.c_typed.specs.Tree as tree
 use Rattle.c_typed.specs.Tree.{Place, of, deref, member, Expr, Exprs, more}
 use Rattle.c_meaning.specs.Integers.{value_of}

@@ -16,7 +16,7 @@ use Rattle.ms_module.specs.refinement.Nesting.{ModuleNestsWithin, NestsWithin}
 use Rattle.c_types.specs.Types.{Ty}
 use Rattle.ms_rules.specs.Context.{imported_funcs}
 use Rattle.c_typed.specs.declared.ops.Variable.{Variable}
-use Rattle.c_typed.specs.Nesting.{body_nesting, deepest, function_nesting, made_nesting, stmt_nesting, unit_nesting}
+use Rattle.c_typed.specs.refinement.Nesting.{body_nesting, deepest, function_nesting, made_nesting, stmt_nesting, unit_nesting}
 use Rattle.c_typed.specs.Tree.{Function, Stmt, Typed}
 use Rattle.c_well_typed.specs.Units.{literals_in}
 use Rattle.c_code.specs.Functions.{body}

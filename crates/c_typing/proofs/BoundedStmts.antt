@@ -16,8 +16,8 @@ use Rattle.c_types.specs.Types.{Ty, void, integer, struct, pointer, array, funct
 use Rattle.c_typed.specs.declared.ops.Variable.{Variable}
 use Rattle.c_typed.specs.declared.ops.Variable.TheVariants.{Local, Global}
 use Rattle.c_typed.specs.declared.tree.Case.{Case}
-use Rattle.c_typed.specs.Nesting as nesting
-use Rattle.c_typed.specs.Nesting.{deepest, expr_nesting, made_nesting, one_if, step_nesting, stmt_nesting, stmts_nesting}
+use Rattle.c_typed.specs.refinement.Nesting as nesting
+use Rattle.c_typed.specs.refinement.Nesting.{deepest, expr_nesting, made_nesting, one_if, step_nesting, stmt_nesting, stmts_nesting}
 use Rattle.c_typed.specs.Tree as tree
 use Rattle.c_typed.specs.Tree.{Expr, Stmt, perform, fill, if_else, loop, do_while, switch, scope, return, return_nothing, break, continue, Stmts, done, seq, Function, Made}
 use Rattle.c_well_typed.specs.Statements.{count}

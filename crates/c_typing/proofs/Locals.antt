@@ -6,7 +6,7 @@ use Rattle.std.specs.List.{All, list_any}
 use Rattle.ms_types.specs.declared.types.ValType.TheVariants as vals
 use Rattle.ms_module.specs.declared.module.Func.{Func}
 use Rattle.c_types.specs.Types.{Ty}
-use Rattle.c_typed.specs.Nesting.{deepest}
+use Rattle.c_typed.specs.refinement.Nesting.{deepest}
 use Rattle.c_typed.specs.Tree.{Function, Stmt, Typed}
 use Rattle.c_code.specs.Functions.{locals, params_in, scratch_locals, slots_from}
 use Rattle.c_code.specs.Limits.{first_true, has_many_slots, is_long_copy, limit_of}

@@ -1,6 +1,6 @@
 -- How many values wait at once in a unit, each in a local of its own (`waits` of c_code).
 use Rattle.std.specs.Prelude.{ℕ, max, Option, Some, None}
-use Rattle.c_typed.specs.Nesting.{deepest}
+use Rattle.c_typed.specs.refinement.Nesting.{deepest}
 use Rattle.c_typed.specs.Tree.{Stmt, Typed}
 use Rattle.c_code.specs.Modules.{waits_made}
 use Rattle.c_code.specs.Uses.{waits_stmt}

@@ -8,7 +8,7 @@ ghost use Rattle.ms_rules.specs.Context.{imported_funcs};
 ghost use Rattle.ms_rules.specs.Modules.{AreDistinct, WellTyped};
 ghost use Rattle.c_types.specs.declared.integers.IntType.TheVariants.{Int};
 ghost use Rattle.c_types.specs.Types.{function, integer, no_types};
-ghost use Rattle.c_typed.specs.Nesting.{unit_nesting};
+ghost use Rattle.c_typed.specs.refinement.Nesting.{unit_nesting};
 ghost use Rattle.c_typed.specs.Tree.{Function, Stmt, Typed};
 ghost use Rattle.c_well_typed.specs.Units.{IsWellTyped};
 ghost use Rattle.c_code.specs.Functions.{body, signature};

@@ -1,4 +1,3 @@
-pub mod Types
-pub mod Expressions
 pub mod Statements
 pub mod Units
+pub mod refinement

@@ -1,7 +1,7 @@
 //! Typed trees that are well typed.
 
 ghost use Rattle.std.specs.Prelude.{◌≡◌};
-ghost use Rattle.c_typed.specs.Views.{typed_of};
+ghost use Rattle.c_typed.specs.refinement.Views.{typed_of};
 ghost use Rattle.c_well_typed.specs.Units.{IsWellTyped};
 
 use c_typed::TypedUnit;
@@ -14,11 +14,11 @@ pub struct Typed {
 }
 
 impl Model for Typed {
-    ghost use Rattle.c_typed.specs.Views.{typed_of};
+    ghost use Rattle.c_typed.specs.refinement.Views.{typed_of};
     ghost use Rattle.c_typed.specs.declared.unit.TypedUnit.{TypedUnit};
     ghost use Rattle.c_well_typed.specs.Units.{IsWellTyped};
     ghost use Rattle.std.specs.Coded.{codes};
-    ghost use Rattle.c_types.specs.Codes.{coded_table};
+    ghost use Rattle.c_types.specs.refinement.Codes.{coded_table};
     ghost use Rattle.c_types.specs.contracts.types.CType as ctype;
     ghost use Rattle.c_typed.specs.contracts.tree.Stmt as stmt;
 

@@ -7,7 +7,7 @@ use Rattle.ms_module.specs.declared.builder.Opening.{Opening}
 use Rattle.ms_module.specs.declared.builder.Opening.TheVariants.{Block, Loop, If}
 use Rattle.ms_module.specs.declared.instr.Instr.{Instr}
 use Rattle.ms_emit.specs.Codes.{Code, Coded, added_in, block, choice, emitted, no_code, one, repeat, second_added, ◌⨾◌}
-use Rattle.ms_emit.specs.Parts.{Adds, HasRoom, IsWhole}
+use Rattle.ms_emit.specs.refinement.Parts.{Adds, HasRoom, IsWhole}
 use Rattle.ms_emit.proofs.Emitting.{after_else_room, begun_room, emits_block, emits_choice, emits_nothing, emits_one, emits_only, emits_repeat, emits_then, emitted_room, started_in, then_whole}
 
 -- an equation gives all

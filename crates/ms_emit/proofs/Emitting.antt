@@ -10,7 +10,7 @@ use Rattle.ms_module.specs.declared.builder.Opening.TheVariants as openings
 use Rattle.ms_module.specs.declared.builder.Arm.TheVariants.{AfterElse}
 use Rattle.ms_module.specs.declared.instr.Instr.{Instr}
 use Rattle.ms_module.specs.declared.instr.Instr.TheVariants.{Block, Loop, If}
-use Rattle.ms_emit.specs.Parts.{HasRoom, IsWhole}
+use Rattle.ms_emit.specs.refinement.Parts.{HasRoom, IsWhole}
 use Rattle.ms_emit.specs.Codes.{Code, Coded, coded, plain, one, ◌⨾◌, joined, block, repeat, choice, inner, second, second_seqs, puts, added, added_in, second_added, emitted}
 
 -- ---- sequences

@@ -7,7 +7,7 @@ ghost use Rattle.ms_module.specs.declared.builder.Opening.TheVariants.{Block, Lo
 ghost use Rattle.ms_module.specs.declared.instr.Instr.{Instr};
 ghost use Rattle.ms_module.specs.Building.{State, after_else, begun, closed, may_else, placed};
 ghost use Rattle.ms_emit.specs.Codes.{Code, ◌⨾◌, block, choice, emitted, no_code, one, repeat};
-ghost use Rattle.ms_emit.specs.Parts.{Adds, HasRoom, IsWhole};
+ghost use Rattle.ms_emit.specs.refinement.Parts.{Adds, HasRoom, IsWhole};
 
 /// The builder's calls for the parts of code, one behind the other, make the code of the whole, behind an `else` too.
 pub fn builds_in_parts()

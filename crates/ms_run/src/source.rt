@@ -5,7 +5,7 @@ ghost use Rattle.c_token.specs.declared.word.Token.{Token};
 ghost use Rattle.c_lex.specs.Lexing.{Lexes};
 ghost use Rattle.c_lex.specs.Readers.{FirstFault, fault_of};
 ghost use Rattle.c_parse.specs.Units as parsing;
-ghost use Rattle.c_typed.specs.Views.{typed_of};
+ghost use Rattle.c_typed.specs.refinement.Views.{typed_of};
 ghost use Rattle.ms_module.specs.declared.module.Module.{Module};
 ghost use Rattle.ms_run.specs.Source.{IsModule, IsParsed, IsUnit, Tells};
 ghost use Rattle.ms_run.specs.declared.source.SourceFault.TheVariants.{Memory};

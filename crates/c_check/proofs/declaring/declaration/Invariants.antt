@@ -1,8 +1,8 @@
 use Rattle.std.proofs.Common.{◌≡◌, drop}
 use Rattle.c_types.specs.Types.{type_of}
-use Rattle.c_check_types.specs.Views.{state_of}
+use Rattle.c_check_types.specs.refinement.Views.{state_of}
 use Rattle.c_check.specs.Statements.{declaration}
-use Rattle.c_check.specs.Views.{declaring_of}
+use Rattle.c_check.specs.refinement.Views.{declaring_of}
 use Rattle.c_check.proofs.declaring.declaration.Given as goal
 
 abbrev pub invariant-loop-x : goal.invariant-loop-x

@@ -1,6 +1,6 @@
 use Rattle.std.proofs.Common.{◌≡◌, drop}
 use Rattle.c_types.specs.Types.{type_of}
-use Rattle.c_check_types.specs.Views.{state_of}
+use Rattle.c_check_types.specs.refinement.Views.{state_of}
 use Rattle.c_check.specs.Declarations.{declaration}
 use Rattle.c_check.proofs.global.declaration.Given as goal
 

@@ -1,6 +1,6 @@
 use Rattle.std.proofs.Common.{◌∙◌, sym}
 use Rattle.c_types.specs.Types.{type_of}
-use Rattle.c_check_types.specs.Views.{state_of}
+use Rattle.c_check_types.specs.refinement.Views.{state_of}
 use Rattle.c_check_types.proofs.Rules.{answered}
 use Rattle.c_check.specs.Declarations.{declares_alone, names_function}
 use Rattle.c_check.proofs.Alone.{alone}

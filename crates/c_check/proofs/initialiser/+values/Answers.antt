@@ -1,6 +1,6 @@
 use Rattle.std.proofs.Common.{◌<◌, subst, arith}
 use Rattle.c_tree.specs.Tree.{Initialisers}
-use Rattle.c_tree.specs.InitialiserViews.{initialiser_nodes, initialisers_nodes}
+use Rattle.c_tree.specs.refinement.InitialiserViews.{initialiser_nodes, initialisers_nodes}
 use Rattle.c_check.proofs.Values.{one_falls}
 use Rattle.c_check.proofs.initialiser.+values.Goals as goal
 

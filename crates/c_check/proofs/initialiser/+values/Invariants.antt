@@ -1,8 +1,8 @@
 use Rattle.std.proofs.Common.{◌≡◌, ◌+◌, ◌*◌, drop}
 use Rattle.c_types.specs.Types.{type_of}
-use Rattle.c_tree.specs.InitialiserViews.{initialisers_of, initialiser_nodes, initialisers_nodes}
-use Rattle.c_typed.specs.Views.{list_of, path_place}
-use Rattle.c_check_types.specs.Views.{state_of}
+use Rattle.c_tree.specs.refinement.InitialiserViews.{initialisers_of, initialiser_nodes, initialisers_nodes}
+use Rattle.c_typed.specs.refinement.Views.{list_of, path_place}
+use Rattle.c_check_types.specs.refinement.Views.{state_of}
 use Rattle.c_check.specs.Initialisers.{elements, members}
 use Rattle.c_check.proofs.initialiser.+values.Given as goal
 

@@ -1,11 +1,11 @@
 use Rattle.std.proofs.Common.{◌≡◌, ◌<◌, subst, arith}
 use Rattle.c_types.specs.Types.{type_of}
 use Rattle.c_tree.specs.Statements.{Items, Statement}
-use Rattle.c_tree.specs.StatementViews.{items_nodes, statement_of}
+use Rattle.c_tree.specs.refinement.StatementViews.{items_nodes, statement_of}
 use Rattle.c_tree.specs.declared.statement.StatementNode.{StatementNode}
-use Rattle.c_check_types.specs.Views.{Obeys, state_of}
+use Rattle.c_check_types.specs.refinement.Views.{Obeys, state_of}
 use Rattle.c_check.specs.Statements as words
-use Rattle.c_check.specs.Views.{boxed_stmt}
+use Rattle.c_check.specs.refinement.Views.{boxed_stmt}
 use Rattle.c_check.proofs.Items.{item_nodes, one_falls}
 use Rattle.c_check.proofs.statement.+statement.Goals as goal
 

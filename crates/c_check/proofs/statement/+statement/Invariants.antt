@@ -1,9 +1,9 @@
 use Rattle.std.proofs.Common.{◌≡◌, ◌+◌, ◌*◌, drop}
 use Rattle.c_types.specs.Types.{type_of}
-use Rattle.c_tree.specs.StatementViews.{items_of, items_nodes, statement_nodes}
-use Rattle.c_check_types.specs.Views.{state_of}
+use Rattle.c_tree.specs.refinement.StatementViews.{items_of, items_nodes, statement_nodes}
+use Rattle.c_check_types.specs.refinement.Views.{state_of}
 use Rattle.c_check.specs.Statements.{items}
-use Rattle.c_check.specs.Views.{declaring_of}
+use Rattle.c_check.specs.refinement.Views.{declaring_of}
 use Rattle.c_check.proofs.Items.{item_nodes}
 use Rattle.c_check.proofs.statement.+statement.Given as goal
 

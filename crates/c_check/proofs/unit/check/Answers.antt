@@ -1,8 +1,8 @@
 use Rattle.std.proofs.Common.{◌≤◌, ◌*◌, sym, subst, List}
 use Rattle.c_tree.specs.declared.external.External.{External}
 use Rattle.c_tree.specs.ExternalHeights.{unit_height}
-use Rattle.c_typed.specs.Nesting.{unit_nesting}
-use Rattle.c_typed.specs.Views.{typed_of}
+use Rattle.c_typed.specs.refinement.Nesting.{unit_nesting}
+use Rattle.c_typed.specs.refinement.Views.{typed_of}
 use Rattle.c_typed.specs.declared.unit.TypedUnit.{TypedUnit}
 use Rattle.c_check.proofs.WellTyped.{typing_well}
 use Rattle.c_check.proofs.Nesting.{typing_nests}

@@ -1,5 +1,5 @@
 use Rattle.std.proofs.Common.{◌≡◌, drop}
-use Rattle.c_check_types.specs.Views.{state_of}
+use Rattle.c_check_types.specs.refinement.Views.{state_of}
 use Rattle.c_check.specs.Units.{externals}
 use Rattle.c_check.proofs.unit.externals.Given as goal
 

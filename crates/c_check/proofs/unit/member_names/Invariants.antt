@@ -1,5 +1,5 @@
 use Rattle.std.proofs.Common.{◌≡◌, ◌++◌, drop}
-use Rattle.c_typed.specs.Views.{names_in}
+use Rattle.c_typed.specs.refinement.Views.{names_in}
 use Rattle.c_check.proofs.unit.member_names.Given as goal
 
 abbrev pub invariant-loop-names : goal.invariant-loop-names

@@ -1,5 +1,5 @@
 use Rattle.std.proofs.lemmas.Result.{err_from_is_err_and}
-use Rattle.c_check_types.specs.Views.{state_of}
+use Rattle.c_check_types.specs.refinement.Views.{state_of}
 use Rattle.c_check.proofs.Faults.{told}
 use Rattle.c_check.proofs.unit.typed_unit.Goals as goal
 

@@ -2,11 +2,11 @@ use Rattle.std.proofs.Common.{◌∙◌, ap}
 use Rattle.c_types.specs.Types.{Ty}
 use Rattle.c_types.specs.declared.types.CType.TheVariants as types
 use Rattle.c_typed.specs.Tree as to
-use Rattle.c_typed.specs.Views.{expr_of}
+use Rattle.c_typed.specs.refinement.Views.{expr_of}
 use Rattle.c_typed.specs.declared.tree.Expr.{Expr}
 use Rattle.c_check_types.proofs.TypeLists.{function_is}
 use Rattle.c_check_exprs.specs.Expressions.{exprs_of}
-use Rattle.c_check_exprs.specs.Views.{exprs_in}
+use Rattle.c_check_exprs.specs.refinement.Views.{exprs_in}
 use Rattle.c_check_exprs.proofs.Lists.{call_through_is}
 use Rattle.c_check_exprs.proofs.call.call_through.Goals as goal
 

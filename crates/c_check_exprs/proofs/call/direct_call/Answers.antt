@@ -1,5 +1,5 @@
 use Rattle.std.proofs.Common.{◌∙◌, ap}
-use Rattle.c_typed.specs.Views.{expr_of}
+use Rattle.c_typed.specs.refinement.Views.{expr_of}
 use Rattle.c_typed.specs.declared.tree.Expr.{Expr}
 use Rattle.c_check_exprs.proofs.Lists.{call_is}
 use Rattle.c_check_exprs.proofs.call.direct_call.Goals as goal

@@ -2,7 +2,7 @@ use Rattle.std.proofs.Common.{◌≡◌, ℕ, None, refl}
 use Rattle.c_typed.specs.declared.tree.Expr.{Expr}
 use Rattle.c_typed.specs.declared.tree.Expr.TheVariants as code
 use Rattle.c_typed.specs.declared.tree.Sized.TheVariants as sizes
-use Rattle.c_typed.specs.Views.{expr_of}
+use Rattle.c_typed.specs.refinement.Views.{expr_of}
 use Rattle.c_check_exprs.specs.Expressions.{function_number}
 use Rattle.c_check_exprs.proofs.call.function_number.Goals as goal
 

@@ -1,14 +1,14 @@
 use Rattle.std.proofs.Common.{◌≡◌, ◌∙◌, ◌+◌, ◌<◌, [], None, ap, sym, subst, arith}
 use Rattle.c_types.specs.Types.{Ty, type_of}
-use Rattle.c_types.specs.Views.{types_in}
+use Rattle.c_types.specs.refinement.Views.{types_in}
 use Rattle.c_tree.specs.Tree.{Exprs}
-use Rattle.c_tree.specs.Views.{expr_nodes, exprs_nodes}
-use Rattle.c_typed.specs.Views.{expr_of}
+use Rattle.c_tree.specs.refinement.Views.{expr_nodes, exprs_nodes}
+use Rattle.c_typed.specs.refinement.Views.{expr_of}
 use Rattle.c_check_types.proofs.TypeLists.{function_is}
 use Rattle.c_check_types.specs.TypeEquality.{tys_of}
-use Rattle.c_check_types.specs.Views.{Obeys, state_of}
+use Rattle.c_check_types.specs.refinement.Views.{Obeys, state_of}
 use Rattle.c_check_exprs.specs.Expressions.{arguments, called, factors, multiplying, sole, typing}
-use Rattle.c_typed.specs.FormViews.{form_of}
+use Rattle.c_typed.specs.refinement.FormViews.{form_of}
 use Rattle.c_check_types.proofs.Rules.{answered}
 use Rattle.c_check_exprs.proofs.Arguments.{differ, one_falls, sole_is, sole_isnt, factors_are, factors_arent, two_fall}
 use Rattle.c_check_exprs.proofs.expression.+typing.Goals as goal

@@ -1,10 +1,10 @@
 use Rattle.std.proofs.Common.{◌≡◌, ◌+◌, ◌*◌, drop, length, []}
-use Rattle.c_types.specs.Views.{types_in}
-use Rattle.c_tree.specs.Views.{exprs_of, expr_nodes, exprs_nodes}
+use Rattle.c_types.specs.refinement.Views.{types_in}
+use Rattle.c_tree.specs.refinement.Views.{exprs_of, expr_nodes, exprs_nodes}
 use Rattle.c_check_types.specs.TypeEquality.{tys_of}
-use Rattle.c_check_types.specs.Views.{state_of}
+use Rattle.c_check_types.specs.refinement.Views.{state_of}
 use Rattle.c_check_exprs.specs.Expressions.{arguments}
-use Rattle.c_check_exprs.specs.Views.{exprs_in}
+use Rattle.c_check_exprs.specs.refinement.Views.{exprs_in}
 use Rattle.c_check_exprs.proofs.expression.+typing.Given as goal
 
 abbrev pub invariant-arguments-loop-i : goal.invariant-arguments-loop-i

@@ -1,6 +1,6 @@
 use Rattle.std.proofs.Common.{◌≡◌, ◌++◌, drop, map}
-use Rattle.c_types.specs.Views.{types_in}
-use Rattle.c_check_types.specs.Views.{parameters_in}
+use Rattle.c_types.specs.refinement.Views.{types_in}
+use Rattle.c_check_types.specs.refinement.Views.{parameters_in}
 use Rattle.c_check_types.proofs.declarators.parameter_types.Given as goal
 
 abbrev pub invariant-loop-p : goal.invariant-loop-p

@@ -1,5 +1,5 @@
 use Rattle.std.proofs.Common.{◌≡◌, drop, length}
-use Rattle.c_types.specs.Views.{types_in}
+use Rattle.c_types.specs.refinement.Views.{types_in}
 use Rattle.c_check_types.specs.TypeEquality.{same_types, tys_of}
 use Rattle.c_check_types.proofs.types.+same.Given as goal
 

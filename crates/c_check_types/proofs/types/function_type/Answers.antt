@@ -1,6 +1,6 @@
 use Rattle.std.proofs.Common.{◌∙◌, ap}
 use Rattle.c_types.specs.Types.{function, type_of}
-use Rattle.c_types.specs.Views.{types_in}
+use Rattle.c_types.specs.refinement.Views.{types_in}
 use Rattle.c_types.specs.declared.types.Signature.{Signature}
 use Rattle.c_check_types.specs.TypeEquality.{tys_of}
 use Rattle.c_check_types.proofs.TypeLists.{function_is}

@@ -1,7 +1,7 @@
 use Rattle.std.proofs.Common.{◌≡◌, ◌≤◌, ◌<◌, Bool, true, false, nat_lt, if◌then◌else◌, arith, rules, tests, subst, sym, ap, ◌∙◌, refl}
 use Rattle.c_types.specs.Integers.{bits, is_signed}
 use Rattle.ms_emit.specs.Codes.{Code, no_code}
-use Rattle.ms_emit.specs.Parts.{Adds}
+use Rattle.ms_emit.specs.refinement.Parts.{Adds}
 use Rattle.c_code.specs.Operations.{narrow, to_type}
 use Rattle.c_compile.proofs.Steps.{nothing_added}
 use Rattle.c_compile.proofs.conversions.to_type.Goals as goal

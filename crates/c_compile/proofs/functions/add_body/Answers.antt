@@ -1,8 +1,8 @@
 use Rattle.std.proofs.Common.{◌∙◌, List, map, reverse, subst}
 use Rattle.ms_emit.specs.Codes.{◌⨾◌}
-use Rattle.ms_emit.specs.Parts.{Adds}
+use Rattle.ms_emit.specs.refinement.Parts.{Adds}
 use Rattle.c_types.specs.Types.{scalar_of, type_of}
-use Rattle.c_typed.specs.Views.{stmt_of}
+use Rattle.c_typed.specs.refinement.Views.{stmt_of}
 use Rattle.c_typed.specs.declared.ops.Variable.{Variable}
 use Rattle.c_code.specs.Functions.{params, result}
 use Rattle.c_code.specs.Statements.{at_body, freed, stmt}

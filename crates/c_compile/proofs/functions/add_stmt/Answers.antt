@@ -1,6 +1,6 @@
 use Rattle.std.proofs.Common.{OnOk, reverse, subst}
-use Rattle.ms_emit.specs.Parts.{Adds}
-use Rattle.c_typed.specs.Views.{stmt_of}
+use Rattle.ms_emit.specs.refinement.Parts.{Adds}
+use Rattle.c_typed.specs.refinement.Views.{stmt_of}
 use Rattle.c_code.specs.Statements.{Exits, stmt}
 use Rattle.c_compile.proofs.functions.add_stmt.Goals as goal
 

@@ -2,7 +2,7 @@ use Rattle.std.proofs.Common.{◌≡◌, List, IfOk, length, map, reverse, subst
 use Rattle.std.proofs.lemmas.List.{length-map}
 use Rattle.ms_module.specs.declared.instr.Instr.{Instr}
 use Rattle.c_types.specs.Types.{type_of}
-use Rattle.c_typed.specs.Views.{function_of, stmt_of}
+use Rattle.c_typed.specs.refinement.Views.{function_of, stmt_of}
 use Rattle.c_compile.proofs.Bodies.{body_is}
 use Rattle.c_compile.proofs.functions.body.Goals as goal
 

@@ -1,5 +1,5 @@
 use Rattle.std.proofs.Common.{drop, map}
-use Rattle.ms_emit.specs.Parts.{Adds}
+use Rattle.ms_emit.specs.refinement.Parts.{Adds}
 use Rattle.ms_module.specs.Building.{State}
 use Rattle.c_types.specs.Types.{type_of}
 use Rattle.c_code.specs.Functions.{params_from}

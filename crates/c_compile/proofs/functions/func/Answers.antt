@@ -1,9 +1,9 @@
 use Rattle.std.proofs.Common.{◌≡◌, ◌∙◌, ◌+◌, List, Some, length, map, ap, arith, sym}
 use Rattle.std.proofs.lemmas.List.{length-map}
-use Rattle.c_place.specs.Flags.{slots_from}
+use Rattle.c_place.specs.refinement.Flags.{slots_from}
 use Rattle.c_types.specs.Types.{Ty, type_of}
 use Rattle.c_types.specs.declared.types.CType.{CType}
-use Rattle.c_typed.specs.Views.{function_of, stmt_of, typed_of}
+use Rattle.c_typed.specs.refinement.Views.{function_of, stmt_of, typed_of}
 use Rattle.c_code.specs.Modules.{func_of, is_object_in}
 use Rattle.c_compile.proofs.Bodies.{func_in, func_is, one_func}
 use Rattle.c_compile.proofs.ObjectFlags.{flags_of_body}

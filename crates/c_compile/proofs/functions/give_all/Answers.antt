@@ -1,6 +1,6 @@
 use Rattle.std.proofs.Common.{List, ap, drop, map}
 use Rattle.std.proofs.lemmas.List.{drop_all}
-use Rattle.c_typed.specs.Views.{made_of}
+use Rattle.c_typed.specs.refinement.Views.{made_of}
 use Rattle.c_typed.specs.declared.unit.Made.{Made}
 use Rattle.c_code.specs.Functions.{gives}
 use Rattle.c_compile.proofs.Bodies.{behind_all}

@@ -1,10 +1,10 @@
 use Rattle.std.proofs.Common.{◌+◌, ℕ, List, [], ◌∷◌, IfOk, subst, sym}
 use Rattle.ms_emit.proofs.Adding.{adds_then}
 use Rattle.ms_emit.specs.Codes.{one, plain}
-use Rattle.ms_emit.specs.Parts.{Adds}
+use Rattle.ms_emit.specs.refinement.Parts.{Adds}
 use Rattle.ms_module.specs.declared.access.Segment.TheVariants as segment
 use Rattle.ms_module.specs.declared.instr.Instr.TheVariants.{Segment}
-use Rattle.c_typed.specs.Views.{list_of, made_of}
+use Rattle.c_typed.specs.refinement.Views.{list_of, made_of}
 use Rattle.c_typed.specs.declared.ops.Variable.TheVariants.{Global}
 use Rattle.c_typed.specs.declared.tree.Stmt.{Stmt}
 use Rattle.c_typed.specs.declared.unit.Made.{Made}

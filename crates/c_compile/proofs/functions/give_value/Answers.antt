@@ -1,7 +1,7 @@
 use Rattle.std.proofs.Common.{List, [], OnOk, reverse, subst}
-use Rattle.ms_emit.specs.Parts.{Adds}
+use Rattle.ms_emit.specs.refinement.Parts.{Adds}
 use Rattle.c_types.specs.Types.{Ty}
-use Rattle.c_typed.specs.Views.{stmt_of}
+use Rattle.c_typed.specs.refinement.Views.{stmt_of}
 use Rattle.c_typed.specs.declared.ops.Variable.{Variable}
 use Rattle.c_code.specs.Functions.{values}
 use Rattle.c_code.specs.Statements.{at_body, stmt}

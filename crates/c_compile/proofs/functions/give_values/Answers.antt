@@ -1,6 +1,6 @@
 use Rattle.std.proofs.Common.{List, ap, drop}
 use Rattle.std.proofs.lemmas.List.{drop_all}
-use Rattle.c_typed.specs.Views.{list_of}
+use Rattle.c_typed.specs.refinement.Views.{list_of}
 use Rattle.c_typed.specs.declared.tree.Stmt.{Stmt}
 use Rattle.c_code.specs.Functions.{values}
 use Rattle.c_compile.proofs.Bodies.{behind_all}

@@ -1,7 +1,7 @@
 use Rattle.std.proofs.Common.{drop}
-use Rattle.ms_emit.specs.Parts.{Adds}
+use Rattle.ms_emit.specs.refinement.Parts.{Adds}
 use Rattle.ms_module.specs.Building.{State}
-use Rattle.c_typed.specs.Views.{list_of}
+use Rattle.c_typed.specs.refinement.Views.{list_of}
 use Rattle.c_code.specs.Functions.{values}
 use Rattle.c_compile.proofs.functions.give_values.Given as goal
 

@@ -1,10 +1,10 @@
 use Rattle.std.proofs.Common.{◌+◌, ℕ, List, ◌∷◌, IfOk, if◌then◌else◌, get_or, subst, sym}
 use Rattle.ms_emit.proofs.Adding.{adds_then}
 use Rattle.ms_emit.specs.Codes.{no_code}
-use Rattle.ms_emit.specs.Parts.{Adds}
+use Rattle.ms_emit.specs.refinement.Parts.{Adds}
 use Rattle.c_types.specs.Layout.{size}
 use Rattle.c_types.specs.Types.{void}
-use Rattle.c_typed.specs.Views.{made_of}
+use Rattle.c_typed.specs.refinement.Views.{made_of}
 use Rattle.c_typed.specs.declared.ops.Variable.TheVariants.{Global}
 use Rattle.c_typed.specs.declared.unit.Made.{Made}
 use Rattle.c_meaning.specs.Units.{string}

@@ -2,12 +2,12 @@ use Rattle.std.proofs.Common.{◌≡◌, ◌∙◌, List, [], IfOk, map, ap, sub
 use Rattle.ms_module.specs.declared.module.Func.{Func}
 use Rattle.c_typed.specs.Tree as tree
 use Rattle.c_typed.specs.Tree.{Typed}
-use Rattle.c_typed.specs.Views.{made_of, typed_of}
+use Rattle.c_typed.specs.refinement.Views.{made_of, typed_of}
 use Rattle.c_typed.specs.declared.unit.Made.{Made}
 use Rattle.c_typed.specs.declared.unit.TypedUnit.{TypedUnit}
 use Rattle.c_code.specs.Functions.{locals, start}
 use Rattle.c_code.specs.Modules.{waits_made}
-use Rattle.c_compile.specs.Sites.{Site}
+use Rattle.c_compile.specs.refinement.Sites.{Site}
 use Rattle.c_compile.proofs.ObjectFlags.{flags_at_start}
 use Rattle.c_compile.proofs.functions.start.Goals as goal
 

@@ -1,5 +1,5 @@
 use Rattle.std.proofs.Common.{◌+◌, drop}
-use Rattle.c_compile.specs.Leaves.{copies_of}
+use Rattle.c_compile.specs.refinement.Leaves.{copies_of}
 use Rattle.c_compile.proofs.Copying.{copies_at, none_copied}
 use Rattle.c_compile.proofs.Items.{less_is_left}
 use Rattle.c_compile.proofs.leaves.copy_all.Goals as goal

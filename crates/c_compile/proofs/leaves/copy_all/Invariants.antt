@@ -1,5 +1,5 @@
 use Rattle.std.proofs.Common.{drop}
-use Rattle.c_compile.specs.Leaves.{copies_of}
+use Rattle.c_compile.specs.refinement.Leaves.{copies_of}
 use Rattle.c_compile.proofs.Items.{IsLeft}
 use Rattle.c_compile.proofs.leaves.copy_all.Given as goal
 

@@ -1,7 +1,7 @@
 use Rattle.std.proofs.Common.{}
 use Rattle.c_types.specs.Layout.{IsLaidOut}
 use Rattle.c_code.specs.Leaves.{leaves}
-use Rattle.c_compile.specs.LeafWalk.{Walks, stack_left}
+use Rattle.c_compile.specs.refinement.LeafWalk.{Walks, stack_left}
 use Rattle.c_compile.proofs.leaves.leaves.Given as goal
 
 abbrev pub invariant-loop : goal.invariant-loop

@@ -2,7 +2,7 @@ use Rattle.std.proofs.Common.{◌∙◌, ap, sym}
 use Rattle.c_types.specs.Types.{type_of}
 use Rattle.c_meaning.specs.Shapes.{shape}
 use Rattle.c_code.specs.Leaves.{leaves_at}
-use Rattle.c_compile.specs.LeafWalk.{elements_left}
+use Rattle.c_compile.specs.refinement.LeafWalk.{elements_left}
 use Rattle.c_compile.proofs.Walking.{array_left, struct_left}
 use Rattle.c_compile.proofs.leaves.parts_of.Goals as goal
 

@@ -1,6 +1,6 @@
 use Rattle.std.proofs.Common.{◌≡◌, ◌∙◌, ◌<◌, ◌≤◌, ◌∷◌, ◌++◌, [], ap, arith, length, sym}
 use Rattle.c_types.specs.Types.{type_of}
-use Rattle.c_compile.specs.LeafWalk.{leaf_in, part_left, stack_left}
+use Rattle.c_compile.specs.refinement.LeafWalk.{leaf_in, part_left, stack_left}
 use Rattle.c_compile.proofs.Walking.{none_left, scalar_left, some_left, stack_end, stack_inside, stack_next, stack_past, walks_as, walks_end, walks_on, walks_past}
 use Rattle.c_compile.proofs.leaves.turn.Goals as goal
 

@@ -1,5 +1,5 @@
 use Rattle.std.proofs.Common.{◌≡◌, ◌++◌, drop, map}
-use Rattle.c_compile.specs.Keys.{code}
+use Rattle.c_compile.specs.refinement.Keys.{code}
 use Rattle.c_compile.proofs.signatures.add_codes.Given as goal
 
 abbrev pub invariant-loop-ty : goal.invariant-loop-ty

@@ -1,6 +1,6 @@
 use Rattle.std.proofs.Common.{◌∙◌, ap, sym}
 use Rattle.c_code.specs.Stage.{in_exprs}
-use Rattle.c_place.specs.Lists.{exprs_in}
+use Rattle.c_place.specs.refinement.Lists.{exprs_in}
 use Rattle.c_compile.proofs.Staging.{call_in, second}
 use Rattle.c_compile.proofs.stage.+staged.Goals as goal
 

@@ -1,6 +1,6 @@
 use Rattle.std.proofs.Common.{◌≡◌, drop}
 use Rattle.c_code.specs.Stage.{in_exprs}
-use Rattle.c_place.specs.Lists.{exprs_in}
+use Rattle.c_place.specs.refinement.Lists.{exprs_in}
 use Rattle.c_compile.proofs.stage.+staged.Given as goal
 
 abbrev pub invariant-in_exprs-loop-e : goal.invariant-in_exprs-loop-e

@@ -1,6 +1,6 @@
 use Rattle.std.proofs.Common.{◌∙◌, nat_lt, ap, refl, sym}
 use Rattle.c_typed.specs.Parts.{sequence}
-use Rattle.c_typed.specs.Views.{list_of}
+use Rattle.c_typed.specs.refinement.Views.{list_of}
 use Rattle.c_well_typed.specs.Statements.{count}
 use Rattle.c_code.specs.Stage.{in_stmts}
 use Rattle.c_compile.proofs.Staging.{first, scope_in, second, switch_in}

@@ -1,6 +1,6 @@
 use Rattle.std.proofs.Common.{◌≡◌, drop}
 use Rattle.c_typed.specs.Parts.{sequence}
-use Rattle.c_typed.specs.Views.{list_of}
+use Rattle.c_typed.specs.refinement.Views.{list_of}
 use Rattle.c_code.specs.Stage.{in_stmts}
 use Rattle.c_compile.proofs.stage.+staged_statements.Given as goal
 

@@ -1,7 +1,7 @@
 use Rattle.std.proofs.Common.{◌≡◌, drop, map}
-use Rattle.c_typed.specs.Views.{function_of}
+use Rattle.c_typed.specs.refinement.Views.{function_of}
 use Rattle.c_code.specs.Stage.{in_functions}
-use Rattle.c_place.specs.Flags.{of_function}
+use Rattle.c_place.specs.refinement.Flags.{of_function}
 use Rattle.c_compile.proofs.stage.in_functions.Given as goal
 
 abbrev pub invariant-loop-i : goal.invariant-loop-i

@@ -2,7 +2,7 @@ use Rattle.std.proofs.Common.{◌∙◌, List, ap, sym}
 use Rattle.c_typed.proofs.Sequences.{scope_is, switch_is}
 use Rattle.c_typed.specs.declared.tree.Stmt.{Stmt}
 use Rattle.c_typed.specs.Parts.{sequence}
-use Rattle.c_typed.specs.Views.{list_of, stmt_of}
+use Rattle.c_typed.specs.refinement.Views.{list_of, stmt_of}
 use Rattle.c_code.specs.Statements.{any_continues, continues}
 use Rattle.c_compile.proofs.statements.+continuing.Goals as goal
 

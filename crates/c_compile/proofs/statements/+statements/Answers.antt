@@ -2,21 +2,21 @@ use Rattle.std.proofs.Common.{◌≡◌, ◌∙◌, ◌+◌, ℕ, suc, Bool, tru
 use Rattle.std.specs.Prelude.{OnOk}
 use Rattle.ms_emit.proofs.Adding.{adds_nothing, adds_then}
 use Rattle.ms_emit.specs.Codes.{Code}
-use Rattle.ms_emit.specs.Parts.{Adds}
+use Rattle.ms_emit.specs.refinement.Parts.{Adds}
 use Rattle.c_typed.proofs.Sequences.{scope_is, switch_is}
 use Rattle.c_typed.specs.declared.ops.Variable.{Variable}
 use Rattle.c_typed.specs.declared.tree.Case.{Case}
 use Rattle.c_typed.specs.declared.tree.Stmt.{Stmt}
 use Rattle.c_typed.specs.Parts.{sequence}
 use Rattle.c_typed.specs.Tree as tree
-use Rattle.c_typed.specs.Views.{expr_of, list_of, place_of, step_of, stmt_of}
+use Rattle.c_typed.specs.refinement.Views.{expr_of, list_of, place_of, step_of, stmt_of}
 use Rattle.c_well_typed.specs.Statements.{count}
 use Rattle.c_code.specs.Expressions.{decayed, expr, is_deref, place, step}
 use Rattle.c_code.specs.Operations.{width_of}
 use Rattle.c_code.specs.Statements as words
 use Rattle.c_code.specs.Statements.{Exits, stmt, stmts}
 use Rattle.c_code.specs.Targets.{scratch_of_width, waiting}
-use Rattle.c_compile.specs.Exits.{exits_of}
+use Rattle.c_compile.specs.refinement.Exits.{exits_of}
 use Rattle.c_compile.proofs.Blocks.{are_in_front}
 use Rattle.c_compile.proofs.Items.{item_is_added, items_are_added}
 use Rattle.c_compile.proofs.Steps.{then as behind, then_block, then_choice, then_only, then_repeat}

@@ -4,7 +4,7 @@ use Rattle.ms_module.specs.Building.{State}
 use Rattle.ms_module.specs.declared.instr.Instr.TheVariants.{LocalGet, Select}
 use Rattle.ms_module.specs.declared.numeric.RelOp.TheVariants.{Ne}
 use Rattle.ms_emit.specs.Codes.{Code, no_code, plain, ◌⨾◌}
-use Rattle.ms_emit.specs.Parts.{Adds}
+use Rattle.ms_emit.specs.refinement.Parts.{Adds}
 use Rattle.c_types.specs.declared.integers.IntType.{IntType}
 use Rattle.c_typed.specs.declared.tree.Case.{Case}
 use Rattle.c_meaning.specs.Integers.{value_of}

@@ -5,7 +5,7 @@ use Rattle.ms_module.specs.declared.access.Segment.TheVariants.{Add, Store}
 use Rattle.ms_module.specs.declared.access.StoreOp.TheVariants.{I32Store8}
 use Rattle.ms_module.specs.declared.instr.Instr.TheVariants.{LocalGet, Segment}
 use Rattle.ms_emit.specs.Codes.{Code, plain, ◌⨾◌}
-use Rattle.ms_emit.specs.Parts.{Adds}
+use Rattle.ms_emit.specs.refinement.Parts.{Adds}
 use Rattle.c_code.specs.Operations.{i32, i64}
 use Rattle.c_code.specs.Statements.{bytes_put}
 use Rattle.c_code.specs.Targets.{Target, scratch_handle}

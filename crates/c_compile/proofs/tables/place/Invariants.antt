@@ -1,5 +1,5 @@
 use Rattle.std.proofs.Common.{◌≡◌, ◌+◌, drop}
-use Rattle.c_compile.specs.Placed.{placed}
+use Rattle.c_compile.specs.refinement.Placed.{placed}
 use Rattle.c_compile.proofs.tables.place.Given as goal
 
 abbrev pub invariant-loop-i : goal.invariant-loop-i

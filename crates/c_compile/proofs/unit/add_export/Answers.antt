@@ -1,5 +1,5 @@
 use Rattle.std.proofs.Common.{◌∙◌, sym}
-use Rattle.c_typed.specs.Views.{function_of, typed_of}
+use Rattle.c_typed.specs.refinement.Views.{function_of, typed_of}
 use Rattle.c_compile.proofs.Modules.{not_exported, one_exported}
 use Rattle.c_compile.proofs.unit.add_export.Goals as goal
 

@@ -1,5 +1,5 @@
 use Rattle.std.proofs.Common.{◌≡◌, Some, ap, subst}
-use Rattle.c_typed.specs.Views.{body_of, function_of, stmt_of, typed_of}
+use Rattle.c_typed.specs.refinement.Views.{body_of, function_of, stmt_of, typed_of}
 use Rattle.c_typed.specs.declared.unit.TypedUnit.{TypedUnit}
 use Rattle.c_code.specs.Modules.{function_at}
 use Rattle.c_compile.proofs.Modules.{func_added}

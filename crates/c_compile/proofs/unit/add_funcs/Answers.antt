@@ -1,6 +1,6 @@
 use Rattle.std.proofs.Common.{◌≡◌, ◌++◌, length, ap, arith}
 use Rattle.std.proofs.lemmas.List.{length-map}
-use Rattle.c_typed.specs.Views.{function_of, typed_of}
+use Rattle.c_typed.specs.refinement.Views.{function_of, typed_of}
 use Rattle.c_typed.specs.declared.unit.TypedUnit.{TypedUnit}
 use Rattle.c_code.specs.Modules.{funcs_from}
 use Rattle.c_compile.proofs.Modules.{funcs_step}

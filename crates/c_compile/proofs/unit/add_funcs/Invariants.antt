@@ -1,5 +1,5 @@
 use Rattle.std.proofs.Common.{◌≡◌, ◌++◌, drop}
-use Rattle.c_typed.specs.Views.{typed_of}
+use Rattle.c_typed.specs.refinement.Views.{typed_of}
 use Rattle.c_code.specs.Modules.{funcs_from}
 use Rattle.c_compile.proofs.unit.add_funcs.Given as goal
 

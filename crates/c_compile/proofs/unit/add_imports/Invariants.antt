@@ -1,5 +1,5 @@
 use Rattle.std.proofs.Common.{◌≡◌, ◌++◌, drop, map}
-use Rattle.c_typed.specs.Views.{typed_of}
+use Rattle.c_typed.specs.refinement.Views.{typed_of}
 use Rattle.c_code.specs.Modules.{import_from_c}
 use Rattle.c_compile.proofs.unit.add_imports.Given as goal
 

@@ -1,5 +1,5 @@
 use Rattle.std.proofs.Common.{◌≡◌, ◌++◌, ◌∷◌, subst, sym}
-use Rattle.c_typed.specs.Views.{made_of}
+use Rattle.c_typed.specs.refinement.Views.{made_of}
 use Rattle.c_typed.specs.declared.unit.Made.{Made}
 use Rattle.c_well_typed.specs.Units.{literals_in}
 use Rattle.c_code.specs.Modules.{literal_globals}

@@ -1,5 +1,5 @@
 use Rattle.std.proofs.Common.{◌≡◌, ◌++◌, drop, map}
-use Rattle.c_typed.specs.Views.{function_of}
+use Rattle.c_typed.specs.refinement.Views.{function_of}
 use Rattle.c_code.specs.Functions.{signature}
 use Rattle.c_compile.proofs.unit.add_signatures.Given as goal
 

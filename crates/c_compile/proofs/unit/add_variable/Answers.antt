@@ -2,7 +2,7 @@ use Rattle.std.proofs.Common.{◌∙◌, ◌++◌, [], ◌∷◌, ap}
 use Rattle.ms_types.specs.declared.types.ValType.{ValType}
 use Rattle.ms_module.specs.declared.module.Global.{Global as GlobalEntry}
 use Rattle.c_types.specs.Types.{type_of}
-use Rattle.c_typed.specs.Views.{typed_of}
+use Rattle.c_typed.specs.refinement.Views.{typed_of}
 use Rattle.c_code.specs.Modules.{global_of}
 use Rattle.c_compile.proofs.Modules.{held_is}
 use Rattle.c_compile.proofs.unit.add_variable.Goals as goal

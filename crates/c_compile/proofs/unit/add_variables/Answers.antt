@@ -1,7 +1,7 @@
 use Rattle.std.proofs.Common.{◌++◌, arith}
 use Rattle.std.proofs.lemmas.List.{length-map}
 use Rattle.c_types.specs.Types.{type_of}
-use Rattle.c_typed.specs.Views.{typed_of}
+use Rattle.c_typed.specs.refinement.Views.{typed_of}
 use Rattle.c_code.specs.Modules.{globals_from}
 use Rattle.c_compile.proofs.Modules.{globals_step}
 use Rattle.c_compile.proofs.unit.add_variables.Goals as goal

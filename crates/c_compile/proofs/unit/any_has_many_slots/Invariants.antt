@@ -1,6 +1,6 @@
 use Rattle.std.proofs.Common.{◌≡◌, drop, map}
 use Rattle.std.specs.List.{list_any}
-use Rattle.c_typed.specs.Views.{function_of}
+use Rattle.c_typed.specs.refinement.Views.{function_of}
 use Rattle.c_code.specs.Limits.{has_many_slots}
 use Rattle.c_compile.proofs.unit.any_has_many_slots.Given as goal
 

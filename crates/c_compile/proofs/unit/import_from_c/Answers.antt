@@ -1,6 +1,6 @@
 use Rattle.std.proofs.Common.{◌≡◌, IfOk, subst}
 use Rattle.ms_module.specs.declared.module.Import.{Import}
-use Rattle.c_typed.specs.Views.{function_of, typed_of}
+use Rattle.c_typed.specs.refinement.Views.{function_of, typed_of}
 use Rattle.c_compile.proofs.Modules.{import_is}
 use Rattle.c_compile.proofs.unit.import_from_c.Goals as goal
 

@@ -1,7 +1,7 @@
 use Rattle.std.proofs.Common.{◌++◌, ◌∙◌, ℕ, List, [], ◌∷◌, codes, map, ap}
 use Rattle.ms_module.specs.declared.module.Import.{Import}
 use Rattle.c_typed.specs.Tree.{Typed}
-use Rattle.c_typed.specs.Views.{typed_of}
+use Rattle.c_typed.specs.refinement.Views.{typed_of}
 use Rattle.c_code.specs.Modules.{import_from_c, import_of}
 use Rattle.c_compile.proofs.unit.imports.Goals as goal
 

@@ -1,5 +1,5 @@
 use Rattle.std.proofs.Common.{◌≡◌, ◌++◌, drop, map}
-use Rattle.c_typed.specs.Views.{typed_of}
+use Rattle.c_typed.specs.refinement.Views.{typed_of}
 use Rattle.c_code.specs.Modules.{index_of}
 use Rattle.c_compile.proofs.unit.indices.Given as goal
 

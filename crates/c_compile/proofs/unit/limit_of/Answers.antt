@@ -1,6 +1,6 @@
 use Rattle.std.proofs.Common.{◌∙◌, Bool, List, length, map, ap}
 use Rattle.std.specs.List.{filter, list_any}
-use Rattle.c_typed.specs.Views.{function_of, typed_of}
+use Rattle.c_typed.specs.refinement.Views.{function_of, typed_of}
 use Rattle.c_typed.specs.declared.unit.Function.{Function}
 use Rattle.c_code.specs.Limits.{has_many_slots}
 use Rattle.c_compile.proofs.Modules.{none_passed, too_many_named}

@@ -1,7 +1,7 @@
 use Rattle.std.proofs.Common.{◌≡◌, ◌∙◌, ◌+◌, ap, drop, subst, sym}
 use Rattle.std.proofs.lemmas.List.{drop_all}
 use Rattle.c_place.proofs.Marking.{ahead}
-use Rattle.c_compile.specs.Found.{Finds, found, with_uses}
+use Rattle.c_compile.specs.refinement.Found.{Finds, found, with_uses}
 use Rattle.c_compile.proofs.Using.{by_expr, by_exprs, by_place, call_through_uses, call_uses, choose_uses, copy_uses, finds_then, finds_three, found_as, found_end, found_step, nothing_found, size_uses}
 use Rattle.c_compile.proofs.uses.+using.Goals as goal
 

@@ -1,7 +1,7 @@
 use Rattle.std.proofs.Common.{◌≡◌, drop}
 use Rattle.c_code.specs.Uses.{in_exprs}
-use Rattle.c_place.specs.Lists.{exprs_in}
-use Rattle.c_compile.specs.Found.{found, with_uses}
+use Rattle.c_place.specs.refinement.Lists.{exprs_in}
+use Rattle.c_compile.specs.refinement.Found.{found, with_uses}
 use Rattle.c_compile.proofs.uses.+using.Given as goal
 
 abbrev pub invariant-in_exprs-loop-e : goal.invariant-in_exprs-loop-e

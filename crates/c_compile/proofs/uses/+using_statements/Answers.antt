@@ -1,7 +1,7 @@
 use Rattle.std.proofs.Common.{◌≡◌, ◌∙◌, ◌+◌, ap, drop}
 use Rattle.std.proofs.lemmas.List.{drop_all}
 use Rattle.c_place.proofs.Marking.{ahead}
-use Rattle.c_compile.specs.Found.{found, with_uses}
+use Rattle.c_compile.specs.refinement.Found.{found, with_uses}
 use Rattle.c_compile.proofs.Using.{by_stmt, by_stmts, finds_then, finds_three, found_as, found_end, found_step, if_uses, loop_uses, nothing_found, scope_uses, switch_uses}
 use Rattle.c_compile.proofs.uses.+using_statements.Goals as goal
 

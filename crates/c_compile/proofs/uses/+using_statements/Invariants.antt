@@ -1,8 +1,8 @@
 use Rattle.std.proofs.Common.{◌≡◌, drop}
 use Rattle.c_typed.specs.Parts.{sequence}
-use Rattle.c_typed.specs.Views.{list_of}
+use Rattle.c_typed.specs.refinement.Views.{list_of}
 use Rattle.c_code.specs.Uses.{in_stmts}
-use Rattle.c_compile.specs.Found.{found, with_uses}
+use Rattle.c_compile.specs.refinement.Found.{found, with_uses}
 use Rattle.c_compile.proofs.uses.+using_statements.Given as goal
 
 abbrev pub invariant-in_stmts-loop-s : goal.invariant-in_stmts-loop-s

@@ -1,4 +1,4 @@
-use Rattle.c_compile.specs.Found.{found}
+use Rattle.c_compile.specs.refinement.Found.{found}
 use Rattle.c_compile.proofs.Using.{call_found}
 use Rattle.c_compile.proofs.uses.called.Goals as goal
 

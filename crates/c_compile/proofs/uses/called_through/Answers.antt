@@ -1,5 +1,5 @@
 use Rattle.c_types.specs.Types.{type_of}
-use Rattle.c_compile.specs.Found.{found}
+use Rattle.c_compile.specs.refinement.Found.{found}
 use Rattle.c_compile.proofs.Using.{through_found}
 use Rattle.c_compile.proofs.uses.called_through.Goals as goal
 

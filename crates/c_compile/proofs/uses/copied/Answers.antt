@@ -1,4 +1,4 @@
-use Rattle.c_compile.specs.Found.{found}
+use Rattle.c_compile.specs.refinement.Found.{found}
 use Rattle.c_compile.proofs.Using.{copy_found}
 use Rattle.c_compile.proofs.uses.copied.Goals as goal
 

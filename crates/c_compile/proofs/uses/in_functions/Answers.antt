@@ -1,9 +1,9 @@
 use Rattle.std.proofs.Common.{◌∙◌, ◌+◌, ap, drop, map}
 use Rattle.std.proofs.lemmas.List.{drop_all}
-use Rattle.c_typed.specs.Views.{body_of, function_of}
+use Rattle.c_typed.specs.refinement.Views.{body_of, function_of}
 use Rattle.c_code.specs.Uses.{in_body, in_functions}
 use Rattle.c_place.proofs.Marking.{ahead}
-use Rattle.c_compile.specs.Found.{found, with_uses}
+use Rattle.c_compile.specs.refinement.Found.{found, with_uses}
 use Rattle.c_compile.proofs.Using.{found_end, found_step}
 use Rattle.c_compile.proofs.uses.in_functions.Goals as goal
 

@@ -1,7 +1,7 @@
 use Rattle.std.proofs.Common.{◌≡◌, drop, map}
-use Rattle.c_typed.specs.Views.{function_of}
+use Rattle.c_typed.specs.refinement.Views.{function_of}
 use Rattle.c_code.specs.Uses.{in_functions}
-use Rattle.c_compile.specs.Found.{found, with_uses}
+use Rattle.c_compile.specs.refinement.Found.{found, with_uses}
 use Rattle.c_compile.proofs.uses.in_functions.Given as goal
 
 abbrev pub invariant-loop-f : goal.invariant-loop-f

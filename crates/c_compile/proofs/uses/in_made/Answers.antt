@@ -1,9 +1,9 @@
 use Rattle.std.proofs.Common.{◌∙◌, ◌+◌, ap, drop, map}
 use Rattle.std.proofs.lemmas.List.{drop_all}
-use Rattle.c_typed.specs.Views.{made_of}
+use Rattle.c_typed.specs.refinement.Views.{made_of}
 use Rattle.c_code.specs.Uses.{in_made}
 use Rattle.c_place.proofs.Marking.{ahead}
-use Rattle.c_compile.specs.Found.{found, in_one, with_uses}
+use Rattle.c_compile.specs.refinement.Found.{found, in_one, with_uses}
 use Rattle.c_compile.proofs.Using.{found_end, found_step, made_is}
 use Rattle.c_compile.proofs.uses.in_made.Goals as goal
 

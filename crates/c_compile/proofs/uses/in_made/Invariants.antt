@@ -1,7 +1,7 @@
 use Rattle.std.proofs.Common.{◌≡◌, drop, map}
-use Rattle.c_typed.specs.Views.{made_of}
+use Rattle.c_typed.specs.refinement.Views.{made_of}
 use Rattle.c_code.specs.Uses.{in_made}
-use Rattle.c_compile.specs.Found.{found, with_uses}
+use Rattle.c_compile.specs.refinement.Found.{found, with_uses}
 use Rattle.c_compile.proofs.uses.in_made.Given as goal
 
 abbrev pub invariant-loop-m : goal.invariant-loop-m

@@ -1,6 +1,6 @@
 use Rattle.std.proofs.Common.{ap}
-use Rattle.c_typed.specs.Views.{made_of}
-use Rattle.c_compile.specs.Found.{in_one}
+use Rattle.c_typed.specs.refinement.Views.{made_of}
+use Rattle.c_compile.specs.refinement.Found.{in_one}
 use Rattle.c_compile.proofs.Using.{found_as, global_uses, nothing_found}
 use Rattle.c_compile.proofs.uses.in_one.Goals as goal
 

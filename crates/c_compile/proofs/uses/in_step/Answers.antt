@@ -1,5 +1,5 @@
 use Rattle.std.proofs.Common.{ap}
-use Rattle.c_typed.specs.Views.{step_of}
+use Rattle.c_typed.specs.refinement.Views.{step_of}
 use Rattle.c_code.specs.Uses.{in_step}
 use Rattle.c_compile.proofs.Using.{nothing_found}
 use Rattle.c_compile.proofs.uses.in_step.Goals as goal

@@ -1,5 +1,5 @@
 use Rattle.std.proofs.Common.{◌≡◌, ◌∙◌, ap, arith, length}
-use Rattle.c_compile.specs.Found.{no_uses}
+use Rattle.c_compile.specs.refinement.Found.{no_uses}
 use Rattle.c_compile.proofs.Using.{are_uses}
 use Rattle.c_compile.proofs.uses.uses_of.Goals as goal
 

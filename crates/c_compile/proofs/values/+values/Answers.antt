@@ -8,15 +8,15 @@ use Rattle.c_typed.specs.declared.ops.RelOp.{RelOp}
 use Rattle.c_typed.specs.declared.ops.UnaryOp.{UnaryOp}
 use Rattle.c_typed.specs.declared.tree.Expr.{Expr}
 use Rattle.c_typed.specs.Tree as tree
-use Rattle.c_typed.specs.Views.{expr_of, place_of}
+use Rattle.c_typed.specs.refinement.Views.{expr_of, place_of}
 use Rattle.c_place.proofs.Lists.{call_is, call_through_is}
 use Rattle.c_place.proofs.Marking.{ahead}
-use Rattle.c_place.specs.Lists.{exprs_in}
+use Rattle.c_place.specs.refinement.Lists.{exprs_in}
 use Rattle.c_code.specs.Expressions.{allocated, expr, exprs, moved}
 use Rattle.ms_emit.specs.Codes.{one, ◌⨾◌}
-use Rattle.ms_emit.specs.Parts.{Adds}
+use Rattle.ms_emit.specs.refinement.Parts.{Adds}
 use Rattle.ms_module.specs.declared.instr.Instr.TheVariants.{Drop}
-use Rattle.c_compile.specs.Known.{bytes_in}
+use Rattle.c_compile.specs.refinement.Known.{bytes_in}
 use Rattle.c_compile.proofs.Arms.{Emits, by_flag, next_argument, of_function, of_left, of_list, of_place, of_places, of_three, of_two, of_unary}
 use Rattle.c_compile.proofs.Nodes.{call_nodes, call_through_nodes, one_falls}
 use Rattle.c_compile.proofs.Sizes.{at_size}

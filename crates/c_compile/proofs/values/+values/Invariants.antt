@@ -1,9 +1,9 @@
 use Rattle.std.proofs.Common.{◌+◌, ◌*◌, drop}
-use Rattle.c_typed.specs.Views.{expr_of, place_of}
-use Rattle.c_place.specs.Lists.{exprs_in}
+use Rattle.c_typed.specs.refinement.Views.{expr_of, place_of}
+use Rattle.c_place.specs.refinement.Lists.{exprs_in}
 use Rattle.c_compile.proofs.Nodes.{expr_nodes, exprs_nodes, place_nodes}
 use Rattle.c_code.specs.Expressions.{exprs}
-use Rattle.ms_emit.specs.Parts.{Adds}
+use Rattle.ms_emit.specs.refinement.Parts.{Adds}
 use Rattle.ms_module.specs.Building.{State}
 use Rattle.c_compile.proofs.values.+values.Given as goal
 

@@ -1,8 +1,8 @@
 use Rattle.std.proofs.Common.{◌≡◌, ◌∙◌, ◌+◌, ap, max, subst}
 use Rattle.std.specs.Prelude.{IfOk}
-use Rattle.c_typed.specs.Views.{expr_of}
+use Rattle.c_typed.specs.refinement.Views.{expr_of}
 use Rattle.c_code.specs.Uses.{waits, waits_all}
-use Rattle.c_place.specs.Lists.{exprs_in}
+use Rattle.c_place.specs.refinement.Lists.{exprs_in}
 use Rattle.c_compile.proofs.Waiting.{call_through_waits, call_waits, size_waits}
 use Rattle.c_compile.proofs.waits.+waiting.Goals as goal
 

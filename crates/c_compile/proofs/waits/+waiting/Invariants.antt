@@ -1,6 +1,6 @@
 use Rattle.std.proofs.Common.{◌≡◌, drop, max}
 use Rattle.c_code.specs.Uses.{waits_all}
-use Rattle.c_place.specs.Lists.{exprs_in}
+use Rattle.c_place.specs.refinement.Lists.{exprs_in}
 use Rattle.c_compile.proofs.waits.+waiting.Given as goal
 
 abbrev pub invariant-of_exprs-loop-e : goal.invariant-of_exprs-loop-e

@@ -1,7 +1,7 @@
 use Rattle.std.proofs.Common.{◌≡◌, ◌∙◌, ◌+◌, ap, max, subst}
 use Rattle.std.specs.Prelude.{IfOk}
 use Rattle.c_typed.specs.Parts.{sequence}
-use Rattle.c_typed.specs.Views.{expr_of, list_of}
+use Rattle.c_typed.specs.refinement.Views.{expr_of, list_of}
 use Rattle.c_code.specs.Uses.{waits, waits_stmts}
 use Rattle.c_compile.proofs.Waiting.{scope_waits, switch_waits}
 use Rattle.c_compile.proofs.waits.+waiting_statements.Goals as goal

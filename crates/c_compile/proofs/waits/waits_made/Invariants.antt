@@ -1,5 +1,5 @@
 use Rattle.std.proofs.Common.{◌≡◌, drop, map, max}
-use Rattle.c_typed.specs.Views.{made_of}
+use Rattle.c_typed.specs.refinement.Views.{made_of}
 use Rattle.c_typed.specs.Tree.{Typed}
 use Rattle.c_code.specs.Modules.{waits_made}
 use Rattle.c_compile.proofs.waits.waits_made.Given as goal

@@ -1,5 +1,5 @@
 use Rattle.std.proofs.Common.{◌≡◌, drop, [], Some}
-use Rattle.c_check_types.specs.Views.{state_of}
+use Rattle.c_check_types.specs.refinement.Views.{state_of}
 use Rattle.c_declare.specs.Enumerations.{enumerators}
 use Rattle.c_declare.proofs.enumerations.enumerators.Given as goal
 

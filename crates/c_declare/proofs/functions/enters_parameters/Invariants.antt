@@ -1,5 +1,5 @@
 use Rattle.std.proofs.Common.{◌≡◌, drop}
-use Rattle.c_check_types.specs.Views.{parameters_in, state_of}
+use Rattle.c_check_types.specs.refinement.Views.{parameters_in, state_of}
 use Rattle.c_declare.specs.Functions.{enters_parameters}
 use Rattle.c_declare.proofs.functions.enters_parameters.Given as goal
 

@@ -1,6 +1,6 @@
 use Rattle.std.proofs.Common.{◌∙◌, ◌<◌, length, ap, arith}
-use Rattle.c_types.specs.Views.{types_in}
-use Rattle.c_typed.specs.Views.{function_of, stmt_of}
+use Rattle.c_types.specs.refinement.Views.{types_in}
+use Rattle.c_typed.specs.refinement.Views.{function_of, stmt_of}
 use Rattle.c_typed.specs.declared.unit.Function.{Function}
 use Rattle.c_declare.specs.Functions.{defined}
 use Rattle.c_declare.proofs.Defined.{defined_at}

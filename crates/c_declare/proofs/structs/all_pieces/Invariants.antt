@@ -1,7 +1,7 @@
 use Rattle.std.proofs.Common.{◌≡◌, drop}
-use Rattle.c_check_types.specs.Views.{state_of}
+use Rattle.c_check_types.specs.refinement.Views.{state_of}
 use Rattle.c_declare.specs.Structs.{all_pieces}
-use Rattle.c_declare.specs.Views.{opens_of}
+use Rattle.c_declare.specs.refinement.Views.{opens_of}
 use Rattle.c_declare.proofs.structs.all_pieces.Given as goal
 
 abbrev pub invariant-loop-p : goal.invariant-loop-p

@@ -1,8 +1,8 @@
 use Rattle.std.proofs.Common.{◌≡◌, drop}
 use Rattle.c_types.specs.Types.{type_of}
-use Rattle.c_check_types.specs.Views.{state_of}
+use Rattle.c_check_types.specs.refinement.Views.{state_of}
 use Rattle.c_declare.specs.Structs.{with_members}
-use Rattle.c_declare.specs.Views.{open_of}
+use Rattle.c_declare.specs.refinement.Views.{open_of}
 use Rattle.c_declare.proofs.structs.with_members.Given as goal
 
 abbrev pub invariant-loop-d : goal.invariant-loop-d

@@ -1,9 +1,9 @@
 use Rattle.std.proofs.Common.{[], subst}
-use Rattle.c_productions.specs.Meaning.{Reaches, here}
+use Rattle.c_productions.specs.refinement.Meaning.{Reaches, here}
 use Rattle.c_parse.specs.declared.steps.Goal.{Goal}
 use Rattle.c_parse.specs.declared.steps.Goal.TheVariants as goals
-use Rattle.c_parse.specs.Calls.{state}
-use Rattle.c_productions.specs.Table.{rests}
+use Rattle.c_parse.specs.refinement.Calls.{state}
+use Rattle.c_productions.specs.refinement.Table.{rests}
 use Rattle.c_parse.proofs.Ways.{ended}
 use Rattle.c_parse.proofs.Falls.{resumes_less}
 use Rattle.c_parse.proofs.runs.finish.Goals as goal

@@ -1,6 +1,6 @@
 use Rattle.std.proofs.Common.{[]}
-use Rattle.c_productions.specs.Meaning.{Reaches}
-use Rattle.c_parse.specs.Calls.{state}
+use Rattle.c_productions.specs.refinement.Meaning.{Reaches}
+use Rattle.c_parse.specs.refinement.Calls.{state}
 use Rattle.c_parse.proofs.Falls.{amount}
 use Rattle.c_parse.proofs.runs.finish.Given as goal
 

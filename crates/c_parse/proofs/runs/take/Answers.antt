@@ -1,6 +1,6 @@
 use Rattle.std.proofs.Common.{◌∷◌}
-use Rattle.c_productions.specs.Meaning.{here}
-use Rattle.c_parse.specs.Calls.{goal_of, state}
+use Rattle.c_productions.specs.refinement.Meaning.{here}
+use Rattle.c_parse.specs.refinement.Calls.{goal_of, state}
 use Rattle.c_parse.proofs.Falls.{goes_less}
 use Rattle.c_parse.proofs.Ways.{taken, gone}
 use Rattle.c_parse.proofs.runs.take.Goals as goal

@@ -1,4 +1,4 @@
-use Rattle.c_parse.specs.Calls.{goal_of, state, Comes}
+use Rattle.c_parse.specs.refinement.Calls.{goal_of, state, Comes}
 use Rattle.c_parse.proofs.Falls.{left}
 use Rattle.c_parse.proofs.runs.take.Given as goal
 

@@ -2,9 +2,9 @@ use Rattle.std.proofs.Common.{◌∙◌, ap, map}
 use Rattle.c_types.specs.Types.{type_of}
 use Rattle.c_meaning.specs.Units.{in_functions, in_made}
 use Rattle.c_typed.specs.Objects.{is_whole}
-use Rattle.c_typed.specs.Views.{function_of, made_of}
+use Rattle.c_typed.specs.refinement.Views.{function_of, made_of}
 use Rattle.c_typed.specs.declared.unit.TypedUnit.{TypedUnit}
-use Rattle.c_place.specs.Marks.{marked_from}
+use Rattle.c_place.specs.refinement.Marks.{marked_from}
 use Rattle.c_place.proofs.Marking.{all_globals}
 use Rattle.c_place.proofs.objects.find_objects.Goals as goal
 

@@ -1,9 +1,9 @@
 use Rattle.std.proofs.Common.{◌+◌, drop, map}
 use Rattle.std.proofs.lemmas.List.{drop_all}
 use Rattle.c_meaning.specs.Units.{in_functions}
-use Rattle.c_typed.specs.Views.{function_of}
-use Rattle.c_place.specs.Flags.{of_function}
-use Rattle.c_place.specs.Marks.{marked_from}
+use Rattle.c_typed.specs.refinement.Views.{function_of}
+use Rattle.c_place.specs.refinement.Flags.{of_function}
+use Rattle.c_place.specs.refinement.Marks.{marked_from}
 use Rattle.c_place.proofs.Marking.{ahead, flags_step, functions_end, functions_step}
 use Rattle.c_place.proofs.objects.functions.Goals as goal
 

@@ -1,8 +1,8 @@
 use Rattle.std.proofs.Common.{◌≡◌, ◌++◌, drop, map}
 use Rattle.c_meaning.specs.Units.{in_functions}
-use Rattle.c_typed.specs.Views.{function_of}
-use Rattle.c_place.specs.Flags.{of_function}
-use Rattle.c_place.specs.Marks.{marked_from}
+use Rattle.c_typed.specs.refinement.Views.{function_of}
+use Rattle.c_place.specs.refinement.Flags.{of_function}
+use Rattle.c_place.specs.refinement.Marks.{marked_from}
 use Rattle.c_place.proofs.objects.functions.Given as goal
 
 abbrev pub invariant-loop-f : goal.invariant-loop-f

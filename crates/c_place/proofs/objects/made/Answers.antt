@@ -1,8 +1,8 @@
 use Rattle.std.proofs.Common.{◌+◌, drop, map}
 use Rattle.std.proofs.lemmas.List.{drop_all}
 use Rattle.c_meaning.specs.Units.{in_made}
-use Rattle.c_typed.specs.Views.{made_of}
-use Rattle.c_place.specs.Marks.{marked_from}
+use Rattle.c_typed.specs.refinement.Views.{made_of}
+use Rattle.c_place.specs.refinement.Marks.{marked_from}
 use Rattle.c_place.proofs.Marking.{ahead, made_end, made_step}
 use Rattle.c_place.proofs.objects.made.Goals as goal
 

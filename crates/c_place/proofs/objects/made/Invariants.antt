@@ -1,7 +1,7 @@
 use Rattle.std.proofs.Common.{◌≡◌, [], drop, map}
 use Rattle.c_meaning.specs.Units.{in_made}
-use Rattle.c_typed.specs.Views.{made_of}
-use Rattle.c_place.specs.Marks.{marked_from}
+use Rattle.c_typed.specs.refinement.Views.{made_of}
+use Rattle.c_place.specs.refinement.Marks.{marked_from}
 use Rattle.c_place.proofs.objects.made.Given as goal
 
 abbrev pub invariant-loop-m : goal.invariant-loop-m

@@ -1,8 +1,8 @@
 use Rattle.std.proofs.Common.{◌+◌, drop}
 use Rattle.std.proofs.lemmas.List.{drop_all}
 use Rattle.c_meaning.specs.Units.{in_values}
-use Rattle.c_typed.specs.Views.{list_of}
-use Rattle.c_place.specs.Marks.{marked_from}
+use Rattle.c_typed.specs.refinement.Views.{list_of}
+use Rattle.c_place.specs.refinement.Marks.{marked_from}
 use Rattle.c_place.proofs.Marking.{ahead, values_end, values_step}
 use Rattle.c_place.proofs.objects.values.Goals as goal
 

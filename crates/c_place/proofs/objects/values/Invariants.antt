@@ -1,7 +1,7 @@
 use Rattle.std.proofs.Common.{◌≡◌, [], drop}
 use Rattle.c_meaning.specs.Units.{in_values}
-use Rattle.c_typed.specs.Views.{list_of}
-use Rattle.c_place.specs.Marks.{marked_from}
+use Rattle.c_typed.specs.refinement.Views.{list_of}
+use Rattle.c_place.specs.refinement.Marks.{marked_from}
 use Rattle.c_place.proofs.objects.values.Given as goal
 
 abbrev pub invariant-loop-s : goal.invariant-loop-s

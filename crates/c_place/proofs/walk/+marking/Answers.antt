@@ -2,7 +2,7 @@ use Rattle.std.proofs.Common.{◌≡◌, ◌||◌, ◌+◌, drop, subst, sym}
 use Rattle.std.proofs.lemmas.List.{drop_all}
 use Rattle.c_typed.specs.Objects.{in_expr}
 use Rattle.c_typed.specs.Tree as to
-use Rattle.c_place.specs.Marks.{marked}
+use Rattle.c_place.specs.refinement.Marks.{marked}
 use Rattle.c_place.proofs.Lists.{call_is, call_through_is}
 use Rattle.c_place.proofs.Marking.{ahead, at_same, both, by_expr, by_exprs, by_place, by_sized, exprs_end, exprs_step, marked_none, of_same}
 use Rattle.c_place.proofs.walk.+marking.Goals as goal

@@ -1,7 +1,7 @@
 use Rattle.std.proofs.Common.{◌≡◌, drop}
 use Rattle.c_typed.specs.Objects.{in_exprs}
-use Rattle.c_place.specs.Lists.{exprs_in}
-use Rattle.c_place.specs.Marks.{marked}
+use Rattle.c_place.specs.refinement.Lists.{exprs_in}
+use Rattle.c_place.specs.refinement.Marks.{marked}
 use Rattle.c_place.proofs.walk.+marking.Given as goal
 
 abbrev pub invariant-exprs-loop-e : goal.invariant-exprs-loop-e

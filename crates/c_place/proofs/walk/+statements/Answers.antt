@@ -3,8 +3,8 @@ use Rattle.std.proofs.lemmas.List.{drop_all}
 use Rattle.c_typed.proofs.Sequences.{scope_is, switch_is}
 use Rattle.c_typed.specs.Objects.{in_stmt}
 use Rattle.c_typed.specs.Tree as to
-use Rattle.c_typed.specs.Views.{step_of, stmt_of}
-use Rattle.c_place.specs.Marks.{in_iteration, marked}
+use Rattle.c_typed.specs.refinement.Views.{step_of, stmt_of}
+use Rattle.c_place.specs.refinement.Marks.{in_iteration, marked}
 use Rattle.c_place.proofs.Marking.{ahead, at_same, both, by_expr, by_stmt, by_stmts, iteration_of, marked_none, of_same, stmts_end, stmts_step}
 use Rattle.c_place.proofs.walk.+statements.Goals as goal
 

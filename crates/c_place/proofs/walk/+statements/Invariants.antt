@@ -1,8 +1,8 @@
 use Rattle.std.proofs.Common.{◌≡◌, drop}
 use Rattle.c_typed.specs.Objects.{in_stmts}
 use Rattle.c_typed.specs.Parts.{sequence}
-use Rattle.c_typed.specs.Views.{list_of}
-use Rattle.c_place.specs.Marks.{marked}
+use Rattle.c_typed.specs.refinement.Views.{list_of}
+use Rattle.c_place.specs.refinement.Marks.{marked}
 use Rattle.c_place.proofs.walk.+statements.Given as goal
 
 abbrev pub invariant-stmts-loop-s : goal.invariant-stmts-loop-s

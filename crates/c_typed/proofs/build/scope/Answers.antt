@@ -1,5 +1,5 @@
 use Rattle.std.proofs.Common.{◌∙◌, ap}
-use Rattle.c_typed.specs.Views.{stmt_of}
+use Rattle.c_typed.specs.refinement.Views.{stmt_of}
 use Rattle.c_typed.specs.declared.tree.Stmt.{Stmt}
 use Rattle.c_typed.proofs.Sequences.{scope_is}
 use Rattle.c_typed.proofs.build.scope.Goals as goal

@@ -1,5 +1,5 @@
 use Rattle.std.proofs.Common.{◌∙◌, ap}
-use Rattle.c_typed.specs.Views.{stmt_of}
+use Rattle.c_typed.specs.refinement.Views.{stmt_of}
 use Rattle.c_typed.specs.declared.tree.Stmt.{Stmt}
 use Rattle.c_typed.proofs.Sequences.{switch_is}
 use Rattle.c_typed.proofs.build.switch_on.Goals as goal

@@ -1,6 +1,6 @@
 use Rattle.std.proofs.Common.{◌≡◌, drop}
 use Rattle.c_types.specs.Layout.{deepest_from}
-use Rattle.c_types.specs.Views.{table_of, types_in}
+use Rattle.c_types.specs.refinement.Views.{table_of, types_in}
 use Rattle.c_types.proofs.layout.deepest.Given as goal
 
 abbrev pub invariant-loop-member : goal.invariant-loop-member

@@ -2,7 +2,7 @@ use Rattle.std.proofs.Common.{◌≤◌, length, ap, arith}
 use Rattle.c_types.proofs.Placing.{begun, part_at, counted, placed}
 use Rattle.c_types.specs.Layout.{size, most_bytes}
 use Rattle.c_types.specs.Types.{type_of}
-use Rattle.c_types.specs.Views.{table_of}
+use Rattle.c_types.specs.refinement.Views.{table_of}
 use Rattle.c_types.proofs.layout.lay_out.Goals as goal
 
 pub loop-member-init : goal.loop-member-init

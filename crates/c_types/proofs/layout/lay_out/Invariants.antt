@@ -1,5 +1,5 @@
 use Rattle.c_types.proofs.Placing.{SoFar}
-use Rattle.c_types.specs.Views.{table_of, types_in}
+use Rattle.c_types.specs.refinement.Views.{table_of, types_in}
 use Rattle.c_types.proofs.layout.lay_out.Given as goal
 
 abbrev pub invariant-loop-member : goal.invariant-loop-member

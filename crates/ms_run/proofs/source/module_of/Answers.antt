@@ -1,6 +1,6 @@
 use Rattle.std.proofs.Common.{ap, inl, inr, subst}
 use Rattle.std.specs.Prelude.{Err, Ok}
-use Rattle.c_typed.specs.Views.{typed_of}
+use Rattle.c_typed.specs.refinement.Views.{typed_of}
 use Rattle.c_compile.specs.Refusals.{IsRefused}
 use Rattle.c_compile.specs.declared.fault.CFault.{CFault}
 use Rattle.ms_run.specs.Source.{past}

@@ -1,6 +1,6 @@
 use Rattle.std.proofs.Common.{subst}
 use Rattle.std.specs.Prelude.{Err}
-use Rattle.c_check.specs.Views.{Checks}
+use Rattle.c_check.specs.refinement.Views.{Checks}
 use Rattle.c_check.specs.declared.fault.CCheck.{CCheck}
 use Rattle.ms_run.specs.Source.{no_typing}
 use Rattle.ms_run.proofs.source.typed.Goals as goal

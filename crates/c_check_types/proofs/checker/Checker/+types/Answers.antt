@@ -1,8 +1,8 @@
 use Rattle.std.proofs.Common.{◌∙◌, ◌<◌, ◌+◌, ◌++◌, ◌∷◌, [], suc, Vec, Global, drop, subst, sym, arith}
 use Rattle.c_tree.specs.Tree.{Parameters}
-use Rattle.c_tree.specs.Views.{declarator_nodes, parameters_nodes, parameters_of}
+use Rattle.c_tree.specs.refinement.Views.{declarator_nodes, parameters_nodes, parameters_of}
 use Rattle.c_check_types.specs.Types.{whole, a_parameter, declared, parameters}
-use Rattle.c_check_types.specs.Views.{parameter_of, parameters_in, state_of}
+use Rattle.c_check_types.specs.refinement.Views.{parameter_of, parameters_in, state_of}
 use Rattle.c_check_types.specs.declared.declared.Parameter.{Parameter as Code}
 use Rattle.c_check_types.proofs.Rules.{stopped}
 use Rattle.c_check_types.proofs.Parameters.{front, going_on, one_falls}

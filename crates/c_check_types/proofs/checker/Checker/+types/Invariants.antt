@@ -1,7 +1,7 @@
 use Rattle.std.proofs.Common.{◌≡◌, ◌+◌, drop, []}
-use Rattle.c_tree.specs.Views.{parameters_of, declarator_nodes, parameters_nodes, expr_nodes}
+use Rattle.c_tree.specs.refinement.Views.{parameters_of, declarator_nodes, parameters_nodes, expr_nodes}
 use Rattle.c_check_types.specs.Types.{parameters}
-use Rattle.c_check_types.specs.Views.{parameters_in, state_of}
+use Rattle.c_check_types.specs.refinement.Views.{parameters_in, state_of}
 use Rattle.c_check_types.proofs.checker.Checker.+types.Given as goal
 
 abbrev pub invariant-parameters-loop-p : goal.invariant-parameters-loop-p

@@ -2,7 +2,7 @@ use Rattle.std.proofs.Common.{◌∙◌, ap, sym}
 use Rattle.std.specs.Prelude.{is_some}
 use Rattle.c_types.specs.Types.{type_of}
 use Rattle.c_code.specs.Functions.{signature}
-use Rattle.c_compile.specs.Keys.{key}
+use Rattle.c_compile.specs.refinement.Keys.{key}
 use Rattle.c_compile.proofs.Keyed.{is_added, there}
 use Rattle.c_compile.proofs.signatures.Signatures.add.Goals as goal
 

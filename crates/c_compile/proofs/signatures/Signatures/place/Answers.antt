@@ -3,7 +3,7 @@ use Rattle.std.specs.Prelude.{IfOk}
 use Rattle.c_types.specs.Types.{type_of}
 use Rattle.c_code.specs.Functions.{signature}
 use Rattle.c_code.specs.Modules.{place_of}
-use Rattle.c_compile.specs.Keys.{key}
+use Rattle.c_compile.specs.refinement.Keys.{key}
 use Rattle.c_compile.proofs.Keyed.{place_is}
 use Rattle.c_compile.proofs.signatures.Signatures.place.Goals as goal
 

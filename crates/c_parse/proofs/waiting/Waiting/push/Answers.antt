@@ -1,7 +1,7 @@
 use Rattle.std.proofs.Common.{◌≡◌, ◌+◌, max, reverse}
-use Rattle.c_productions.specs.Table.{rise}
-use Rattle.c_productions.specs.Meaning.{leasts, overs}
-use Rattle.c_parse.specs.Waiting.{frames_of}
+use Rattle.c_productions.specs.refinement.Table.{rise}
+use Rattle.c_productions.specs.refinement.Meaning.{leasts, overs}
+use Rattle.c_parse.specs.refinement.Waiting.{frames_of}
 use Rattle.c_parse.proofs.Sums.{one_pushed}
 use Rattle.c_parse.proofs.waiting.Waiting.push.Goals as goal
 

@@ -2,7 +2,7 @@ use Rattle.std.proofs.Common.{◌≡◌, subst, sym}
 use Rattle.c_typed.specs.declared.ops.Variable.{Variable}
 use Rattle.c_typed.specs.Objects.{in_expr}
 use Rattle.c_typed.specs.Tree.{address, of}
-use Rattle.c_place.specs.Marks.{Marks, marked}
+use Rattle.c_place.specs.refinement.Marks.{Marks, marked}
 use Rattle.c_place.proofs.Marking.{mark_global, mark_local, marks}
 use Rattle.c_place.proofs.marks.Marks.mark.Goals as goal
 

@@ -1,0 +1,4 @@
+-- What only the proofs need: how the code keeps and does what the definitions beside this folder say.
+pub mod Flags
+pub mod Lists
+pub mod Marks
