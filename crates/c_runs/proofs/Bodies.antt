@@ -1,4 +1,5 @@
 -- A body, and what stands behind it: a result that is missing is 0, and the caller goes on with the result.
+use Rattle.ms_machine.specs.Running.{AreBytes}
 use Rattle.std.proofs.Common.{◌≡◌, ℕ, suc, ◌+◌, ◌<◌, ◌≤◌, List, [], ◌∷◌, ◌++◌, length, Option, None, sym, ap, ◌∙◌, arith, subst}
 use Rattle.std.specs.Prelude.{pos}
 use Rattle.ms_linear.specs.declared.value.Value.{Value as Word}
@@ -16,7 +17,6 @@ use Rattle.ms_emit.specs.Codes.{Code, one, ◌⨾◌, size_of}
 use Rattle.c_code.specs.Functions.{result}
 use Rattle.c_code.specs.Operations.{constant, val_of, width_of}
 use Rattle.c_numbers.proofs.Conversions.{constant_is}
-use Rattle.c_runs.specs.Correct.{AreBytes}
 use Rattle.c_runs.proofs.Goes.{Mem, Runs, bind, here}
 use Rattle.c_runs.specs.Words.{pushed, value_word}
 use Rattle.c_runs.proofs.Related.{Env, HasAll, IsOf, Kept, Now, depth_front, front, front_append, has_front}

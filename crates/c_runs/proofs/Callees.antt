@@ -10,6 +10,7 @@ use Rattle.ms_linear.specs.declared.value.Value.{Value as Word}
 use Rattle.ms_linear.specs.Values.{default_of}
 use Rattle.ms_host.specs.declared.host.Host.{Host}
 use Rattle.ms_host.specs.declared.trap.TrapKind.TheVariants as traps
+use Rattle.ms_machine.specs.Running.{AreBytes}
 use Rattle.ms_machine.specs.Step as step
 use Rattle.ms_machine.specs.Step.{act, called, host_in}
 use Rattle.ms_machine.specs.Store.{number_of_instance}
@@ -46,7 +47,6 @@ use Rattle.c_code.specs.Targets.{Target}
 use Rattle.c_code.specs.Uses as uses
 use Rattle.c_code.specs.Uses.{waits_stmt}
 use Rattle.c_numbers.specs.Operands.{operand}
-use Rattle.c_runs.specs.Correct.{AreBytes}
 use Rattle.c_runs.proofs.Goes as goes
 use Rattle.c_runs.proofs.Goes.{Site, Mem, Runs, Goes, after_after, behind_goes, resize, spent, tells_nothing, trapped, unspent}
 use Rattle.c_runs.specs.Words.{pushed}

@@ -15,7 +15,7 @@ use Rattle.ms_types.specs.declared.types.FuncType.{FuncType}
 use Rattle.ms_types.specs.declared.types.ValType.{ValType}
 use Rattle.ms_machine.specs.Crews.{Input, ahead, by_work, run_entries, run_of, turns_from}
 use Rattle.ms_machine.specs.Linked.{instance_in, linked, nothing_made, own_func, start_chain, with_start}
-use Rattle.ms_machine.specs.Running.{func_thread, start_of}
+use Rattle.ms_machine.specs.Running.{AreBytes, func_thread, start_of}
 use Rattle.ms_machine.specs.Store.{Store}
 use Rattle.ms_machine.specs.declared.store.Instance.{Instance}
 use Rattle.ms_task.specs.Control.{exit_ended, nobody}
@@ -29,7 +29,7 @@ use Rattle.c_meaning.specs.Units.{main_number}
 use Rattle.c_code.specs.Functions.{held_as, params_in, start}
 use Rattle.c_code.specs.Modules.{compiled, defined, export_of, exports_of, funcs_from, function_at, imported, index_of, is_defined, is_defined_at, is_exported, start_func, start_target}
 use Rattle.c_code.specs.Stage.{in_stage}
-use Rattle.c_runs.specs.Correct.{AreBytes, Behaves, MeansRun}
+use Rattle.c_runs.specs.Correct.{Behaves, MeansRun}
 use Rattle.c_runs.specs.Crews.{crew_of_one}
 use Rattle.c_runs.specs.Placed.{IsFunctionAt, IsPlaced}
 use Rattle.c_runs.proofs.Linking.{address_at, defined_are, is_made, none_imported, own_funcs, placed, st, three_hosts}

@@ -6,6 +6,7 @@ use Rattle.ms_host.specs.declared.host.Host.TheVariants as hosts
 use Rattle.ms_host.specs.declared.trap.TrapKind.TheVariants as traps
 use Rattle.ms_linear.specs.declared.value.Value.{Value as Word}
 use Rattle.ms_linear.specs.declared.value.Value.TheVariants.{I32}
+use Rattle.ms_machine.specs.Running.{AreBytes}
 use Rattle.ms_machine.specs.Hosting as hosting
 use Rattle.ms_machine.specs.Hosting.{host_on}
 use Rattle.ms_machine.specs.Moves.{first_of, rest_of}
@@ -49,7 +50,6 @@ use Rattle.c_numbers.proofs.Ranges.{wrap_in}
 use Rattle.c_runs.proofs.Goes as goes
 use Rattle.c_runs.proofs.Goes.{Mem, Site, after_after, puts_one, takes_one, tells_nothing}
 use Rattle.ms_machine.specs.Crews.{Input}
-use Rattle.c_runs.specs.Correct.{AreBytes}
 use Rattle.c_runs.specs.Words.{pushed}
 use Rattle.c_runs.proofs.Related.{Env, IsOf, Kept, Now, frame_of}
 use Rattle.c_runs.proofs.Ops.{Good, Op, Stack, To_, at_work, op_agree, op_assoc, op_bare, op_carried, op_look, op_over, op_seen, op_then, op_trap, same}

@@ -1,4 +1,5 @@
 -- Variables and locals; and what is known of a function that is carried out.
+use Rattle.ms_machine.specs.Running.{AreBytes}
 use Rattle.std.proofs.Common.{◌≡◌, ℕ, zero, suc, ◌+◌, ◌<◌, List, [], ◌∷◌, ◌++◌, length, false, Option, Some, None, refl, sym, ap, arith, subst}
 use Rattle.std.specs.Prelude.{ℤ, slice_get, slice_set}
 use Rattle.ms_linear.specs.declared.value.Value.{Value as Word}
@@ -16,7 +17,6 @@ use Rattle.c_meaning.specs.Expressions.{Calls}
 use Rattle.ms_emit.specs.Codes.{total}
 use Rattle.c_code.specs.Targets.{Target}
 use Rattle.c_numbers.specs.Operands.{IsIn, word}
-use Rattle.c_runs.specs.Correct.{AreBytes}
 use Rattle.c_runs.specs.Words.{value_word}
 use Rattle.c_runs.proofs.Goes.{Site, Mem}
 

@@ -6,7 +6,7 @@ use Rattle.ms_host.specs.declared.trap.TrapKind.TheVariants as traps
 use Rattle.ms_machine.specs.Crews.{Input, Task, Trap, bytes_of, run_of, turns_from}
 use Rattle.ms_machine.specs.Externs.{Fault}
 use Rattle.ms_machine.specs.Linked.{linked, nothing_made, store_of}
-use Rattle.ms_machine.specs.Running.{func_thread}
+use Rattle.ms_machine.specs.Running.{AreBytes, func_thread}
 use Rattle.ms_machine.specs.Store.{Store}
 use Rattle.ms_tasks.specs.Tasks.{crew_of, threads_from}
 use Rattle.ms_task.specs.Thread.{sequence}
@@ -26,7 +26,7 @@ use Rattle.c_well_typed.specs.Units.{HasIdentifier, IsFunction, IsMade, IsWellTy
 use Rattle.c_meaning.specs.Units.{means}
 use Rattle.c_meaning.specs.World.{zero_divide}
 use Rattle.c_code.specs.Modules.{compiled}
-use Rattle.c_runs.specs.Correct.{AreBytes, MeansRun, run_at}
+use Rattle.c_runs.specs.Correct.{MeansRun, run_at}
 use Rattle.c_runs.proofs.Executing.{executed_behaves}
 
 abbrev i : Ty

@@ -7,7 +7,7 @@ use Rattle.ms_linear.specs.Values.{default_of}
 use Rattle.ms_module.specs.declared.instr.Instr.{Instr}
 use Rattle.ms_machine.specs.Crews as crews
 use Rattle.ms_machine.specs.Crews.{Input, Run, bytes_of, events_of}
-use Rattle.ms_machine.specs.Running.{func_thread, start_of}
+use Rattle.ms_machine.specs.Running.{AreBytes, func_thread, start_of}
 use Rattle.ms_machine.specs.Store.{Store}
 use Rattle.ms_task.specs.Control.{exit_ended, nobody}
 use Rattle.ms_task.specs.declared.func.FuncInst.{FuncInst}
@@ -24,7 +24,7 @@ use Rattle.c_meaning.specs.World.{End, World, Result, gives, ends, Does, after, 
 use Rattle.ms_emit.specs.Codes.{Coded, size_of}
 use Rattle.c_code.specs.Modules.{index_of, is_defined, is_defined_at}
 use Rattle.c_code.specs.Stage.{are_integers, in_stage}
-use Rattle.c_runs.specs.Correct.{AreBytes, Behaves, IsPrefix, Reports, main_result, meant, result_in, run_at}
+use Rattle.c_runs.specs.Correct.{Behaves, IsPrefix, Reports, main_result, meant, result_in, run_at}
 use Rattle.c_runs.specs.Crews.{Same, crew_end}
 use Rattle.c_runs.specs.Ends.{stop_of}
 use Rattle.c_runs.specs.Placed.{IsPlaced, longest_of}

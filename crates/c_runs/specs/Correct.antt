@@ -3,7 +3,7 @@ use Rattle.std.specs.Prelude.{◌≡◌, ◌≢◌, ℕ, ◌+◌, ◌*◌, ◌<�
 use Rattle.ms_event.specs.Monitor.{grants, sizes_of}
 use Rattle.ms_machine.specs.Crews as crews
 use Rattle.ms_machine.specs.Crews.{Input, OutOfBudget, Run, bytes_of, events_of, run_of}
-use Rattle.ms_machine.specs.Running.{func_thread}
+use Rattle.ms_machine.specs.Running.{AreBytes, func_thread}
 use Rattle.ms_machine.specs.Store.{Store}
 use Rattle.c_types.specs.Types.{Ty, void}
 use Rattle.c_typed.specs.Tree.{Function, Typed}
@@ -14,15 +14,6 @@ use Rattle.c_runs.specs.Crews.{crew_end, crew_of_one}
 use Rattle.c_runs.specs.Ends.{stop_of}
 use Rattle.c_runs.specs.Placed.{longest_of}
 use Rattle.c_runs.specs.Words.{left}
-
-abbrev pub IsByte : Option ℕ → Type 0
-IsByte None = Unit {0}
-IsByte (Some b) = b < 256
-
--- what the takes of an input give are bytes, or none
-abbrev pub AreBytes : Input → Type 0
-AreBytes [] = Unit {0}
-AreBytes (b ∷ bs) = IsByte b × AreBytes bs
 
 abbrev pub IsPrefix : List ℕ → List ℕ → Type 0
 IsPrefix a b = (c : List ℕ) × (b ≡ a ++ c)

@@ -1,6 +1,7 @@
 //! What is true of the steps of one thread, and of the run of a unit of C that was compiled.
 
 ghost use Rattle.std.specs.Prelude.{◌≡◌, ◌≤◌, ℕ, List, [], ◌∷◌, None, Ok, Some, codes, replicate, slice_get, true};
+ghost use Rattle.ms_machine.specs.Running.{AreBytes};
 ghost use Rattle.ms_machine.specs.Crews.{Input, run_entries, run_of, turns_from};
 ghost use Rattle.ms_machine.specs.Linked.{linked};
 ghost use Rattle.ms_machine.specs.Store.{Store};
@@ -13,7 +14,7 @@ ghost use Rattle.c_meaning.specs.Units.{main_number};
 ghost use Rattle.c_code.specs.Limits.{limit_of};
 ghost use Rattle.c_code.specs.Modules.{compiled, imported, index_of};
 ghost use Rattle.c_code.specs.Stage.{in_stage};
-ghost use Rattle.c_runs.specs.Correct.{AreBytes, Behaves, MeansRun};
+ghost use Rattle.c_runs.specs.Correct.{Behaves, MeansRun};
 ghost use Rattle.c_runs.specs.Crews.{Extends, Same, crew_of_one};
 ghost use Rattle.c_runs.specs.Placed.{IsPlaced};
 ghost use Rattle.c_runs.specs.Threads.{steps};

@@ -4,7 +4,7 @@ ghost use Rattle.std.specs.Prelude.{◌≡◌, [], ◌∷◌, IfOk};
 ghost use Rattle.ms_host.specs.Host.{given_by, lowest_byte, put_of};
 ghost use Rattle.ms_outside.specs.Faults.{CountsCall};
 ghost use Rattle.ms_outside.specs.Sink.{CountsPut, Puts};
-ghost use Rattle.ms_outside.specs.refinement.Source.{CountsTake, Takes};
+ghost use Rattle.ms_outside.specs.refinement.Source.{CountsTake, GivesByte, Takes};
 ghost use Rattle.ms_outside.specs.declared.source.Got.{Got};
 
 use crate::trap::TrapKind;
@@ -58,7 +58,7 @@ pub fn putchar<O: Sink>(out: &mut O, value: u32) -> Result<u32, PutFault>
 ///
 /// `Failed` comes only where the source's count of faults rose; what is left of the source then stays.
 pub fn getchar<I: Source>(input: &mut I) -> Result<u32, TakeFault>
-    ensures take { (got : Got) × (result ≡ given_by got) × Takes got (I.left input.old) (I.left input.new) × CountsTake got (I.faults input.old) (I.faults input.new) }
+    ensures take { (got : Got) × (result ≡ given_by got) × Takes got (I.left input.old) (I.left input.new) × CountsTake got (I.faults input.old) (I.faults input.new) × GivesByte got }
     ensures takes { CountsCall (I.takes input.old) (I.takes input.new) }
 {
     match input.take() {

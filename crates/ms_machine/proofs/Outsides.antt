@@ -1,12 +1,12 @@
 -- What is seen of a source and a sink over several calls.
 use Rattle.std.proofs.Common.{◌≡◌, ℕ, Bool, true, false, List, [], ◌∷◌, ◌++◌, map, Option, Some, None, refl, sym, ap, subst, ◌∙◌, append-nil, append_assoc}
 use Rattle.ms_outside.specs.Sink.{IsFront, Puts}
-use Rattle.ms_outside.specs.refinement.Source.{Takes}
+use Rattle.ms_outside.specs.refinement.Source.{GivesByte, Takes}
 use Rattle.ms_outside.specs.declared.sink.Put.TheVariants as puts
 use Rattle.ms_outside.specs.declared.source.Got.TheVariants as gots
 use Rattle.ms_machine.specs.Moves.{first_of, rest_of}
-use Rattle.ms_machine.specs.Running.{IsLeft, MayGive, TellsAlike}
-use Rattle.ms_machine.specs.refinement.Stepped.{InputAfter, OutAfter}
+use Rattle.ms_machine.specs.Running.{IsByte, IsLeft, MayGive, TellsAlike}
+use Rattle.ms_machine.specs.refinement.Stepped.{InputAfter, OutAfter, got_of}
 
 abbrev pub Input : Type 0
 Input = List (Option ℕ)
@@ -43,9 +43,9 @@ tells_trans (Some bytes) b c x y = subst (λ (l : Content). TellsAlike l c) x.1 
 
 pub tells_after : (took : Bool) (got : Option ℕ) (left left' : Content) → InputAfter took got left left' → TellsAlike left left'
 tells_after false got left left' is = subst (λ (l : Content). TellsAlike left l) (sym is) (tells_same left)
-tells_after true got None left' is = is
-tells_after true None (Some bytes) left' is = ([], is.1)
-tells_after true (Some b) (Some bytes) left' is = (is.0, is.2)
+tells_after true got None left' is = is.0
+tells_after true None (Some bytes) left' is = ([], is.0.1)
+tells_after true (Some b) (Some bytes) left' is = (is.0.0, is.0.2)
 
 -- a take that fails takes nothing
 pub none_taken : (left left' : Content) → Takes gots.Failed left left' → left' ≡ left
@@ -61,6 +61,10 @@ pub record Before (took : Bool) (got : Option ℕ) (left : Content) (rest : Inpu
   pub first : took ≡ true → first_of input ≡ got
   pub rest_is : rest_of took input ≡ rest
 
+is_byte : (got : Option ℕ) → GivesByte (got_of got) → IsByte got
+is_byte None gives = tt
+is_byte (Some b) gives = gives
+
 pub before : (took : Bool) (got : Option ℕ) (left left' : Content) → InputAfter took got left left' → (rest : Input) → MayGive left' rest → Before took got left rest
 before false got left left' is rest may = record {
   input = rest;
@@ -69,21 +73,21 @@ before false got left left' is rest may = record {
   first = λ e. cc;
   rest_is = refl;
 }
-before true got None left' is rest may = record { input = got ∷ rest; may = tt; left_is = (got ∷ [], refl); first = λ e. refl; rest_is = refl }
+before true got None left' is rest may = record { input = got ∷ rest; may = (is_byte got is.1, subst (λ (l : Content). MayGive l rest) is.0 may); left_is = (got ∷ [], refl); first = λ e. refl; rest_is = refl }
 before true None (Some bytes) left' is rest may =
-    let none : rest ≡ [] = subst (λ (l : Content). MayGive l rest) is.1 may in
+    let none : rest ≡ [] = subst (λ (l : Content). MayGive l rest) is.0.1 may in
     record {
       input = [];
-      may = ap (map Some) (sym is.0);
+      may = ap (map Some) (sym is.0.0);
       left_is = ([], sym none);
       first = λ e. refl;
       rest_is = sym none;
     }
 before true (Some b) (Some bytes) left' is rest may =
-    let later : rest ≡ map Some is.0 = subst (λ (l : Content). MayGive l rest) is.2 may in
+    let later : rest ≡ map Some is.0.0 = subst (λ (l : Content). MayGive l rest) is.0.2 may in
     record {
       input = Some b ∷ rest;
-      may = ap (λ xs. Some b ∷ xs) later ∙ sym (ap (map Some) is.1);
+      may = ap (λ xs. Some b ∷ xs) later ∙ sym (ap (map Some) is.0.1);
       left_is = (Some b ∷ [], refl);
       first = λ e. refl;
       rest_is = refl;

@@ -1,5 +1,5 @@
 -- The thread of a function that is run (WebAssembly 1.0, 4.5.5), what has happened at a step, and what a source may give.
-use Rattle.std.specs.Prelude.{◌≡◌, ℕ, List, [], ◌∷◌, ◌++◌, map, slice_get, Option, Some, None, MatchOption}
+use Rattle.std.specs.Prelude.{◌≡◌, ◌<◌, ℕ, List, [], ◌∷◌, ◌++◌, map, slice_get, Option, Some, None, MatchOption}
 use Rattle.ms_event.specs.declared.event.Event.{Event}
 use Rattle.ms_task.specs.Control.{exited as exited_thread, started}
 use Rattle.ms_task.specs.declared.func.FuncInst.{FuncInst}
@@ -25,9 +25,18 @@ with_event (Some e) events = e ∷ events
 
 -- ---- the outside, told or not
 
--- What a source may give that has these bytes left: these, where it tells them, and else anything.
+abbrev pub IsByte : Option ℕ → Type 0
+IsByte None = Unit {0}
+IsByte (Some b) = b < 256
+
+-- what the takes of an input give are bytes, or none
+abbrev pub AreBytes : List (Option ℕ) → Type 0
+AreBytes [] = Unit {0}
+AreBytes (b ∷ bs) = IsByte b × AreBytes bs
+
+-- What a source may give that has these bytes left: these, where it tells them, and else any bytes.
 abbrev pub MayGive : (left : Option (List ℕ)) → (input : List (Option ℕ)) → Type 0
-MayGive left input = MatchOption left (Unit {0}) (λ bytes. input ≡ map Some bytes)
+MayGive left input = MatchOption left (AreBytes input) (λ bytes. input ≡ map Some bytes)
 
 -- a source tells what is left before, and so it does after; or it doesn't
 abbrev pub TellsAlike : (left left' : Option (List ℕ)) → Type 0

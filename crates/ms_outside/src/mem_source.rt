@@ -4,7 +4,7 @@ ghost use Rattle.std.specs.Prelude.{◌≡◌, IfOk, OnErr, IsTrue, ◌↔◌};
 ghost use Rattle.ms_outside.specs.Faults.{CountsCall};
 ghost use Rattle.ms_outside.specs.refinement.Memory.{Input};
 ghost use Rattle.ms_outside.specs.refinement.Script.{also_failing, called, counted, next_fails, no_script};
-ghost use Rattle.ms_outside.specs.refinement.Source.{CountsTake, Takes};
+ghost use Rattle.ms_outside.specs.refinement.Source.{CountsTake, GivesByte, Takes};
 
 use crate::count::one_more_fault;
 use crate::script::Script;
@@ -68,6 +68,7 @@ impl Source for MemSource {
 
     fn take(&mut self) -> Got
         ensures left { Takes result (Some self.old.left) (Some self.new.left) }
+        ensures byte { GivesByte result }
         ensures takes { CountsCall self.old.script.calls self.new.script.calls }
         ensures faults { CountsTake result self.old.faults self.new.faults }
         ensures failed { (result ≡ Got.Failed) ↔ IsTrue (next_fails self.old.script) }

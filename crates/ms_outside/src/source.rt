@@ -2,7 +2,7 @@
 
 ghost use Rattle.std.specs.Prelude.{ℕ, List, Option};
 ghost use Rattle.ms_outside.specs.Faults.{CountsCall};
-ghost use Rattle.ms_outside.specs.refinement.Source.{CountsTake, Takes};
+ghost use Rattle.ms_outside.specs.refinement.Source.{CountsTake, GivesByte, Takes};
 
 /// What a take from a source gives.
 #[derive(Clone, Copy, PartialEq, Eq)]
@@ -29,6 +29,7 @@ pub trait Source {
     /// Takes the next byte. After `Failed` what is left stays.
     fn take(&mut self) -> Got
         ensures left { Takes result (left self.old) (left self.new) }
+        ensures byte { GivesByte result }
         ensures takes { CountsCall (takes self.old) (takes self.new) }
         ensures faults { CountsTake result (faults self.old) (faults self.new) };
 }

@@ -3,7 +3,7 @@
 ghost use Rattle.std.specs.Prelude.{◌≡◌};
 ghost use Rattle.ms_outside.specs.Faults.{CountsCall};
 ghost use Rattle.ms_outside.specs.refinement.Adapters.{ReadsByte};
-ghost use Rattle.ms_outside.specs.refinement.Source.{CountsTake, Takes};
+ghost use Rattle.ms_outside.specs.refinement.Source.{CountsTake, GivesByte, Takes};
 ghost use Rattle.ms_outside.specs.refinement.System.{reader_faults, reader_of, source_device, source_takes};
 
 use crate::count::one_more_call;
@@ -54,6 +54,7 @@ impl<D: ReadDevice> Source for StdSource<D> {
 
     fn take(&mut self) -> Got
         ensures left { Takes result None None }
+        ensures byte { GivesByte result }
         ensures takes { CountsCall (source_takes self.old) (source_takes self.new) }
         ensures faults { CountsTake result (D.faults (source_device self.old)) (D.faults (source_device self.new)) }
         ensures reads { ReadsByte result (D.left (source_device self.old)) (D.left (source_device self.new)) }

@@ -2,7 +2,7 @@
 
 ghost use Rattle.std.specs.Prelude.{◌≡◌, ◌≢◌};
 ghost use Rattle.ms_outside.specs.Faults.{CountsCall, last_count};
-ghost use Rattle.ms_outside.specs.refinement.Source.{CountsTake, Takes};
+ghost use Rattle.ms_outside.specs.refinement.Source.{CountsTake, GivesByte, Takes};
 
 use crate::source::{Got, Source};
 use std::marker::Model;
@@ -43,6 +43,7 @@ impl Source for SureSource {
 
     fn take(&mut self) -> Got
         ensures left { Takes result (Some self.old) (Some self.new) }
+        ensures byte { GivesByte result }
         ensures takes { CountsCall last_count last_count }
         ensures faults { CountsTake result 0 0 }
         ensures sure { result ≢ Got.Failed }

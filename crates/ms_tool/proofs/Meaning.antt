@@ -7,10 +7,11 @@ use Rattle.c_code.specs.Limits.{first_true, limit_of, refusal_of, stage}
 use Rattle.c_code.specs.Modules.{compiled}
 use Rattle.c_code.specs.Stage.{in_stage}
 use Rattle.c_runs.proofs.Executing.{executed_behaves}
-use Rattle.c_runs.specs.Correct.{AreBytes, MeansRun}
+use Rattle.c_runs.specs.Correct.{MeansRun}
 use Rattle.c_typed.specs.Tree.{Typed}
 use Rattle.c_well_typed.specs.Units.{IsWellTyped}
 use Rattle.ms_job.specs.Jobs.{most_turns}
+use Rattle.ms_machine.specs.Running.{AreBytes}
 use Rattle.ms_machine.specs.Crews.{Input, Run, run_of, turns_from}
 use Rattle.ms_machine.specs.Externs.{Fault}
 use Rattle.ms_machine.specs.Linked.{linked}

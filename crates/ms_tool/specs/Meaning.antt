@@ -2,7 +2,8 @@
 use Rattle.std.specs.Prelude.{ℕ, List}
 use Rattle.c_typed.specs.Tree.{Typed}
 use Rattle.ms_run.specs.Source.{IsUnit}
-use Rattle.c_runs.specs.Correct.{AreBytes, MeansRun}
+use Rattle.ms_machine.specs.Running.{AreBytes}
+use Rattle.c_runs.specs.Correct.{MeansRun}
 use Rattle.ms_run.specs.Answers.{HasBytes}
 use Rattle.ms_run.specs.Jobs.{exec_job}
 use Rattle.ms_run.specs.Observed.{Flow, Report, Shelved}

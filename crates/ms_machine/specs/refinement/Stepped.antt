@@ -3,7 +3,7 @@ use Rattle.std.specs.Prelude.{◌≡◌, ◌≢◌, ℕ, Bool, true, false, List
 use Rattle.ms_event.specs.declared.event.Event.{Event}
 use Rattle.ms_outside.specs.Faults.{CountsFault}
 use Rattle.ms_outside.specs.Sink.{Puts}
-use Rattle.ms_outside.specs.refinement.Source.{Takes}
+use Rattle.ms_outside.specs.refinement.Source.{GivesByte, Takes}
 use Rattle.ms_outside.specs.declared.sink.Put.TheVariants as puts
 use Rattle.ms_outside.specs.declared.source.Got.{Got}
 use Rattle.ms_outside.specs.declared.source.Got.TheVariants as gots
@@ -23,7 +23,7 @@ got_of (Some b) = gots.Byte b
 
 abbrev pub InputAfter : (took : Bool) → (got : Option ℕ) → (left left' : Option (List ℕ)) → Type 0
 InputAfter false got left left' = left' ≡ left
-InputAfter true got left left' = Takes (got_of got) left left'
+InputAfter true got left left' = Takes (got_of got) left left' × GivesByte (got_of got)
 
 abbrev pub OutAfter : (put : Option ℕ) → (held held' : Option (List ℕ)) → Type 0
 OutAfter None held held' = held' ≡ held

@@ -1,6 +1,6 @@
 use Rattle.std.proofs.Common.{None, true, refl, subst}
 use Rattle.ms_host.specs.declared.host.Host.TheVariants as hosts
-use Rattle.ms_outside.specs.refinement.Source.{Takes}
+use Rattle.ms_outside.specs.refinement.Source.{GivesByte, Takes}
 use Rattle.ms_machine.specs.Hosting.{host_on}
 use Rattle.ms_machine.specs.Moves.{hosted}
 use Rattle.ms_task.specs.Thread.{thread}
@@ -17,4 +17,4 @@ returns-clause-step g c = λ held.
     let take = c.in-Ok-getchar.ensures.take in
     let a = taken take.0 c.in-Ok-getchar.number take.1 in
     exit_does_step c.exit.result (λ got. hosted s t true (host_on hosts.Getchar got t.operands)) s t (thread t.frame c.set_top.new.self t.work) (thread_of s.funcs c.exit.new.task) true a.0 None before after held held
-    (take_gives s t c.in-Ok-getchar.number a.0 c.push.new.self c.set_top.new.self a.1 c.in-Ok.ensures.ok c.set_top.ensures) (subst (λ x. Takes x before after) a.2 take.2) refl c.exit.ensures
+    (take_gives s t c.in-Ok-getchar.number a.0 c.push.new.self c.set_top.new.self a.1 c.in-Ok.ensures.ok c.set_top.ensures) (subst (λ x. Takes x before after × GivesByte x) a.2 (take.2, take.4)) refl c.exit.ensures
