@@ -63,8 +63,16 @@ impl<D: ReadDevice> Source for StdSource<D> {
         let mut byte = [0u8; 1];
         match self.device.read(&mut byte) {
             Ok(0) => Got::End,
-            Ok(_) => Got::Byte(byte[0]),
+            Ok(_) => given(byte[0]),
             Err(_) => Got::Failed,
         }
     }
+}
+
+/// The answer that gives this byte.
+fn given(byte: u8) -> Got
+    ensures is { result ≡ Got.Byte byte }
+    ensures byte { GivesByte result }
+{
+    Got::Byte(byte)
 }
