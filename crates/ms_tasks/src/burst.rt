@@ -14,10 +14,9 @@ ghost use Rattle.ms_tasks.specs.refinement.Parts.{HaltsBy, CountsInput, CountsOu
 
 use crate::log::Log;
 use ms_host::TrapKind;
-use ms_live::Gaps;
 use ms_machine::{Stepped, Store, Stretch, has_ended, run_quietly, step};
 use ms_outside::{Sink, Source};
-use ms_tagged::Tagged;
+use ms_segment::SegmentMemory;
 use ms_task::Task;
 
 /// Why a burst of steps was halted.
@@ -38,8 +37,8 @@ pub(crate) enum Halt {
 }
 
 /// At most so many steps of a task. It gives why they were halted, and how many are left.
-pub(crate) fn burst<G: Gaps, T: Tagged, I: Source, O: Sink>(
-    store: &mut Store<G, T>,
+pub(crate) fn burst<M: SegmentMemory, I: Source, O: Sink>(
+    store: &mut Store<M>,
     task: &mut Task,
     most: u64,
     input: &mut I,

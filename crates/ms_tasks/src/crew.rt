@@ -23,24 +23,23 @@ use crate::refusal::Refusal;
 use crate::schedule::Schedule;
 use crate::starting::{chain_of, tasks_of};
 use ms_linear::Room;
-use ms_live::Gaps;
 use ms_machine::Store;
 use ms_module::Name;
 use ms_outside::{Sink, Source};
-use ms_tagged::Tagged;
+use ms_segment::SegmentMemory;
 use ms_task::Task;
 use std::alloc::Global;
 use std::marker::Model;
 
 /// A store, with its start functions and its tasks.
 #[derive(Drop)]
-pub struct Crew<G: Gaps, T: Tagged> {
-    store: Store<G, T>,
+pub struct Crew<M: SegmentMemory> {
+    store: Store<M>,
     chain: Vec<Task>,
     tasks: Vec<Task>,
 }
 
-impl<G: Gaps, T: Tagged> Model for Crew<G, T> {
+impl<M: SegmentMemory> Model for Crew<M> {
     ghost use Rattle.ms_machine.specs.Crews.{Crew as C};
     ghost use Rattle.ms_tasks.specs.refinement.Rows.{threads_in};
 
@@ -49,11 +48,11 @@ impl<G: Gaps, T: Tagged> Model for Crew<G, T> {
     ghost view = { λ c. record { store = c.store; chain = threads_in c.store c.chain.items; tasks = threads_in c.store c.tasks.items } };
 }
 
-impl<G: Gaps, T: Tagged> Crew<G, T> {
+impl<M: SegmentMemory> Crew<M> {
     /// The crew of a store, with its start functions, and of tasks: each is the function that the module of a number exports by
     /// a name, which takes nothing and gives nothing or one number. It refuses the first one that there isn't. All of them share
     /// one room for their frames, operands and marks.
-    pub fn new(alloc: Global, store: Store<G, T>, tasks: Vec<(u32, Name)>) -> Result<Self, Refusal>
+    pub fn new(alloc: Global, store: Store<M>, tasks: Vec<(u32, Name)>) -> Result<Self, Refusal>
         requires typed { StoreTyped (outline_of store) }
         requires fits { StoreFits store }
         requires starts { StartsTyped store }
@@ -77,7 +76,7 @@ impl<G: Gaps, T: Tagged> Crew<G, T> {
     }
 
     /// The store.
-    pub fn store(&self) -> &Store<G, T>
+    pub fn store(&self) -> &Store<M>
         ensures { result.now ≡ self.now.store }
     {
         &self.store

@@ -12,18 +12,17 @@ ghost use Rattle.ms_tasks.specs.Tasks.{threads_from};
 use crate::finding::task_address;
 use crate::refusal::Refusal;
 use ms_linear::Room;
-use ms_live::Gaps;
 use ms_machine::{Instance, Store, start};
 use ms_module::Name;
-use ms_tagged::Tagged;
+use ms_segment::SegmentMemory;
 use ms_task::Task;
 use std::alloc::{AllocError, Global};
 
 /// The start function of an instance, if it has one.
-fn start_of<G: Gaps, T: Tagged>(
+fn start_of<M: SegmentMemory>(
     alloc: Global,
     room: &Room,
-    store: &Store<G, T>,
+    store: &Store<M>,
     instance: &Instance,
 ) -> Result<Option<Task>, AllocError>
     requires store { StoreTyped (outline_of store.now) }
@@ -38,10 +37,10 @@ fn start_of<G: Gaps, T: Tagged>(
 }
 
 /// The start functions of these instances, in order.
-fn starts_of<G: Gaps, T: Tagged>(
+fn starts_of<M: SegmentMemory>(
     alloc: Global,
     room: &Room,
-    store: &Store<G, T>,
+    store: &Store<M>,
     instances: &[Instance],
 ) -> Result<Vec<Task>, AllocError>
     requires store { StoreTyped (outline_of store.now) }
@@ -59,10 +58,10 @@ fn starts_of<G: Gaps, T: Tagged>(
 }
 
 /// The start functions, in the order of the modules.
-pub(crate) fn chain_of<G: Gaps, T: Tagged>(
+pub(crate) fn chain_of<M: SegmentMemory>(
     alloc: Global,
     room: &Room,
-    store: &Store<G, T>,
+    store: &Store<M>,
 ) -> Result<Vec<Task>, AllocError>
     requires store { StoreTyped (outline_of store.now) }
     requires starts { StartsTyped store.now }
@@ -72,10 +71,10 @@ pub(crate) fn chain_of<G: Gaps, T: Tagged>(
 }
 
 /// The tasks of these functions, or the first that has none.
-pub(crate) fn tasks_of<G: Gaps, T: Tagged>(
+pub(crate) fn tasks_of<M: SegmentMemory>(
     alloc: Global,
     room: &Room,
-    store: &Store<G, T>,
+    store: &Store<M>,
     tasks: &[(u32, Name)],
 ) -> Result<Vec<Task>, Refusal>
     requires store { StoreTyped (outline_of store.now) }
