@@ -122,11 +122,11 @@ fn run_crew<G: Gaps, T: Tagged, F: Shelf, I: Source, O: Sink, R: Sink>(
     out: &mut O,
     report: &mut R,
 ) -> Status
-    requires ready { IsReady crew.old }
+    requires ready { IsReady crew.old.crew }
     requires tasks { (tasks ≡ length crew.old.tasks) × (0 < tasks) }
     requires turns { HasTurns schedule.now }
     requires few { crew.old.store.segments.made + budget < 2 ^ 63 }
-    ensures printed { TellsEnd telling.now (run_of (entries_of schedule.now (length crew.old.tasks) budget) crew.old)
+    ensures printed { TellsEnd telling.now (run_of (entries_of schedule.now (length crew.old.tasks) budget) crew.old.crew)
         (shelved F.files F.read_faults F.write_faults shelf.old shelf.new)
         (reported R.held R.faults report.old report.new)
         (flowed I.left I.faults O.held O.faults input.old input.new out.old out.new)
@@ -148,7 +148,7 @@ fn run_crew<G: Gaps, T: Tagged, F: Shelf, I: Source, O: Sink, R: Sink>(
                 report,
             )
         }
-        Ran::Trap(kind) => {
+        Ran::Trap(_, kind) => {
             let lines = trap_line(alloc, kind);
             tell_run(
                 alloc,

@@ -12,6 +12,7 @@ ghost use Rattle.ms_tasks.specs.refinement.Rows.{IsIdle, crew_in, threads_in};
 
 use crate::burst::{Halt, burst};
 use crate::log::Log;
+use crate::whose::Whose;
 use ms_machine::{Store, has_ended};
 use ms_outside::{Sink, Source};
 use ms_segment::SegmentMemory;
@@ -68,7 +69,7 @@ fn row<M: SegmentMemory, I: Source, O: Sink>(
     ensures out_faults { CountsOut result.0 (O.faults out.old) (O.faults out.new) }
 {
     let task = &mut tasks[k as usize];
-    burst(store, task, most, input, out, log)
+    burst(store, task, Whose::Task(k), most, input, out, log)
 }
 
 /// So many entries in a row for one task, where not all tasks have ended. It gives how many entries are left.

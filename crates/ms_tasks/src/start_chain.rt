@@ -13,6 +13,7 @@ ghost use Rattle.ms_tasks.specs.refinement.Rows.{begun_with, chain_in, threads_i
 
 use crate::burst::{Halt, burst};
 use crate::log::Log;
+use crate::whose::Whose;
 use ms_machine::Store;
 use ms_outside::{Sink, Source};
 use ms_segment::SegmentMemory;
@@ -46,7 +47,7 @@ pub(crate) fn run_chain<M: SegmentMemory, I: Source, O: Sink>(
     let mut left = most;
     for i in 0..chain.len() {
         let task = &mut chain[i];
-        let (halt, rest) = burst(store, task, left, input, out, log);
+        let (halt, rest) = burst(store, task, Whose::Start, left, input, out, log);
         left = rest;
         match halt {
             Halt::Ended => {}
