@@ -17,6 +17,7 @@ use ms_import::Made;
 use ms_live::Gaps;
 use ms_machine::Store;
 use ms_module::Name;
+use ms_segment::Segments;
 use ms_tagged::Tagged;
 use ms_valid::Valid;
 use std::alloc::Global;
@@ -39,7 +40,7 @@ fn store_or_fault<G: Gaps, T: Tagged>(
     alloc: Global,
     modules: Vec<(Name, Valid)>,
     capacity: u32,
-) -> Result<Store<G, T>, LinkFault>
+) -> Result<Store<Segments<G, T>>, LinkFault>
     requires { AreDistinct (map (λ m. m.0) modules.items) }
     ensures link { DoesLink modules.items capacity result }
     ensures typed { IfOk result (λ s. StoreTyped (outline_of s)) }
@@ -63,7 +64,7 @@ pub fn link<G: Gaps, T: Tagged>(
     alloc: Global,
     modules: Vec<(Name, Valid)>,
     capacity: u32,
-) -> Result<Store<G, T>, LinkFault>
+) -> Result<Store<Segments<G, T>>, LinkFault>
     requires names { AreDistinct (map (λ m. m.0) modules.items) }
     ensures link { DoesLink modules.items capacity result }
     ensures typed { IfOk result (λ s. StoreTyped (outline_of s)) }

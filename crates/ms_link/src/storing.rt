@@ -18,7 +18,7 @@ pub(crate) fn store_of<G: Gaps, T: Tagged>(
     alloc: Global,
     made: Made,
     capacity: u32,
-) -> Result<Store<G, T>, AllocError>
+) -> Result<Store<Segments<G, T>>, AllocError>
     requires { MadeTyped made }
     ensures { IfOk result (λ s. s ≡ linked.store_of capacity made) }
 {

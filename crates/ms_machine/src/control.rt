@@ -13,15 +13,14 @@ use crate::store::Store;
 use ms_event::Event;
 use ms_host::{Host, TrapKind};
 use ms_linear::{CallTrap, Value, target};
-use ms_live::Gaps;
-use ms_tagged::Tagged;
+use ms_segment::SegmentMemory;
 use ms_task::{CallFault, Task};
 use ms_types::ValType;
 
 /// `block`.
 #[inline(always)]
-pub(crate) fn block<G: Gaps, T: Tagged>(
-    store: &Store<G, T>,
+pub(crate) fn block<M: SegmentMemory>(
+    store: &Store<M>,
     task: &mut Task,
     ty: Option<ValType>,
     body: u32,
@@ -39,8 +38,8 @@ pub(crate) fn block<G: Gaps, T: Tagged>(
 
 /// `loop`, which stands before `next`.
 #[inline(always)]
-pub(crate) fn begin_loop<G: Gaps, T: Tagged>(
-    store: &Store<G, T>,
+pub(crate) fn begin_loop<M: SegmentMemory>(
+    store: &Store<M>,
     task: &mut Task,
     ty: Option<ValType>,
     body: u32,
@@ -59,8 +58,8 @@ pub(crate) fn begin_loop<G: Gaps, T: Tagged>(
 
 /// `if`.
 #[inline(always)]
-pub(crate) fn if_else<G: Gaps, T: Tagged>(
-    store: &Store<G, T>,
+pub(crate) fn if_else<M: SegmentMemory>(
+    store: &Store<M>,
     task: &mut Task,
     ty: Option<ValType>,
     then_: u32,
@@ -80,8 +79,8 @@ pub(crate) fn if_else<G: Gaps, T: Tagged>(
 /// `br`.
 #[tactic(auto, using(crate::proofs::Branches::br_can, crate::proofs::Branches::br_does))]
 #[inline(always)]
-pub(crate) fn br<G: Gaps, T: Tagged>(
-    store: &Store<G, T>,
+pub(crate) fn br<M: SegmentMemory>(
+    store: &Store<M>,
     task: &mut Task,
     label: u32,
     next: usize,
@@ -97,8 +96,8 @@ pub(crate) fn br<G: Gaps, T: Tagged>(
 
 /// `br_if`.
 #[inline(always)]
-pub(crate) fn br_if<G: Gaps, T: Tagged>(
-    store: &Store<G, T>,
+pub(crate) fn br_if<M: SegmentMemory>(
+    store: &Store<M>,
     task: &mut Task,
     label: u32,
     next: usize,
@@ -114,8 +113,8 @@ pub(crate) fn br_if<G: Gaps, T: Tagged>(
 /// `return`.
 #[tactic(auto, using(crate::proofs::Branches::return_can, crate::proofs::Branches::return_does))]
 #[inline(always)]
-pub(crate) fn return_<G: Gaps, T: Tagged>(
-    store: &Store<G, T>,
+pub(crate) fn return_<M: SegmentMemory>(
+    store: &Store<M>,
     task: &mut Task,
     next: usize,
 ) -> Result<Option<Event>, Fault>
@@ -157,8 +156,8 @@ fn ask_by_table(task: &mut Task, host: Host, next: usize) -> Result<Option<Event
 }
 
 /// `call`.
-pub(crate) fn call<G: Gaps, T: Tagged>(
-    store: &Store<G, T>,
+pub(crate) fn call<M: SegmentMemory>(
+    store: &Store<M>,
     task: &mut Task,
     x: u32,
     next: usize,
@@ -178,8 +177,8 @@ pub(crate) fn call<G: Gaps, T: Tagged>(
 }
 
 /// A call of the function of an address, where the index into the table is topmost.
-fn call_at<G: Gaps, T: Tagged>(
-    store: &Store<G, T>,
+fn call_at<M: SegmentMemory>(
+    store: &Store<M>,
     task: &mut Task,
     address: u32,
     next: usize,
@@ -202,8 +201,8 @@ fn call_at<G: Gaps, T: Tagged>(
 }
 
 /// `call_indirect`. The table, the element and the type are looked at before the depth.
-pub(crate) fn call_indirect<G: Gaps, T: Tagged>(
-    store: &Store<G, T>,
+pub(crate) fn call_indirect<M: SegmentMemory>(
+    store: &Store<M>,
     task: &mut Task,
     x: u32,
     next: usize,

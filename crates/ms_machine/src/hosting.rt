@@ -13,14 +13,13 @@ use crate::stepped::Stepped;
 use crate::store::Store;
 use ms_host::{Host, PutFault, getchar, putchar};
 use ms_linear::Value;
-use ms_live::Gaps;
 use ms_outside::{Sink, Source};
-use ms_tagged::Tagged;
+use ms_segment::SegmentMemory;
 use ms_task::Task;
 
 /// What the host was asked for, with its arguments on the operands: a byte that is put, or one that is taken.
-pub(crate) fn ask_host<G: Gaps, T: Tagged, I: Source, O: Sink>(
-    store: &Store<G, T>,
+pub(crate) fn ask_host<M: SegmentMemory, I: Source, O: Sink>(
+    store: &Store<M>,
     task: &mut Task,
     host: Host,
     input: &mut I,
@@ -40,11 +39,7 @@ pub(crate) fn ask_host<G: Gaps, T: Tagged, I: Source, O: Sink>(
 }
 
 /// `putchar`, whose argument is topmost.
-fn put_byte<G: Gaps, T: Tagged, O: Sink>(
-    store: &Store<G, T>,
-    task: &mut Task,
-    out: &mut O,
-) -> Stepped
+fn put_byte<M: SegmentMemory, O: Sink>(store: &Store<M>, task: &mut Task, out: &mut O) -> Stepped
     requires can { host_on hosts.Putchar None task.old.operands ≢ effects.Stuck }
     ensures step { (left : Option (List ℕ)) → DoesStep result (λ got. hosted store.now (thread_of store.now.funcs task.old) false (host_on hosts.Putchar got task.old.operands)) store.now (thread_of store.now.funcs task.old) store.now (thread_of store.now.funcs task.new) left left (O.held out.old) (O.held out.new) }
     ensures counts { (result ≢ Stepped.ReadFault) × CountsOut result (O.faults out.old) (O.faults out.new) }
@@ -61,8 +56,8 @@ fn put_byte<G: Gaps, T: Tagged, O: Sink>(
 }
 
 /// `getchar`. There is room for what it gives before the take, so that want of memory takes nothing.
-fn take_byte<G: Gaps, T: Tagged, I: Source>(
-    store: &Store<G, T>,
+fn take_byte<M: SegmentMemory, I: Source>(
+    store: &Store<M>,
     task: &mut Task,
     input: &mut I,
 ) -> Stepped
@@ -80,7 +75,7 @@ fn take_byte<G: Gaps, T: Tagged, I: Source>(
 }
 
 /// Exits the blocks and calls that are at their ends.
-fn exit<G: Gaps, T: Tagged>(store: &Store<G, T>, task: &mut Task) -> Stepped
+fn exit<M: SegmentMemory>(store: &Store<M>, task: &mut Task) -> Stepped
     ensures { DoesExit result (thread_of store.now.funcs task.old) (thread_of store.now.funcs task.new) }
 {
     if task.exit_ended(&store.funcs) {

@@ -6,14 +6,13 @@ ghost use Rattle.ms_task.specs.refinement.View.{frame_of};
 
 use crate::store::{Instance, Store};
 use ms_linear::{GlobalInst, Table};
-use ms_live::Gaps;
-use ms_tagged::Tagged;
+use ms_segment::SegmentMemory;
 use ms_task::Task;
 use ms_types::FuncType;
 
 /// The instance of the current function's module.
 #[inline(always)]
-fn instance<'a, G: Gaps, T: Tagged>(store: &'a Store<G, T>, task: &Task) -> &'a Instance
+fn instance<'a, M: SegmentMemory>(store: &'a Store<M>, task: &Task) -> &'a Instance
     requires { instance_of store.now (frame_of task.now) ≢ None }
     ensures { instance_of store.now (frame_of task.now) ≡ Some result.now }
 {
@@ -22,7 +21,7 @@ fn instance<'a, G: Gaps, T: Tagged>(store: &'a Store<G, T>, task: &Task) -> &'a 
 
 /// The address of a function.
 #[inline(always)]
-pub(crate) fn func_address<G: Gaps, T: Tagged>(store: &Store<G, T>, task: &Task, x: u32) -> u32
+pub(crate) fn func_address<M: SegmentMemory>(store: &Store<M>, task: &Task, x: u32) -> u32
     requires { func_address (instance_of store.now (frame_of task.now)) x ≢ None }
     ensures { func_address (instance_of store.now (frame_of task.now)) x ≡ Some result }
 {
@@ -30,8 +29,8 @@ pub(crate) fn func_address<G: Gaps, T: Tagged>(store: &Store<G, T>, task: &Task,
 }
 
 /// A function type.
-pub(crate) fn func_type<'a, G: Gaps, T: Tagged>(
-    store: &'a Store<G, T>,
+pub(crate) fn func_type<'a, M: SegmentMemory>(
+    store: &'a Store<M>,
     task: &Task,
     x: u32,
 ) -> &'a FuncType
@@ -42,7 +41,7 @@ pub(crate) fn func_type<'a, G: Gaps, T: Tagged>(
 }
 
 /// The table.
-pub(crate) fn table<'a, G: Gaps, T: Tagged>(store: &'a Store<G, T>, task: &Task) -> &'a Table
+pub(crate) fn table<'a, M: SegmentMemory>(store: &'a Store<M>, task: &Task) -> &'a Table
     requires { at store.now.tables (table_address (instance_of store.now (frame_of task.now))) ≢ None }
     ensures { at store.now.tables (table_address (instance_of store.now (frame_of task.now))) ≡ Some result.now }
 {
@@ -54,7 +53,7 @@ pub(crate) fn table<'a, G: Gaps, T: Tagged>(store: &'a Store<G, T>, task: &Task)
 
 /// The address of the linear memory.
 #[inline(always)]
-pub(crate) fn memory_address<G: Gaps, T: Tagged>(store: &Store<G, T>, task: &Task) -> u32
+pub(crate) fn memory_address<M: SegmentMemory>(store: &Store<M>, task: &Task) -> u32
     requires { memory_address (instance_of store.now (frame_of task.now)) ≢ None }
     ensures { memory_address (instance_of store.now (frame_of task.now)) ≡ Some result }
 {
@@ -66,7 +65,7 @@ pub(crate) fn memory_address<G: Gaps, T: Tagged>(store: &Store<G, T>, task: &Tas
 
 /// The address of a global.
 #[inline(always)]
-pub(crate) fn global_address<G: Gaps, T: Tagged>(store: &Store<G, T>, task: &Task, x: u32) -> u32
+pub(crate) fn global_address<M: SegmentMemory>(store: &Store<M>, task: &Task, x: u32) -> u32
     requires { global_address (instance_of store.now (frame_of task.now)) x ≢ None }
     ensures { global_address (instance_of store.now (frame_of task.now)) x ≡ Some result }
 {
@@ -75,7 +74,7 @@ pub(crate) fn global_address<G: Gaps, T: Tagged>(store: &Store<G, T>, task: &Tas
 
 /// A global.
 #[inline(always)]
-pub(crate) fn global<G: Gaps, T: Tagged>(store: &Store<G, T>, task: &Task, x: u32) -> GlobalInst
+pub(crate) fn global<M: SegmentMemory>(store: &Store<M>, task: &Task, x: u32) -> GlobalInst
     requires { at store.now.globals (global_address (instance_of store.now (frame_of task.now)) x) ≢ None }
     ensures { at store.now.globals (global_address (instance_of store.now (frame_of task.now)) x) ≡ Some result }
 {

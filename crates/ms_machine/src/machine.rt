@@ -24,10 +24,9 @@ use crate::store::Store;
 use crate::{control, memory, plain};
 use ms_event::Event;
 use ms_host::TrapKind;
-use ms_live::Gaps;
 use ms_module::Instr;
 use ms_outside::{Sink, Source};
-use ms_tagged::Tagged;
+use ms_segment::SegmentMemory;
 use ms_task::Task;
 
 /// The same with a word on what follows.
@@ -47,8 +46,8 @@ fn and_more(
 /// Carries out an instruction that leaves the store as it is, behind which the task goes on at `next`, where `more` says that
 /// another one stands. It says `true` only where that one is then the first thing left to do.
 #[inline(always)]
-fn carry_out<G: Gaps, T: Tagged>(
-    store: &Store<G, T>,
+fn carry_out<M: SegmentMemory>(
+    store: &Store<M>,
     task: &mut Task,
     instr: &Instr,
     next: usize,
@@ -98,8 +97,8 @@ fn carry_out<G: Gaps, T: Tagged>(
 
 /// Carries out the first instruction. It says `true` only where another instruction is then the first thing left to do.
 #[inline(always)]
-fn perform<G: Gaps, T: Tagged>(
-    store: &mut Store<G, T>,
+fn perform<M: SegmentMemory>(
+    store: &mut Store<M>,
     task: &mut Task,
 ) -> Result<(Option<Event>, bool), Fault>
     requires begins { Begins (thread_of store.old.funcs task.old).work }
@@ -109,7 +108,7 @@ fn perform<G: Gaps, T: Tagged>(
     ensures done { DoesFirst (begin store.old (thread_of store.old.funcs task.old)) store.old (thread_of store.old.funcs task.old) store.new (thread_of store.new.funcs task.new) result }
     ensures more { IfOk result (λ x. IsTrue x.1 → Begins (thread_of store.new.funcs task.new).work) }
 {
-    let here: &Store<G, T> = store;
+    let here: &Store<M> = store;
     let fetched = task.fetch(&here.funcs);
     let next = fetched.next;
     let more = fetched.more;
@@ -123,8 +122,8 @@ fn perform<G: Gaps, T: Tagged>(
 
 /// One step of a task that is not stuck.
 #[inline(always)]
-fn advance<G: Gaps, T: Tagged, I: Source, O: Sink>(
-    store: &mut Store<G, T>,
+fn advance<M: SegmentMemory, I: Source, O: Sink>(
+    store: &mut Store<M>,
     task: &mut Task,
     input: &mut I,
     out: &mut O,
@@ -164,8 +163,8 @@ fn advance<G: Gaps, T: Tagged, I: Source, O: Sink>(
 /// them, and after `Memory`, the store is as before and the task is not to be run again; the output then has the byte of this
 /// step at most, and the input is as before.
 #[inline(always)]
-pub fn step<G: Gaps, T: Tagged, I: Source, O: Sink>(
-    store: &mut Store<G, T>,
+pub fn step<M: SegmentMemory, I: Source, O: Sink>(
+    store: &mut Store<M>,
     task: &mut Task,
     input: &mut I,
     out: &mut O,

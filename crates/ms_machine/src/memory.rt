@@ -10,14 +10,13 @@ use crate::lookup::memory_address;
 use crate::segment;
 use crate::store::Store;
 use ms_event::Event;
-use ms_live::Gaps;
 use ms_module::{Linear, Numeric, Segment};
-use ms_tagged::Tagged;
+use ms_segment::SegmentMemory;
 use ms_task::Task;
 
 /// A numeric instruction.
-pub(crate) fn numeric<G: Gaps, T: Tagged>(
-    store: &Store<G, T>,
+pub(crate) fn numeric<M: SegmentMemory>(
+    store: &Store<M>,
     task: &mut Task,
     i: Numeric,
     next: usize,
@@ -38,8 +37,8 @@ pub(crate) fn numeric<G: Gaps, T: Tagged>(
 
 /// An instruction on the linear memory.
 #[inline(always)]
-pub(crate) fn linear<G: Gaps, T: Tagged>(
-    store: &mut Store<G, T>,
+pub(crate) fn linear<M: SegmentMemory>(
+    store: &mut Store<M>,
     task: &mut Task,
     i: Linear,
     next: usize,
@@ -60,8 +59,8 @@ pub(crate) fn linear<G: Gaps, T: Tagged>(
 }
 
 /// An instruction on handles and segments.
-pub(crate) fn segment<G: Gaps, T: Tagged>(
-    store: &mut Store<G, T>,
+pub(crate) fn segment<M: SegmentMemory>(
+    store: &mut Store<M>,
     task: &mut Task,
     i: Segment,
     next: usize,

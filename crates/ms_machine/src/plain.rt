@@ -9,13 +9,12 @@ use crate::lookup::{global, global_address};
 use crate::store::Store;
 use ms_event::Event;
 use ms_linear::{Cell, Value};
-use ms_live::Gaps;
-use ms_tagged::Tagged;
+use ms_segment::SegmentMemory;
 use ms_task::Task;
 
 /// `nop`.
-pub(crate) fn nop<G: Gaps, T: Tagged>(
-    store: &Store<G, T>,
+pub(crate) fn nop<M: SegmentMemory>(
+    store: &Store<M>,
     task: &mut Task,
     next: usize,
 ) -> Result<Option<Event>, Fault>
@@ -28,8 +27,8 @@ pub(crate) fn nop<G: Gaps, T: Tagged>(
 }
 
 /// `i32.const`.
-pub(crate) fn i32_const<G: Gaps, T: Tagged>(
-    store: &Store<G, T>,
+pub(crate) fn i32_const<M: SegmentMemory>(
+    store: &Store<M>,
     task: &mut Task,
     n: i32,
     next: usize,
@@ -48,8 +47,8 @@ pub(crate) fn i32_const<G: Gaps, T: Tagged>(
 }
 
 /// `i64.const`.
-pub(crate) fn i64_const<G: Gaps, T: Tagged>(
-    store: &Store<G, T>,
+pub(crate) fn i64_const<M: SegmentMemory>(
+    store: &Store<M>,
     task: &mut Task,
     n: i64,
     next: usize,
@@ -68,8 +67,8 @@ pub(crate) fn i64_const<G: Gaps, T: Tagged>(
 }
 
 /// `drop`.
-pub(crate) fn discard<G: Gaps, T: Tagged>(
-    store: &Store<G, T>,
+pub(crate) fn discard<M: SegmentMemory>(
+    store: &Store<M>,
     task: &mut Task,
     next: usize,
 ) -> Result<Option<Event>, Fault>
@@ -84,8 +83,8 @@ pub(crate) fn discard<G: Gaps, T: Tagged>(
 }
 
 /// `select`.
-pub(crate) fn select<G: Gaps, T: Tagged>(
-    store: &Store<G, T>,
+pub(crate) fn select<M: SegmentMemory>(
+    store: &Store<M>,
     task: &mut Task,
     next: usize,
 ) -> Result<Option<Event>, Fault>
@@ -107,8 +106,8 @@ pub(crate) fn select<G: Gaps, T: Tagged>(
 }
 
 /// `local.get`.
-pub(crate) fn local_get<G: Gaps, T: Tagged>(
-    store: &Store<G, T>,
+pub(crate) fn local_get<M: SegmentMemory>(
+    store: &Store<M>,
     task: &mut Task,
     x: u32,
     next: usize,
@@ -129,8 +128,8 @@ pub(crate) fn local_get<G: Gaps, T: Tagged>(
 }
 
 /// `local.set`.
-pub(crate) fn local_set<G: Gaps, T: Tagged>(
-    store: &Store<G, T>,
+pub(crate) fn local_set<M: SegmentMemory>(
+    store: &Store<M>,
     task: &mut Task,
     x: u32,
     next: usize,
@@ -148,8 +147,8 @@ pub(crate) fn local_set<G: Gaps, T: Tagged>(
 }
 
 /// `local.tee`.
-pub(crate) fn local_tee<G: Gaps, T: Tagged>(
-    store: &Store<G, T>,
+pub(crate) fn local_tee<M: SegmentMemory>(
+    store: &Store<M>,
     task: &mut Task,
     x: u32,
     next: usize,
@@ -166,8 +165,8 @@ pub(crate) fn local_tee<G: Gaps, T: Tagged>(
 }
 
 /// `global.get`.
-pub(crate) fn global_get<G: Gaps, T: Tagged>(
-    store: &Store<G, T>,
+pub(crate) fn global_get<M: SegmentMemory>(
+    store: &Store<M>,
     task: &mut Task,
     x: u32,
     next: usize,
@@ -187,8 +186,8 @@ pub(crate) fn global_get<G: Gaps, T: Tagged>(
 }
 
 /// `global.set`.
-pub(crate) fn global_set<G: Gaps, T: Tagged>(
-    store: &mut Store<G, T>,
+pub(crate) fn global_set<M: SegmentMemory>(
+    store: &mut Store<M>,
     task: &mut Task,
     x: u32,
     next: usize,

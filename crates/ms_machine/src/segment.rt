@@ -301,7 +301,36 @@ fn seal_top<S: SegmentMemory>(segments: &S, operands: &mut Operands) -> Result<O
 }
 
 /// `i32.segload` and its kin.
+///
+/// The operations are told apart here, so that each is a constant in what is done with it.
 fn load<S: SegmentMemory>(
+    op: LoadOp,
+    segments: &mut S,
+    operands: &mut Operands,
+) -> Result<Option<Event>, Fault>
+    requires there { segment_on (instr.Load op) (S.memory segments.old) operands.old ≢ Stuck }
+    requires fit { Each (Fits (S.memory segments.old)) operands.old }
+    ensures { DoesInSegments (segment_on (instr.Load op) (S.memory segments.old) operands.old) operands.old operands.new (S.memory segments.old) (S.memory segments.new) result }
+{
+    match op {
+        LoadOp::I32Load => load_by(LoadOp::I32Load, segments, operands),
+        LoadOp::I64Load => load_by(LoadOp::I64Load, segments, operands),
+        LoadOp::I32Load8S => load_by(LoadOp::I32Load8S, segments, operands),
+        LoadOp::I32Load8U => load_by(LoadOp::I32Load8U, segments, operands),
+        LoadOp::I32Load16S => load_by(LoadOp::I32Load16S, segments, operands),
+        LoadOp::I32Load16U => load_by(LoadOp::I32Load16U, segments, operands),
+        LoadOp::I64Load8S => load_by(LoadOp::I64Load8S, segments, operands),
+        LoadOp::I64Load8U => load_by(LoadOp::I64Load8U, segments, operands),
+        LoadOp::I64Load16S => load_by(LoadOp::I64Load16S, segments, operands),
+        LoadOp::I64Load16U => load_by(LoadOp::I64Load16U, segments, operands),
+        LoadOp::I64Load32S => load_by(LoadOp::I64Load32S, segments, operands),
+        LoadOp::I64Load32U => load_by(LoadOp::I64Load32U, segments, operands),
+    }
+}
+
+/// The same, by one operation.
+#[inline(always)]
+fn load_by<S: SegmentMemory>(
     op: LoadOp,
     segments: &mut S,
     operands: &mut Operands,
@@ -322,8 +351,30 @@ fn load<S: SegmentMemory>(
     }
 }
 
-/// `i32.segstore` and its kin.
+/// `i32.segstore` and its kin. The operations are told apart in the same way.
 fn store<S: SegmentMemory>(
+    op: StoreOp,
+    segments: &mut S,
+    operands: &mut Operands,
+) -> Result<Option<Event>, Fault>
+    requires there { segment_on (instr.Store op) (S.memory segments.old) operands.old ≢ Stuck }
+    requires fit { Each (Fits (S.memory segments.old)) operands.old }
+    ensures { DoesInSegments (segment_on (instr.Store op) (S.memory segments.old) operands.old) operands.old operands.new (S.memory segments.old) (S.memory segments.new) result }
+{
+    match op {
+        StoreOp::I32Store => store_by(StoreOp::I32Store, segments, operands),
+        StoreOp::I64Store => store_by(StoreOp::I64Store, segments, operands),
+        StoreOp::I32Store8 => store_by(StoreOp::I32Store8, segments, operands),
+        StoreOp::I32Store16 => store_by(StoreOp::I32Store16, segments, operands),
+        StoreOp::I64Store8 => store_by(StoreOp::I64Store8, segments, operands),
+        StoreOp::I64Store16 => store_by(StoreOp::I64Store16, segments, operands),
+        StoreOp::I64Store32 => store_by(StoreOp::I64Store32, segments, operands),
+    }
+}
+
+/// The same, by one operation.
+#[inline(always)]
+fn store_by<S: SegmentMemory>(
     op: StoreOp,
     segments: &mut S,
     operands: &mut Operands,

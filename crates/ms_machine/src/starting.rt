@@ -12,17 +12,16 @@ ghost use Rattle.ms_task.specs.declared.func.FuncInst.{FuncInst};
 
 use crate::store::Store;
 use ms_linear::Room;
-use ms_live::Gaps;
-use ms_tagged::Tagged;
+use ms_segment::SegmentMemory;
 use ms_task::Task;
 use std::alloc::{AllocError, Global};
 
 /// A task that carries out the function of an address, which has no parameters, and takes its memory of a room. It may have
 /// ended already, where the function's body is empty.
-pub fn start<G: Gaps, T: Tagged>(
+pub fn start<M: SegmentMemory>(
     alloc: Global,
     room: &Room,
-    store: &Store<G, T>,
+    store: &Store<M>,
     address: u32,
 ) -> Result<Task, AllocError>
     requires store { StoreTyped (outline_of store.now) }
@@ -36,7 +35,7 @@ pub fn start<G: Gaps, T: Tagged>(
 }
 
 /// Whether a task of the store has nothing left to do.
-pub fn has_ended<G: Gaps, T: Tagged>(store: &Store<G, T>, task: &Task) -> bool
+pub fn has_ended<M: SegmentMemory>(store: &Store<M>, task: &Task) -> bool
     ensures { IsTrue result ↔ ((thread_of store.now.funcs task.now).work ≡ []) }
 {
     task.has_ended(&store.funcs)

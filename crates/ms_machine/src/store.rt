@@ -6,10 +6,8 @@ ghost use Rattle.ms_machine.specs.Store.{at, number_of_instance, with_globals};
 
 use ms_host::Host;
 use ms_linear::{GlobalInst, Linear, Table, Value};
-use ms_live::Gaps;
 use ms_module::Export;
-use ms_segment::Segments;
-use ms_tagged::Tagged;
+use ms_segment::SegmentMemory;
 use ms_task::FuncInst;
 use ms_types::{SharedType, Vector};
 use std::marker::Model;
@@ -33,26 +31,27 @@ pub struct Instance {
     pub start: Option<u32>,
 }
 
-/// What tasks share (WebAssembly 1.0, 4.2.3), with the segment memory.
+/// What tasks share (WebAssembly 1.0, 4.2.3), with a segment memory by the calls of instructions alone: whoever has the store,
+/// and doesn't choose what keeps the segments, sees no byte of them but by a load.
 #[derive(Drop)]
-pub struct Store<G: Gaps, T: Tagged> {
+pub struct Store<M: SegmentMemory> {
     pub(crate) funcs: Vec<FuncInst>,
     pub(crate) instances: Vec<Instance>,
     pub(crate) tables: Vec<Table>,
     pub(crate) memories: Vec<Linear>,
     pub(crate) globals: Vec<GlobalInst>,
-    pub(crate) segments: Segments<G, T>,
+    pub(crate) segments: M,
 }
 
-impl<G: Gaps, T: Tagged> Model for Store<G, T> {
+impl<M: SegmentMemory> Model for Store<M> {
     ghost use Rattle.ms_machine.specs.Store.{Store};
 
     ghost Value = { Store };
 
-    ghost view = { λ s. record { funcs = s.funcs.items; instances = s.instances.items; tables = s.tables.items; memories = s.memories.items; globals = s.globals.items; segments = s.segments } };
+    ghost view = { λ s. record { funcs = s.funcs.items; instances = s.instances.items; tables = s.tables.items; memories = s.memories.items; globals = s.globals.items; segments = M.memory s.segments } };
 }
 
-impl<G: Gaps, T: Tagged> Store<G, T> {
+impl<M: SegmentMemory> Store<M> {
     /// The function of the host that a call of an address is, if it is one.
     pub(crate) fn host(&self, address: u32) -> Option<Host>
         ensures { result ≡ host_in (slice_get self.now.funcs address) }
@@ -99,8 +98,8 @@ impl<G: Gaps, T: Tagged> Store<G, T> {
     }
 
     /// The segment memory.
-    pub fn segments(&self) -> &Segments<G, T>
-        ensures { result.now ≡ self.now.segments }
+    pub fn segments(&self) -> &M
+        ensures { M.memory result.now ≡ self.now.segments }
     {
         &self.segments
     }
@@ -112,9 +111,9 @@ impl<G: Gaps, T: Tagged> Store<G, T> {
         tables: Vec<Table>,
         memories: Vec<Linear>,
         globals: Vec<GlobalInst>,
-        segments: Segments<G, T>,
+        segments: M,
     ) -> Self
-        ensures { result ≡ record { funcs = funcs.items; instances = instances.items; tables = tables.items; memories = memories.items; globals = globals.items; segments = segments } }
+        ensures { result ≡ record { funcs = funcs.items; instances = instances.items; tables = tables.items; memories = memories.items; globals = globals.items; segments = M.memory segments } }
     {
         Store {
             funcs,

@@ -14,19 +14,13 @@ use crate::fault::Fault;
 use crate::lookup::func_address;
 use crate::store::Store;
 use crate::{control, memory, plain};
-use ms_live::Gaps;
 use ms_module::{Instr, Linear, Numeric};
-use ms_tagged::Tagged;
+use ms_segment::SegmentMemory;
 use ms_task::{CallFault, Task};
 
 /// Carries out a numeric instruction, or says that it traps; then nothing has changed.
 #[inline(always)]
-fn numeric<G: Gaps, T: Tagged>(
-    store: &Store<G, T>,
-    task: &mut Task,
-    i: Numeric,
-    next: usize,
-) -> bool
+fn numeric<M: SegmentMemory>(store: &Store<M>, task: &mut Task, i: Numeric, next: usize) -> bool
     requires { Can (instr.Numeric i) next store.now task.old }
     ensures on { IsTrue result → Carries (instr.Numeric i) next store.now task.old task.new }
     ensures off { result ≡ false → task.new ≡ task.old }
@@ -44,8 +38,8 @@ fn numeric<G: Gaps, T: Tagged>(
 /// Carries out an instruction that stays within its sequence, behind which the task goes on at `next`, or says that it
 /// didn't; then nothing has changed.
 #[inline(always)]
-fn carry_straight<G: Gaps, T: Tagged>(
-    store: &Store<G, T>,
+fn carry_straight<M: SegmentMemory>(
+    store: &Store<M>,
     task: &mut Task,
     instr: &Instr,
     next: usize,
@@ -71,12 +65,7 @@ fn carry_straight<G: Gaps, T: Tagged>(
 
 /// Carries out a jump, or says that it didn't, since memory has run out.
 #[inline(always)]
-fn jump<G: Gaps, T: Tagged>(
-    store: &Store<G, T>,
-    task: &mut Task,
-    instr: &Instr,
-    next: usize,
-) -> bool
+fn jump<M: SegmentMemory>(store: &Store<M>, task: &mut Task, instr: &Instr, next: usize) -> bool
     requires before { before store.now.funcs task.old next ≡ Some instr.now }
     requires can { Can instr.now next store.now task.old }
     ensures { IsTrue result → act store.now instr.now (at_next store.now.funcs task.old next) ≡ Next store.now (thread_of store.now.funcs task.new) None }
@@ -111,7 +100,7 @@ pub(crate) enum Called {
 
 /// A call of a function that has a body, behind which the task goes on at `next`.
 #[inline(always)]
-fn call<G: Gaps, T: Tagged>(store: &Store<G, T>, task: &mut Task, x: u32, next: usize) -> Called
+fn call<M: SegmentMemory>(store: &Store<M>, task: &mut Task, x: u32, next: usize) -> Called
     requires { Can (instr.Call x) next store.now task.old }
     ensures { DoesCall result (instr.Call x) next store.now task.old task.new }
 {
@@ -149,7 +138,7 @@ pub(crate) enum CarriedOut<'a> {
 
 /// Exits the blocks and calls that are at their ends.
 #[inline(always)]
-fn leave<'a, G: Gaps, T: Tagged>(store: &'a Store<G, T>, task: &mut Task) -> CarriedOut<'a>
+fn leave<'a, M: SegmentMemory>(store: &'a Store<M>, task: &mut Task) -> CarriedOut<'a>
     ensures { DoesLeave result store.now.funcs (thread_of store.now.funcs task.old) task.new }
 {
     match task.resume(&store.funcs) {
@@ -161,8 +150,8 @@ fn leave<'a, G: Gaps, T: Tagged>(store: &'a Store<G, T>, task: &mut Task) -> Car
 /// An instruction that stays within its sequence, behind which the task goes on at `next`, where `more` says that another
 /// one stands.
 #[inline(always)]
-fn straight<'a, G: Gaps, T: Tagged>(
-    store: &'a Store<G, T>,
+fn straight<'a, M: SegmentMemory>(
+    store: &'a Store<M>,
     task: &mut Task,
     instr: &Instr,
     next: usize,
@@ -185,8 +174,8 @@ fn straight<'a, G: Gaps, T: Tagged>(
 
 /// A jump, behind which the task goes on at `next` where it doesn't lead elsewhere.
 #[inline(always)]
-fn leap<'a, G: Gaps, T: Tagged>(
-    store: &'a Store<G, T>,
+fn leap<'a, M: SegmentMemory>(
+    store: &'a Store<M>,
     task: &mut Task,
     instr: &Instr,
     next: usize,
@@ -206,8 +195,8 @@ fn leap<'a, G: Gaps, T: Tagged>(
 
 /// A branch to a loop, which is begun again; `None` where the instruction isn't one, and nothing has changed.
 #[inline(always)]
-fn repeat<'a, G: Gaps, T: Tagged>(
-    store: &'a Store<G, T>,
+fn repeat<'a, M: SegmentMemory>(
+    store: &'a Store<M>,
     task: &mut Task,
     instr: &Instr,
     next: usize,
@@ -224,8 +213,8 @@ fn repeat<'a, G: Gaps, T: Tagged>(
 
 /// A branch. Where `two` steps may be made, one to a loop begins it again.
 #[inline(always)]
-fn branch<'a, G: Gaps, T: Tagged>(
-    store: &'a Store<G, T>,
+fn branch<'a, M: SegmentMemory>(
+    store: &'a Store<M>,
     task: &mut Task,
     instr: &Instr,
     next: usize,
@@ -252,8 +241,8 @@ fn branch<'a, G: Gaps, T: Tagged>(
 ///
 /// Each has an arm of its own, so that one jump of the processor leads to its code.
 #[inline(always)]
-fn quietly<'a, G: Gaps, T: Tagged>(
-    store: &'a Store<G, T>,
+fn quietly<'a, M: SegmentMemory>(
+    store: &'a Store<M>,
     task: &mut Task,
     instr: &Instr,
     next: usize,
@@ -315,7 +304,7 @@ pub(crate) enum Met {
 /// Carries out the next instructions of a task, at most so many, as long as they take the store as it is. It gives how many
 /// are left.
 #[inline(always)]
-fn go<G: Gaps, T: Tagged>(store: &Store<G, T>, task: &mut Task, most: u64) -> (Met, u64)
+fn go<M: SegmentMemory>(store: &Store<M>, task: &mut Task, most: u64) -> (Met, u64)
     requires store { StoreTyped (outline_of store.now) }
     requires task { TaskTyped (outline_of store.now) (thread_of store.now.funcs task.old) }
     requires going { (thread_of store.now.funcs task.old).work ≢ [] }
@@ -365,8 +354,8 @@ pub(crate) enum Worked {
 /// Carries out an instruction on the linear memory, behind which the task goes on at `next`, and exits the blocks and calls
 /// that are then at their ends: none where `more` says that another instruction stands there.
 #[inline(always)]
-fn linear<G: Gaps, T: Tagged>(
-    store: &mut Store<G, T>,
+fn linear<M: SegmentMemory>(
+    store: &mut Store<M>,
     task: &mut Task,
     i: Linear,
     next: usize,
@@ -393,8 +382,8 @@ fn linear<G: Gaps, T: Tagged>(
 
 /// Sets a global, in the same way.
 #[inline(always)]
-fn global<G: Gaps, T: Tagged>(
-    store: &mut Store<G, T>,
+fn global<M: SegmentMemory>(
+    store: &mut Store<M>,
     task: &mut Task,
     x: u32,
     next: usize,
@@ -433,11 +422,7 @@ pub enum Stretch {
 /// Makes the next steps of a task, at most so many, as long as the outside and the segment memory see nothing of them, and no
 /// call goes through a table. It gives how many are left.
 #[inline(always)]
-fn go_quietly<G: Gaps, T: Tagged>(
-    store: &mut Store<G, T>,
-    task: &mut Task,
-    most: u64,
-) -> (Stretch, u64)
+fn go_quietly<M: SegmentMemory>(store: &mut Store<M>, task: &mut Task, most: u64) -> (Stretch, u64)
     requires store { StoreTyped (outline_of store.old) }
     requires task { TaskTyped (outline_of store.old) (thread_of store.old.funcs task.old) }
     requires going { (thread_of store.old.funcs task.old).work ≢ [] }
@@ -471,8 +456,8 @@ fn go_quietly<G: Gaps, T: Tagged>(
 /// the task.
 #[inline(never)]
 #[tactic(auto, using(crate::proofs::StraightLine::halted_typed, crate::proofs::StraightLine::halted_fits, crate::proofs::StraightLine::halted_segments))]
-pub fn run_quietly<G: Gaps, T: Tagged>(
-    store: &mut Store<G, T>,
+pub fn run_quietly<M: SegmentMemory>(
+    store: &mut Store<M>,
     task: &mut Task,
     most: u64,
 ) -> (Stretch, u64)

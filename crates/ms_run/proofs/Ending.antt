@@ -14,6 +14,8 @@ use Rattle.ms_tasks.proofs.Deeds.{events_kept}
 use Rattle.ms_tasks.specs.refinement.Outside.{HasBegun, HasRun}
 use Rattle.ms_tasks.specs.refinement.Runs.{CountsInput, CountsOut, DoesRun}
 use Rattle.ms_tasks.specs.declared.ran.Ran.TheVariants as answers
+use Rattle.ms_tasks.specs.declared.whose.Whose.{Whose}
+use Rattle.ms_tasks.specs.refinement.Steppers.{whose_of}
 use Rattle.ms_run.specs.Answers.{Answer, File}
 use Rattle.ms_run.specs.Executions.{EndsAs, TellsOf}
 use Rattle.ms_run.specs.Flows.{Flowed, RunsPart, RunsWhole, TellsEnd, end_cut, end_printed, end_unprinted, input_failed, out_failed}
@@ -102,9 +104,9 @@ module _ (telling : Telling) (run_over : Input → Run) (c : Crew) (s : Shelved)
         → Printed_of Done (result_lines (results c.tasks)) → TellsEnd telling run_over s r f result
     results_printed takes puts (given, does) delivers = ended given (Results (results c.tasks)) Done (result_lines (results c.tasks)) does.0 (refl, refl) does.1 takes puts does.2 delivers
 
-    pub trap_printed : (kind : TrapKind) → CountsInput (answers.Trap kind) f.takes_old f.takes_new → CountsOut (answers.Trap kind) f.puts_old f.puts_new → (given : Input) × DoesRun (answers.Trap kind) c f.left_old f.left_new f.held_old f.held_new old new given (run_over given)
+    pub trap_printed : (whose : Whose) (kind : TrapKind) → CountsInput (answers.Trap whose kind) f.takes_old f.takes_new → CountsOut (answers.Trap whose kind) f.puts_old f.puts_new → (given : Input) × DoesRun (answers.Trap whose kind) c f.left_old f.left_new f.held_old f.held_new old new given (run_over given)
         → Printed_of Trapped (trap_line kind) → TellsEnd telling run_over s r f result
-    trap_printed kind takes puts (given, does) delivers = ended given (Trap does.0 kind) Trapped (trap_line kind) does.1 (refl, refl) does.2 takes puts does.3 delivers
+    trap_printed whose kind takes puts (given, does) delivers = ended given (Trap (whose_of whose) kind) Trapped (trap_line kind) does.0 (refl, refl) does.1 takes puts does.2 delivers
 
     pub budget_printed : CountsInput answers.Budget f.takes_old f.takes_new → CountsOut answers.Budget f.puts_old f.puts_new → (given : Input) × DoesRun answers.Budget c f.left_old f.left_new f.held_old f.held_new old new given (run_over given)
         → Printed_of OutOfBudget budget_line → TellsEnd telling run_over s r f result

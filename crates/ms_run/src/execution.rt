@@ -37,7 +37,7 @@ use std::alloc::{AllocError, Global};
 /// A line for each of so many tasks, which have ended.
 fn result_lines<G: Gaps, T: Tagged>(
     alloc: Global,
-    crew: &Crew<G, T>,
+    crew: &Crew<Segments<G, T>>,
     tasks: u32,
 ) -> Result<String, AllocError>
     requires { tasks ≡ length crew.now.tasks }
@@ -76,7 +76,7 @@ fn tell_run<G: Gaps, T: Tagged, F: Shelf, R: Sink>(
     telling: &Telling,
     status: Status,
     lines: Result<String, AllocError>,
-    store: &Store<G, T>,
+    store: &Store<Segments<G, T>>,
     events: &[Event],
     shelf: &mut F,
     report: &mut R,
@@ -112,7 +112,7 @@ fn tell_run<G: Gaps, T: Tagged, F: Shelf, R: Sink>(
 #[allow(clippy::too_many_arguments)]
 fn run_crew<G: Gaps, T: Tagged, F: Shelf, I: Source, O: Sink, R: Sink>(
     alloc: Global,
-    crew: &mut Crew<G, T>,
+    crew: &mut Crew<Segments<G, T>>,
     tasks: u32,
     schedule: &Schedule,
     budget: u64,
@@ -122,11 +122,11 @@ fn run_crew<G: Gaps, T: Tagged, F: Shelf, I: Source, O: Sink, R: Sink>(
     out: &mut O,
     report: &mut R,
 ) -> Status
-    requires ready { IsReady crew.old }
+    requires ready { IsReady crew.old.crew }
     requires tasks { (tasks ≡ length crew.old.tasks) × (0 < tasks) }
     requires turns { HasTurns schedule.now }
     requires few { crew.old.store.segments.made + budget < 2 ^ 63 }
-    ensures printed { TellsEnd telling.now (run_of (entries_of schedule.now (length crew.old.tasks) budget) crew.old)
+    ensures printed { TellsEnd telling.now (run_of (entries_of schedule.now (length crew.old.tasks) budget) crew.old.crew)
         (shelved F.files F.read_faults F.write_faults shelf.old shelf.new)
         (reported R.held R.faults report.old report.new)
         (flowed I.left I.faults O.held O.faults input.old input.new out.old out.new)
@@ -148,7 +148,7 @@ fn run_crew<G: Gaps, T: Tagged, F: Shelf, I: Source, O: Sink, R: Sink>(
                 report,
             )
         }
-        Ran::Trap(kind) => {
+        Ran::Trap(_, kind) => {
             let lines = trap_line(alloc, kind);
             tell_run(
                 alloc,
@@ -184,7 +184,7 @@ fn run_crew<G: Gaps, T: Tagged, F: Shelf, I: Source, O: Sink, R: Sink>(
 #[allow(clippy::too_many_arguments)]
 fn run_store<G: Gaps, T: Tagged, F: Shelf, I: Source, O: Sink, R: Sink>(
     alloc: Global,
-    store: Store<G, T>,
+    store: Store<Segments<G, T>>,
     tasks: Vec<(u32, Name)>,
     schedule: &Schedule,
     budget: u64,

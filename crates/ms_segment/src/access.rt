@@ -27,6 +27,7 @@ pub(crate) struct Access {
 
 impl Access {
     /// So many bytes were read.
+    #[inline(always)]
     pub(crate) fn read(self, width: u32) -> Event
         ensures { result ≡ read_event (access_of self) width }
     {
@@ -41,6 +42,7 @@ impl Access {
     }
 
     /// The access as a write, which goes through no sealed handle.
+    #[inline(always)]
     pub(crate) fn to_write(self) -> Result<Access, SegTrap>
         ensures { MatchResult result (λ a. writable (Ok (access_of self)) ≡ Ok (access_of a)) (λ e. writable (Ok (access_of self)) ≡ Err e) }
     {
@@ -52,6 +54,7 @@ impl Access {
     }
 
     /// So many bytes were written.
+    #[inline(always)]
     pub(crate) fn write(self, width: u32) -> Event
         ensures { result ≡ write_event (access_of self) width }
     {
@@ -66,6 +69,7 @@ impl Access {
 }
 
 /// Where the access of so many bytes goes, at an offset in a part of a live segment, through a handle that may be sealed.
+#[inline(always)]
 pub(crate) fn access_in(
     segment: Live,
     sealed: bool,

@@ -13,7 +13,7 @@ use ms_handle::{Handle, Kind};
 
 /// A segment memory by the calls that instructions make: there is no other way to its bytes, so that each byte that an
 /// instruction sees came by a load, which is checked and counted. No call takes memory, and a trap changes nothing.
-pub trait SegmentMemory {
+pub trait SegmentMemory: Sized + Drop {
     /// The memory on plain lists.
     ghost memory: { Self → Memory };
 

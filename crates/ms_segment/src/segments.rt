@@ -141,6 +141,7 @@ impl<G: Gaps, T: Tagged> Segments<G, T> {
     }
 
     /// The live segment of an identity, if there is one.
+    #[inline(always)]
     fn found(&self, id: u64) -> Option<Live>
         ensures live { result ≡ live_of self.now id }
         ensures within { (s : LiveSegment) → result ≡ Some s → s.base + s.size < 2 ^ 32 }
@@ -169,6 +170,7 @@ impl<G: Gaps, T: Tagged> Segments<G, T> {
     }
 
     /// Where the access of so many bytes through a handle goes.
+    #[inline(always)]
     fn locate(&self, h: Handle, width: u32) -> Result<Access, SegTrap>
         requires { IsFit self.now h }
         ensures { MatchResult result (λ a. access self.now h width ≡ Ok (access_of a)) (λ e. access self.now h width ≡ Err e) }
@@ -190,6 +192,7 @@ impl<G: Gaps, T: Tagged> Segments<G, T> {
     }
 
     /// The same of a write.
+    #[inline(always)]
     fn locate_write(&self, h: Handle, width: u32) -> Result<Access, SegTrap>
         requires { IsFit self.now h }
         ensures { MatchResult result (λ a. writable (access self.now h width) ≡ Ok (access_of a)) (λ e. writable (access self.now h width) ≡ Err e) }
@@ -237,6 +240,7 @@ impl<G: Gaps, T: Tagged> SegmentMemory for Segments<G, T> {
         Ok(Event::Free { id })
     }
 
+    #[inline(always)]
     fn load(&mut self, h: Handle, width: u32) -> Result<(u64, Event), SegTrap> {
         let access = self.locate(h, width)?;
         match self.tagged.get(access.address, width) {
@@ -248,6 +252,7 @@ impl<G: Gaps, T: Tagged> SegmentMemory for Segments<G, T> {
         }
     }
 
+    #[inline(always)]
     fn store(&mut self, h: Handle, width: u32, value: u64) -> Result<Event, SegTrap> {
         let access = self.locate_write(h, width)?;
         self.tagged.put(access.address, width, value);
@@ -270,6 +275,7 @@ impl<G: Gaps, T: Tagged> SegmentMemory for Segments<G, T> {
 }
 
 /// A count after one more. At its last value it stays.
+#[inline(always)]
 fn one_more(count: u64) -> u64
     ensures { result ≡ risen count }
 {

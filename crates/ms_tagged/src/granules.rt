@@ -163,6 +163,7 @@ impl Tagged for Granules {
         })
     }
 
+    #[inline(always)]
     fn get(&self, address: u32, width: u32) -> Option<u64> {
         let from = address as usize;
         let end = from + width as usize;
@@ -172,6 +173,7 @@ impl Tagged for Granules {
         self.number(from, width as usize)
     }
 
+    #[inline(always)]
     fn put(&mut self, address: u32, width: u32, value: u64) {
         let from = address as usize;
         let end = from + width as usize;

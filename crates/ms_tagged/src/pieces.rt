@@ -28,6 +28,9 @@ pub(crate) fn hold_data(masks: &[u16], from: usize, to: usize) -> bool
     if last >= masks.len() {
         return false;
     }
+    if first == last && masks[first] == 0 {
+        return true;
+    }
     let place = (from % GRANULE) as u32;
     bits_from(masks[first], masks[last], place, (to - from) as u32) == 0
 }

@@ -19,6 +19,7 @@ use Rattle.ms_tasks.specs.refinement.Logs.{Log}
 use Rattle.ms_tasks.specs.refinement.Parts.{HaltsBy, ComesTo, IsWell}
 use Rattle.ms_tasks.specs.refinement.Ready.{IsReady}
 use Rattle.ms_tasks.specs.refinement.Rows.{begun_with, threads_in}
+use Rattle.ms_tasks.specs.refinement.Steppers.{whose_of}
 use Rattle.ms_tasks.specs.declared.burst.Halt.{Halt}
 use Rattle.ms_tasks.specs.declared.burst.Halt.TheVariants as answers
 use Rattle.ms_tasks.proofs.Coming.{answers_on, to_as, to_trans}
@@ -115,8 +116,8 @@ stops answers.Paused l l' h h' old new run ended ended' ks s' t' more tasks c' n
     ap (λ xs. run_entries xs end rest) p.0
     ∙ (subst (λ (x : List Thread). run_entries [] (record { store = s'; chain = x; tasks = tasks }) rest ≡ ends OutOfBudget (record { store = s'; chain = x; tasks = tasks }) rest) (sym (when_going t'.work (ahead more) (t' ∷ more) p.1)) refl
     ∙ ap (λ (c : Crew). ends OutOfBudget c rest) (same tt)))
-stops (answers.Trap why) l l' h h' old new run ended ended' ks s' t' more tasks c' not paused same (whose, is) =
-    (whose, subst (λ (c : Crew). ComesTo l l' h h' old new run (ends (crews.Trap whose why) c)) (same tt) is)
+stops (answers.Trap whose why) l l' h h' old new run ended ended' ks s' t' more tasks c' not paused same is =
+    subst (λ (c : Crew). ComesTo l l' h h' old new run (ends (crews.Trap (whose_of whose) why) c)) (same tt) is
 stops answers.ReadFault l l' h h' old new run ended ended' ks s' t' more tasks c' not paused same is = is
 stops answers.WriteFault l l' h h' old new run ended ended' ks s' t' more tasks c' not paused same is = is
 stops answers.Memory l l' h h' old new run ended ended' ks s' t' more tasks c' not paused same is = is

@@ -9,6 +9,7 @@ use Rattle.ms_outside.specs.declared.sink.Put.TheVariants as puts
 use Rattle.ms_tasks.specs.refinement.Logs.{Log, all_seen, logged}
 use Rattle.ms_tasks.specs.refinement.Outside.{HasBegun}
 use Rattle.ms_tasks.specs.refinement.Parts.{HaltsBy, Comes, ComesTo, IsWell}
+use Rattle.ms_tasks.specs.refinement.Steppers.{whose_of}
 use Rattle.ms_tasks.specs.declared.burst.Halt.{Halt}
 use Rattle.ms_tasks.specs.declared.burst.Halt.TheVariants as answers
 use Rattle.ms_tasks.proofs.Deeds.{all_seen_both, behind_both, behind_nothing, both_bytes, both_events, logged_both, logged_nothing}
@@ -112,8 +113,7 @@ begun_here l l' l'' h h' h'' old new d run mid c same front out fronts leaves se
 pub answers_on : (a : Halt) (l l' l'' h h' h'' : Content) (old log new : Log) (run mid ended paused : Input → Run) (c : Crew) → ComesTo l l' h h' old log run mid → HaltsBy a mid ended paused c l' l'' h' h'' log new → HaltsBy a run ended paused c l l'' h h'' old new
 answers_on answers.Ended l l' l'' h h' h'' old log new run mid ended paused c first is = to_trans l l' l'' h h' h'' old log new run mid ended first is
 answers_on answers.Paused l l' l'' h h' h'' old log new run mid ended paused c first is = to_trans l l' l'' h h' h'' old log new run mid paused first is
-answers_on (answers.Trap why) l l' l'' h h' h'' old log new run mid ended paused c first (whose, is) =
-    (whose, to_trans l l' l'' h h' h'' old log new run mid (ends (Trap whose why) c) first is)
+answers_on (answers.Trap whose why) l l' l'' h h' h'' old log new run mid ended paused c first is = to_trans l l' l'' h h' h'' old log new run mid (ends (Trap (whose_of whose) why) c) first is
 answers_on answers.ReadFault l l' l'' h h' h'' old log new run mid ended paused c first is = begun_on l l' l'' h h' h'' old log new run mid first is
 answers_on answers.WriteFault l l' l'' h h' h'' old log new run mid ended paused c first is = begun_on l l' l'' h h' h'' old log new run mid first is
 answers_on answers.Memory l l' l'' h h' h'' old log new run mid ended paused c first is = begun_on l l' l'' h h' h'' old log new run mid first is
@@ -123,8 +123,8 @@ answers_as answers.Ended l l' h h' old new run run' ended ended' paused paused' 
     subst (λ r. ComesTo l l' h h' old new r ended') same (subst (ComesTo l l' h h' old new run) (with tt).0 is)
 answers_as answers.Paused l l' h h' old new run run' ended ended' paused paused' c c' same with is =
     subst (λ r. ComesTo l l' h h' old new r paused') same (subst (ComesTo l l' h h' old new run) (with tt).1 is)
-answers_as (answers.Trap why) l l' h h' old new run run' ended ended' paused paused' c c' same with (whose, is) =
-    (whose, subst (λ r. ComesTo l l' h h' old new r (ends (Trap whose why) c')) same (subst (λ (x : Crew). ComesTo l l' h h' old new run (ends (Trap whose why) x)) (with tt).2 is))
+answers_as (answers.Trap whose why) l l' h h' old new run run' ended ended' paused paused' c c' same with is =
+    subst (λ r. ComesTo l l' h h' old new r (ends (Trap (whose_of whose) why) c')) same (subst (λ (x : Crew). ComesTo l l' h h' old new run (ends (Trap (whose_of whose) why) x)) (with tt).2 is)
 answers_as answers.ReadFault l l' h h' old new run run' ended ended' paused paused' c c' same with is = subst (Begun l l' h h' old new) same is
 answers_as answers.WriteFault l l' h h' old new run run' ended ended' paused paused' c c' same with is = subst (Begun l l' h h' old new) same is
 answers_as answers.Memory l l' h h' old new run run' ended ended' paused paused' c c' same with is = subst (Begun l l' h h' old new) same is
@@ -133,7 +133,7 @@ answers_as answers.Memory l l' h h' old new run run' ended ended' paused paused'
 pub not_paused : (a : Halt) (l l' h h' : Content) (old new : Log) (run ended paused paused' : Input → Run) (c : Crew) → a ≢ answers.Paused → HaltsBy a run ended paused c l l' h h' old new → HaltsBy a run ended paused' c l l' h h' old new
 not_paused answers.Ended l l' h h' old new run ended paused paused' c not is = is
 not_paused answers.Paused l l' h h' old new run ended paused paused' c not is = absurd (not refl)
-not_paused (answers.Trap why) l l' h h' old new run ended paused paused' c not is = is
+not_paused (answers.Trap whose why) l l' h h' old new run ended paused paused' c not is = is
 not_paused answers.ReadFault l l' h h' old new run ended paused paused' c not is = is
 not_paused answers.WriteFault l l' h h' old new run ended paused paused' c not is = is
 not_paused answers.Memory l l' h h' old new run ended paused paused' c not is = is
@@ -141,7 +141,7 @@ not_paused answers.Memory l l' h h' old new run ended paused paused' c not is = 
 pub not_ended : (a : Halt) (l l' h h' : Content) (old new : Log) (run ended ended' paused : Input → Run) (c : Crew) → a ≢ answers.Ended → HaltsBy a run ended paused c l l' h h' old new → HaltsBy a run ended' paused c l l' h h' old new
 not_ended answers.Ended l l' h h' old new run ended ended' paused c not is = absurd (not refl)
 not_ended answers.Paused l l' h h' old new run ended ended' paused c not is = is
-not_ended (answers.Trap why) l l' h h' old new run ended ended' paused c not is = is
+not_ended (answers.Trap whose why) l l' h h' old new run ended ended' paused c not is = is
 not_ended answers.ReadFault l l' h h' old new run ended ended' paused c not is = is
 not_ended answers.WriteFault l l' h h' old new run ended ended' paused c not is = is
 not_ended answers.Memory l l' h h' old new run ended ended' paused c not is = is

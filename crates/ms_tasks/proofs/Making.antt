@@ -2,6 +2,7 @@
 use Rattle.std.proofs.Common.{◌≡◌, ◌+◌, ◌&&◌, ℕ, suc, Bool, true, false, cond, List, [], ◌∷◌, ◌++◌, drop, map, slice_get, Option, Some, None, Result, Ok, Err, find, option_and_then, refl, sym, ap, subst, ◌∙◌, append-nil, append_assoc, arith}
 use Rattle.std.specs.Str.{bytes_eq}
 use Rattle.std.specs.List.{All}
+use Rattle.std.proofs.lemmas.List.{map_push}
 use Rattle.std.proofs.lemmas.List.Elements.{All-cons, All-head, All-nil, All-tail, All-weaker}
 use Rattle.ms_event.specs.declared.event.Event.{Event}
 use Rattle.ms_module.specs.declared.module.Export.{Export}
@@ -145,6 +146,18 @@ tasks_grow s all rest tasks k item a t found at thread is =
     by : (r : Result (List Thread) ℕ) → joined (rest ++ t ∷ []) r ≡ joined rest (and_thread (Some (func_thread s a)) k r)
     by (Ok us) = ap Ok (append_assoc rest (t ∷ []) us ∙ ap (λ (u : Thread). rest ++ u ∷ us) thread)
     by (Err n) = refl
+
+-- its function's address is one more
+pub homes_grow : {A : Type 0} (f : A → Option ℕ) (homes : List ℕ) (tasks : List A) (k : ℕ) (item : A) (a : ℕ) → slice_get tasks k ≡ Some item → f item ≡ Some a → map Some homes ++ map f (drop k tasks) ≡ map f tasks
+    → map Some (homes ++ a ∷ []) ++ map f (drop (k + 1) tasks) ≡ map f tasks
+homes_grow f homes tasks k item a found at is =
+    let e : suc k ≡ k + 1 = omega arith in
+    let rest = drop (suc k) tasks in
+    ap (λ n. map Some (homes ++ a ∷ []) ++ map f (drop n tasks)) (sym e)
+    ∙ (ap (λ os. os ++ map f rest) (map_push Some homes a)
+    ∙ (append_assoc (map Some homes) (Some a ∷ []) (map f rest)
+    ∙ (ap (λ o. map Some homes ++ o ∷ map f rest) (sym at)
+    ∙ (ap (λ xs. map Some homes ++ map f xs) (sym (drop_at tasks k item found)) ∙ is))))
 
 -- a task is started
 pub begun_thread : (s : Store) (task : CodeTask) (address : ℕ) → CanStart s address → ((g : FuncInst) → slice_get s.funcs address ≡ Some g → thread_of s.funcs task ≡ exited (started s.funcs address g)) → thread_of s.funcs task ≡ func_thread s address

@@ -15,6 +15,7 @@ use Rattle.ms_tasks.specs.refinement.Parts as parts
 use Rattle.ms_tasks.specs.refinement.Parts.{HaltsBy, ComesTo, IsWell}
 use Rattle.ms_tasks.specs.refinement.Ready.{IsReady, threads_of}
 use Rattle.ms_tasks.specs.refinement.Runs.{CountsInput, CountsOut, DoesRun, IsOver, answer_of}
+use Rattle.ms_tasks.specs.refinement.Steppers.{whose_of}
 use Rattle.ms_tasks.specs.declared.burst.Halt.{Halt}
 use Rattle.ms_tasks.specs.declared.burst.Halt.TheVariants as halts
 use Rattle.ms_tasks.specs.declared.ran.Ran.{Ran}
@@ -48,7 +49,7 @@ run_ends l l' h h' old new run end c a =
 pub run_answers : (a : Halt) (l l' h h' : Content) (old new : Log) (run : Input → Run) (c : Crew) → HaltsBy a run (ends (Results (results c.tasks)) (begun c)) (ends OutOfBudget (begun c)) (begun c) l l' h h' old new → (given : Input) × DoesRun (answer_of a) c l l' h h' old new given (run given)
 run_answers halts.Ended l l' h h' old new run c is = let x = run_ends l l' h h' old new run (Results (results c.tasks)) (begun c) is in (x.0, (x.1, x.2, x.3))
 run_answers halts.Paused l l' h h' old new run c is = let x = run_ends l l' h h' old new run OutOfBudget (begun c) is in (x.0, (x.1, x.2, x.3))
-run_answers (halts.Trap why) l l' h h' old new run c (whose, is) = let x = run_ends l l' h h' old new run (Trap whose why) (begun c) is in (x.0, (whose, x.1, x.2, x.3))
+run_answers (halts.Trap whose why) l l' h h' old new run c is = let x = run_ends l l' h h' old new run (Trap (whose_of whose) why) (begun c) is in (x.0, (x.1, x.2, x.3))
 run_answers halts.ReadFault l l' h h' old new run c is = is
 run_answers halts.WriteFault l l' h h' old new run c is = is
 run_answers halts.Memory l l' h h' old new run c is = is
@@ -56,7 +57,7 @@ run_answers halts.Memory l l' h h' old new run c is = is
 pub counts_input : (a : Halt) (before after : ℕ) → parts.CountsInput a before after → CountsInput (answer_of a) before after
 counts_input halts.Ended before after h = h
 counts_input halts.Paused before after h = h
-counts_input (halts.Trap why) before after h = h
+counts_input (halts.Trap whose why) before after h = h
 counts_input halts.ReadFault before after h = h
 counts_input halts.WriteFault before after h = h
 counts_input halts.Memory before after h = h
@@ -64,7 +65,7 @@ counts_input halts.Memory before after h = h
 pub counts_out : (a : Halt) (before after : ℕ) → parts.CountsOut a before after → CountsOut (answer_of a) before after
 counts_out halts.Ended before after h = h
 counts_out halts.Paused before after h = h
-counts_out (halts.Trap why) before after h = h
+counts_out (halts.Trap whose why) before after h = h
 counts_out halts.ReadFault before after h = h
 counts_out halts.WriteFault before after h = h
 counts_out halts.Memory before after h = h
@@ -72,7 +73,7 @@ counts_out halts.Memory before after h = h
 pub well_over : (a : Halt) → IsOver (answer_of a) → IsWell a
 well_over halts.Ended h = tt
 well_over halts.Paused h = tt
-well_over (halts.Trap why) h = tt
+well_over (halts.Trap whose why) h = tt
 well_over halts.ReadFault h = h
 well_over halts.WriteFault h = h
 well_over halts.Memory h = h
@@ -100,7 +101,7 @@ kept_accepted ran l l' h h' old new ks c c' given does ready keep sound = by ran
 
   by : (ran : Ran) → DoesRun ran c' l l' h h' old new given r → Accepts n new.trace.events
   by answers.Results x = ended x.2
-  by (answers.Trap why) x = ended x.3
+  by (answers.Trap whose why) x = ended x.2
   by answers.Budget x = ended x.2
   by answers.ReadFault x = begins x
   by answers.WriteFault x = begins x
@@ -132,7 +133,7 @@ kept_sound ran l l' h h' old new ks c c' given does over ready keep sound = by r
 
   by : (ran : Ran) → DoesRun ran c' l l' h h' old new given r → IsOver ran → Sound new.trace.events c'.store (threads_of c')
   by answers.Results x over = ended x.1 x.2
-  by (answers.Trap why) x over = ended x.2 x.3
+  by (answers.Trap whose why) x over = ended x.1 x.2
   by answers.Budget x over = ended x.1 x.2
   by answers.ReadFault x over = absurd over
   by answers.WriteFault x over = absurd over

@@ -7,3 +7,4 @@ pub mod Ready
 pub mod Rows
 pub mod Runs
 pub mod Schedules
+pub mod Steppers

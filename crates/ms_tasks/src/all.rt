@@ -18,15 +18,14 @@ use crate::log::Log;
 use crate::rows::all_ended;
 use crate::schedule::Schedule;
 use crate::start_chain::run_chain;
-use ms_live::Gaps;
 use ms_machine::Store;
 use ms_outside::{Sink, Source};
-use ms_tagged::Tagged;
+use ms_segment::SegmentMemory;
 use ms_task::Task;
 
 /// The entries of a schedule from one on, so many, where the start functions have ended and not all tasks have.
-fn run_tasks<G: Gaps, T: Tagged, I: Source, O: Sink>(
-    store: &mut Store<G, T>,
+fn run_tasks<M: SegmentMemory, I: Source, O: Sink>(
+    store: &mut Store<M>,
     tasks: &mut [Task],
     schedule: &Schedule,
     from: u64,
@@ -64,8 +63,8 @@ fn run_tasks<G: Gaps, T: Tagged, I: Source, O: Sink>(
 }
 
 /// Runs the start functions, and then the tasks by a schedule, for so many entries at most.
-pub(crate) fn run_all<G: Gaps, T: Tagged, I: Source, O: Sink>(
-    store: &mut Store<G, T>,
+pub(crate) fn run_all<M: SegmentMemory, I: Source, O: Sink>(
+    store: &mut Store<M>,
     chain: &mut [Task],
     tasks: &mut [Task],
     schedule: &Schedule,

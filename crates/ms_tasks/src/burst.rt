@@ -3,7 +3,7 @@
 ghost use Rattle.std.specs.Prelude.{◌≡◌, ◌≢◌, ◌+◌, ◌-◌, ◌<◌, ◌≤◌, ◌^◌, ℕ, List, [], drop};
 ghost use Rattle.ms_handle.specs.declared.handle.Handle.{Handle};
 ghost use Rattle.ms_segment.specs.Memory.{IsFit};
-ghost use Rattle.ms_machine.specs.Crews.{Crew, Whose, run_entries};
+ghost use Rattle.ms_machine.specs.Crews.{Crew, run_entries};
 ghost use Rattle.ms_machine.specs.refinement.Holding.{StoreFits, ThreadFits};
 ghost use Rattle.ms_machine.specs.Store.{Store as StoreView};
 ghost use Rattle.ms_machine.specs.Typing.{StoreTyped, TaskTyped, outline_of};
@@ -11,13 +11,14 @@ ghost use Rattle.ms_task.specs.Thread.{Thread};
 ghost use Rattle.ms_task.specs.refinement.View.{thread_of};
 ghost use Rattle.ms_tasks.specs.refinement.Logs.{CountsUpTo};
 ghost use Rattle.ms_tasks.specs.refinement.Parts.{HaltsBy, CountsInput, CountsOut, IsRow, IsWell};
+ghost use Rattle.ms_tasks.specs.refinement.Steppers.{whose_of};
 
 use crate::log::Log;
+use crate::whose::Whose;
 use ms_host::TrapKind;
-use ms_live::Gaps;
 use ms_machine::{Stepped, Store, Stretch, has_ended, run_quietly, step};
 use ms_outside::{Sink, Source};
-use ms_tagged::Tagged;
+use ms_segment::SegmentMemory;
 use ms_task::Task;
 
 /// Why a burst of steps was halted.
@@ -27,8 +28,8 @@ pub(crate) enum Halt {
     Ended,
     /// So many steps were made.
     Paused,
-    /// The program was stopped.
-    Trap(TrapKind),
+    /// A step of this one stopped the program.
+    Trap(Whose, TrapKind),
     /// The input failed.
     ReadFault,
     /// The output failed.
@@ -37,10 +38,11 @@ pub(crate) enum Halt {
     Memory,
 }
 
-/// At most so many steps of a task. It gives why they were halted, and how many are left.
-pub(crate) fn burst<G: Gaps, T: Tagged, I: Source, O: Sink>(
-    store: &mut Store<G, T>,
+/// At most so many steps of a task, whose entries are this one's. It gives why they were halted, and how many are left.
+pub(crate) fn burst<M: SegmentMemory, I: Source, O: Sink>(
+    store: &mut Store<M>,
     task: &mut Task,
+    whose: Whose,
     most: u64,
     input: &mut I,
     out: &mut O,
@@ -53,7 +55,7 @@ pub(crate) fn burst<G: Gaps, T: Tagged, I: Source, O: Sink>(
     requires task_fits { ThreadFits store.old (thread_of store.old.funcs task.old) }
     requires within { CountsUpTo log.old.entries log.old.trace }
     requires room { log.old.entries + most < 2 ^ 63 }
-    ensures run { (whose : Whose) (next : StoreView → Thread → Crew) (entries : List ℕ) → IsRow whose next most entries → HaltsBy result.0 (run_entries entries (next store.old (thread_of store.old.funcs task.old))) (run_entries (drop (most - result.1) entries) (next store.new (thread_of store.new.funcs task.new))) (run_entries (drop most entries) (next store.new (thread_of store.new.funcs task.new))) (next store.new (thread_of store.new.funcs task.new)) (I.left input.old) (I.left input.new) (O.held out.old) (O.held out.new) log.old log.new }
+    ensures run { (next : StoreView → Thread → Crew) (entries : List ℕ) → IsRow (whose_of whose) next most entries → HaltsBy result.0 (run_entries entries (next store.old (thread_of store.old.funcs task.old))) (run_entries (drop (most - result.1) entries) (next store.new (thread_of store.new.funcs task.new))) (run_entries (drop most entries) (next store.new (thread_of store.new.funcs task.new))) (next store.new (thread_of store.new.funcs task.new)) (I.left input.old) (I.left input.new) (O.held out.old) (O.held out.new) log.old log.new }
     ensures outline { IsWell result.0 → outline_of store.new ≡ outline_of store.old }
     ensures task { IsWell result.0 → TaskTyped (outline_of store.new) (thread_of store.new.funcs task.new) }
     ensures store_fits { IsWell result.0 → StoreFits store.new }
@@ -97,7 +99,7 @@ pub(crate) fn burst<G: Gaps, T: Tagged, I: Source, O: Sink>(
             }
             Stepped::Trap(kind) => {
                 log.count(most - left);
-                return (Halt::Trap(kind), left);
+                return (Halt::Trap(whose, kind), left);
             }
             Stepped::ReadFault => return (Halt::ReadFault, left),
             Stepped::WriteFault => return (Halt::WriteFault, left),

@@ -13,10 +13,9 @@ ghost use Rattle.ms_tasks.specs.refinement.Rows.{crew_in, threads_in};
 use crate::burst::Halt;
 use crate::log::Log;
 use crate::rows::turn;
-use ms_live::Gaps;
 use ms_machine::Store;
 use ms_outside::{Sink, Source};
-use ms_tagged::Tagged;
+use ms_segment::SegmentMemory;
 use ms_task::Task;
 
 /// How many of the first entries name this task.
@@ -35,8 +34,8 @@ fn row_of(entries: &[u32], k: u32) -> usize
 }
 
 /// The entries of a list, where not all tasks have ended.
-pub(crate) fn run_listed<G: Gaps, T: Tagged, I: Source, O: Sink>(
-    store: &mut Store<G, T>,
+pub(crate) fn run_listed<M: SegmentMemory, I: Source, O: Sink>(
+    store: &mut Store<M>,
     tasks: &mut [Task],
     entries: &[u32],
     input: &mut I,

@@ -13,10 +13,9 @@ ghost use Rattle.ms_tasks.specs.refinement.Rows.{crew_in, threads_in};
 use crate::burst::Halt;
 use crate::log::Log;
 use crate::rows::turn;
-use ms_live::Gaps;
 use ms_machine::Store;
 use ms_outside::{Sink, Source};
-use ms_tagged::Tagged;
+use ms_segment::SegmentMemory;
 use ms_task::Task;
 
 /// The task of the next turn.
@@ -38,8 +37,8 @@ fn least(a: u64, b: u64) -> u64
 }
 
 /// The entries of a schedule of turns from one on, so many, where not all tasks have ended.
-pub(crate) fn run_turns<G: Gaps, T: Tagged, I: Source, O: Sink>(
-    store: &mut Store<G, T>,
+pub(crate) fn run_turns<M: SegmentMemory, I: Source, O: Sink>(
+    store: &mut Store<M>,
     tasks: &mut [Task],
     q: u32,
     from: u64,

@@ -11,7 +11,7 @@ ghost use Rattle.ms_machine.specs.refinement.Safety.{Sound};
 ghost use Rattle.ms_machine.specs.Typing.{StoreTyped, outline_of};
 ghost use Rattle.ms_task.specs.refinement.View.{thread_of};
 ghost use Rattle.ms_tasks.specs.refinement.Logs.{CountsUpTo};
-ghost use Rattle.ms_tasks.specs.refinement.Making.{IsCrewOf, Refuses};
+ghost use Rattle.ms_tasks.specs.refinement.Making.{AreHomes, IsCrewOf, Refuses};
 ghost use Rattle.ms_tasks.specs.refinement.Ready.{IsReady, threads_of};
 ghost use Rattle.ms_tasks.specs.refinement.Runs.{CountsInput, CountsOut, DoesRun, IsOver};
 ghost use Rattle.ms_tasks.specs.refinement.Schedules.{HasTurns, entries_of};
@@ -23,44 +23,47 @@ use crate::refusal::Refusal;
 use crate::schedule::Schedule;
 use crate::starting::{chain_of, tasks_of};
 use ms_linear::Room;
-use ms_live::Gaps;
 use ms_machine::Store;
 use ms_module::Name;
 use ms_outside::{Sink, Source};
-use ms_tagged::Tagged;
+use ms_segment::SegmentMemory;
 use ms_task::Task;
 use std::alloc::Global;
 use std::marker::Model;
 
-/// A store, with its start functions and its tasks.
+/// A store, with its start functions and its tasks. Contracts see the crew of the definition, and beside it the address of each
+/// task's function, which its thread doesn't tell once it has ended.
 #[derive(Drop)]
-pub struct Crew<G: Gaps, T: Tagged> {
-    store: Store<G, T>,
+pub struct Crew<M: SegmentMemory> {
+    store: Store<M>,
     chain: Vec<Task>,
     tasks: Vec<Task>,
+    /// The address of each task's function.
+    homes: Vec<u32>,
 }
 
-impl<G: Gaps, T: Tagged> Model for Crew<G, T> {
-    ghost use Rattle.ms_machine.specs.Crews.{Crew as C};
+impl<M: SegmentMemory> Model for Crew<M> {
+    ghost use Rattle.ms_tasks.specs.refinement.Making.{Placed};
     ghost use Rattle.ms_tasks.specs.refinement.Rows.{threads_in};
 
-    ghost Value = { C };
+    ghost Value = { Placed };
 
-    ghost view = { λ c. record { store = c.store; chain = threads_in c.store c.chain.items; tasks = threads_in c.store c.tasks.items } };
+    ghost view = { λ c. record { crew = record { store = c.store; chain = threads_in c.store c.chain.items; tasks = threads_in c.store c.tasks.items }; homes = c.homes.items } };
 }
 
-impl<G: Gaps, T: Tagged> Crew<G, T> {
+impl<M: SegmentMemory> Crew<M> {
     /// The crew of a store, with its start functions, and of tasks: each is the function that the module of a number exports by
     /// a name, which takes nothing and gives nothing or one number. It refuses the first one that there isn't. All of them share
     /// one room for their frames, operands and marks.
-    pub fn new(alloc: Global, store: Store<G, T>, tasks: Vec<(u32, Name)>) -> Result<Self, Refusal>
+    pub fn new(alloc: Global, store: Store<M>, tasks: Vec<(u32, Name)>) -> Result<Self, Refusal>
         requires typed { StoreTyped (outline_of store) }
         requires fits { StoreFits store }
         requires starts { StartsTyped store }
         requires few { length tasks.items < 2 ^ 32 }
-        ensures new { MatchResult result (λ c. IsCrewOf store tasks.items c) (λ r. Refuses store tasks.items r) }
-        ensures ready { IfOk result IsReady }
-        ensures sound { IfOk result (λ c. (events : List Event) → Sound events store [] → Sound events c.store (threads_of c)) }
+        ensures new { MatchResult result (λ c. IsCrewOf store tasks.items c.crew) (λ r. Refuses store tasks.items r) }
+        ensures homes { IfOk result (λ c. AreHomes store tasks.items c.homes) }
+        ensures ready { IfOk result (λ c. IsReady c.crew) }
+        ensures sound { IfOk result (λ c. (events : List Event) → Sound events store [] → Sound events c.store (threads_of c.crew)) }
     {
         let Ok(room) = Room::new(alloc) else {
             return Err(Refusal::Memory);
@@ -68,16 +71,17 @@ impl<G: Gaps, T: Tagged> Crew<G, T> {
         let Ok(chain) = chain_of(alloc, &room, &store) else {
             return Err(Refusal::Memory);
         };
-        let tasks = tasks_of(alloc, &room, &store, tasks.as_slice())?;
+        let found = tasks_of(alloc, &room, &store, tasks.as_slice())?;
         Ok(Crew {
             store,
             chain,
-            tasks,
+            tasks: found.tasks,
+            homes: found.homes,
         })
     }
 
     /// The store.
-    pub fn store(&self) -> &Store<G, T>
+    pub fn store(&self) -> &Store<M>
         ensures { result.now ≡ self.now.store }
     {
         &self.store
@@ -91,7 +95,16 @@ impl<G: Gaps, T: Tagged> Crew<G, T> {
         &self.tasks[n as usize]
     }
 
-    /// Runs the start functions, and then the tasks by a schedule, for so many entries at most.
+    /// The address of the function of the task of a number.
+    pub fn home(&self, n: u32) -> u32
+        requires { n < length self.now.homes }
+        ensures { slice_get self.now.homes n ≡ Some result }
+    {
+        self.homes[n as usize]
+    }
+
+    /// Runs the start functions, and then the tasks by a schedule, for so many entries at most. Where a step stops the program, the
+    /// answer says whose it was.
     ///
     /// The run is that over what the input gave: over its bytes, where it tells them. The crew keeps what the run has made of
     /// it. The input has left what the run leaves, the output has got the bytes that it puts, and the log has grown by its
@@ -107,27 +120,28 @@ impl<G: Gaps, T: Tagged> Crew<G, T> {
         out: &mut O,
         log: &mut Log,
     ) -> Ran
-        requires ready { IsReady self.old }
+        requires ready { IsReady self.old.crew }
         requires tasks { (0 < length self.old.tasks) × (length self.old.tasks < 2 ^ 32) }
         requires turns { HasTurns schedule.now }
         requires few { self.old.store.segments.made + budget < 2 ^ 63 }
         requires within { CountsUpTo log.old.entries log.old.trace }
         requires room { log.old.entries + budget < 2 ^ 63 }
-        ensures run { (given : Input) × DoesRun result self.new (I.left input.old) (I.left input.new) (O.held out.old) (O.held out.new) log.old log.new given (run_of (entries_of schedule.now (length self.old.tasks) budget) self.old given) }
+        ensures run { (given : Input) × DoesRun result self.new.crew (I.left input.old) (I.left input.new) (O.held out.old) (O.held out.new) log.old log.new given (run_of (entries_of schedule.now (length self.old.tasks) budget) self.old.crew given) }
         ensures input_faults { CountsInput result (I.faults input.old) (I.faults input.new) }
         ensures out_faults { CountsOut result (O.faults out.old) (O.faults out.new) }
-        ensures ready { IsOver result → IsReady self.new }
+        ensures homes { self.new.homes ≡ self.old.homes }
+        ensures ready { IsOver result → IsReady self.new.crew }
         ensures made { IsOver result → self.new.store.segments.made ≤ self.old.store.segments.made + budget }
         ensures entries { IsOver result → log.new.entries ≤ log.old.entries + budget }
         ensures within { IsOver result → CountsUpTo log.new.entries log.new.trace }
-        ensures never_stuck { (given : Input) → (run_of (entries_of schedule.now (length self.old.tasks) budget) self.old given).end ≢ Stuck }
+        ensures never_stuck { (given : Input) → (run_of (entries_of schedule.now (length self.old.tasks) budget) self.old.crew given).end ≢ Stuck }
         // The events of the run are a trace that the colour monitor accepts.
-        ensures accepted { Sound [] self.old.store (threads_of self.old) → (given : Input) → Accepts (length self.old.store.segments.bytes) (events_of (run_of (entries_of schedule.now (length self.old.tasks) budget) self.old given).deeds) }
+        ensures accepted { Sound [] self.old.store (threads_of self.old.crew) → (given : Input) → Accepts (length self.old.store.segments.bytes) (events_of (run_of (entries_of schedule.now (length self.old.tasks) budget) self.old.crew given).deeds) }
         // The segment memory that the run leaves has counted the accesses that its events are.
-        ensures accesses { (given : Input) → (run_of (entries_of schedule.now (length self.old.tasks) budget) self.old given).crew.store.segments.accesses ≡ counted_all (events_of (run_of (entries_of schedule.now (length self.old.tasks) budget) self.old given).deeds) self.old.store.segments.accesses }
+        ensures accesses { (given : Input) → (run_of (entries_of schedule.now (length self.old.tasks) budget) self.old.crew given).crew.store.segments.accesses ≡ counted_all (events_of (run_of (entries_of schedule.now (length self.old.tasks) budget) self.old.crew given).deeds) self.old.store.segments.accesses }
         // Those that are kept are one, whatever the answer, behind those that were kept before.
-        ensures kept { log.old.trace.keep ≡ true → Sound log.old.trace.events self.old.store (threads_of self.old) → Accepts (length self.old.store.segments.bytes) log.new.trace.events }
-        ensures sound { IsOver result → log.old.trace.keep ≡ true → Sound log.old.trace.events self.old.store (threads_of self.old) → Sound log.new.trace.events self.new.store (threads_of self.new) }
+        ensures kept { log.old.trace.keep ≡ true → Sound log.old.trace.events self.old.store (threads_of self.old.crew) → Accepts (length self.old.store.segments.bytes) log.new.trace.events }
+        ensures sound { IsOver result → log.old.trace.keep ≡ true → Sound log.old.trace.events self.old.store (threads_of self.old.crew) → Sound log.new.trace.events self.new.store (threads_of self.new.crew) }
     {
         ran_of(run_all(
             &mut self.store,

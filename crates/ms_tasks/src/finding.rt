@@ -5,10 +5,9 @@ ghost use Rattle.std.specs.Option.{option_copied};
 ghost use Rattle.std.specs.Str.{bytes_eq};
 ghost use Rattle.ms_tasks.specs.Tasks.{exported_func, exported_task, is_task_result, is_task_type, of_task_type, task_address, task_of_instance};
 
-use ms_live::Gaps;
 use ms_machine::{Instance, Store};
 use ms_module::{Export, ExportDesc};
-use ms_tagged::Tagged;
+use ms_segment::SegmentMemory;
 use ms_task::FuncInst;
 use ms_types::{SharedType, ValType};
 
@@ -74,8 +73,8 @@ fn task_of_instance(funcs: &[FuncInst], name: &str, instance: &Instance) -> Opti
 }
 
 /// The function that the module of a number exports by a name, where it can be a task.
-pub(crate) fn task_address<G: Gaps, T: Tagged>(
-    store: &Store<G, T>,
+pub(crate) fn task_address<M: SegmentMemory>(
+    store: &Store<M>,
     number: u32,
     name: &str,
 ) -> Option<u32>

@@ -19,6 +19,7 @@ mod rows;
 mod schedule;
 mod start_chain;
 mod starting;
+mod whose;
 
 pub use crew::Crew;
 pub use laws::runs_are_safe;
@@ -26,3 +27,4 @@ pub use log::Log;
 pub use ran::Ran;
 pub use refusal::Refusal;
 pub use schedule::Schedule;
+pub use whose::Whose;

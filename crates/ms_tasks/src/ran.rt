@@ -4,6 +4,7 @@ ghost use Rattle.std.specs.Prelude.{◌≡◌};
 ghost use Rattle.ms_tasks.specs.refinement.Runs.{answer_of};
 
 use crate::burst::Halt;
+use crate::whose::Whose;
 use ms_host::TrapKind;
 
 /// How a run ended.
@@ -11,8 +12,8 @@ use ms_host::TrapKind;
 pub enum Ran {
     /// The start functions and all tasks have ended.
     Results,
-    /// The program was stopped.
-    Trap(TrapKind),
+    /// A step of this one stopped the program.
+    Trap(Whose, TrapKind),
     /// The budget, or the schedule, is used up.
     Budget,
     /// The input failed.
@@ -30,7 +31,7 @@ pub(crate) fn ran_of(halt: Halt) -> Ran
     match halt {
         Halt::Ended => Ran::Results,
         Halt::Paused => Ran::Budget,
-        Halt::Trap(kind) => Ran::Trap(kind),
+        Halt::Trap(whose, kind) => Ran::Trap(whose, kind),
         Halt::ReadFault => Ran::ReadFault,
         Halt::WriteFault => Ran::WriteFault,
         Halt::Memory => Ran::Memory,

@@ -12,14 +12,14 @@ ghost use Rattle.ms_tasks.specs.refinement.Rows.{IsIdle, crew_in, threads_in};
 
 use crate::burst::{Halt, burst};
 use crate::log::Log;
-use ms_live::Gaps;
+use crate::whose::Whose;
 use ms_machine::{Store, has_ended};
 use ms_outside::{Sink, Source};
-use ms_tagged::Tagged;
+use ms_segment::SegmentMemory;
 use ms_task::Task;
 
 /// Whether all tasks have ended.
-pub(crate) fn all_ended<G: Gaps, T: Tagged>(store: &Store<G, T>, tasks: &[Task]) -> bool
+pub(crate) fn all_ended<M: SegmentMemory>(store: &Store<M>, tasks: &[Task]) -> bool
     ensures { result ≡ are_ended (threads_in store.now tasks.now) }
 {
     for task in tasks {
@@ -31,7 +31,7 @@ pub(crate) fn all_ended<G: Gaps, T: Tagged>(store: &Store<G, T>, tasks: &[Task])
 }
 
 /// Whether there is no such task, or it has ended.
-fn is_idle<G: Gaps, T: Tagged>(store: &Store<G, T>, tasks: &[Task], k: u32) -> bool
+fn is_idle<M: SegmentMemory>(store: &Store<M>, tasks: &[Task], k: u32) -> bool
     ensures idle { result ≡ true → IsIdle (slice_get (threads_in store.now tasks.now) k) }
     ensures there { result ≡ false → k < length tasks.now }
 {
@@ -42,8 +42,8 @@ fn is_idle<G: Gaps, T: Tagged>(store: &Store<G, T>, tasks: &[Task], k: u32) -> b
 }
 
 /// At most so many steps of a task.
-fn row<G: Gaps, T: Tagged, I: Source, O: Sink>(
-    store: &mut Store<G, T>,
+fn row<M: SegmentMemory, I: Source, O: Sink>(
+    store: &mut Store<M>,
     tasks: &mut [Task],
     k: u32,
     most: u64,
@@ -69,12 +69,12 @@ fn row<G: Gaps, T: Tagged, I: Source, O: Sink>(
     ensures out_faults { CountsOut result.0 (O.faults out.old) (O.faults out.new) }
 {
     let task = &mut tasks[k as usize];
-    burst(store, task, most, input, out, log)
+    burst(store, task, Whose::Task(k), most, input, out, log)
 }
 
 /// So many entries in a row for one task, where not all tasks have ended. It gives how many entries are left.
-pub(crate) fn turn<G: Gaps, T: Tagged, I: Source, O: Sink>(
-    store: &mut Store<G, T>,
+pub(crate) fn turn<M: SegmentMemory, I: Source, O: Sink>(
+    store: &mut Store<M>,
     tasks: &mut [Task],
     k: u32,
     most: u64,

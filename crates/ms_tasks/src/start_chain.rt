@@ -13,15 +13,15 @@ ghost use Rattle.ms_tasks.specs.refinement.Rows.{begun_with, chain_in, threads_i
 
 use crate::burst::{Halt, burst};
 use crate::log::Log;
-use ms_live::Gaps;
+use crate::whose::Whose;
 use ms_machine::Store;
 use ms_outside::{Sink, Source};
-use ms_tagged::Tagged;
+use ms_segment::SegmentMemory;
 use ms_task::Task;
 
 /// Runs the start functions, in order, for so many entries at most, whatever these name. It gives how many are left.
-pub(crate) fn run_chain<G: Gaps, T: Tagged, I: Source, O: Sink>(
-    store: &mut Store<G, T>,
+pub(crate) fn run_chain<M: SegmentMemory, I: Source, O: Sink>(
+    store: &mut Store<M>,
     chain: &mut [Task],
     most: u64,
     input: &mut I,
@@ -47,7 +47,7 @@ pub(crate) fn run_chain<G: Gaps, T: Tagged, I: Source, O: Sink>(
     let mut left = most;
     for i in 0..chain.len() {
         let task = &mut chain[i];
-        let (halt, rest) = burst(store, task, left, input, out, log);
+        let (halt, rest) = burst(store, task, Whose::Start, left, input, out, log);
         left = rest;
         match halt {
             Halt::Ended => {}

@@ -5,25 +5,24 @@ ghost use Rattle.ms_machine.specs.Linked.{StartTyped, StartsTyped, start_chain, 
 ghost use Rattle.ms_machine.specs.Running.{func_thread};
 ghost use Rattle.ms_machine.specs.Typing.{StoreTyped, outline_of};
 ghost use Rattle.ms_machine.specs.declared.store.Instance.{Instance as InstanceView};
-ghost use Rattle.ms_tasks.specs.refinement.Making.{IsStartOf, Refuses};
+ghost use Rattle.ms_tasks.specs.refinement.Making.{AreHomes, IsStartOf, Refuses};
 ghost use Rattle.ms_tasks.specs.refinement.Rows.{threads_in};
 ghost use Rattle.ms_tasks.specs.Tasks.{threads_from};
 
 use crate::finding::task_address;
 use crate::refusal::Refusal;
 use ms_linear::Room;
-use ms_live::Gaps;
 use ms_machine::{Instance, Store, start};
 use ms_module::Name;
-use ms_tagged::Tagged;
+use ms_segment::SegmentMemory;
 use ms_task::Task;
 use std::alloc::{AllocError, Global};
 
 /// The start function of an instance, if it has one.
-fn start_of<G: Gaps, T: Tagged>(
+fn start_of<M: SegmentMemory>(
     alloc: Global,
     room: &Room,
-    store: &Store<G, T>,
+    store: &Store<M>,
     instance: &Instance,
 ) -> Result<Option<Task>, AllocError>
     requires store { StoreTyped (outline_of store.now) }
@@ -38,10 +37,10 @@ fn start_of<G: Gaps, T: Tagged>(
 }
 
 /// The start functions of these instances, in order.
-fn starts_of<G: Gaps, T: Tagged>(
+fn starts_of<M: SegmentMemory>(
     alloc: Global,
     room: &Room,
-    store: &Store<G, T>,
+    store: &Store<M>,
     instances: &[Instance],
 ) -> Result<Vec<Task>, AllocError>
     requires store { StoreTyped (outline_of store.now) }
@@ -59,10 +58,10 @@ fn starts_of<G: Gaps, T: Tagged>(
 }
 
 /// The start functions, in the order of the modules.
-pub(crate) fn chain_of<G: Gaps, T: Tagged>(
+pub(crate) fn chain_of<M: SegmentMemory>(
     alloc: Global,
     room: &Room,
-    store: &Store<G, T>,
+    store: &Store<M>,
 ) -> Result<Vec<Task>, AllocError>
     requires store { StoreTyped (outline_of store.now) }
     requires starts { StartsTyped store.now }
@@ -71,18 +70,27 @@ pub(crate) fn chain_of<G: Gaps, T: Tagged>(
     starts_of(alloc, room, store, store.instances())
 }
 
+/// Tasks, and the addresses of their functions.
+#[derive(Drop)]
+pub(crate) struct Found {
+    pub(crate) tasks: Vec<Task>,
+    pub(crate) homes: Vec<u32>,
+}
+
 /// The tasks of these functions, or the first that has none.
-pub(crate) fn tasks_of<G: Gaps, T: Tagged>(
+pub(crate) fn tasks_of<M: SegmentMemory>(
     alloc: Global,
     room: &Room,
-    store: &Store<G, T>,
+    store: &Store<M>,
     tasks: &[(u32, Name)],
-) -> Result<Vec<Task>, Refusal>
+) -> Result<Found, Refusal>
     requires store { StoreTyped (outline_of store.now) }
     requires few { length tasks.now < 2 ^ 32 }
-    ensures { MatchResult result (λ ts. threads_from store.now tasks.now 0 ≡ Ok (threads_in store.now ts.items)) (λ r. Refuses store.now tasks.now r) }
+    ensures tasks { MatchResult result (λ f. threads_from store.now tasks.now 0 ≡ Ok (threads_in store.now f.tasks.items)) (λ r. Refuses store.now tasks.now r) }
+    ensures homes { IfOk result (λ f. AreHomes store.now tasks.now f.homes.items) }
 {
     let mut all = Vec::new(alloc);
+    let mut homes = Vec::new(alloc);
     let mut number = 0;
     for named in tasks {
         let Some(address) = task_address(store, named.0, named.1.as_str()) else {
@@ -94,7 +102,10 @@ pub(crate) fn tasks_of<G: Gaps, T: Tagged>(
         let Ok(()) = all.push(task) else {
             return Err(Refusal::Memory);
         };
+        let Ok(()) = homes.push(address) else {
+            return Err(Refusal::Memory);
+        };
         number += 1;
     }
-    Ok(all)
+    Ok(Found { tasks: all, homes })
 }

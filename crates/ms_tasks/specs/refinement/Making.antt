@@ -1,14 +1,24 @@
 -- What the making of a crew answers.
-use Rattle.std.specs.Prelude.{◌≡◌, ℕ, List, Option, Some, None, Ok, Err}
+use Rattle.std.specs.Prelude.{◌≡◌, ℕ, List, map, Option, Some, None, Ok, Err}
 use Rattle.ms_task.specs.Thread.{Thread}
 use Rattle.ms_task.specs.refinement.View.{thread_of}
 use Rattle.ms_task.specs.declared.task.Task.{Task as CodeTask}
 use Rattle.ms_machine.specs.Crews.{Crew}
 use Rattle.ms_machine.specs.Running.{func_thread}
 use Rattle.ms_machine.specs.Store.{Store}
-use Rattle.ms_tasks.specs.Tasks.{crew_of, threads_from}
+use Rattle.ms_tasks.specs.Tasks.{crew_of, task_address, threads_from}
 use Rattle.ms_tasks.specs.declared.refusal.Refusal.{Refusal}
 use Rattle.ms_tasks.specs.declared.refusal.Refusal.TheVariants as refusals
+
+-- a crew, and the address of each task's function
+pub record Placed : Type 0 where
+  pub crew : Crew
+  pub open crew use *
+  pub homes : List ℕ
+
+-- they are those of the functions that these tasks name
+abbrev pub AreHomes : Store → (tasks : List (ℕ × List ℕ)) → (homes : List ℕ) → Type 0
+AreHomes s tasks homes = map Some homes ≡ map (λ t. task_address s t.0 t.1) tasks
 
 -- the crew of a store and of these tasks
 abbrev pub IsCrewOf : Store → (tasks : List (ℕ × List ℕ)) → Crew → Type 0

@@ -10,6 +10,7 @@ use Rattle.ms_outside.specs.declared.sink.Put.TheVariants as puts
 use Rattle.ms_task.specs.Thread.{Thread}
 use Rattle.ms_tasks.specs.refinement.Logs.{Log, logged}
 use Rattle.ms_tasks.specs.refinement.Outside.{HasBegun}
+use Rattle.ms_tasks.specs.refinement.Steppers.{whose_of}
 use Rattle.ms_tasks.specs.declared.burst.Halt.{Halt}
 use Rattle.ms_tasks.specs.declared.burst.Halt.TheVariants as halts
 
@@ -30,7 +31,7 @@ pub record ComesTo (left left' held held' : Option (List ℕ)) (old new : Log) (
 abbrev pub HaltsBy : Halt → (run ended paused : Input → Run) → Crew → (left left' held held' : Option (List ℕ)) → (old new : Log) → Type 0
 HaltsBy halts.Ended run ended paused c left left' held held' old new = ComesTo left left' held held' old new run ended
 HaltsBy halts.Paused run ended paused c left left' held held' old new = ComesTo left left' held held' old new run paused
-HaltsBy (halts.Trap kind) run ended paused c left left' held held' old new = (whose : Whose) × ComesTo left left' held held' old new run (ends (Trap whose kind) c)
+HaltsBy (halts.Trap whose kind) run ended paused c left left' held held' old new = ComesTo left left' held held' old new run (ends (Trap (whose_of whose) kind) c)
 HaltsBy halts.ReadFault run ended paused c left left' held held' old new = (given : Input) × HasBegun left left' held held' old new given (run given)
 HaltsBy halts.WriteFault run ended paused c left left' held held' old new = (given : Input) × HasBegun left left' held held' old new given (run given)
 HaltsBy halts.Memory run ended paused c left left' held held' old new = (given : Input) × HasBegun left left' held held' old new given (run given)

@@ -11,10 +11,10 @@ pub run_crew-requires-clause-tasks : goal.run_crew-requires-clause-tasks
 run_crew-requires-clause-tasks g c =
     let tasks = c.args.tasks.items in
     let count = ap length c.as_slice.ensures.value in
-    (count ∙ sym (crew_length c.args.store tasks c.in-Ok.crew c.in-Ok.ensures.new), subst (λ (n : ℕ). 0 < n) (sym count) c.requires.tasks.0)
+    (count ∙ sym (crew_length c.args.store tasks c.in-Ok.crew.crew c.in-Ok.ensures.new), subst (λ (n : ℕ). 0 < n) (sym count) c.requires.tasks.0)
 
 pub returns-in-Ok-clause-printed : goal.returns-in-Ok-clause-printed
-returns-in-Ok-clause-printed g c = crew_printed c.args.telling.now _ _ _ c.args.tasks.items c.args.schedule.now c.args.budget c.args.store c.in-Ok.crew c.in-Ok.ensures.new c.run_crew.result c.run_crew.ensures.printed
+returns-in-Ok-clause-printed g c = crew_printed c.args.telling.now _ _ _ c.args.tasks.items c.args.schedule.now c.args.budget c.args.store c.in-Ok.crew.crew c.in-Ok.ensures.new c.run_crew.result c.run_crew.ensures.printed
 
 pub returns-in-Err-Task-clause-printed : goal.returns-in-Err-Task-clause-printed
 returns-in-Err-Task-clause-printed g c =

@@ -2,6 +2,7 @@ use Rattle.std.proofs.Common.{rules, ◌≡◌, ◌+◌, ◌-◌, ◌≤◌, [],
 use Rattle.ms_event.specs.declared.event.Event.{Event}
 use Rattle.ms_machine.specs.Running.{with_event}
 use Rattle.ms_tasks.specs.refinement.Logs.{all_seen}
+use Rattle.ms_tasks.specs.refinement.Steppers.{whose_of}
 use Rattle.ms_machine.proofs.Outsides.{none_taken}
 use Rattle.ms_task.specs.refinement.View.{thread_of}
 use Rattle.ms_machine.specs.Crews.{run_entries}
@@ -116,11 +117,13 @@ loop-left-preserved-in-On-None g c =
     }
 
 pub returns-then-has_ended-clause-run : goal.returns-then-has_ended-clause-run
-returns-then-has_ended-clause-run g c = λ whose next entries row.
+returns-then-has_ended-clause-run g c = λ next entries row.
+    let whose = whose_of c.args.whose in
     way_ends whose next entries c.args.most c.args.store.now (thread_of c.args.store.now.funcs c.args.task.now) c.args.log.now (g.I.Source.left c.args.input.now) (g.O.Sink.held c.args.out.now)
 
 pub returns-in-Ended-default-clause-run : goal.returns-in-Ended-default-clause-run
-returns-in-Ended-default-clause-run g c = λ whose next entries row.
+returns-in-Ended-default-clause-run g c = λ next entries row.
+    let whose = whose_of c.args.whose in
     let l = c.loop-left in
     let v = l.invariant in
     let s0 = c.args.store.now in
@@ -142,7 +145,8 @@ returns-in-Ended-default-clause-run g c = λ whose next entries row.
     v.entries (omega (arith, within)) c.count.ensures
 
 pub returns-in-Memory-default-clause-run : goal.returns-in-Memory-default-clause-run
-returns-in-Memory-default-clause-run g c = λ whose next entries row.
+returns-in-Memory-default-clause-run g c = λ next entries row.
+    let whose = whose_of c.args.whose in
     let l = c.loop-left in
     let v = l.invariant in
     let s0 = c.args.store.now in
@@ -153,7 +157,8 @@ returns-in-Memory-default-clause-run g c = λ whose next entries row.
     stops_before whose next entries c.args.most s0 t0 log0.trace l.left l.store (thread_of l.store.funcs l.task) l.log.trace (left c.args.input.now) (left l.input) (left l.input) (held c.args.out.now) (held l.out) (held l.out) c.loop-left-test.true v.left v.going (v.runs whose next entries row) log0 l.log refl refl refl refl
 
 pub returns-in_default-clause-run : goal.returns-in_default-clause-run
-returns-in_default-clause-run g c = λ whose next entries row.
+returns-in_default-clause-run g c = λ next entries row.
+    let whose = whose_of c.args.whose in
     let l = c.loop-left in
     let v = l.invariant in
     let s0 = c.args.store.now in
@@ -175,7 +180,8 @@ returns-in_default-clause-run g c = λ whose next entries row.
     stops_behind whose next entries c.args.most s0 t0 log0.trace (rest + 1) s1 u l.log.trace (left c.args.input.now) (left l.input) (left c.step.new.input) (held c.args.out.now) (held l.out) (held c.step.new.out) (omega arith) within (halted.1) (quiet_way whose next entries c.args.most s0 t0 log0.trace l.left rest s s1 t u l.log.trace (left c.args.input.now) (left l.input) (held c.args.out.now) (held l.out) c.loop-left-test.true less among (v.runs whose next entries row) halted.0) s' t' c.in-On-Some.field-0 log0 c.see.new.self refl c.in_default.ensures.lost c.in-On-Some.ensures.step.0
 
 pub returns-in_default-see-clause-run : goal.returns-in_default-see-clause-run
-returns-in_default-see-clause-run g c = λ whose next entries row.
+returns-in_default-see-clause-run g c = λ next entries row.
+    let whose = whose_of c.args.whose in
     let l = c.loop-left in
     let v = l.invariant in
     let s0 = c.args.store.now in
@@ -197,7 +203,8 @@ returns-in_default-see-clause-run g c = λ whose next entries row.
     stops_behind whose next entries c.args.most s0 t0 log0.trace (rest + 1) s1 u l.log.trace (left c.args.input.now) (left l.input) (left c.step.new.input) (held c.args.out.now) (held l.out) (held c.step.new.out) (omega arith) within (halted.1) (quiet_way whose next entries c.args.most s0 t0 log0.trace l.left rest s s1 t u l.log.trace (left c.args.input.now) (left l.input) (held c.args.out.now) (held l.out) c.loop-left-test.true less among (v.runs whose next entries row) halted.0) s' t' c.in-Ended.event log0 c.see-in-Ended.new.self refl c.in_default-see.ensures.lost c.in-Ended.ensures.step.0
 
 pub returns-in-Ended-clause-run : goal.returns-in-Ended-clause-run
-returns-in-Ended-clause-run g c = λ whose next entries row.
+returns-in-Ended-clause-run g c = λ next entries row.
+    let whose = whose_of c.args.whose in
     let l = c.loop-left in
     let v = l.invariant in
     let s0 = c.args.store.now in
@@ -223,7 +230,8 @@ returns-in-Ended-clause-run g c = λ whose next entries row.
     (c.in-Ok-see.ensures.entries ∙ v.entries) (omega (arith, x)) c.count-in-Ended.ensures
 
 pub returns-in-Trap-clause-run : goal.returns-in-Trap-clause-run
-returns-in-Trap-clause-run g c = λ whose next entries row.
+returns-in-Trap-clause-run g c = λ next entries row.
+    let whose = whose_of c.args.whose in
     let l = c.loop-left in
     let v = l.invariant in
     let s0 = c.args.store.now in
@@ -244,10 +252,11 @@ returns-in-Trap-clause-run g c = λ whose next entries row.
     let t' = thread_of s'.funcs c.step.new.task in
     let e = c.in-Trap.ensures.step in
     let x = v.left in
-    (whose, way_traps whose next entries c.args.most s0 t0 log0.trace (rest + 1) s1 u l.log.trace (left c.args.input.now) (left l.input) (left c.step.new.input) (held c.args.out.now) (held l.out) (held c.step.new.out) (omega arith) within (halted.1) (quiet_way whose next entries c.args.most s0 t0 log0.trace l.left rest s s1 t u l.log.trace (left c.args.input.now) (left l.input) (held c.args.out.now) (held l.out) c.loop-left-test.true less among (v.runs whose next entries row) halted.0) c.in-Trap.kind s' t' log0 c.count-in-Trap.new.self (c.args.most - rest) l.log.entries refl v.entries e.0 e.1 e.2 e.3 e.4 (omega (arith, x)) c.count-in-Trap.ensures)
+    way_traps whose next entries c.args.most s0 t0 log0.trace (rest + 1) s1 u l.log.trace (left c.args.input.now) (left l.input) (left c.step.new.input) (held c.args.out.now) (held l.out) (held c.step.new.out) (omega arith) within (halted.1) (quiet_way whose next entries c.args.most s0 t0 log0.trace l.left rest s s1 t u l.log.trace (left c.args.input.now) (left l.input) (held c.args.out.now) (held l.out) c.loop-left-test.true less among (v.runs whose next entries row) halted.0) c.in-Trap.kind s' t' log0 c.count-in-Trap.new.self (c.args.most - rest) l.log.entries refl v.entries e.0 e.1 e.2 e.3 e.4 (omega (arith, x)) c.count-in-Trap.ensures
 
 pub returns-in-ReadFault-clause-run : goal.returns-in-ReadFault-clause-run
-returns-in-ReadFault-clause-run g c = λ whose next entries row.
+returns-in-ReadFault-clause-run g c = λ next entries row.
+    let whose = whose_of c.args.whose in
     let l = c.loop-left in
     let v = l.invariant in
     let s0 = c.args.store.now in
@@ -268,7 +277,8 @@ returns-in-ReadFault-clause-run g c = λ whose next entries row.
     stops_before whose next entries c.args.most s0 t0 log0.trace (rest + 1) s1 u l.log.trace (left c.args.input.now) (left l.input) (left c.step.new.input) (held c.args.out.now) (held l.out) (held c.step.new.out) (omega arith) within (halted.1) (quiet_way whose next entries c.args.most s0 t0 log0.trace l.left rest s s1 t u l.log.trace (left c.args.input.now) (left l.input) (held c.args.out.now) (held l.out) c.loop-left-test.true less among (v.runs whose next entries row) halted.0) log0 l.log refl refl (none_taken (left l.input) (left c.step.new.input) e.2) e.3
 
 pub returns-in-WriteFault-clause-run : goal.returns-in-WriteFault-clause-run
-returns-in-WriteFault-clause-run g c = λ whose next entries row.
+returns-in-WriteFault-clause-run g c = λ next entries row.
+    let whose = whose_of c.args.whose in
     let l = c.loop-left in
     let v = l.invariant in
     let s0 = c.args.store.now in
@@ -289,7 +299,8 @@ returns-in-WriteFault-clause-run g c = λ whose next entries row.
     stops_in whose next entries c.args.most s0 t0 log0.trace (rest + 1) s1 u l.log.trace (left c.args.input.now) (left l.input) (left c.step.new.input) (held c.args.out.now) (held l.out) (held c.step.new.out) (omega arith) within (halted.1) (quiet_way whose next entries c.args.most s0 t0 log0.trace l.left rest s s1 t u l.log.trace (left c.args.input.now) (left l.input) (held c.args.out.now) (held l.out) c.loop-left-test.true less among (v.runs whose next entries row) halted.0) log0 l.log e.0 refl refl e.1 e.3 e.4
 
 pub returns-in-Memory-clause-run : goal.returns-in-Memory-clause-run
-returns-in-Memory-clause-run g c = λ whose next entries row.
+returns-in-Memory-clause-run g c = λ next entries row.
+    let whose = whose_of c.args.whose in
     let l = c.loop-left in
     let v = l.invariant in
     let s0 = c.args.store.now in
@@ -310,7 +321,8 @@ returns-in-Memory-clause-run g c = λ whose next entries row.
     stops_before whose next entries c.args.most s0 t0 log0.trace (rest + 1) s1 u l.log.trace (left c.args.input.now) (left l.input) (left c.step.new.input) (held c.args.out.now) (held l.out) (held c.step.new.out) (omega arith) within (halted.1) (quiet_way whose next entries c.args.most s0 t0 log0.trace l.left rest s s1 t u l.log.trace (left c.args.input.now) (left l.input) (held c.args.out.now) (held l.out) c.loop-left-test.true less among (v.runs whose next entries row) halted.0) log0 l.log refl refl e.1 e.2
 
 pub returns-clause-run : goal.returns-clause-run
-returns-clause-run g c = λ whose next entries row.
+returns-clause-run g c = λ next entries row.
+    let whose = whose_of c.args.whose in
     let l = c.loop-left in
     let v = l.invariant in
     let s0 = c.args.store.now in

@@ -1,7 +1,6 @@
 use Rattle.std.proofs.Common.{◌++◌, get_or, replicate, slice_set, ap, subst, sym, arith}
 use Rattle.std.proofs.lemmas.List.{length-map}
 use Rattle.std.proofs.lemmas.Option.{slice_get-get_or}
-use Rattle.ms_machine.specs.Crews.{Task}
 use Rattle.ms_machine.specs.refinement.Holding.{ThreadFits}
 use Rattle.ms_machine.specs.Typing.{Outline, TaskTyped, outline_of}
 use Rattle.ms_task.specs.refinement.View.{thread_of}
@@ -39,7 +38,7 @@ returns-clause-run g c = λ rest.
     let n = length-map tasks (thread_of s.funcs) in
     let there = c.requires.there in
     row_answers c.burst.result.0 s c.burst.new.store tasks k c.args.most c.burst.result.1 task c.burst.new.task rest (g.I.Source.left c.args.input.now) (g.I.Source.left c.burst.new.input) (g.O.Sink.held c.args.out.now) (g.O.Sink.held c.burst.new.out) c.args.log.now c.burst.new.log
-    found e.left (λ well. ap (λ (o : Outline). o.funcs) (e.outline well)) (e.run (Task k) (with_only ts k) (replicate c.args.most k ++ rest) (task_row ts k (omega (arith, n, there)) c.args.most rest))
+    found e.left (λ well. ap (λ (o : Outline). o.funcs) (e.outline well)) (e.run (with_only ts k) (replicate c.args.most k ++ rest) (task_row ts k (omega (arith, n, there)) c.args.most rest))
 
 pub returns-clause-ready : goal.returns-clause-ready
 returns-clause-ready g c = λ well.

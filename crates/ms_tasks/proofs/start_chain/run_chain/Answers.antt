@@ -1,7 +1,7 @@
 use Rattle.std.proofs.Common.{◌≡◌, ◌<◌, ◌≤◌, ◌+◌, ◌-◌, suc, List, [], ◌∷◌, Some, drop, length, get_or, slice_get, slice_set, refl, sym, ap, subst, ◌∙◌, arith}
 use Rattle.std.proofs.lemmas.List.{length-map, length-set}
 use Rattle.std.proofs.lemmas.Option.{slice_get-get_or}
-use Rattle.ms_machine.specs.Crews.{Crew, Start, ahead, run_entries, with_start}
+use Rattle.ms_machine.specs.Crews.{Crew, ahead, run_entries, with_start}
 use Rattle.ms_machine.specs.refinement.Holding.{ThreadFits}
 use Rattle.ms_machine.specs.Typing.{Outline, TaskTyped, outline_of}
 use Rattle.ms_task.specs.Thread.{Thread}
@@ -89,7 +89,7 @@ loop-i-preserved g c =
           let ks = drop (c.args.most - l.left) entries in
           let room : l.left ≤ length ks = let n = left_entries entries c.args.most l.left all v.left in omega (arith, n) in
           let burst = subst (λ (h : Halt). HaltsBy h (run_entries ks (begun_with s (t ∷ drop (suc i) ts) tasks)) (run_entries (drop (l.left - b.result.1) ks) (begun_with s' (t' ∷ drop (suc i) ts) tasks)) (run_entries (drop l.left ks) (begun_with s' (t' ∷ drop (suc i) ts) tasks)) (begun_with s' (t' ∷ drop (suc i) ts) tasks) (left l.input) (left b.new.input) (held l.out) (held b.new.out) l.log b.new.log) c.in-Ended.is
-          (e.run Start (with_start k (drop (suc i) ts)) ks (start_row k (drop (suc i) ts) l.left ks room)) in
+          (e.run (with_start k (drop (suc i) ts)) ks (start_row k (drop (suc i) ts) l.left ks room)) in
           chain_ends (left c.args.input.now) (left l.input) (left b.new.input) (held c.args.out.now) (held l.out) (held b.new.out) c.args.log.now l.log b.new.log whole entries c.args.most l.left b.result.1 s s' t t' (drop i ts) (drop (suc i) ts) (drop (i + 1) (threads_in s' (slice_set l.chain i task'))) tasks
           v.left e.left (drop_at ts i t found) (e.ended c.in-Ended.is) more (v.runs entries tasks all) burst;
       ended = subst (λ n. IsOver n (threads_in s' (slice_set l.chain i task'))) next (subst (IsOver (suc i)) (sym after) (over_more i (slice_set ts i t') t' (get_set ts i t' below) (e.ended c.in-Ended.is) (over_set i ts t' v.ended)));
@@ -135,7 +135,7 @@ returns-in_default g c =
           all v.left (drop_at ts i t found) c.in_default.not-Ended (λ paused. (e.paused paused).1)
           (λ well. sym (ahead_over i (slice_set ts i t') (over_set i ts t' v.ended) ∙ ap ahead (drop_at (slice_set ts i t') i t' (get_set ts i t' below) ∙ ap (λ x. t' ∷ x) (drop_set ts i t'))) ∙ ap ahead (sym (chain_after s s' l.chain i task' (ap (λ (o : Outline). o.funcs) (e.outline well)))))
           (v.runs entries tasks all) (run_entries (drop (l.left - b.result.1) ks) (begun_with s' (t' ∷ drop (suc i) ts) tasks))
-          (e.run Start (with_start k (drop (suc i) ts)) ks (start_row k (drop (suc i) ts) l.left ks room));
+          (e.run (with_start k (drop (suc i) ts)) ks (start_row k (drop (suc i) ts) l.left ks room));
       left = let x = e.left in let y = v.left in omega (arith, x, y);
       ended = λ is. absurd (c.in_default.not-Ended is);
       ready = λ well.

@@ -12,14 +12,14 @@ pub returns-clause-ready : goal.returns-clause-ready
 returns-clause-ready g c =
     let s = c.args.store in
     let chain = threads_in s c.in-Ok-chain_of.chain.items in
-    let ts = threads_in s c.in_ok-tasks.tasks.items in
+    let ts = threads_in s c.in_ok-found.found.tasks.items in
     let same : crew_of s ts ≡ record { store = s; chain = chain; tasks = ts } = ap (λ (l : List Thread). let x : Crew = record { store = s; chain = l; tasks = ts } in x) (sym c.in-Ok-chain_of.ensures) in
-    subst IsReady same (crew_ready s c.args.tasks.items ts c.requires.typed c.requires.fits c.requires.starts (subst (λ xs. threads_from s xs 0 ≡ Ok ts) c.as_slice.ensures.value c.in_ok-tasks.ensures))
+    subst IsReady same (crew_ready s c.args.tasks.items ts c.requires.typed c.requires.fits c.requires.starts (subst (λ xs. threads_from s xs 0 ≡ Ok ts) c.as_slice.ensures.value c.in_ok-found.ensures.tasks))
 
 pub returns-clause-sound : goal.returns-clause-sound
 returns-clause-sound g c = λ events sound.
     let s = c.args.store in
     let chain = threads_in s c.in-Ok-chain_of.chain.items in
-    let ts = threads_in s c.in_ok-tasks.tasks.items in
+    let ts = threads_in s c.in_ok-found.found.tasks.items in
     let same : crew_of s ts ≡ record { store = s; chain = chain; tasks = ts } = ap (λ (l : List Thread). let x : Crew = record { store = s; chain = l; tasks = ts } in x) (sym c.in-Ok-chain_of.ensures) in
-    subst (λ (x : Crew). Sound events x.store (threads_of x)) same (crew_sound s c.args.tasks.items ts c.requires.starts (subst (λ xs. threads_from s xs 0 ≡ Ok ts) c.as_slice.ensures.value c.in_ok-tasks.ensures) events sound)
+    subst (λ (x : Crew). Sound events x.store (threads_of x)) same (crew_sound s c.args.tasks.items ts c.requires.starts (subst (λ xs. threads_from s xs 0 ≡ Ok ts) c.as_slice.ensures.value c.in_ok-found.ensures.tasks) events sound)
