@@ -1,6 +1,6 @@
 //! What is true of all texts.
 
-ghost use Rattle.std.specs.Prelude.{◌≡◌, ◌≤◌, ℕ, true, List, []};
+ghost use Rattle.std.specs.Prelude.{◌≡◌, ◌≤◌, ℕ, true, List, [], None};
 ghost use Rattle.ms_module.specs.declared.module.Module.{Module};
 ghost use Rattle.ms_text_lex.specs.declared.token.Token.{Token};
 ghost use Rattle.ms_text_grammar.specs.declared.surface.Field.{Field};
@@ -13,7 +13,9 @@ ghost use Rattle.ms_text_grammar.specs.refinement.Folding.{SpellsInstrs, body_wi
 ghost use Rattle.ms_text_grammar.specs.refinement.Folding.Form.{any, fold};
 ghost use Rattle.ms_text_grammar.specs.refinement.Folding.Part.{many, one};
 ghost use Rattle.ms_text_grammar.specs.Bounds.{Bounds};
-ghost use Rattle.ms_text_grammar.specs.Fields.{file};
+ghost use Rattle.ms_text_grammar.specs.Fields.{file, file_within};
+ghost use Rattle.ms_text_grammar.specs.Scans.{mismatch};
+ghost use Rattle.ms_text_grammar.specs.TypeUses.{AllAgree};
 ghost use Rattle.ms_text_grammar.specs.TextSpells.{FieldsSpelled, TextSpellsWithin};
 
 /// A text spells one module at most, whatever the bounds.
@@ -31,6 +33,15 @@ pub fn greater_bounds_spell_it()
 pub fn fields_are_spelled_in_one_way()
     ensures all { (source : List ℕ) (tokens rest : List Token) (fields : List Field) → (file source).spelled tokens fields rest → rest ≡ [] }
     ensures one { (source : List ℕ) (tokens : List Token) (some others : List Field) → FieldsSpelled source tokens some → FieldsSpelled source tokens others → some ≡ others }
+{}
+
+/// Of tokens that are fields by the grammar, the scan for the place of a fault finds no type use that differs from the type field that it
+/// names exactly where all uses of the fields agree (6.6.3).
+pub fn scanned_uses_are_those_of_fields()
+    ensures agree { (source : List ℕ) (bounds : Bounds) (tokens : List Token) (fields : List Field)
+        → (file_within source bounds).spelled tokens fields [] → mismatch source tokens ≡ None → AllAgree source fields }
+    ensures none { (source : List ℕ) (bounds : Bounds) (tokens : List Token) (fields : List Field)
+        → (file_within source bounds).spelled tokens fields [] → AllAgree source fields → mismatch source tokens ≡ None }
 {}
 
 /// Instructions as trees, in which a folded one is its operands and then itself, are exactly what is taken turn by turn: as a body up to a
