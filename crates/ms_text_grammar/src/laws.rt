@@ -45,7 +45,7 @@ pub fn scanned_uses_are_those_of_fields()
 {}
 
 /// Instructions as trees, in which a folded one is its operands and then itself, are exactly what is taken turn by turn: as a body up to a
-/// closing parenthesis, and the same instructions. So is, one way, the folded one that is an offset.
+/// closing parenthesis, and the same instructions. So is the folded one that is an offset.
 pub fn folded_instructions_are_taken()
     ensures bodies { (source : List ℕ) (most : ℕ) (uses : List TypeUse) (tokens rest : List Token) (ops : List Op)
         → SpellsInstrs source most (many any) 0 [] tokens uses ops rest → closes rest ≡ true → (body source most).spelled tokens (body_with uses ops) rest }
@@ -53,4 +53,6 @@ pub fn folded_instructions_are_taken()
         → (body source most).spelled tokens b rest → SpellsInstrs source most (many any) 0 [] tokens b.uses b.ops rest × (closes rest ≡ true) }
     ensures offsets { (source : List ℕ) (most : ℕ) (uses : List TypeUse) (tokens rest : List Token) (ops : List Op)
         → SpellsInstrs source most (one fold) 0 [] tokens uses ops rest → (folded_body source most).spelled tokens (body_with uses ops) rest }
+    ensures offset_trees { (source : List ℕ) (most : ℕ) (tokens rest : List Token) (b : Body)
+        → (folded_body source most).spelled tokens b rest → SpellsInstrs source most (one fold) 0 [] tokens b.uses b.ops rest }
 {}
