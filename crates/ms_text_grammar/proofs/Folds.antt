@@ -1,5 +1,5 @@
 -- What trees of instructions spell is spelled turn by turn, as the same instructions.
-use Rattle.std.proofs.Common.{◌≡◌, ◌≢◌, ℕ, suc, ◌-◌, ◌==◌, ◌&&◌, Bool, true, false, List, [], ◌∷◌, ◌++◌, length, Option, Some, None, refl, sym, ap, subst, ◌∙◌, append_assoc, arith, if◌then◌else◌}
+use Rattle.std.proofs.Common.{◌≡◌, ◌≢◌, ℕ, suc, ◌-◌, ◌==◌, ◌&&◌, Bool, true, false, List, [], ◌∷◌, ◌++◌, length, Option, Some, None, refl, sym, ap, subst, ◌∙◌, append_assoc, arith}
 use Rattle.std.specs.Prelude.{codes}
 use Rattle.std.specs.Str.{bytes_eq}
 use Rattle.std.proofs.lemmas.Bool.Decides.{nat_tests}
@@ -42,11 +42,11 @@ pub kept_passes : (b : Bool) (t x : Token) → kept b t ≡ Some x → b ≡ tru
 kept_passes true t x e = refl
 kept_passes false t x e = absurd cc
 
-both_pass : (a b : Bool) → (a && b) ≡ true → (a ≡ true) × (b ≡ true)
+pub both_pass : (a b : Bool) → (a && b) ≡ true → (a ≡ true) × (b ≡ true)
 both_pass true b e = (refl, e)
 both_pass false b e = absurd cc
 
-so_passes : {A : Type 0} (b : Bool) (o : Option A) (x : A) → if_so b o ≡ Some x → (b ≡ true) × (o ≡ Some x)
+pub so_passes : {A : Type 0} (b : Bool) (o : Option A) (x : A) → if_so b o ≡ Some x → (b ≡ true) × (o ≡ Some x)
 so_passes true o x e = (refl, e)
 so_passes false o x e = absurd cc
 
@@ -67,7 +67,7 @@ not_block : (form_of (codes "block") ≡ None) × (form_of (codes "loop") ≡ No
 unfolding form_rows operand_rows numeric_rows load_rows store_rows segment_rows segment_load_rows segment_store_rows
 not_block = (refl, refl, refl)
 
-apart : (text other : List ℕ) (f : Form_) → form_of text ≡ Some f → form_of other ≡ None → bytes_eq text other ≡ false
+pub apart : (text other : List ℕ) (f : Form_) → form_of text ≡ Some f → form_of other ≡ None → bytes_eq text other ≡ false
 apart text other f e none = go (bytes_eq text other) refl where
   go : (b : Bool) → bytes_eq text other ≡ b → b ≡ false
   go false h = refl
@@ -94,7 +94,7 @@ module _ (source : List ℕ) where
     go kinds.Text h c = absurd cc
     go kinds.Reserved h c = absurd cc
 
-  key_sign : (t : Token) (ts : List Token) → is_keyword t.kind ≡ true → sign_of source (t ∷ ts) ≡ word_sign (text_of source t)
+  pub key_sign : (t : Token) (ts : List Token) → is_keyword t.kind ≡ true → sign_of source (t ∷ ts) ≡ word_sign (text_of source t)
   key_sign t ts e = go t.kind refl e where
     go : (k : Kind) → t.kind ≡ k → is_keyword k ≡ true → sign_of source (t ∷ ts) ≡ word_sign (text_of source t)
     go kinds.Open h c = absurd cc

@@ -4,3 +4,6 @@ pub mod Wholes
 pub mod Wider
 pub mod Folds
 pub mod Trees
+pub mod Quiet
+pub mod Scanned
+pub mod Agreeing

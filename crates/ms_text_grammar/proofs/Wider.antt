@@ -31,10 +31,10 @@ use Rattle.ms_text_grammar.specs.TextSpells.{TextSpellsWithin}
 use Rattle.ms_text_grammar.proofs.Files.{one_module_within}
 
 -- what the one spells the other spells
-abbrev Wide : {A : Type 0} → Textual A → Textual A → Type 0
+abbrev pub Wide : {A : Type 0} → Textual A → Textual A → Type 0
 Wide {A} f g = (s : List Token) (x : A) (t : List Token) → f.spelled s x t → g.spelled s x t
 
-runs_wide : {S : Type 0} (going going' : S → List Token → Bool) → ((st : S) (s : List Token) → going st s ≡ going' st s) → (f g : S → Textual S) → ((st : S) → Wide (f st) (g st))
+pub runs_wide : {S : Type 0} (going going' : S → List Token → Bool) → ((st : S) (s : List Token) → going st s ≡ going' st s) → (f g : S → Textual S) → ((st : S) → Wide (f st) (g st))
     → {st last : S} {s u : List Token} → Runs going f st s last u → Runs going' g st s last u
 runs_wide going going' same f g w {st = st} {s = s} (rests e) = rests (rw (← same st s) e)
 runs_wide going going' same f g w {st = st} {s = s} (goes {t = t} next e h r) = goes next (rw (← same st s) e) (w st s next t h) (runs_wide going going' same f g w r)

@@ -1,14 +1,13 @@
--- What is looked for in all tokens, beside the grammar: parentheses in one another, and type uses whose type differs from what is
--- written beside it. Neither needs a grammar: among the tokens before the first one that may not stand there, `(type x)` is a
--- type use, and `(type` with `(func` behind it is a type field.
-use Rattle.std.specs.Prelude.{◌-◌, ◌&&◌, ℕ, suc, not, Bool, true, false, List, [], ◌∷◌, Option, Some, None, Result, Ok, Err, length, nat_lt, nat_le, slice_get, if◌then◌else◌}
+-- What is looked for in all tokens, beside the grammar, for the place of a fault: parentheses in one another, and type uses whose type
+-- differs from what is written beside it. Neither needs a grammar: among the tokens before the first one that may not stand there,
+-- `(type x)` is a type use, and `(type` with `(func` behind it is a type field. Of tokens that are fields this finds a use exactly where
+-- the uses of the fields don't agree (`AllAgree` of `TypeUses`), which is a law (`laws.rt`).
+use Rattle.std.specs.Prelude.{◌-◌, ◌&&◌, ℕ, suc, not, Bool, true, false, List, [], ◌∷◌, Option, Some, None, Result, Ok, Err, length, nat_lt, nat_le, if◌then◌else◌}
 use Rattle.ms_text_lex.specs.declared.token.Token.{Token}
 use Rattle.ms_text_grammar.specs.declared.fault.Counted.TheVariants.{Parens}
 use Rattle.ms_text_grammar.specs.declared.fault.TextFault.{TextFault}
 use Rattle.ms_text_grammar.specs.declared.fault.TextFault.TheVariants as fault
 use Rattle.ms_text_grammar.specs.declared.placed.Placed.{Placed}
-use Rattle.ms_text_grammar.specs.declared.surface.Index.{Index}
-use Rattle.ms_text_grammar.specs.declared.surface.Index.TheVariants.{Name, Number}
 use Rattle.ms_text_grammar.specs.declared.surface.TypeField.{TypeField}
 use Rattle.ms_text_grammar.specs.declared.surface.TypeUse.{TypeUse}
 use Rattle.ms_text_grammar.specs.declared.word.Word.TheVariants as word
@@ -17,8 +16,7 @@ use Rattle.ms_text_grammar.specs.Types.{type_field, type_use}
 use Rattle.ms_text_grammar.specs.Bounds.{usual}
 use Rattle.ms_text_grammar.specs.Fields.{file}
 use Rattle.ms_text_grammar.specs.Shapes.{field_type, is_written, same_shape, use_type}
-use Rattle.ms_text_grammar.specs.Identifiers.{found}
-use Rattle.ms_text_grammar.specs.FieldKinds.{type_ids}
+use Rattle.ms_text_grammar.specs.TypeUses.{field_at, index_in}
 
 -- ---- parentheses
 
@@ -81,20 +79,10 @@ module _ (source : List ℕ) where
   uses_in [] = []
   uses_in (t ∷ ts) = use_here (begins source word.Type (t ∷ ts)) t.at (t ∷ ts) (uses_in ts)
 
-  -- the number of the type field that a use names: the first one of an identifier
-  abbrev pub index_in : List TypeField → Option Index → Option ℕ
-  index_in fs None = None
-  index_in fs (Some (Number n)) = Some n
-  index_in fs (Some (Name id)) = found source (type_ids fs) id 0
-
-  abbrev pub field_at : List TypeField → Option ℕ → Option TypeField
-  field_at fs None = None
-  field_at fs (Some n) = slice_get fs n
-
   -- the first use that names a type field which differs from what is written
   abbrev pub differing : List TypeField → List Placed → Option ℕ
   differing fs [] = None
-  differing fs (u ∷ us) = if is_other (field_at fs (index_in fs u.sig.sig)) u.sig then Some u.at else differing fs us
+  differing fs (u ∷ us) = if is_other (field_at fs (index_in source fs u.sig.sig)) u.sig then Some u.at else differing fs us
 
 -- the first use among tokens that names a type field which differs from what is written
 abbrev pub mismatch : List ℕ → List Token → Option ℕ

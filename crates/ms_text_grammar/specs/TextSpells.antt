@@ -8,14 +8,15 @@ use Rattle.ms_text_grammar.specs.declared.fault.TextFault.{TextFault}
 use Rattle.ms_text_grammar.specs.declared.surface.Field.{Field}
 use Rattle.ms_text_grammar.specs.Bounds.{Bounds, usual}
 use Rattle.ms_text_grammar.specs.Fields.{file_within}
-use Rattle.ms_text_grammar.specs.Scans.{first_stop, mismatch, too_deep}
+use Rattle.ms_text_grammar.specs.Scans.{first_stop, too_deep}
+use Rattle.ms_text_grammar.specs.TypeUses.{AllAgree}
 use Rattle.ms_text_grammar.specs.Elaborating.{module_of}
 
--- Tokens spell fields within bounds: they are a file by the grammar, no type use differs from the type field that it names, and
--- parentheses are not too deep.
+-- Tokens spell fields within bounds: they are a file by the grammar, each type use that names a type field and writes a type writes
+-- that of the field, and parentheses are not too deep.
 pub record FieldsSpelledWithin (bounds : Bounds) (source : List ℕ) (tokens : List Token) (fields : List Field) : Type 0 where
   pub grammar : (file_within source bounds).spelled tokens fields []
-  pub agrees : mismatch source tokens ≡ None
+  pub agrees : AllAgree source fields
   pub shallow : too_deep bounds.parens 0 tokens ≡ None
 
 -- A text spells a module within bounds: its bytes are tokens, these are fields, each identifier in them is known and none repeated,

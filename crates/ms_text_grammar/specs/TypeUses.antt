@@ -1,6 +1,6 @@
 -- What identifiers and type uses of a module stand for (WebAssembly 1.0, 6.6.3): a use that names no type is the least one that
--- is what it writes, and adds it where there is none.
-use Rattle.std.specs.Prelude.{ℕ, ◌==◌, List, [], ◌∷◌, ◌++◌, Option, Some, None, length, replicate, slice_get, if◌then◌else◌}
+-- is what it writes, and adds it where there is none. One that names a type and writes one writes that type.
+use Rattle.std.specs.Prelude.{◌≡◌, ℕ, ◌==◌, true, List, [], ◌∷◌, ◌++◌, Option, Some, None, All, IfSome, length, replicate, slice_get, if◌then◌else◌}
 use Rattle.ms_types.specs.declared.types.FuncType.{FuncType}
 use Rattle.ms_text_lex.specs.declared.token.Token.{Token}
 use Rattle.ms_text_grammar.specs.declared.surface.ExternKind.{ExternKind}
@@ -8,13 +8,14 @@ use Rattle.ms_text_grammar.specs.declared.surface.ExternKind.TheVariants as kind
 use Rattle.ms_text_grammar.specs.declared.surface.Field.{Field}
 use Rattle.ms_text_grammar.specs.declared.surface.Field.TheVariants as field
 use Rattle.ms_text_grammar.specs.declared.surface.Index.{Index}
+use Rattle.ms_text_grammar.specs.declared.surface.Index.TheVariants.{Name, Number}
 use Rattle.ms_text_grammar.specs.declared.surface.Item.{Item}
 use Rattle.ms_text_grammar.specs.declared.surface.Item.TheVariants as item
 use Rattle.ms_text_grammar.specs.declared.surface.Param.{Param}
 use Rattle.ms_text_grammar.specs.declared.surface.TypeField.{TypeField}
 use Rattle.ms_text_grammar.specs.declared.surface.TypeUse.{TypeUse}
-use Rattle.ms_text_grammar.specs.Shapes.{field_type, has_type, least_equal, use_type}
-use Rattle.ms_text_grammar.specs.Identifiers.{With, param_ids, resolved, right}
+use Rattle.ms_text_grammar.specs.Shapes.{field_type, has_type, is_written, least_equal, use_type}
+use Rattle.ms_text_grammar.specs.Identifiers.{With, found, param_ids, resolved, right}
 use Rattle.ms_text_grammar.specs.FieldKinds.{entries_in, entry_ids, of_kind, type_ids, types_in}
 
 abbrev pub item_uses : Item → List TypeUse
@@ -45,6 +46,28 @@ with_uses (u ∷ us) tys = with_uses us (with_use u.sig (use_type u) tys)
 abbrev pub all_uses : List Field → List TypeUse
 all_uses [] = []
 all_uses (f ∷ fs) = uses_of f ++ all_uses fs
+
+-- ---- uses that name a type and write one
+
+-- the type field of this number
+abbrev pub field_at : List TypeField → Option ℕ → Option TypeField
+field_at fs None = None
+field_at fs (Some n) = slice_get fs n
+
+module _ (source : List ℕ) where
+  -- the number of the type field that a use names: the first one of an identifier
+  abbrev pub index_in : List TypeField → Option Index → Option ℕ
+  index_in fs None = None
+  index_in fs (Some (Number n)) = Some n
+  index_in fs (Some (Name id)) = found source (type_ids fs) id 0
+
+  -- where the use names one of these type fields and writes a type, that is the type of the field
+  abbrev pub Agrees : List TypeField → TypeUse → Type 0
+  Agrees fs u = IfSome (field_at fs (index_in fs u.sig)) (λ f. is_written u ≡ true → use_type u ≡ field_type f)
+
+  -- each use of the fields
+  abbrev pub AllAgree : List Field → Type 0
+  AllAgree fs = All (Agrees (types_in fs)) (all_uses fs)
 
 -- ---- what identifiers and type uses of a module stand for: the identifiers of its index spaces, and all its types
 

@@ -16,7 +16,7 @@ pub use fault::{Counted, TextFault};
 pub use frame::{Frame, Fresh, Sign};
 pub use laws::{
     fields_are_spelled_in_one_way, folded_instructions_are_taken, greater_bounds_spell_it,
-    one_module_is_spelled,
+    one_module_is_spelled, scanned_uses_are_those_of_fields,
 };
 pub use placed::Placed;
 pub use surface::{

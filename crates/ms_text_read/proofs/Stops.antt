@@ -5,6 +5,7 @@ use Rattle.ms_text_grammar.specs.declared.surface.Field.{Field}
 use Rattle.ms_text_grammar.specs.declared.fault.TextFault.{TextFault}
 use Rattle.ms_text_grammar.specs.declared.fault.TextFault.TheVariants.{Float, Lex, Limit, Memory, Name, Range, Syntax}
 use Rattle.ms_text_grammar.specs.Fields.{file}
+use Rattle.ms_text_grammar.proofs.Agreeing.{agree_from_scan, scan_from_agree}
 use Rattle.ms_text_grammar.proofs.Files.{file_ends, one_way}
 use Rattle.ms_text_grammar.specs.Bounds.{usual}
 use Rattle.ms_text_grammar.specs.Scans.{before, earlier, fault_in, first_stop, limit_at, mismatch, plain_stop, syntax_at, with_mismatch, too_deep}
@@ -17,9 +18,10 @@ pub all_spelled : (source : List ℕ) (tokens : List Token) (fields : List Field
     → too_deep usual.parens 0 tokens ≡ None → mismatch source tokens ≡ None → FieldsSpelled source tokens fields
 all_spelled source tokens fields t e shallow agrees =
     let h = (file source).takes (length source) tokens fields t e in
+    let grammar : (file source).spelled tokens fields [] = subst (λ (l : List Token). (file source).spelled tokens fields l) (file_ends source tokens fields t h) h in
     record {
-      grammar = subst (λ (l : List Token). (file source).spelled tokens fields l) (file_ends source tokens fields t h) h;
-      agrees = agrees;
+      grammar = grammar;
+      agrees = agree_from_scan source usual tokens fields grammar agrees;
       shallow = shallow;
     }
 
@@ -38,7 +40,7 @@ pub no_stop : (source : List ℕ) (tokens : List Token) (fields : List Field) �
 no_stop source tokens fields h =
     let e = (file source).again (length source) tokens fields [] h.grammar in
     let shallow = h.shallow in
-    let agrees = h.agrees in
+    let agrees = scan_from_agree source usual tokens fields h.grammar h.agrees in
     stop_of_fields source tokens (fields, []) e ∙ rw (shallow, agrees) refl
 
 -- what the code answers where the grammar has a fault

@@ -6,7 +6,8 @@ ghost use Rattle.ms_text_lex.specs.Tokens.{text_of};
 ghost use Rattle.ms_text_grammar.specs.Identifiers.{found, is_named};
 ghost use Rattle.ms_text_grammar.specs.FieldKinds.{type_ids};
 ghost use Rattle.ms_text_grammar.specs.Faults.{kept};
-ghost use Rattle.ms_text_grammar.specs.Scans.{differing, field_at, index_in, is_other};
+ghost use Rattle.ms_text_grammar.specs.Scans.{differing, is_other};
+ghost use Rattle.ms_text_grammar.specs.TypeUses.{field_at, index_in};
 ghost use Rattle.ms_text_read.specs.refinement.Names.{look, or_else};
 
 use crate::compare::is_other;
@@ -81,7 +82,7 @@ fn index_in<'a>(
 /// Whether a use names a type field that differs from what it writes.
 fn differs<'a>(source: &'a [u8], fields: &[TypeField], names: &Names<'a>, sig: &TypeUse) -> bool
     requires { (name : Token) → look names.now (text_of source.now name) ≡ found source.now (type_ids fields.now) name 0 }
-    ensures { result ≡ is_other (field_at source.now fields.now (index_in source.now fields.now sig.now.sig)) sig.now }
+    ensures { result ≡ is_other (field_at fields.now (index_in source.now fields.now sig.now.sig)) sig.now }
 {
     let Some(n) = index_in(source, fields, names, sig.sig) else {
         return false;

@@ -2,9 +2,7 @@
 
 ghost use Rattle.std.specs.Prelude.{◌≡◌, IfOk, length};
 ghost use Rattle.ms_text_grammar.specs.Bounds.{usual};
-ghost use Rattle.ms_text_grammar.specs.Identifiers.{found};
-ghost use Rattle.ms_text_grammar.specs.FieldKinds.{type_ids};
-ghost use Rattle.ms_text_grammar.specs.Scans.{differing, field_at, field_behind, fields_in, index_in, is_other, ok_value, placed, too_deep, up_to, uses_in};
+ghost use Rattle.ms_text_grammar.specs.Scans.{field_behind, fields_in, ok_value, placed, too_deep, up_to, uses_in};
 ghost use Rattle.ms_text_grammar.specs.Types.{type_use};
 
 use crate::compare::is_other;

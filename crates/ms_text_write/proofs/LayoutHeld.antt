@@ -21,8 +21,9 @@ use Rattle.ms_text_grammar.specs.Keywords.{spelling}
 use Rattle.ms_text_write.specs.refinement.Limits.{most_parens}
 use Rattle.ms_text_grammar.specs.Numbers.{index, index_by, number as read_number}
 use Rattle.ms_text_grammar.specs.Parts.{groups}
-use Rattle.ms_text_grammar.specs.Scans.{and_all, differing, field_at, index_in, is_other, ok_value, placed, tail_of, too_deep, uses_in}
+use Rattle.ms_text_grammar.specs.Scans.{and_all, differing, is_other, ok_value, placed, tail_of, too_deep, uses_in}
 use Rattle.ms_text_grammar.specs.Shapes.{is_written}
+use Rattle.ms_text_grammar.specs.TypeUses.{field_at, index_in}
 use Rattle.ms_text_grammar.specs.Types.{params, results, type_ref, type_ref_by, type_use}
 use Rattle.ms_text_write.proofs.Pieces.{Piece, Shows, left, more, none, number, right, the}
 
@@ -72,7 +73,7 @@ module _ (source : List ℕ) where
       → ((u : TypeUse) (m : List Token) → r ≡ Ok (u, m) → is_written u ≡ false) → differing source fs us ≡ None
       → differing source fs (and_all (placed at (ok_value r)) us) ≡ None
   used at fs us (Err e) h more' = more'
-  used at fs us (Ok x) h more' = rw (other_no (field_at source fs (index_in source fs x.0.sig)) x.0 (h x.0 x.1 refl)) more'
+  used at fs us (Ok x) h more' = rw (other_no (field_at fs (index_in source fs x.0.sig)) x.0 (h x.0 x.1 refl)) more'
 
   -- a type use that writes nothing, wherever it is one
   use_passed : (t : Token) (ts : List Token) (fs : List TypeField)

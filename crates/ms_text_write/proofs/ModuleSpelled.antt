@@ -3,6 +3,7 @@ use Rattle.std.proofs.Common.{◌≡◌, ℕ, List, sym}
 use Rattle.ms_module.specs.declared.module.Module.{Module}
 use Rattle.ms_text_grammar.specs.Bounds.{Bounds}
 use Rattle.ms_text_grammar.specs.TextSpells.{TextSpellsUnbounded, TextSpellsWithin}
+use Rattle.ms_text_grammar.proofs.Agreeing.{agree_from_scan}
 use Rattle.ms_text_grammar.proofs.Wider.{less_deep, one_spelled}
 use Rattle.ms_text_write.specs.refinement.Limits.{KeepsBounds, most_parens}
 use Rattle.ms_text_write.specs.refinement.Ranges.{PartsFit, UsesFit}
@@ -29,7 +30,7 @@ shown_spells bounds m room can say numbered =
       lexed = text.1;
       spelled = record {
         grammar = said.1;
-        agrees = agrees (shown m) text.0 m shows;
+        agrees = agree_from_scan (shown m) bounds text.0 said.0 said.1 (agrees (shown m) text.0 m shows);
         shallow = less_deep most_parens bounds.parens 0 room text.0 (shallow (shown m) text.0 m shows);
       };
       named = is.1;
