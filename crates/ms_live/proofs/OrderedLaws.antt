@@ -37,7 +37,7 @@ find_left p [] [] a = refl
 find_left p [] (y ∷ ys) a = cond_false (p y) (Some y) (find p ys) (All-head (λ z. p z ≡ false) y ys a) ∙ find_left p [] ys (All-tail (λ z. p z ≡ false) y ys a)
 find_left p (x ∷ xs) ys a = ap (cond (p x) (Some x)) (find_left p xs ys a)
 
-find_right : {X : Type 0} (p : X → Bool) (xs ys : List X) → All (λ y. p y ≡ false) xs → find p (xs ++ ys) ≡ find p ys
+pub find_right : {X : Type 0} (p : X → Bool) (xs ys : List X) → All (λ y. p y ≡ false) xs → find p (xs ++ ys) ≡ find p ys
 find_right p [] ys a = refl
 find_right p (x ∷ xs) ys a = cond_false (p x) (Some x) (find p (xs ++ ys)) (All-head (λ z. p z ≡ false) x xs a) ∙ find_right p xs ys (All-tail (λ z. p z ≡ false) x xs a)
 
