@@ -1,5 +1,7 @@
 pub mod Exchanged
 pub mod Frame
+pub mod GainLaws
+pub mod Gains
 pub mod Inserted
 pub mod LastLaw
 pub mod Laws
@@ -9,9 +11,6 @@ pub mod Pool
 pub mod PopLaws
 pub mod PopSteps
 pub mod RemoveLaws
-pub mod RemoveSlots
 pub mod RemoveSteps
-pub mod SizeLaws
-pub mod SlotLaws
 pub mod OrderLaws
 pub mod WayDown

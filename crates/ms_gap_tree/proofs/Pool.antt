@@ -11,14 +11,12 @@ use Rattle.ms_gap_tree.specs.refinement.Tree.{Tree, Empty, Fork, half, has, inse
 use Rattle.ms_gap_tree.specs.declared.node.Item.{Item}
 use Rattle.ms_gap_tree.specs.declared.node.Link.{Link}
 use Rattle.ms_gap_tree.specs.declared.node.Node.{Node}
-use Rattle.ms_gap_tree.proofs.Frame.{framed, has_insert}
+use Rattle.ms_gap_tree.proofs.Frame.{framed}
+use Rattle.ms_gap_tree.proofs.GainLaws.{insert_gains, remove_loses}
+use Rattle.ms_gap_tree.proofs.Gains.{absent_gains, absent_loses, apart_gains, apart_loses, gained, size_gains, within_gains, within_loses, Gains}
 use Rattle.ms_gap_tree.proofs.Laws.{look_insert}
 use Rattle.ms_gap_tree.proofs.Levels.{or_joined, differ_test}
 use Rattle.ms_gap_tree.proofs.RemoveLaws.{look_remove, in_order_remove}
-use Rattle.ms_gap_tree.proofs.RemoveSlots.{apart_remove, within_remove, IsFreed}
-use Rattle.ms_gap_tree.proofs.RemoveSteps.{has_remove}
-use Rattle.ms_gap_tree.proofs.SizeLaws.{size_insert, size_remove}
-use Rattle.ms_gap_tree.proofs.SlotLaws.{apart_insert, within_insert}
 use Rattle.ms_gap_tree.proofs.OrderLaws.{in_order_insert}
 
 -- ---- slots
@@ -127,10 +125,11 @@ held_put a old free nodes new result slot item held spare key absent e l =
     let t = tree a in
     let i = insert a.levels 0 slot item t in
     let q = put_is a nodes new result slot item free spare e in
-    let within : IsWithinArena (length nodes) i = within_insert a.levels 0 slot item t (length nodes) spare.next.there spare.within in
-    let apart = apart_insert a.levels 0 slot item t spare.next.fresh held.apart in
+    let gains = insert_gains a.levels 0 slot t held.in_order item (omega arith) (omega arith) absent in
+    let within = within_gains slot t i gains (length nodes) spare.next.there spare.within in
+    let apart = apart_gains slot t i gains spare.next.fresh held.apart in
     let in_order = in_order_insert a.levels 0 slot t held.in_order item (omega arith) (omega arith) absent in
-    let pool = spare.next.pool (λ j. has j i) (size i) (size_insert a.levels 0 slot t held.in_order item (omega arith) (omega arith) absent) (λ j n h. has_insert a.levels 0 slot item t j h n) in
+    let pool = spare.next.pool (λ j. has j i) (size i) (size_gains slot t i gains) (λ j n h. absent_gains slot t i gains j h n) in
     let few = spare.few in
     record {
       within = subst (λ (n : ℕ). IsWithinArena n (tree_of new a.levels result)) (sym l) (subst (IsWithinArena (length nodes)) (sym q) within);
@@ -150,21 +149,23 @@ pub size_put : (a : Arena) (old free : List ℕ) (nodes new : List Node) (result
     → tree_of new a.levels result ≡ insert a.levels 0 slot item (tree_of nodes a.levels a.root) → size_of (record { nodes = new; root = result; levels = a.levels; most = a.most }) ≡ 1 + size_of a
 unfolding room_at size_of
 size_put a old free nodes new result slot item held spare below absent e =
-    ap size (put_is a nodes new result slot item free spare e) ∙ size_insert a.levels 0 slot (tree a) held.in_order item (omega arith) (omega arith) absent
+    ap size (put_is a nodes new result slot item free spare e) ∙ size_gains slot (tree a) (insert a.levels 0 slot item (tree a)) (insert_gains a.levels 0 slot (tree a) held.in_order item (omega arith) (omega arith) absent)
 
 -- ---- an item less
 
-pub held_taken : (a : Arena) (free : List ℕ) (new : List Node) (rest : Option Link) (key room slot : ℕ) → IsHeld a free → look a.levels 0 key (tree a) ≡ Some room → IsFreed a.levels 0 key (tree a) slot
+pub held_taken : (a : Arena) (free : List ℕ) (new : List Node) (rest : Option Link) (key slot : ℕ) → IsHeld a free → Gains slot (remove a.levels 0 key (tree a)) (tree a)
     → tree_of new a.levels rest ≡ remove a.levels 0 key (tree a) → length new ≡ length a.nodes → IsHeld (record { nodes = new; root = rest; levels = a.levels; most = a.most }) (free ++ slot ∷ [])
-held_taken a free new rest key room slot held there freed e l =
+held_taken a free new rest key slot held gains e l =
     let t = tree a in
+    let r = remove a.levels 0 key t in
     let n = length a.nodes in
-    let within : IsWithinArena n (remove a.levels 0 key t) = within_remove a.levels 0 key t n held.within in
-    let pool = given_back n (λ j. has j t) (λ j. has j (remove a.levels 0 key t)) (size t) (size (remove a.levels 0 key t)) free slot held.pool (has_within n slot t held.within freed.had) freed.had freed.gone (λ j h. has_remove a.levels 0 key t j h) (size_remove a.levels 0 key t room there) in
+    let had = gained slot r t gains in
+    let apart = apart_loses slot r t gains held.apart in
+    let pool = given_back n (λ j. has j t) (λ j. has j r) (size t) (size r) free slot held.pool (has_within n slot t held.within had) had apart.0 (λ j h. absent_loses slot r t gains j h) (sym (size_gains slot r t gains)) in
     let few = held.few in
     record {
-      within = subst (λ (m : ℕ). IsWithinArena m (tree_of new a.levels rest)) (sym l) (subst (IsWithinArena n) (sym e) within);
-      apart = subst IsApart (sym e) (apart_remove a.levels 0 key t held.apart);
+      within = subst (λ (m : ℕ). IsWithinArena m (tree_of new a.levels rest)) (sym l) (subst (IsWithinArena n) (sym e) (within_loses slot r t gains n held.within));
+      apart = subst IsApart (sym e) apart.1;
       in_order = subst (IsInOrder a.levels 0) (sym e) (in_order_remove a.levels 0 key t held.in_order);
       pool = subst (λ (m : ℕ). IsPool m (λ j. has j (tree_of new a.levels rest)) (size (tree_of new a.levels rest)) (free ++ slot ∷ [])) (sym l) (subst (λ (x : Tree). IsPool n (λ j. has j x) (size x) (free ++ slot ∷ [])) (sym e) pool);
       few = omega arith;
@@ -177,7 +178,9 @@ room_taken a free new rest key held e other = ap (look a.levels 0 other) e ∙ l
 
 pub size_taken : (a : Arena) (new : List Node) (rest : Option Link) (key room : ℕ) → room_at a key ≡ Some room → tree_of new a.levels rest ≡ remove a.levels 0 key (tree a) → 1 + size_of (record { nodes = new; root = rest; levels = a.levels; most = a.most }) ≡ size_of a
 unfolding room_at size_of
-size_taken a new rest key room there e = ap (λ (t : Tree). 1 + size t) e ∙ size_remove a.levels 0 key (tree a) room there
+size_taken a new rest key room there e =
+    let loses = remove_loses a.levels 0 key (tree a) room there in
+    ap (λ (t : Tree). 1 + size t) e ∙ sym (size_gains loses.0 (remove a.levels 0 key (tree a)) (tree a) loses.2)
 
 -- the items that are left are fewer than there may be
 pub few_taken : (a : Arena) (free : List ℕ) (new : List Node) (rest : Option Link) (key room : ℕ) → IsHeld a free → room_at a key ≡ Some room → tree_of new a.levels rest ≡ remove a.levels 0 key (tree a) → size_of (record { nodes = new; root = rest; levels = a.levels; most = a.most }) < a.most

@@ -28,7 +28,7 @@ second_below left Empty h e = let q : true ≡ false = e in absurd (cc)
 second_below Empty (Fork j item' l' r') h e = tt
 second_below (Fork i item l r) (Fork j item' l' r') h e = let q = test_gt item'.room item.room h in omega arith
 
-both_empty : (left right : Tree) → first left right ≡ false → is_empty right ≡ true → (left ≡ Empty) × (right ≡ Empty)
+pub both_empty : (left right : Tree) → first left right ≡ false → is_empty right ≡ true → (left ≡ Empty) × (right ≡ Empty)
 both_empty Empty Empty h e = (refl, refl)
 both_empty (Fork i item l r) Empty h e = let q : true ≡ false = h in absurd (cc)
 both_empty left (Fork j item' l' r') h e = let q : false ≡ true = e in absurd (cc)

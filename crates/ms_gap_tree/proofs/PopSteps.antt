@@ -5,8 +5,10 @@ use Rattle.ms_gap_tree.specs.refinement.Tree.{Tree, Empty, Fork, first, freed, h
 use Rattle.ms_gap_tree.specs.declared.node.Item.{Item}
 use Rattle.ms_gap_tree.specs.declared.node.Link.{Link}
 use Rattle.ms_gap_tree.specs.declared.node.Node.{Node}
-use Rattle.ms_gap_tree.proofs.Levels.{or_joined, other_slot, test_differ, tree_none}
+use Rattle.ms_gap_tree.proofs.Levels.{other_slot, test_differ, tree_none}
 use Rattle.ms_gap_tree.proofs.Frame.{rebuilt_left, rebuilt_right}
+use Rattle.ms_gap_tree.proofs.GainLaws.{pop_loses}
+use Rattle.ms_gap_tree.proofs.Gains.{absent_loses}
 use Rattle.ms_gap_tree.proofs.Inserted.{cond_true, cond_false, contrary, linked}
 
 pub first_is : (nodes : List Node) (d : ℕ) (left right : Option Link) → link_first left right ≡ first (tree_of nodes d left) (tree_of nodes d right)
@@ -31,15 +33,7 @@ none_is nodes (suc d) = refl
 
 pub has_pop : (tree : Tree) (j : ℕ) → has j tree ≡ false → has j (pop tree) ≡ false
 has_pop Empty j h = h
-has_pop (Fork i item left right) j h =
-    let o = other_slot j i item left right h in
-    elim (first left right) as (λ b. has j (cond b (Fork i (root left) (pop left) right) (cond (is_empty right) Empty (Fork i (root right) left (pop right)))) ≡ false) [
-      | true ↦ or_joined _ _ o.0 (or_joined _ _ (has_pop left j o.1) o.2)
-      | false ↦ elim (is_empty right) as (λ b. has j (cond b Empty (Fork i (root right) left (pop right))) ≡ false) [
-        | true ↦ refl
-        | false ↦ or_joined _ _ o.0 (or_joined _ _ o.1 (has_pop right j o.2))
-      ]
-    ]
+has_pop (Fork i item left right) j h = absent_loses _ _ _ (pop_loses (Fork i item left right) refl) j h
 
 pub popped_left : (old new : List Node) (level d : ℕ) (top child : Link) (rest : Option Link) → level ≡ suc d → (at old top.at).left ≡ Some child → link_first (at old top.at).left (at old top.at).right ≡ true → IsApart (tree_of old level (Some top)) → top.at < length new
     → tree_of new d rest ≡ pop (tree_of old d (Some child)) → ((j : ℕ) → has j (tree_of old d (Some child)) ≡ false → at new j ≡ at old j)

@@ -1,4 +1,5 @@
 pub mod Found
+pub mod Hinting
 pub mod Keeping
 pub mod Layouts
 pub mod OrderedLaws

@@ -6,16 +6,18 @@ use Rattle.std.proofs.lemmas.Bool.{cases_lt}
 use Rattle.std.proofs.lemmas.Bool.Decides.{nat_tests}
 use Rattle.std.proofs.lemmas.List.{append-nil, length-append}
 use Rattle.std.proofs.lemmas.List.Elements.{All-append, All-cons, All-filter, All-head, All-nil, All-push, All-same, All-tail, All-weaker, filter-append}
+use Rattle.ms_gap_tree.proofs.Gains.{size_gains, Gains, Last, Left, Right}
 use Rattle.ms_gap_tree.proofs.Inserted.{cond_false, cond_true, lt_false, lt_true}
 use Rattle.ms_gap_tree.proofs.Laws.{half_none, upper_range}
 use Rattle.ms_gap_tree.proofs.LowestLaw.{bool_cases, two_halves}
 use Rattle.ms_gap_tree.specs.refinement.Tree.{half}
-use Rattle.ms_live.specs.refinement.Ordered.{Ordered, Empty, Fork, count, pick, pop, push, remove, root, seek, segments, IsInOrder}
+use Rattle.ms_live.specs.refinement.Ordered.{Ordered, Empty, Fork, count, no_item, pick, pop, push, remove, root, seek, segments, shape, IsInOrder}
 use Rattle.ms_live.specs.Place.{without}
 use Rattle.ms_live.specs.declared.branch.Branch.{Branch}
 use Rattle.ms_live.specs.declared.gaps.Live.{Live}
 use Rattle.ms_live.specs.declared.gaps.TheConstants.{MOST_LIVE}
 use Rattle.ms_live.proofs.Found.{other_id, same_id}
+use Rattle.ms_live.proofs.OrderedSlots.{remove_loses, size_is}
 
 -- ---- lists
 
@@ -37,7 +39,7 @@ find_left p [] [] a = refl
 find_left p [] (y ∷ ys) a = cond_false (p y) (Some y) (find p ys) (All-head (λ z. p z ≡ false) y ys a) ∙ find_left p [] ys (All-tail (λ z. p z ≡ false) y ys a)
 find_left p (x ∷ xs) ys a = ap (cond (p x) (Some x)) (find_left p xs ys a)
 
-find_right : {X : Type 0} (p : X → Bool) (xs ys : List X) → All (λ y. p y ≡ false) xs → find p (xs ++ ys) ≡ find p ys
+pub find_right : {X : Type 0} (p : X → Bool) (xs ys : List X) → All (λ y. p y ≡ false) xs → find p (xs ++ ys) ≡ find p ys
 find_right p [] ys a = refl
 find_right p (x ∷ xs) ys a = cond_false (p x) (Some x) (find p (xs ++ ys)) (All-head (λ z. p z ≡ false) x xs a) ∙ find_right p xs ys (All-tail (λ z. p z ≡ false) x xs a)
 
@@ -159,6 +161,27 @@ in_order_push (suc d) low slot new (Fork i n s l u) h a b c =
           (h.0, h.1, omega arith, h.3, All-same (Newer s) _ _ e (All-push (Newer s) (segments u) new h.4 older), h.5, in_order_push d middle slot new u h.6 all k inside)
     ]
 
+pub push_gains : (d low slot : ℕ) (new : Live) (tree : Ordered) → IsInOrder d low tree → All (λ (t : Live). t.id < new.id) (segments tree) → low ≤ new.id → new.id < low + half d → Gains slot (shape tree) (shape (push d low slot new tree))
+push_gains zero low slot new tree h a b c = let x = half_none in absurd (omega arith)
+push_gains (suc d) low slot new Empty h a b c = Last no_item
+push_gains (suc d) low slot new (Fork i n s l u) h a b c =
+    let middle = low + half d in
+    let P = λ (t : Live). t.id < new.id in
+    let older = All-head P s (segments l ++ segments u) a in
+    let rest = newer_tail s (segments l) (segments u) new a in
+    let on_lower = Fork i (n + 1) s (push d low slot new l) u in
+    let on_upper = Fork i (n + 1) s l (push d middle slot new u) in
+    let More = λ (t : Ordered). Gains slot (shape (Fork i n s l u)) (shape t) in
+    elim (cases_lt new.id middle) [
+      | inl k ↦
+          subst More (sym (cond_true (nat_lt new.id middle) on_lower on_upper (lt_true _ _ k)))
+          (Left i no_item no_item (shape l) (shape (push d low slot new l)) (shape u) (push_gains d low slot new l h.5 (All-left P (segments l) (segments u) rest) b k))
+      | inr k ↦
+          let inside = upper_range d low new.id s.id b c h.0 h.1 (λ q. let p : ⊥ = omega arith in p) k in
+          subst More (sym (cond_false (nat_lt new.id middle) on_lower on_upper (lt_false _ _ k)))
+          (Right i no_item no_item (shape l) (shape u) (shape (push d middle slot new u)) (push_gains d middle slot new u h.6 (All-right P (segments l) (segments u) rest) k inside))
+    ]
+
 -- ---- the oldest goes
 
 -- the segments but the oldest one
@@ -248,31 +271,12 @@ segments_remove (suc d) low id (Fork i n s l u) h =
     ]
 
 pub length_remove : (d low id : ℕ) (tree : Ordered) (x : Live) → seek d low id tree ≡ Some x → 1 + length (segments (remove d low id tree)) ≡ length (segments tree)
-length_remove zero low id tree x h = let q : None ≡ Some x = h in absurd (cc)
-length_remove (suc d) low id Empty x h = let q : None ≡ Some x = h in absurd (cc)
-length_remove (suc d) low id (Fork i n s l u) x h =
-    let middle = low + half d in
-    let whole = Fork i n s l u in
-    let on_lower = Fork i (n - 1) s (remove d low id l) u in
-    let on_upper = Fork i (n - 1) s l (remove d middle id u) in
-    let len : length (segments l ++ segments u) ≡ length (segments l) + length (segments u) = length-append (segments l) (segments u) in
-    elim (bool_cases (s.id == id)) [
-      | inl e ↦
-          let f = fewer i n s l u in
-          ap (λ (t : Ordered). 1 + length (segments t)) (cond_true (s.id == id) (pop whole) (cond (nat_lt id middle) on_lower on_upper) e) ∙ omega (arith, f)
-      | inr e ↦
-          let q = sym (cond_false (s.id == id) (Some s) (cond (nat_lt id middle) (seek d low id l) (seek d middle id u)) e) ∙ h in
-          elim (cases_lt id middle) [
-            | inl k ↦
-                let r = length_remove d low id l x (sym (cond_true (nat_lt id middle) (seek d low id l) (seek d middle id u) (lt_true _ _ k)) ∙ q) in
-                let lw : length (segments (remove d low id l) ++ segments u) ≡ length (segments (remove d low id l)) + length (segments u) = length-append (segments (remove d low id l)) (segments u) in
-                ap (λ (t : Ordered). 1 + length (segments t)) (cond_false (s.id == id) (pop whole) (cond (nat_lt id middle) on_lower on_upper) e ∙ cond_true (nat_lt id middle) on_lower on_upper (lt_true _ _ k)) ∙ omega (arith, r, lw)
-            | inr k ↦
-                let r = length_remove d middle id u x (sym (cond_false (nat_lt id middle) (seek d low id l) (seek d middle id u) (lt_false _ _ k)) ∙ q) in
-                let lw : length (segments l ++ segments (remove d middle id u)) ≡ length (segments l) + length (segments (remove d middle id u)) = length-append (segments l) (segments (remove d middle id u)) in
-                ap (λ (t : Ordered). 1 + length (segments t)) (cond_false (s.id == id) (pop whole) (cond (nat_lt id middle) on_lower on_upper) e ∙ cond_false (nat_lt id middle) on_lower on_upper (lt_false _ _ k)) ∙ omega (arith, r, lw)
-          ]
-    ]
+length_remove d low id tree x h =
+    let loses = remove_loses d low id tree x h in
+    let one = size_gains loses.0 (shape (remove d low id tree)) (shape tree) loses.2 in
+    let less = size_is (remove d low id tree) in
+    let all = size_is tree in
+    omega (arith, one, less, all)
 
 pub in_order_remove : (d low id : ℕ) (tree : Ordered) (x : Live) → IsInOrder d low tree → seek d low id tree ≡ Some x → IsInOrder d low (remove d low id tree)
 in_order_remove zero low id tree x h f = let q : None ≡ Some x = f in absurd (cc)

@@ -6,19 +6,19 @@ use Rattle.std.proofs.Math.Pow.{pow_mono}
 use Rattle.std.proofs.lemmas.List.{append-nil, get_or_append_left, length-append}
 use Rattle.std.proofs.lemmas.List.Elements.{All-nil}
 use Rattle.ms_gap_tree.proofs.LowestLaw.{two_halves}
-use Rattle.ms_gap_tree.proofs.Pool.{given_back, next_new, next_old, IsNext}
+use Rattle.ms_gap_tree.proofs.Gains.{absent_gains, absent_loses, apart_gains, apart_loses, gained, within_gains, within_loses, Gains}
+use Rattle.ms_gap_tree.proofs.Pool.{beyond, given_back, has_within, next_new, next_old, within_more, IsNext}
 use Rattle.ms_gap_tree.specs.refinement.Rooms.{IsPool}
 use Rattle.ms_gap_tree.specs.refinement.Tree.{half}
-use Rattle.ms_live.specs.refinement.Ordered.{Ordered, Empty, Fork, blank, has, lifted, pop, push, remove, seek, segments, tree_of, IsApart, IsInOrder, IsStored, IsWithinArena}
+use Rattle.ms_live.specs.refinement.Ordered.{Ordered, Empty, Fork, blank, has, lifted, pop, push, remove, seek, segments, shape, tree_of, IsApart, IsInOrder, IsStored, IsWithinArena}
 use Rattle.ms_live.specs.Place.{contains_id, without}
 use Rattle.ms_live.specs.declared.branch.Branch.{Branch}
 use Rattle.ms_live.specs.declared.branch.Halves.{Halves}
 use Rattle.ms_live.specs.declared.gaps.Live.{Live}
 use Rattle.ms_live.specs.declared.gaps.TheConstants.{MOST_LIVE}
 use Rattle.ms_live.proofs.Found.{is_some-find}
-use Rattle.ms_live.proofs.OrderedLaws.{count_is, length_remove, newer_below, seek_law, segments_pop, segments_push, segments_remove, in_order_empty, in_order_pop, in_order_push, in_order_remove}
-use Rattle.ms_live.proofs.OrderedSlots.{apart_push, apart_remove, beyond, has_within, within_more, within_push, within_remove, IsFreed}
-use Rattle.ms_live.proofs.OrderedSteps.{framed, has_push, has_remove, tree_none}
+use Rattle.ms_live.proofs.OrderedLaws.{count_is, length_remove, newer_below, push_gains, seek_law, segments_pop, segments_push, segments_remove, in_order_empty, in_order_pop, in_order_push, in_order_remove}
+use Rattle.ms_live.proofs.OrderedSteps.{framed, tree_none}
 
 -- ---- levels
 
@@ -83,10 +83,10 @@ spare_new nodes levels root free s e few =
     let c = (subst (IsPool (length nodes) (λ j. has j t) (length (segments t))) e s.pool).count in
     let n : length (nodes ++ blank ∷ []) ≡ length nodes + 1 = length-append nodes (blank ∷ []) in
     record {
-      same = framed levels nodes (nodes ++ blank ∷ []) root (λ j h. get_or_append_left nodes (blank ∷ []) blank j (has_within (length nodes) j t s.within h));
-      within = within_more (length nodes) (length (nodes ++ blank ∷ [])) t (omega arith) s.within;
+      same = framed levels nodes (nodes ++ blank ∷ []) root (λ j h. get_or_append_left nodes (blank ∷ []) blank j (has_within (length nodes) j (shape t) s.within h));
+      within = within_more (length nodes) (length (nodes ++ blank ∷ [])) (shape t) (omega arith) s.within;
       few = omega arith;
-      next = subst (λ (m : ℕ). IsNext m (λ j. has j t) (length (segments t)) [] (length nodes)) (sym n) (next_new (length nodes) (λ j. has j t) (length (segments t)) free s.pool e (beyond (length nodes) (length nodes) t s.within (omega arith)));
+      next = subst (λ (m : ℕ). IsNext m (λ j. has j t) (length (segments t)) [] (length nodes)) (sym n) (next_new (length nodes) (λ j. has j t) (length (segments t)) free s.pool e (beyond (length nodes) (length nodes) (shape t) s.within (omega arith)));
     }
 
 pub spare_is : (nodes new : List Halves) (levels : ℕ) (root : Option Branch) (free rest : List ℕ) (slot : ℕ) → IsStored nodes levels root free → length (segments (tree_of nodes levels root)) < MOST_LIVE
@@ -112,11 +112,12 @@ stored_put nodes mid new levels root result free rest slot x s spare newest room
     let q = e ∙ ap (push levels 0 slot x) spare.same in
     let more = segments_push levels 0 slot x t s.in_order newest (omega arith) (omega arith) in
     let count : length (segments p) ≡ 1 + length (segments t) = ap length more ∙ (length-append (segments t) (x ∷ []) ∙ omega arith) in
+    let gains = push_gains levels 0 slot x t s.in_order newest (omega arith) (omega arith) in
     let few = spare.few in
-    let pool = spare.next.pool (λ j. has j p) (length (segments p)) count (λ j n h. has_push levels 0 slot x t j h n) in
+    let pool = spare.next.pool (λ j. has j p) (length (segments p)) count (λ j n h. absent_gains slot (shape t) (shape p) gains j h n) in
     record {
-      within = subst (λ (n : ℕ). IsWithinArena n (tree_of new levels result)) (sym l) (subst (IsWithinArena (length mid)) (sym q) (within_push levels 0 slot x t (length mid) spare.next.there spare.within));
-      apart = subst IsApart (sym q) (apart_push levels 0 slot x t spare.next.fresh s.apart);
+      within = subst (λ (n : ℕ). IsWithinArena n (tree_of new levels result)) (sym l) (subst (IsWithinArena (length mid)) (sym q) (within_gains slot (shape t) (shape p) gains (length mid) spare.next.there spare.within));
+      apart = subst IsApart (sym q) (apart_gains slot (shape t) (shape p) gains spare.next.fresh s.apart);
       in_order = subst (IsInOrder levels 0) (sym q) (in_order_push levels 0 slot x t s.in_order newest (omega arith) (omega arith));
       pool = subst (λ (n : ℕ). IsPool n (λ j. has j (tree_of new levels result)) (length (segments (tree_of new levels result))) rest) (sym l) (subst (λ (y : Ordered). IsPool (length mid) (λ j. has j y) (length (segments y)) rest) (sym q) pool);
       few = omega arith;
@@ -138,17 +139,19 @@ there_is nodes levels id root free s there =
 pub segments_taken : (nodes new : List Halves) (levels id : ℕ) (root rest : Option Branch) (free : List ℕ) → IsStored nodes levels root free → tree_of new levels rest ≡ remove levels 0 id (tree_of nodes levels root) → segments (tree_of new levels rest) ≡ without id (segments (tree_of nodes levels root))
 segments_taken nodes new levels id root rest free s e = ap segments e ∙ segments_remove levels 0 id (tree_of nodes levels root) s.in_order
 
-pub stored_taken : (nodes new : List Halves) (levels id slot : ℕ) (root rest : Option Branch) (free : List ℕ) (x : Live) → IsStored nodes levels root free → seek levels 0 id (tree_of nodes levels root) ≡ Some x → IsFreed levels 0 id (tree_of nodes levels root) slot
+pub stored_taken : (nodes new : List Halves) (levels id slot : ℕ) (root rest : Option Branch) (free : List ℕ) (x : Live) → IsStored nodes levels root free → seek levels 0 id (tree_of nodes levels root) ≡ Some x → Gains slot (shape (remove levels 0 id (tree_of nodes levels root))) (shape (tree_of nodes levels root))
     → tree_of new levels rest ≡ remove levels 0 id (tree_of nodes levels root) → length new ≡ length nodes → IsStored new levels rest (free ++ slot ∷ [])
-stored_taken nodes new levels id slot root rest free x s there freed e l =
+stored_taken nodes new levels id slot root rest free x s there gains e l =
     let t = tree_of nodes levels root in
     let r = remove levels 0 id t in
     let n = length nodes in
-    let pool = given_back n (λ j. has j t) (λ j. has j r) (length (segments t)) (length (segments r)) free slot s.pool (has_within n slot t s.within freed.had) freed.had freed.gone (λ j h. has_remove levels 0 id t j h) (length_remove levels 0 id t x there) in
+    let had = gained slot (shape r) (shape t) gains in
+    let apart = apart_loses slot (shape r) (shape t) gains s.apart in
+    let pool = given_back n (λ j. has j t) (λ j. has j r) (length (segments t)) (length (segments r)) free slot s.pool (has_within n slot (shape t) s.within had) had apart.0 (λ j h. absent_loses slot (shape r) (shape t) gains j h) (length_remove levels 0 id t x there) in
     let few = s.few in
     record {
-      within = subst (λ (m : ℕ). IsWithinArena m (tree_of new levels rest)) (sym l) (subst (IsWithinArena n) (sym e) (within_remove levels 0 id t n s.within));
-      apart = subst IsApart (sym e) (apart_remove levels 0 id t s.apart);
+      within = subst (λ (m : ℕ). IsWithinArena m (tree_of new levels rest)) (sym l) (subst (IsWithinArena n) (sym e) (within_loses slot (shape r) (shape t) gains n s.within));
+      apart = subst IsApart (sym e) apart.1;
       in_order = subst (IsInOrder levels 0) (sym e) (in_order_remove levels 0 id t x s.in_order there);
       pool = subst (λ (m : ℕ). IsPool m (λ j. has j (tree_of new levels rest)) (length (segments (tree_of new levels rest))) (free ++ slot ∷ [])) (sym l) (subst (λ (y : Ordered). IsPool n (λ j. has j y) (length (segments y)) (free ++ slot ∷ [])) (sym e) pool);
       few = omega arith;

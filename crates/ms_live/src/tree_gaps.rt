@@ -8,7 +8,7 @@ ghost use Rattle.ms_live.specs.Place.{IsPlace};
 ghost use Rattle.ms_live.specs.declared.gaps.TheConstants.{GAP_LEVELS};
 
 use crate::gaps::{ALIGNMENT, GAP_LEVELS, Gaps, Live, MOST_LIVE};
-use crate::ids::Ids;
+use crate::hinted::HintedIds;
 use ms_gap_tree::{Item, Rooms, Steps};
 use std::alloc::{AllocError, Global};
 use std::marker::{Brand, Model};
@@ -20,7 +20,7 @@ use std::sync::ledger::{Blank, Ledger};
 pub struct TreeGaps {
     capacity: u32,
     rooms: Rooms,
-    ids: Ids,
+    ids: HintedIds,
 }
 
 impl Model for TreeGaps {
@@ -143,7 +143,7 @@ impl Gaps for TreeGaps {
         Ok(TreeGaps {
             capacity,
             rooms,
-            ids: Ids::new(alloc)?,
+            ids: HintedIds::new(alloc)?,
         })
     }
 

@@ -1,7 +1,9 @@
 -- Trees of segments by halves of a range of identities: the oldest segment stands at the root, the others in the half that their identity lies in.
-use Rattle.std.specs.Prelude.{◌≡◌, ◌==◌, ℕ, zero, suc, ◌+◌, ◌-◌, ◌<◌, ◌≤◌, Bool, true, false, cond, ◌||◌, nat_eq, nat_lt, List, [], ◌∷◌, ◌++◌, length, get_or, All, Option, Some, None, ⊤}
+use Rattle.std.specs.Prelude.{◌≡◌, ◌==◌, ℕ, zero, suc, ◌+◌, ◌-◌, ◌<◌, ◌≤◌, Bool, cond, nat_eq, nat_lt, List, [], ◌∷◌, ◌++◌, length, get_or, All, Option, Some, None, ⊤}
 use Rattle.ms_gap_tree.specs.refinement.Rooms.{IsPool}
+use Rattle.ms_gap_tree.specs.refinement.Tree as rooms
 use Rattle.ms_gap_tree.specs.refinement.Tree.{half}
+use Rattle.ms_gap_tree.specs.declared.node.Item.{Item}
 use Rattle.ms_live.specs.declared.branch.Branch.{Branch}
 use Rattle.ms_live.specs.declared.branch.Halves.{Halves}
 use Rattle.ms_live.specs.declared.gaps.Live.{Live}
@@ -36,20 +38,26 @@ count (Fork i n s l u) = n
 
 -- ---- slots
 
+-- what stands at each slot of a shape
+abbrev pub no_item : Item
+no_item = record { key = 0; room = 0 }
+
+-- the tree of rooms that has the same slots
+abbrev pub shape : Ordered → rooms.Tree
+shape Empty = rooms.Empty
+shape (Fork i n s l u) = rooms.Fork i no_item (shape l) (shape u)
+
 -- the slot is one of the tree's
 abbrev pub has : ℕ → Ordered → Bool
-has slot Empty = false
-has slot (Fork i n s l u) = nat_eq slot i || (has slot l || has slot u)
+has slot t = rooms.has slot (shape t)
 
 -- no slot is this one or above
 abbrev pub IsWithinArena : ℕ → Ordered → Type 0
-IsWithinArena m Empty = ⊤
-IsWithinArena m (Fork i n s l u) = (i < m) × IsWithinArena m l × IsWithinArena m u
+IsWithinArena m t = rooms.IsWithinArena m (shape t)
 
 -- each slot occurs once
 abbrev pub IsApart : Ordered → Type 0
-IsApart Empty = ⊤
-IsApart (Fork i n s l u) = (has i l ≡ false) × (has i u ≡ false) × ((j : ℕ) → has j l ≡ true → has j u ≡ false) × IsApart l × IsApart u
+IsApart t = rooms.IsApart (shape t)
 
 -- identities are in their ranges and below those of the halves, and counts are right
 abbrev pub IsInOrder : ℕ → ℕ → Ordered → Type 0

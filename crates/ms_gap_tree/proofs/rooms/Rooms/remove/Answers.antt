@@ -1,9 +1,10 @@
 use Rattle.std.proofs.Common.{◌≡◌, ℕ, Option, Some, None, IsSome, refl, arith, sym, ap, ◌∙◌, subst, cond, nat_eq}
 use Rattle.ms_gap_tree.specs.refinement.Rooms.{Arena, IsHeld, room_at, size_of, tree}
+use Rattle.ms_gap_tree.specs.refinement.Tree.{remove}
 use Rattle.ms_gap_tree.specs.declared.rooms.Rooms.TheInside.{Inside}
+use Rattle.ms_gap_tree.proofs.GainLaws.{remove_loses}
+use Rattle.ms_gap_tree.proofs.Gains.{size_gains, Gains}
 use Rattle.ms_gap_tree.proofs.Pool.{few_taken, held_taken, looked_at, room_taken, size_taken, there_before}
-use Rattle.ms_gap_tree.proofs.RemoveSlots.{freed_slot, IsFreed}
-use Rattle.ms_gap_tree.proofs.SizeLaws.{size_remove}
 use Rattle.ms_gap_tree.proofs.rooms.Rooms.remove.Goals as goal
 
 abbrev arena : Inside → Arena
@@ -13,14 +14,14 @@ pub take-rest-requires-clause-found : goal.take-rest-requires-clause-found
 take-rest-requires-clause-found c =
     let a = arena c.self.inside in
     let there = there_before a c.args.self.now c.args.key c.self.view_is c.requires.there in
-    let freed = freed_slot a.levels 0 c.args.key (tree a) there.0 c.self.invariant.0.apart (looked_at a c.args.key there.0 there.1) in
-    subst IsSome (sym freed.1.is) refl
+    subst IsSome (sym (remove_loses a.levels 0 c.args.key (tree a) there.0 (looked_at a c.args.key there.0 there.1)).1) refl
 
 pub push_reserved-requires : goal.push_reserved-requires
 push_reserved-requires c =
     let a = arena c.self.inside in
     let there = there_before a c.args.self.now c.args.key c.self.view_is c.requires.there in
-    let less = size_remove a.levels 0 c.args.key (tree a) there.0 (looked_at a c.args.key there.0 there.1) in
+    let loses = remove_loses a.levels 0 c.args.key (tree a) there.0 (looked_at a c.args.key there.0 there.1) in
+    let less = size_gains loses.0 (remove a.levels 0 c.args.key (tree a)) (tree a) loses.2 in
     let count = c.self.invariant.0.pool.count in
     let few = c.self.invariant.0.few in
     let room = c.self.invariant.3 in
@@ -30,14 +31,13 @@ pub invariant_of-self : goal.invariant_of-self
 invariant_of-self c =
     let a = arena c.self.inside in
     let there = there_before a c.args.self.now c.args.key c.self.view_is c.requires.there in
-    let look = looked_at a c.args.key there.0 there.1 in
-    let freed = freed_slot a.levels 0 c.args.key (tree a) there.0 c.self.invariant.0.apart look in
-    let same : Some c.take-rest.result.1 ≡ Some freed.0 = c.take-rest.ensures.slot ∙ freed.1.is in
-    let slot : c.take-rest.result.1 ≡ freed.0 = cc in
-    let is = subst (IsFreed a.levels 0 c.args.key (tree a)) (sym slot) freed.1 in
+    let loses = remove_loses a.levels 0 c.args.key (tree a) there.0 (looked_at a c.args.key there.0 there.1) in
+    let same : Some c.take-rest.result.1 ≡ Some loses.0 = c.take-rest.ensures.slot ∙ loses.1 in
+    let slot : c.take-rest.result.1 ≡ loses.0 = cc in
+    let gains = subst (λ (j : ℕ). Gains j (remove a.levels 0 c.args.key (tree a)) (tree a)) (sym slot) loses.2 in
     let nodes = c.self.invariant.2 in
     let free = c.self.invariant.3 in (
-      subst (IsHeld _) (sym c.push_reserved.ensures.items) (held_taken a c.self.inside.free.items c.take-rest.new.nodes.items c.take-rest.result.0 c.args.key there.0 c.take-rest.result.1 c.self.invariant.0 look is c.take-rest.ensures.tree c.take-rest.ensures.length),
+      subst (IsHeld _) (sym c.push_reserved.ensures.items) (held_taken a c.self.inside.free.items c.take-rest.new.nodes.items c.take-rest.result.0 c.args.key c.take-rest.result.1 c.self.invariant.0 gains c.take-rest.ensures.tree c.take-rest.ensures.length),
       c.self.invariant.1,
       omega (arith, c.take-rest.ensures.capacity),
       omega (arith, c.push_reserved.ensures.capacity),

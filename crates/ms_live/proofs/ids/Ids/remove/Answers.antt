@@ -1,10 +1,11 @@
 use Rattle.std.proofs.Common.{◌≡◌, ℕ, List, Some, IsSome, true, refl, arith, sym, ap, ◌∙◌, subst}
-use Rattle.ms_live.specs.refinement.Ordered.{seek, segments, tree_of, IsStored}
+use Rattle.ms_gap_tree.proofs.Gains.{Gains}
+use Rattle.ms_live.specs.refinement.Ordered.{remove, seek, segments, shape, tree_of, IsStored}
 use Rattle.ms_live.specs.Place.{contains_id, without}
 use Rattle.ms_live.specs.declared.gaps.Live.{Live}
 use Rattle.ms_live.specs.declared.ids.Ids.TheInside.{Inside}
 use Rattle.ms_live.proofs.OrderedLaws.{length_remove}
-use Rattle.ms_live.proofs.OrderedSlots.{freed_slot, IsFreed}
+use Rattle.ms_live.proofs.OrderedSlots.{remove_loses}
 use Rattle.ms_live.proofs.Storing.{half_upto, segments_taken, stored_taken, there_is}
 use Rattle.ms_live.proofs.ids.Ids.remove.Goals as goal
 
@@ -19,8 +20,7 @@ pub take-rest-requires-clause-found : goal.take-rest-requires-clause-found
 take-rest-requires-clause-found c =
     let s = c.self.inside in
     let x = there s c.args.self.now c.args.id c.self.invariant.0 c.self.view_is c.requires in
-    let freed = freed_slot s.levels 0 c.args.id (tree_of s.nodes.items s.levels s.root) x.0 c.self.invariant.0.apart x.1 in
-    subst IsSome (sym freed.1.is) refl
+    subst IsSome (sym (remove_loses s.levels 0 c.args.id (tree_of s.nodes.items s.levels s.root) x.0 x.1).1) refl
 
 pub push_reserved-requires : goal.push_reserved-requires
 push_reserved-requires c =
@@ -36,14 +36,15 @@ pub invariant_of-self : goal.invariant_of-self
 invariant_of-self c =
     let s = c.self.inside in
     let x = there s c.args.self.now c.args.id c.self.invariant.0 c.self.view_is c.requires in
-    let freed = freed_slot s.levels 0 c.args.id (tree_of s.nodes.items s.levels s.root) x.0 c.self.invariant.0.apart x.1 in
-    let same : Some c.take-rest.result.1 ≡ Some freed.0 = c.take-rest.ensures.slot ∙ freed.1.is in
-    let slot : c.take-rest.result.1 ≡ freed.0 = cc in
-    let is = subst (IsFreed s.levels 0 c.args.id (tree_of s.nodes.items s.levels s.root)) (sym slot) freed.1 in
+    let t = tree_of s.nodes.items s.levels s.root in
+    let loses = remove_loses s.levels 0 c.args.id t x.0 x.1 in
+    let same : Some c.take-rest.result.1 ≡ Some loses.0 = c.take-rest.ensures.slot ∙ loses.1 in
+    let slot : c.take-rest.result.1 ≡ loses.0 = cc in
+    let gains = subst (λ (j : ℕ). Gains j (shape (remove s.levels 0 c.args.id t)) (shape t)) (sym slot) loses.2 in
     let nodes = c.self.invariant.1 in
     let free = c.self.invariant.2 in (
       subst (IsStored c.take-rest.new.nodes.items s.levels c.take-rest.result.0) (sym c.push_reserved.ensures.items)
-          (stored_taken s.nodes.items c.take-rest.new.nodes.items s.levels c.args.id c.take-rest.result.1 s.root c.take-rest.result.0 s.free.items x.0 c.self.invariant.0 x.1 is c.take-rest.ensures.tree c.take-rest.ensures.length),
+          (stored_taken s.nodes.items c.take-rest.new.nodes.items s.levels c.args.id c.take-rest.result.1 s.root c.take-rest.result.0 s.free.items x.0 c.self.invariant.0 x.1 gains c.take-rest.ensures.tree c.take-rest.ensures.length),
       omega (arith, c.take-rest.ensures.capacity),
       omega (arith, c.push_reserved.ensures.capacity),
     )
