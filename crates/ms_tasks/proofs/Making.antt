@@ -148,16 +148,16 @@ tasks_grow s all rest tasks k item a t found at thread is =
     by (Err n) = refl
 
 -- its function's address is one more
-pub homes_grow : {A : Type 0} (f : A → Option ℕ) (homes : List ℕ) (tasks : List A) (k : ℕ) (item : A) (a : ℕ) → slice_get tasks k ≡ Some item → f item ≡ Some a → map Some homes ++ map f (drop k tasks) ≡ map f tasks
-    → map Some (homes ++ a ∷ []) ++ map f (drop (k + 1) tasks) ≡ map f tasks
-homes_grow f homes tasks k item a found at is =
+pub addresses_grow : {A : Type 0} (f : A → Option ℕ) (addresses : List ℕ) (tasks : List A) (k : ℕ) (item : A) (a : ℕ) → slice_get tasks k ≡ Some item → f item ≡ Some a → map Some addresses ++ map f (drop k tasks) ≡ map f tasks
+    → map Some (addresses ++ a ∷ []) ++ map f (drop (k + 1) tasks) ≡ map f tasks
+addresses_grow f addresses tasks k item a found at is =
     let e : suc k ≡ k + 1 = omega arith in
     let rest = drop (suc k) tasks in
-    ap (λ n. map Some (homes ++ a ∷ []) ++ map f (drop n tasks)) (sym e)
-    ∙ (ap (λ os. os ++ map f rest) (map_push Some homes a)
-    ∙ (append_assoc (map Some homes) (Some a ∷ []) (map f rest)
-    ∙ (ap (λ o. map Some homes ++ o ∷ map f rest) (sym at)
-    ∙ (ap (λ xs. map Some homes ++ map f xs) (sym (drop_at tasks k item found)) ∙ is))))
+    ap (λ n. map Some (addresses ++ a ∷ []) ++ map f (drop n tasks)) (sym e)
+    ∙ (ap (λ os. os ++ map f rest) (map_push Some addresses a)
+    ∙ (append_assoc (map Some addresses) (Some a ∷ []) (map f rest)
+    ∙ (ap (λ o. map Some addresses ++ o ∷ map f rest) (sym at)
+    ∙ (ap (λ xs. map Some addresses ++ map f xs) (sym (drop_at tasks k item found)) ∙ is))))
 
 -- a task is started
 pub begun_thread : (s : Store) (task : CodeTask) (address : ℕ) → CanStart s address → ((g : FuncInst) → slice_get s.funcs address ≡ Some g → thread_of s.funcs task ≡ exited (started s.funcs address g)) → thread_of s.funcs task ≡ func_thread s address

@@ -11,7 +11,7 @@ ghost use Rattle.ms_machine.specs.refinement.Safety.{Sound};
 ghost use Rattle.ms_machine.specs.Typing.{StoreTyped, outline_of};
 ghost use Rattle.ms_task.specs.refinement.View.{thread_of};
 ghost use Rattle.ms_tasks.specs.refinement.Logs.{CountsUpTo};
-ghost use Rattle.ms_tasks.specs.refinement.Making.{AreHomes, IsCrewOf, Refuses};
+ghost use Rattle.ms_tasks.specs.refinement.Making.{AreAddresses, IsCrewOf, Refuses};
 ghost use Rattle.ms_tasks.specs.refinement.Ready.{IsReady, threads_of};
 ghost use Rattle.ms_tasks.specs.refinement.Runs.{CountsInput, CountsOut, DoesRun, IsOver};
 ghost use Rattle.ms_tasks.specs.refinement.Schedules.{HasTurns, entries_of};
@@ -39,16 +39,16 @@ pub struct Crew<M: SegmentMemory> {
     chain: Vec<Task>,
     tasks: Vec<Task>,
     /// The address of each task's function.
-    homes: Vec<u32>,
+    addresses: Vec<u32>,
 }
 
 impl<M: SegmentMemory> Model for Crew<M> {
-    ghost use Rattle.ms_tasks.specs.refinement.Making.{Placed};
+    ghost use Rattle.ms_tasks.specs.refinement.Making.{Addressed};
     ghost use Rattle.ms_tasks.specs.refinement.Rows.{threads_in};
 
-    ghost Value = { Placed };
+    ghost Value = { Addressed };
 
-    ghost view = { λ c. record { crew = record { store = c.store; chain = threads_in c.store c.chain.items; tasks = threads_in c.store c.tasks.items }; homes = c.homes.items } };
+    ghost view = { λ c. record { crew = record { store = c.store; chain = threads_in c.store c.chain.items; tasks = threads_in c.store c.tasks.items }; addresses = c.addresses.items } };
 }
 
 impl<M: SegmentMemory> Crew<M> {
@@ -61,7 +61,7 @@ impl<M: SegmentMemory> Crew<M> {
         requires starts { StartsTyped store }
         requires few { length tasks.items < 2 ^ 32 }
         ensures new { MatchResult result (λ c. IsCrewOf store tasks.items c.crew) (λ r. Refuses store tasks.items r) }
-        ensures homes { IfOk result (λ c. AreHomes store tasks.items c.homes) }
+        ensures addresses { IfOk result (λ c. AreAddresses store tasks.items c.addresses) }
         ensures ready { IfOk result (λ c. IsReady c.crew) }
         ensures sound { IfOk result (λ c. (events : List Event) → Sound events store [] → Sound events c.store (threads_of c.crew)) }
     {
@@ -76,7 +76,7 @@ impl<M: SegmentMemory> Crew<M> {
             store,
             chain,
             tasks: found.tasks,
-            homes: found.homes,
+            addresses: found.addresses,
         })
     }
 
@@ -96,11 +96,11 @@ impl<M: SegmentMemory> Crew<M> {
     }
 
     /// The address of the function of the task of a number.
-    pub fn home(&self, n: u32) -> u32
-        requires { n < length self.now.homes }
-        ensures { slice_get self.now.homes n ≡ Some result }
+    pub fn address(&self, n: u32) -> u32
+        requires { n < length self.now.addresses }
+        ensures { slice_get self.now.addresses n ≡ Some result }
     {
-        self.homes[n as usize]
+        self.addresses[n as usize]
     }
 
     /// Runs the start functions, and then the tasks by a schedule, for so many entries at most. Where a step stops the program, the
@@ -129,7 +129,7 @@ impl<M: SegmentMemory> Crew<M> {
         ensures run { (given : Input) × DoesRun result self.new.crew (I.left input.old) (I.left input.new) (O.held out.old) (O.held out.new) log.old log.new given (run_of (entries_of schedule.now (length self.old.tasks) budget) self.old.crew given) }
         ensures input_faults { CountsInput result (I.faults input.old) (I.faults input.new) }
         ensures out_faults { CountsOut result (O.faults out.old) (O.faults out.new) }
-        ensures homes { self.new.homes ≡ self.old.homes }
+        ensures addresses { self.new.addresses ≡ self.old.addresses }
         ensures ready { IsOver result → IsReady self.new.crew }
         ensures made { IsOver result → self.new.store.segments.made ≤ self.old.store.segments.made + budget }
         ensures entries { IsOver result → log.new.entries ≤ log.old.entries + budget }

@@ -5,7 +5,7 @@ ghost use Rattle.ms_machine.specs.Linked.{StartTyped, StartsTyped, start_chain, 
 ghost use Rattle.ms_machine.specs.Running.{func_thread};
 ghost use Rattle.ms_machine.specs.Typing.{StoreTyped, outline_of};
 ghost use Rattle.ms_machine.specs.declared.store.Instance.{Instance as InstanceView};
-ghost use Rattle.ms_tasks.specs.refinement.Making.{AreHomes, IsStartOf, Refuses};
+ghost use Rattle.ms_tasks.specs.refinement.Making.{AreAddresses, IsStartOf, Refuses};
 ghost use Rattle.ms_tasks.specs.refinement.Rows.{threads_in};
 ghost use Rattle.ms_tasks.specs.Tasks.{threads_from};
 
@@ -74,7 +74,7 @@ pub(crate) fn chain_of<M: SegmentMemory>(
 #[derive(Drop)]
 pub(crate) struct Found {
     pub(crate) tasks: Vec<Task>,
-    pub(crate) homes: Vec<u32>,
+    pub(crate) addresses: Vec<u32>,
 }
 
 /// The tasks of these functions, or the first that has none.
@@ -87,10 +87,10 @@ pub(crate) fn tasks_of<M: SegmentMemory>(
     requires store { StoreTyped (outline_of store.now) }
     requires few { length tasks.now < 2 ^ 32 }
     ensures tasks { MatchResult result (λ f. threads_from store.now tasks.now 0 ≡ Ok (threads_in store.now f.tasks.items)) (λ r. Refuses store.now tasks.now r) }
-    ensures homes { IfOk result (λ f. AreHomes store.now tasks.now f.homes.items) }
+    ensures addresses { IfOk result (λ f. AreAddresses store.now tasks.now f.addresses.items) }
 {
     let mut all = Vec::new(alloc);
-    let mut homes = Vec::new(alloc);
+    let mut addresses = Vec::new(alloc);
     let mut number = 0;
     for named in tasks {
         let Some(address) = task_address(store, named.0, named.1.as_str()) else {
@@ -102,10 +102,13 @@ pub(crate) fn tasks_of<M: SegmentMemory>(
         let Ok(()) = all.push(task) else {
             return Err(Refusal::Memory);
         };
-        let Ok(()) = homes.push(address) else {
+        let Ok(()) = addresses.push(address) else {
             return Err(Refusal::Memory);
         };
         number += 1;
     }
-    Ok(Found { tasks: all, homes })
+    Ok(Found {
+        tasks: all,
+        addresses,
+    })
 }

@@ -11,14 +11,14 @@ use Rattle.ms_tasks.specs.declared.refusal.Refusal.{Refusal}
 use Rattle.ms_tasks.specs.declared.refusal.Refusal.TheVariants as refusals
 
 -- a crew, and the address of each task's function
-pub record Placed : Type 0 where
+pub record Addressed : Type 0 where
   pub crew : Crew
   pub open crew use *
-  pub homes : List ℕ
+  pub addresses : List ℕ
 
 -- they are those of the functions that these tasks name
-abbrev pub AreHomes : Store → (tasks : List (ℕ × List ℕ)) → (homes : List ℕ) → Type 0
-AreHomes s tasks homes = map Some homes ≡ map (λ t. task_address s t.0 t.1) tasks
+abbrev pub AreAddresses : Store → (tasks : List (ℕ × List ℕ)) → (addresses : List ℕ) → Type 0
+AreAddresses s tasks addresses = map Some addresses ≡ map (λ t. task_address s t.0 t.1) tasks
 
 -- the crew of a store and of these tasks
 abbrev pub IsCrewOf : Store → (tasks : List (ℕ × List ℕ)) → Crew → Type 0

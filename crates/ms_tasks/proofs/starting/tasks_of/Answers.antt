@@ -5,7 +5,7 @@ use Rattle.ms_task.specs.Thread.{Thread}
 use Rattle.ms_task.specs.refinement.View.{thread_of}
 use Rattle.ms_tasks.specs.refinement.Rows.{threads_in}
 use Rattle.ms_tasks.specs.Tasks.{task_address, threads_from}
-use Rattle.ms_tasks.proofs.Making.{begun_thread, homes_grow, joined, task_found, tasks_grow}
+use Rattle.ms_tasks.proofs.Making.{begun_thread, addresses_grow, joined, task_found, tasks_grow}
 use Rattle.ms_tasks.proofs.starting.tasks_of.Goals as goal
 
 pub loop-named-preserved : goal.loop-named-preserved
@@ -25,6 +25,6 @@ loop-named-preserved g c =
       threads = subst (λ (ts : List Thread). joined ts (threads_from s (drop (k + 1) tasks) (k + 1)) ≡ threads_from s tasks 0) pushed
           (tasks_grow s (threads_from s tasks 0) rest tasks k item a (thread_of s.funcs t) found at (begun_thread s t a (task_found s item.0 item.1 a at) c.in-Ok.ensures.start) l.invariant.threads);
       number = omega (arith, number);
-      homes = ap (λ hs. map Some hs ++ map (λ t. task_address s t.0 t.1) (drop (k + 1) tasks)) c.in-Ok-push-2.ensures.items
-          ∙ homes_grow (λ t. task_address s t.0 t.1) l.homes.items tasks k item a found at l.invariant.homes;
+      addresses = ap (λ hs. map Some hs ++ map (λ t. task_address s t.0 t.1) (drop (k + 1) tasks)) c.in-Ok-push-2.ensures.items
+          ∙ addresses_grow (λ t. task_address s t.0 t.1) l.addresses.items tasks k item a found at l.invariant.addresses;
     }

@@ -8,5 +8,5 @@ abbrev pub invariant-loop-named : goal.invariant-loop-named
 invariant-loop-named g l = record {
   threads : joined (threads_in l.store l.all.items) (threads_from l.store (drop l.named-index l.tasks) l.named-index) ≡ threads_from l.store l.tasks 0;
   number : l.number ≡ l.named-index;
-  homes : map Some l.homes.items ++ map (λ t. task_address l.store t.0 t.1) (drop l.named-index l.tasks) ≡ map (λ t. task_address l.store t.0 t.1) l.tasks;
+  addresses : map Some l.addresses.items ++ map (λ t. task_address l.store t.0 t.1) (drop l.named-index l.tasks) ≡ map (λ t. task_address l.store t.0 t.1) l.tasks;
 }

@@ -4,7 +4,7 @@ use Rattle.std.specs.Vec.{with_items}
 use Rattle.ms_machine.specs.Crews.{Crew, Input, run_of}
 use Rattle.ms_task.specs.refinement.View.{thread_of}
 use Rattle.ms_task.specs.declared.task.Task.{Task as CodeTask}
-use Rattle.ms_tasks.specs.refinement.Making.{Placed}
+use Rattle.ms_tasks.specs.refinement.Making.{Addressed}
 use Rattle.ms_tasks.specs.refinement.Ready.{IsReady}
 use Rattle.ms_tasks.specs.refinement.Rows.{all_in}
 use Rattle.ms_tasks.specs.refinement.Runs.{CountsInput, CountsOut, DoesRun, IsOver}
@@ -39,7 +39,7 @@ returns g c =
     let held' = g.O.Sink.held r.new.out in
     let old = c.args.log.now in
     let new = r.new.log in
-    let same : inside ≡ now = ap (λ (xs : List CodeTask). all_in s xs tasks) c.as_mut_slice.ensures.value ∙ (ap (λ (xs : List CodeTask). all_in s c.self.inside.chain.items xs) c.as_mut_slice-2.ensures.value ∙ ap (λ (p : Placed). p.crew) c.self.view_is) in
+    let same : inside ≡ now = ap (λ (xs : List CodeTask). all_in s xs tasks) c.as_mut_slice.ensures.value ∙ (ap (λ (xs : List CodeTask). all_in s c.self.inside.chain.items xs) c.as_mut_slice-2.ensures.value ∙ ap (λ (p : Addressed). p.crew) c.self.view_is) in
     let many : length tasks ≡ length now.tasks = sym (length-map tasks (thread_of s.funcs)) ∙ ap (λ (x : Crew). length x.tasks) same in
     let does0 = run_answers r.result left left' held held' old new (run_of (entries_of schedule (length tasks) budget) inside) after e.run in
     let does1 = subst (λ (x : Ran). (given : Input) × DoesRun x after left left' held held' old new given (run_of (entries_of schedule (length tasks) budget) inside given)) (sym c.ran_of.ensures) does0 in
@@ -50,7 +50,7 @@ returns g c =
       run = does;
       input_faults = subst (λ (x : Ran). CountsInput x (g.I.Source.faults c.args.input.now) (g.I.Source.faults r.new.input)) (sym c.ran_of.ensures) (counts_input r.result (g.I.Source.faults c.args.input.now) (g.I.Source.faults r.new.input) e.input_faults);
       out_faults = subst (λ (x : Ran). CountsOut x (g.O.Sink.faults c.args.out.now) (g.O.Sink.faults r.new.out)) (sym c.ran_of.ensures) (counts_out r.result (g.O.Sink.faults c.args.out.now) (g.O.Sink.faults r.new.out) e.out_faults);
-      homes = ap (λ (p : Placed). p.homes) c.self.view_is;
+      addresses = ap (λ (p : Addressed). p.addresses) c.self.view_is;
       ready = λ over. subst IsReady viewed (e.ready (well_over r.result (subst IsOver c.ran_of.ensures over)));
       made = λ over. subst (λ (x : Crew). r.new.store.segments.made ≤ x.store.segments.made + budget) same (e.made (well_over r.result (subst IsOver c.ran_of.ensures over)));
       entries = λ over. e.entries (well_over r.result (subst IsOver c.ran_of.ensures over));
