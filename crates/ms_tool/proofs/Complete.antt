@@ -163,7 +163,7 @@ module _ (Has Holds_it : List ℕ → Found → Type 0) (known : (name bytes : L
   target_given given (Some (Run name)) which file a h e = run_target given name which file a h e
   target_given given (Some (Check name)) which file a h e = absurd (checks_target Has name file a h.1 e)
   target_given given (Some (Asm name out)) which file a h e = file_target Has name out (Assembles Text out) file a (λ b x. assembled_target Text out b file x) h.1 e
-  target_given given (Some (Dis name out)) which file a h e = file_target Has name out (Disassembles out) file a (λ b x. disassembled_target Text out b file x) h.1 e
+  target_given given (Some (Dis name out)) which file a h e = file_target Has name out (Disassembles out) file a (λ b x. disassembled_target out b file x) h.1 e
   target_given given (Some (Compile name out)) which file a h e = file_target Has name out (Assembles Source out) file a (λ b x. assembled_target Source out b file x) h.1 e
   target_given given (Some (Judge name memory)) which file a h e = absurd (judges_target Has name memory file a h.1 e)
 

@@ -38,10 +38,10 @@ is_staged u e = by (in_stage u) refl where
 
 module _ (u : Typed) (budget memory : ℕ) (given : Input) (bytes : AreBytes given)
     (well : IsWellTyped u) (staged : in_stage u ≡ true) where
-  tasks : List (ℕ × List ℕ)
+  abbrev tasks : List (ℕ × List ℕ)
   tasks = (0, codes "main") ∷ []
 
-  entries : List ℕ
+  abbrev entries : List ℕ
   entries = turns_from most_turns 1 0 budget
 
   of_threads : (s : Store) (r : Result (List Thread) ℕ) (run : Run) → linked (([], compiled u) ∷ []) memory ≡ Ok s → threads_from s tasks 0 ≡ r
