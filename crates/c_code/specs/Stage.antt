@@ -1,48 +1,60 @@
--- The units of which it is shown so far that their code does what they mean: those of integers, variables that are no objects,
--- control, and calls of functions by their names. An i32 counts the groups of a switch, but for one number.
+-- The units of which it is shown so far that their code does what they mean: those of integers and pointers to objects, variables of
+-- such types, of which parameters are no objects, their addresses, control, and calls of functions by their names. An i32 counts the
+-- groups of a switch, but for one number.
 use Rattle.std.specs.Prelude.{ℕ, suc, nat_lt, ◌&&◌, not, Bool, true, false, List, [], ◌∷◌, Option, Some, None}
 use Rattle.c_types.specs.declared.types.Scalar.{Scalar}
 use Rattle.c_types.specs.declared.types.Scalar.TheVariants as scalars
-use Rattle.c_types.specs.Types.{Ty, void, integer, function, Tys, no_types, types}
+use Rattle.c_types.specs.Types.{Ty, void, integer, pointer, function, is_function, Tys, no_types, types}
 use Rattle.c_typed.specs.declared.ops.Variable.TheVariants.{Local, Global}
+use Rattle.c_typed.specs.declared.ops.RelOp.{RelOp}
+use Rattle.c_typed.specs.declared.ops.RelOp.TheVariants as relations
 use Rattle.c_typed.specs.Objects.{is_object}
 use Rattle.c_typed.specs.Tree as tree
-use Rattle.c_typed.specs.Tree.{Place, of, Expr, Exprs, none, more, Stmt, nothing, perform, if_else, loop, do_while, switch, scope, return, return_nothing, break, continue, Stmts, done, seq, Function, Typed}
+use Rattle.c_typed.specs.Tree.{Place, of, deref, Expr, Exprs, none, more, Stmt, nothing, perform, if_else, loop, do_while, switch, scope, return, return_nothing, break, continue, Stmts, done, seq, Function, Typed}
 use Rattle.c_well_typed.specs.Statements.{count}
 
-abbrev pub is_integer : Ty → Bool
-is_integer (integer t) = true
-is_integer _ = false
+-- of an integer, or of a pointer that leads to no function
+abbrev pub is_data : Ty → Bool
+is_data (integer t) = true
+is_data (pointer t) = not (is_function t)
+is_data _ = false
 
-abbrev pub is_number : Scalar → Bool
-is_number (scalars.Int t) = true
-is_number _ = false
+abbrev pub is_value : Scalar → Bool
+is_value (scalars.Int t) = true
+is_value scalars.Pointer = true
+is_value scalars.Function = false
 
-abbrev pub is_number_or_void : Option Scalar → Bool
-is_number_or_void None = true
-is_number_or_void (Some s) = is_number s
-
-abbrev pub is_local : Place → Bool
-is_local (of (Local n)) = true
-is_local _ = false
+abbrev pub is_equality : RelOp → Bool
+is_equality relations.Equal = true
+is_equality relations.NotEqual = true
+is_equality _ = false
 
 abbrev mutual
+  -- a variable of a function, or what a pointer points to
+  pub in_place : Place → Bool
+  in_place (of (Local n)) = true
+  in_place (deref e) = in_expr e
+  in_place _ = false
+
   pub in_expr : Expr → Bool
   in_expr (tree.number t n) = true
-  in_expr (tree.read s p) = is_local p
+  in_expr tree.null = true
+  in_expr (tree.read s p) = in_place p
+  in_expr (tree.address p) = in_place p
   in_expr (tree.convert t u a) = in_expr a
-  in_expr (tree.truth s a) = is_number s && in_expr a
+  in_expr (tree.truth s a) = is_value s && in_expr a
   in_expr (tree.not a) = in_expr a
   in_expr (tree.unary o t a) = in_expr a
   in_expr (tree.binary o t a b) = in_expr a && in_expr b
   in_expr (tree.compare o t a b) = in_expr a && in_expr b
+  in_expr (tree.compare_pointers o a b) = is_equality o && (in_expr a && in_expr b)
   in_expr (tree.and a b) = in_expr a && in_expr b
   in_expr (tree.or a b) = in_expr a && in_expr b
-  in_expr (tree.choose s c a b) = is_number_or_void s && (in_expr c && (in_expr a && in_expr b))
+  in_expr (tree.choose s c a b) = in_expr c && (in_expr a && in_expr b)
   in_expr (tree.comma a b) = in_expr a && in_expr b
-  in_expr (tree.assign s p e) = is_local p && in_expr e
-  in_expr (tree.update old t o u p e) = is_local p && in_expr e
-  in_expr (tree.call n s es) = is_number_or_void s && in_exprs es
+  in_expr (tree.assign s p e) = in_place p && in_expr e
+  in_expr (tree.update old t o u p e) = in_place p && in_expr e
+  in_expr (tree.call n s es) = in_exprs es
   in_expr (tree.putchar e) = in_expr e
   in_expr tree.getchar = true
   in_expr tree.abort = true
@@ -79,26 +91,36 @@ abbrev mutual
   in_stmts done = true
   in_stmts (seq s ss) = in_stmt s && in_stmts ss
 
--- each slot from the n-th on is an integer, and no object
-abbrev pub are_plain : Stmt → (n : ℕ) → List Ty → Bool
-are_plain body n [] = true
-are_plain body n (t ∷ ts) = is_integer t && (not (is_object body n t) && are_plain body (suc n) ts)
+-- each slot from the n-th on is of such a type, and none of the first k, the parameters, is an object
+abbrev pub are_slots : Stmt → (k n : ℕ) → List Ty → Bool
+are_slots body k n [] = true
+are_slots body k n (t ∷ ts) = is_data t && (not (nat_lt n k && is_object body n t) && are_slots body k (suc n) ts)
 
-abbrev pub are_integers : Tys → Bool
-are_integers no_types = true
-are_integers (types t ts) = is_integer t && are_integers ts
+abbrev pub count_in : Tys → ℕ
+count_in no_types = 0
+count_in (types t ts) = suc (count_in ts)
+
+-- how many parameters
+abbrev pub parameters : Ty → ℕ
+parameters (function r ps) = count_in ps
+parameters _ = 0
+
+abbrev pub are_data : Tys → Bool
+are_data no_types = true
+are_data (types t ts) = is_data t && are_data ts
 
 abbrev pub is_integer_or_void : Ty → Bool
 is_integer_or_void void = true
-is_integer_or_void t = is_integer t
+is_integer_or_void (integer t) = true
+is_integer_or_void _ = false
 
 abbrev pub is_plain_function : Ty → Bool
-is_plain_function (function r ps) = is_integer_or_void r && are_integers ps
+is_plain_function (function r ps) = is_integer_or_void r && are_data ps
 is_plain_function _ = false
 
 abbrev pub in_body : Function → Option Stmt → Bool
 in_body f None = true
-in_body f (Some s) = are_plain s 0 f.slots && in_stmt s
+in_body f (Some s) = are_slots s (parameters f.ty) 0 f.slots && in_stmt s
 
 abbrev pub in_functions : List Function → Bool
 in_functions [] = true

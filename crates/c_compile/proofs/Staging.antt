@@ -1,5 +1,5 @@
 -- Units that are in the stage: what the tests on lists in the code say of the definition's own recursions.
-use Rattle.std.proofs.Common.{◌≡◌, ◌∙◌, ◌&&◌, ◌<◌, not, get_or, length, nat_lt, Bool, true, false, ℕ, suc, List, [], ◌∷◌, map, Option, Some, None, Vec, Global, refl, sym, ap, subst}
+use Rattle.std.proofs.Common.{◌≡◌, ◌∙◌, ◌&&◌, ◌<◌, get_or, length, nat_lt, Bool, true, false, ℕ, suc, List, [], ◌∷◌, map, Some, Vec, Global, refl, sym, ap}
 use Rattle.std.proofs.lemmas.List.{get_or-map, length-map}
 use Rattle.std.specs.List.{list_all}
 use Rattle.c_types.specs.declared.types.CType.TheVariants as code
@@ -17,10 +17,11 @@ use Rattle.c_typed.specs.refinement.Views.{body_of, expr_of, function_of, list_o
 use Rattle.c_typed.proofs.Sequences.{scope_is, switch_is}
 use Rattle.c_well_typed.specs.Units.{list_of as tys_in}
 use Rattle.c_code.specs.Functions.{params_in, result_in}
-use Rattle.c_code.specs.Stage.{are_integers, are_plain, in_body, in_expr, in_exprs, in_stmt, in_stmts, is_integer, is_integer_or_void, is_number_or_void, is_plain_function}
+use Rattle.c_code.specs.Stage.{are_data, are_slots, count_in, in_body, in_expr, in_exprs, in_stmt, in_stmts, is_data, is_integer_or_void, is_plain_function, parameters}
 use Rattle.c_place.specs.refinement.Flags.{of_body, of_function, slots_from}
 use Rattle.c_place.specs.refinement.Lists.{exprs_in}
 use Rattle.c_place.proofs.Lists.{call_is}
+use Rattle.c_compile.specs.refinement.Staged.{are_unset, is_apart}
 use Rattle.c_compile.proofs.ParameterTypes.{params_are}
 use Rattle.c_compile.proofs.Walk.{count_is}
 
@@ -33,42 +34,59 @@ first a b whole is fails = sym (ap (λ x. x && b) fails) ∙ sym is
 
 -- ---- the types of parameters and of slots
 
-integers_are : (ps : Tys) → are_integers ps ≡ list_all is_integer (tys_in ps)
-integers_are no_types = refl
-integers_are (types t ts) = ap (λ b. is_integer t && b) (integers_are ts)
+data_are : (ps : Tys) → are_data ps ≡ list_all is_data (tys_in ps)
+data_are no_types = refl
+data_are (types t ts) = ap (λ b. is_data t && b) (data_are ts)
 
-plain_is : (t : Ty) → is_function t ≡ true → is_plain_function t ≡ (is_integer_or_void (result_in t) && list_all is_integer (params_in t))
+plain_is : (t : Ty) → is_function t ≡ true → is_plain_function t ≡ (is_integer_or_void (result_in t) && list_all is_data (params_in t))
 plain_is void e = absurd (cc)
 plain_is (integer t) e = absurd (cc)
 plain_is (struct n) e = absurd (cc)
 plain_is (pointer t) e = absurd (cc)
 plain_is (array t n) e = absurd (cc)
-plain_is (function r ps) e = ap (λ b. is_integer_or_void r && b) (integers_are ps)
+plain_is (function r ps) e = ap (λ b. is_integer_or_void r && b) (data_are ps)
 
-pub function_is : (f : _) → is_plain_function (type_of (code.Function f)) ≡ is_integer_or_void (type_of f.value.result) && list_all is_integer (map type_of f.value.params.items)
+pub function_is : (f : _) → is_plain_function (type_of (code.Function f)) ≡ is_integer_or_void (type_of f.value.result) && list_all is_data (map type_of f.value.params.items)
 function_is f =
-    plain_is (type_of (code.Function f)) refl ∙ ap (λ ts. is_integer_or_void (type_of f.value.result) && list_all is_integer ts) (params_are f)
+    plain_is (type_of (code.Function f)) refl ∙ ap (λ ts. is_integer_or_void (type_of f.value.result) && list_all is_data ts) (params_are f)
 
--- slots are plain where they are integers, and no flag is set
+-- parameters are counted by their list
+so_many : (ps : Tys) → count_in ps ≡ length (tys_in ps)
+so_many no_types = refl
+so_many (types t ts) = ap suc (so_many ts)
+
+parameters_are : (t : Ty) → is_function t ≡ true → parameters t ≡ length (params_in t)
+parameters_are void e = absurd (cc)
+parameters_are (integer t) e = absurd (cc)
+parameters_are (struct n) e = absurd (cc)
+parameters_are (pointer t) e = absurd (cc)
+parameters_are (array t n) e = absurd (cc)
+parameters_are (function r ps) e = so_many ps
+
+pub arity_is : (f : _) → parameters (type_of (code.Function f)) ≡ length f.value.params.items
+arity_is f = parameters_are (type_of (code.Function f)) refl ∙ ap length (params_are f) ∙ length-map f.value.params.items type_of
+
+-- slots are tested by their types, and by their flags
 both : (a b c d : Bool) → ((a && c) && (b && d)) ≡ (a && (b && (c && d)))
 both true true c d = refl
 both true false true d = refl
 both true false false d = refl
 both false b c d = refl
 
-are_plain_by_flags : (s : tree.Stmt) (n : ℕ) (ts : List Ty) → (list_all is_integer ts && list_all not (slots_from s n ts)) ≡ are_plain s n ts
-are_plain_by_flags s n [] = refl
-are_plain_by_flags s n (t ∷ ts) =
-    both (is_integer t) (not (is_object s n t)) (list_all is_integer ts) (list_all not (slots_from s (suc n) ts))
-    ∙ ap (λ b. is_integer t && (not (is_object s n t) && b)) (are_plain_by_flags s (suc n) ts)
+slots_by_flags : (s : tree.Stmt) (k n : ℕ) (ts : List Ty) → (list_all is_data ts && are_unset k n (slots_from s n ts)) ≡ are_slots s k n ts
+slots_by_flags s k n [] = refl
+slots_by_flags s k n (t ∷ ts) =
+    both (is_data t) (is_apart k n (is_object s n t)) (list_all is_data ts) (are_unset k (suc n) (slots_from s (suc n) ts))
+    ∙ ap (λ b. is_data t && (is_apart k n (is_object s n t) && b)) (slots_by_flags s k (suc n) ts)
 
 pub body_in : (f : Function) (s : Stmt) (flags : List Bool) → f.body ≡ Some s → flags ≡ of_function (function_of f)
-    → in_body (function_of f) (body_of f.body) ≡ ((list_all is_integer (map type_of f.slots.items) && list_all not flags) && in_stmt (stmt_of s))
+    → in_body (function_of f) (body_of f.body) ≡ ((list_all is_data (map type_of f.slots.items) && are_unset (parameters (type_of f.ty)) 0 flags) && in_stmt (stmt_of s))
 body_in f s flags is e =
     let slots = map type_of f.slots.items in
+    let k = parameters (type_of f.ty) in
     ap (λ b. in_body (function_of f) (body_of b)) is
-    ∙ ap (λ b. b && in_stmt (stmt_of s)) (sym (are_plain_by_flags (stmt_of s) 0 slots))
-    ∙ ap (λ l. (list_all is_integer slots && list_all not l) && in_stmt (stmt_of s)) (sym (e ∙ ap (λ b. of_body slots (body_of b)) is))
+    ∙ ap (λ b. b && in_stmt (stmt_of s)) (sym (slots_by_flags (stmt_of s) k 0 slots))
+    ∙ ap (λ l. (list_all is_data slots && are_unset k 0 l) && in_stmt (stmt_of s)) (sym (e ∙ ap (λ b. of_body slots (body_of b)) is))
 
 -- the flags of a function in a list of them
 pub flags_at : (fs : List Function) (all : List (List Bool)) (i : ℕ) (f : Function) (flags : List Bool) → all ≡ map of_function (map function_of fs)
@@ -79,7 +97,7 @@ flags_at fs all i f flags is lt at here =
 
 -- ---- lists in the tree
 
-pub call_in : (e : Expr) (n : ℕ) (s : _) (es : Vec Expr Global) → e ≡ exprs.Call n s es → in_expr (expr_of e) ≡ (is_number_or_void s && in_exprs (exprs_in es.items))
+pub call_in : (e : Expr) (n : ℕ) (s : _) (es : Vec Expr Global) → e ≡ exprs.Call n s es → in_expr (expr_of e) ≡ in_exprs (exprs_in es.items)
 call_in e n s es is = ap (λ x. in_expr (expr_of x)) is ∙ ap in_expr (call_is n s es)
 
 -- groups are counted by their list

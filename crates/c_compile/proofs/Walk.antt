@@ -8,7 +8,6 @@ use Rattle.ms_emit.specs.refinement.Parts.{Adds}
 use Rattle.c_types.specs.Types.{Ty}
 use Rattle.c_typed.specs.declared.tree.Stmt.{Stmt}
 use Rattle.c_typed.specs.Parts.{sequence}
-use Rattle.c_typed.specs.Tree as tree
 use Rattle.c_typed.specs.refinement.Views.{list_of, stmt_of}
 use Rattle.c_well_typed.specs.Statements.{count}
 use Rattle.c_code.specs.Statements.{Exits, group_from, groups, iterated, stmt}

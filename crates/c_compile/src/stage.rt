@@ -1,6 +1,6 @@
 //! The units of which it is shown that their code does what they mean.
 
-ghost use Rattle.std.specs.Prelude.{◌≡◌, ◌&&◌, map, nat_lt, not};
+ghost use Rattle.std.specs.Prelude.{◌≡◌, ◌&&◌, length, map, nat_lt, not};
 ghost use Rattle.std.specs.List.{list_all};
 ghost use Rattle.c_types.specs.Types.{type_of};
 ghost use Rattle.c_typed.specs.Parts.{sequence};
@@ -9,14 +9,15 @@ ghost use Rattle.c_code.specs.Stage as words;
 ghost use Rattle.c_well_typed.specs.Statements.{count};
 ghost use Rattle.c_place.specs.refinement.Flags.{flags, of_function};
 ghost use Rattle.c_place.specs.refinement.Lists.{exprs_in};
+ghost use Rattle.c_compile.specs.refinement.Staged as staged;
 
 use c_place::Objects;
-use c_typed::{Expr, Function, Place, Sized, Stmt, TypedUnit, Variable};
+use c_typed::{Expr, Function, Place, RelOp, Sized, Stmt, TypedUnit, Variable};
 use c_types::{CType, Scalar, Signature};
 use ms_types::Vector;
 
-/// Whether a unit, whose variables have these flags, is one of integers, variables that are no objects, control, and calls of
-/// functions by their names.
+/// Whether a unit, whose variables have these flags, is one of integers and pointers to objects, variables of such types, of which
+/// parameters are no objects, control, and calls of functions by their names.
 pub fn is_in_stage(unit: &TypedUnit, objects: &Objects) -> bool
     requires { objects.now.functions.items ≡ (flags (typed_of unit.now)).functions }
     ensures { result ≡ words.in_stage (typed_of unit.now) }
@@ -26,24 +27,25 @@ pub fn is_in_stage(unit: &TypedUnit, objects: &Objects) -> bool
         && in_functions(&unit.functions, &objects.functions)
 }
 
-fn is_integer(t: &CType) -> bool
-    ensures { result ≡ words.is_integer (type_of t.now) }
+/// Whether it is an integer, or a pointer that leads to no function.
+fn is_data(t: &CType) -> bool
+    ensures { result ≡ words.is_data (type_of t.now) }
 {
     match t {
         CType::Int(_) => true,
+        CType::Pointer(t) => !t.is_function(),
         CType::Void => false,
         CType::Struct(_) => false,
-        CType::Pointer(_) => false,
         CType::Array(_, _) => false,
         CType::Function(_) => false,
     }
 }
 
-fn are_integers(ts: &[CType]) -> bool
-    ensures { result ≡ list_all words.is_integer (map type_of ts.now) }
+fn are_data(ts: &[CType]) -> bool
+    ensures { result ≡ list_all words.is_data (map type_of ts.now) }
 {
     for t in ts {
-        if !is_integer(t) {
+        if !is_data(t) {
             return false;
         }
     }
@@ -64,9 +66,9 @@ fn is_integer_or_void(t: &CType) -> bool
 }
 
 fn is_plain_signature(f: &Signature) -> bool
-    ensures { result ≡ (words.is_integer_or_void (type_of f.now.result) && list_all words.is_integer (map type_of f.now.params.items)) }
+    ensures { result ≡ (words.is_integer_or_void (type_of f.now.result) && list_all words.is_data (map type_of f.now.params.items)) }
 {
-    is_integer_or_void(&f.result) && are_integers(&f.params)
+    is_integer_or_void(&f.result) && are_data(&f.params)
 }
 
 fn is_plain_function(t: &CType) -> bool
@@ -82,33 +84,26 @@ fn is_plain_function(t: &CType) -> bool
     }
 }
 
-fn is_number(s: Scalar) -> bool
-    ensures { result ≡ words.is_number s }
+fn is_value(s: Scalar) -> bool
+    ensures { result ≡ words.is_value s }
 {
     match s {
         Scalar::Int(_) => true,
-        Scalar::Pointer => false,
+        Scalar::Pointer => true,
         Scalar::Function => false,
     }
 }
 
-fn is_number_or_void(s: Option<Scalar>) -> bool
-    ensures { result ≡ words.is_number_or_void s }
+fn is_equality(o: RelOp) -> bool
+    ensures { result ≡ words.is_equality o }
 {
-    match s {
-        None => true,
-        Some(s) => is_number(s),
-    }
-}
-
-fn is_local(p: &Place) -> bool
-    ensures { result ≡ words.is_local (place_of p.now) }
-{
-    match p {
-        Place::Of(Variable::Local(_)) => true,
-        Place::Of(Variable::Global(_)) => false,
-        Place::Deref(_) => false,
-        Place::Member(_, _, _) => false,
+    match o {
+        RelOp::Equal => true,
+        RelOp::NotEqual => true,
+        RelOp::Less => false,
+        RelOp::LessEqual => false,
+        RelOp::Greater => false,
+        RelOp::GreaterEqual => false,
     }
 }
 
@@ -123,40 +118,51 @@ fn in_size(n: u32, operand: &Sized) -> bool
     }
 }
 
+/// A variable of a function, or what a pointer points to.
+#[cycle(staged)]
+fn in_place(p: &Place) -> bool
+    ensures { result ≡ words.in_place (place_of p.now) }
+{
+    match p {
+        Place::Of(Variable::Local(_)) => true,
+        Place::Of(Variable::Global(_)) => false,
+        Place::Deref(e) => in_expr(e),
+        Place::Member(_, _, _) => false,
+    }
+}
+
 #[cycle(staged)]
 fn in_expr(e: &Expr) -> bool
     ensures { result ≡ words.in_expr (expr_of e.now) }
 {
     match e {
         Expr::Number(_, _) => true,
+        Expr::Null => true,
         Expr::Getchar => true,
         Expr::Abort => true,
         Expr::SizeOf(n, operand) => in_size(*n, operand),
-        Expr::Read(_, p) => is_local(p),
+        Expr::Read(_, p) => in_place(p),
+        Expr::Address(p) => in_place(p),
         Expr::Convert(_, _, a) => in_expr(a),
-        Expr::Truth(s, a) => is_number(*s) && in_expr(a),
+        Expr::Truth(s, a) => is_value(*s) && in_expr(a),
         Expr::Not(a) => in_expr(a),
         Expr::Unary(_, _, a) => in_expr(a),
         Expr::Binary(_, _, a, b) => in_expr(a) && in_expr(b),
         Expr::Compare(_, _, a, b) => in_expr(a) && in_expr(b),
+        Expr::ComparePointers(o, a, b) => is_equality(*o) && in_expr(a) && in_expr(b),
         Expr::And(a, b) => in_expr(a) && in_expr(b),
         Expr::Or(a, b) => in_expr(a) && in_expr(b),
-        Expr::Choose(s, c, a, b) => {
-            is_number_or_void(*s) && in_expr(c) && in_expr(a) && in_expr(b)
-        }
+        Expr::Choose(_, c, a, b) => in_expr(c) && in_expr(a) && in_expr(b),
         Expr::Comma(a, b) => in_expr(a) && in_expr(b),
-        Expr::Assign(_, p, a) => is_local(p) && in_expr(a),
-        Expr::Update(_, _, _, _, p, a) => is_local(p) && in_expr(a),
-        Expr::Call(_, s, es) => is_number_or_void(*s) && in_exprs(es),
+        Expr::Assign(_, p, a) => in_place(p) && in_expr(a),
+        Expr::Update(_, _, _, _, p, a) => in_place(p) && in_expr(a),
+        Expr::Call(_, _, es) => in_exprs(es),
         Expr::Putchar(a) => in_expr(a),
         Expr::Discard(a) => in_expr(a),
-        Expr::Null => false,
         Expr::NoFunction => false,
         Expr::Function(_) => false,
         Expr::Literal(_) => false,
         Expr::Decay(_, _, _) => false,
-        Expr::Address(_) => false,
-        Expr::ComparePointers(_, _, _) => false,
         Expr::SameFunction(_, _, _) => false,
         Expr::Difference(_, _, _) => false,
         Expr::Move(_, _, _, _) => false,
@@ -232,22 +238,50 @@ fn in_stmts(ss: &[Stmt]) -> bool
     true
 }
 
-fn no_objects(flags: &[bool]) -> bool
-    ensures { result ≡ list_all not flags.now }
+/// How many parameters.
+fn parameters(t: &CType) -> usize
+    ensures { result ≡ words.parameters (type_of t.now) }
 {
-    for flag in flags {
-        if *flag {
+    match t {
+        CType::Function(f) => arity(f),
+        CType::Void => 0,
+        CType::Int(_) => 0,
+        CType::Struct(_) => 0,
+        CType::Pointer(_) => 0,
+        CType::Array(_, _) => 0,
+    }
+}
+
+fn arity(f: &Signature) -> usize
+    ensures { result ≡ length f.now.params.items }
+{
+    f.params.len()
+}
+
+/// Whether a slot is no parameter, of which there are so many, or has no flag.
+fn is_apart(parameters: usize, slot: usize, flag: bool) -> bool
+    ensures { result ≡ staged.is_apart parameters slot flag }
+{
+    slot >= parameters || !flag
+}
+
+/// Whether none of the first slots, the parameters, has a flag.
+fn are_unset(parameters: usize, flags: &[bool]) -> bool
+    ensures { result ≡ staged.are_unset parameters 0 flags.now }
+{
+    for i in 0..flags.len() {
+        if !is_apart(parameters, i, flags[i]) {
             return false;
         }
     }
     true
 }
 
-/// Whether slots of these types, with these flags, are integers that are no objects.
-fn are_plain(slots: &[CType], flags: &[bool]) -> bool
-    ensures { result ≡ (list_all words.is_integer (map type_of slots.now) && list_all not flags.now) }
+/// Whether slots of these types, with these flags, are integers and pointers to objects, and no parameter is an object.
+fn are_slots(parameters: usize, slots: &[CType], flags: &[bool]) -> bool
+    ensures { result ≡ (list_all words.is_data (map type_of slots.now) && staged.are_unset parameters 0 flags.now) }
 {
-    are_integers(slots) && no_objects(flags)
+    are_data(slots) && are_unset(parameters, flags)
 }
 
 fn in_body(f: &Function, flags: &[bool]) -> bool
@@ -256,7 +290,7 @@ fn in_body(f: &Function, flags: &[bool]) -> bool
 {
     match &f.body {
         None => true,
-        Some(body) => are_plain(&f.slots, flags) && in_stmt(body),
+        Some(body) => are_slots(parameters(&f.ty), &f.slots, flags) && in_stmt(body),
     }
 }
 

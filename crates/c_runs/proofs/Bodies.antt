@@ -18,11 +18,17 @@ use Rattle.c_code.specs.Functions.{result}
 use Rattle.c_code.specs.Operations.{constant, val_of, width_of}
 use Rattle.c_numbers.proofs.Conversions.{constant_is}
 use Rattle.c_runs.proofs.Goes.{Mem, Runs, bind, here}
+use Rattle.ms_relate.specs.refinement.Homes.{Home}
+use Rattle.ms_relate.specs.refinement.Relation.{Related}
+use Rattle.ms_relate.proofs.Growing.{Extends}
 use Rattle.c_runs.specs.Words.{pushed, value_word}
-use Rattle.c_runs.proofs.Related.{Env, HasAll, IsOf, Kept, Now, depth_front, front, front_append, has_front}
+use Rattle.c_runs.proofs.Held.{Lasts}
+use Rattle.c_runs.proofs.Values.{IsOf}
+use Rattle.c_runs.proofs.Related.{Env, HasAll, IsValue, Kept, Now, pushes, depth_front, front, front_append, has_front}
 use Rattle.c_runs.proofs.Ops.{Op, at_work, op_carried, same, size_joined}
-use Rattle.c_runs.proofs.Flows.{Around, FlowRuns, GoodFlow, IsAt, Way, lowest_all, to_flow, way}
-use Rattle.c_runs.proofs.Stmts.{zero_in}
+use Rattle.c_runs.proofs.Flows.{Around, FlowRuns, GoodFlow, IsAt, Way, lowest_all, starts, to_flow, way}
+use Rattle.c_runs.proofs.Scalars.{zero_in}
+use Rattle.c_runs.proofs.Stmts.{no_off}
 
 -- no value, or an integer
 pub data IsResult (t : Ty) : Type 0 where
@@ -31,7 +37,7 @@ pub data IsResult (t : Ty) : Type 0 where
 
 -- the body of a function: no jump leads out of it, and no value waits
 abbrev pub at_top : Way
-at_top = way no_jumps 0 None
+at_top = way no_jumps 0 None no_off
 
 module _ (E : Env) (is_result : IsResult E.result) (caller : Frame) (vs : List Word) (r : List Item) (dep : suc (depth_of r) ≡ E.depth) where
   abbrev t : Ty
@@ -41,49 +47,52 @@ module _ (E : Env) (is_result : IsResult E.result) (caller : Frame) (vs : List W
   after_body = Activation (val_of t) (length vs) caller ∷ r
 
   abbrev pub to_caller : Value → World → Mem → Thread
-  to_caller v w m = exit_ended caller (pushed t v vs) r
+  to_caller v w m = exit_ended caller (pushes E t m.homes v vs) r
 
   abbrev pub Returned : Now → Value → World → Mem → Type 0
-  Returned now v w m = IsOf t v × (w.fuel < now.below) × AreBytes w.input
+  Returned now v w m = IsValue E t m.homes v × (w.fuel < now.below) × AreBytes w.input × Extends now.homes m.homes × Related E.unit.structs E.places m.homes w.objects m.segments × Lasts now.objects w.objects
 
   abbrev R : Code
   R = result E.target (scalar_of t)
 
-  abbrev Kept_at : Ty → Value → Type 0
-  Kept_at s v = kept (keep (val_of s) (length vs) (pushed s v vs)) caller r ≡ To (thread caller (pushed s v vs) r)
+  abbrev Kept_at : Ty → List Home → Value → Type 0
+  Kept_at s hs v = kept (keep (val_of s) (length vs) (pushes E s hs v vs)) caller r ≡ To (thread caller (pushes E s hs v vs) r)
 
-  kept_is : (v : Value) → Kept_at t v
-  kept_is v = go is_result where
-    go : IsResult t → Kept_at t v
-    go (is_void e) = subst (λ (s : Ty). Kept_at s v) (sym e) (ap (λ (o : Option (List Word)). kept o caller r) (lowest_all vs))
-    go (is_integer u e) = subst (λ (s : Ty). Kept_at s v) (sym e) (ap (λ (o : Option (List Word)). kept (over (value_word (integer u) v) o) caller r) (lowest_all vs))
+  kept_is : (hs : List Home) (v : Value) → Kept_at t hs v
+  kept_is hs v = go is_result where
+    go : IsResult t → Kept_at t hs v
+    go (is_void e) = subst (λ (s : Ty). Kept_at s hs v) (sym e) (ap (λ (o : Option (List Word)). kept o caller r) (lowest_all vs))
+    go (is_integer u e) = subst (λ (s : Ty). Kept_at s hs v) (sym e) (ap (λ (o : Option (List Word)). kept (over (value_word (integer u) v) o) caller r) (lowest_all vs))
 
   around : (n : ℕ) → Around E vs (front (R n).instrs after_body) 0 0 at_top [] [] r caller
   around n = record {
     breaks = λ e fr. absurd cc;
     continues = λ e fr. absurd cc;
-    returns = λ v ok. return_past (pushed t v vs) (R n).instrs after_body ∙ kept_is v;
+    returns = λ hs v ok. return_past (pushes E t hs v vs) (R n).instrs after_body ∙ kept_is hs v;
   }
+
+  abbrev Given : Now → Ty → Value → World → Mem → Type 0
+  Given now s v w m = IsValue E s m.homes v × (w.fuel < now.below) × AreBytes w.input × Extends now.homes m.homes × Related E.unit.structs E.places m.homes w.objects m.segments × Lasts now.objects w.objects
 
   abbrev Results : ℕ → Now → World → Mem → Ty → Type 0
   Results n now w m s =
       Runs E.site (size_of (result E.target (scalar_of s) n)) m (at_work E m w vs (front (result E.target (scalar_of s) n).instrs after_body)) w
-      (λ v w1 m1. exit_ended caller (pushed s v vs) r) (λ v w1 m1. IsOf s v × (w1.fuel < now.below) × AreBytes w1.input) (gives (zero_value s) w)
+      (λ v w1 m1. exit_ended caller (pushes E s m1.homes v vs) r) (Given now s) (gives (zero_value s) w)
 
   zero_steps : (u : IntType) → Op E (one (constant (width_of u) (pos 0))) same (pushed (integer u)) (IsOf (integer u)) (pure (number (pos 0)))
   zero_steps u = op_carried E (constant (width_of u) (pos 0)) same (pushed (integer u)) (IsOf (integer u)) (number (pos 0)) (zero_in u) (λ us. constant_is (width_of u) (pos 0) us)
 
   -- a missing result is 0
-  result_runs : (n : ℕ) (now : Now) → now.below ≤ E.bound → (w : World) (m : Mem) → Kept E now w m → Results n now w m t
+  result_runs : (n : ℕ) (now : Now) → IsAt E 0 now → (w : World) (m : Mem) → Kept E now w m → Results n now w m t
   result_runs n now le w m k = go is_result where
     go : IsResult t → Results n now w m t
-    go (is_void e) = subst (Results n now w m) (sym e) (here E.site 0 w m (λ v w1 m1. exit_ended caller (pushed void v vs) r) (λ v w1 m1. IsOf void v × (w1.fuel < now.below) × AreBytes w1.input) (zero_value void) (tt, k.less, k.bytes))
-    go (is_integer u e) = subst (Results n now w m) (sym e) (λ ag. let q = zero_steps u n tt now le vs after_body dep w m k ag in (q.0, (q.1.0, q.1.1.less, q.1.1.bytes), q.2))
+    go (is_void e) = subst (Results n now w m) (sym e) (here E.site 0 w m (λ v w1 m1. exit_ended caller (pushes E void m1.homes v vs) r) (Given now void) (zero_value void) (tt, k.less, k.bytes, k.grown, k.related, k.lasts))
+    go (is_integer u e) = subst (Results n now w m) (sym e) (λ ag. let q = zero_steps u n tt now (starts E 0 now le) vs after_body dep w m k ag in let k' = q.1.1 in (q.0, (q.1.0, k'.less, k'.bytes, k'.grown, k'.related, k'.lasts), q.2))
 
-  ends_runs : (n : ℕ) (now : Now) → now.below ≤ E.bound → (flow : Flow) (w : World) (m : Mem) → GoodFlow E at_top now flow w m
+  ends_runs : (n : ℕ) (now : Now) → IsAt E 0 now → (flow : Flow) (w : World) (m : Mem) → GoodFlow E at_top now flow w m
       → Runs E.site (size_of (R n)) m (to_flow E vs (front (R n).instrs after_body) [] [] r caller flow w m) w to_caller (Returned now) (gives (given t flow) w)
   ends_runs n now le next w m g = result_runs n now le w m g.1
-  ends_runs n now le (returned v) w m g = here E.site (size_of (R n)) w m to_caller (Returned now) v (g.0, g.1.less, g.1.bytes)
+  ends_runs n now le (returned v) w m g = let k' = g.1 in here E.site (size_of (R n)) w m to_caller (Returned now) v (g.0, k'.less, k'.bytes, k'.grown, k'.related, k'.lasts)
   ends_runs n now le broken w m g = absurd (let e = g.0.0 in cc)
   ends_runs n now le continued w m g = absurd (let e = g.0 in cc)
 
@@ -100,4 +109,4 @@ module _ (E : Env) (is_result : IsResult E.result) (caller : Frame) (vs : List W
       (subst (λ (q : List Item). Runs E.site (size_of cb + size_of cr) m (at_work E m w vs q) w to_caller (Returned now) ((mx >>= f) w)) (sym (front_append cb.instrs cr.instrs after_body))
       (bind E.site (size_of cb) (size_of cr) m (at_work E m w vs (front cb.instrs (front cr.instrs after_body))) w (to_flow E vs (front cr.instrs after_body) [] [] r caller) (GoodFlow E at_top now) to_caller (Returned now) (mx w) f
       (h n (has_front E.site.funcs E.fn n cb.seqs cr.seqs has) (omega (arith, sizes, small)) now le vs (front cr.instrs after_body) [] [] r caller (around n') (depth_front cr.instrs after_body ∙ dep) w m k)
-      (λ flow w1 m1 g. ends_runs n' now le.below flow w1 m1 g)))
+      (λ flow w1 m1 g. ends_runs n' now le flow w1 m1 g)))

@@ -1,5 +1,5 @@
 -- Loops with the test behind: the block around them takes the place of the arm in which a loop with the test in front stands.
-use Rattle.std.proofs.Common.{◌≡◌, ℕ, zero, suc, ◌+◌, ◌≤◌, List, [], ◌∷◌, length, Bool, None, refl, sym, ap, ◌∙◌, arith, subst}
+use Rattle.std.proofs.Common.{◌≡◌, ℕ, zero, suc, ◌+◌, ◌≤◌, List, [], ◌∷◌, length, Bool, Option, None, refl, sym, ap, ◌∙◌, arith, subst}
 use Rattle.std.specs.Prelude.{not, if◌then◌else◌}
 use Rattle.ms_linear.specs.declared.value.Value.{Value as Word}
 use Rattle.ms_linear.specs.declared.value.Value.TheVariants.{I32}
@@ -11,6 +11,7 @@ use Rattle.ms_module.specs.declared.numeric.Width.TheVariants.{W32}
 use Rattle.ms_num.specs.Integers.{wrapped}
 use Rattle.ms_task.specs.Control.{exit_ended}
 use Rattle.ms_task.specs.Thread.{Do, Frame, Item, Label, Thread, thread, depth_of, sequence}
+use Rattle.c_well_typed.specs.declared.jumps.Jumps.{Jumps}
 use Rattle.c_types.specs.declared.integers.IntType.{IntType}
 use Rattle.c_types.specs.Types.{integer}
 use Rattle.c_meaning.specs.Values.{Value, number}
@@ -26,11 +27,10 @@ use Rattle.c_runs.proofs.Ahead.{Leads, leads_first, leads_further, leads_out, le
 use Rattle.c_runs.proofs.Goes as goes
 use Rattle.c_runs.proofs.Goes.{Mem, Runs, RunsTo, after_after, agrees_after, behind_goes, given, goes_on, one_here, resize, resize_to, stops_behind}
 use Rattle.c_runs.proofs.Grants.{Agrees}
-use Rattle.c_runs.specs.Words.{pushed}
-use Rattle.c_runs.proofs.Related.{Env, HasAll, IsOf, Kept, Now, frame_of, front, front_append, has_back, has_front}
-use Rattle.c_runs.proofs.Ops.{Good, IsTest, Op, To_, at_work, into, is_no, is_yes, op_none, same, size_joined}
+use Rattle.c_runs.proofs.Related.{Env, HasAll, IsValue, Kept, Now, kept_fuel, pushes, frame_of, front, front_append, has_back, has_front}
+use Rattle.c_runs.proofs.Ops.{GoodIn, IsTest, Op, ToIn, at_work, into, is_no, is_yes, op_none, same, size_joined}
 use Rattle.c_runs.proofs.Nodes.{Always, Leaves, gone, test_is}
-use Rattle.c_runs.proofs.Flows.{Around, FlowRuns, GoodFlow, IsAt, Way, to_flow}
+use Rattle.c_runs.proofs.Flows.{Around, FlowRuns, GoodFlow, IsAt, Off, Way, starts, to_flow, way}
 use Rattle.c_runs.proofs.Loops as loops
 use Rattle.c_runs.proofs.Loops.{bodied, body_way, lower, weaken}
 
@@ -46,8 +46,11 @@ part_sizes T C body x =
     omega (arith, a, b, c)
 
 module _ (E : Env) (u : IntType) (narrow : width_of u ≡ W32) (T : Code) (test : Does Value) (rt : Leaves E T (integer u) test)
-    (C : Bool) (body : Code) (mx : Does Flow) (d : ℕ) (rx : FlowRuns E (body_way d C) (if C then 2 else 1) 0 body same mx) (N : ℕ)
-    (vs : List Word) (r br cr rr : List Item) (caller : Frame) (b c : ℕ) (l : Way) (at_depth : l.depth ≡ d) (a : Around E vs r b c l br cr rr caller) (dep : depth_of r ≡ E.depth) where
+    (C : Bool) (body : Code) (mx : Does Flow) (d : ℕ) (off : Off) (rx : FlowRuns E (body_way d C off) (if C then 2 else 1) 0 body same mx) (N : ℕ)
+    (vs : List Word) (r br cr rr : List Item) (caller : Frame) (b c : ℕ) (js : Jumps) (lo : Option ℕ) (a : Around E vs r b c (way js d lo off) br cr rr caller) (dep : depth_of r ≡ E.depth) where
+  abbrev l : Way
+  l = way js d lo off
+
   no_step : Op E no_code same (gone E) (Always E) (pure tt)
   no_step = op_none E same (gone E) (Always E) tt tt (λ us. refl)
 
@@ -55,7 +58,7 @@ module _ (E : Env) (u : IntType) (narrow : width_of u ≡ W32) (T : Code) (test 
   R = bodied body C ⨾ no_code ⨾ T ⨾ one (BrIf 0)
 
   abbrev ring : List Item
-  ring = loops.ring E u narrow T test rt no_code (pure tt) no_step C body mx d rx N vs r br cr rr caller b c l at_depth a dep
+  ring = loops.ring E u narrow T test rt no_code (pure tt) no_step C body mx d off rx N vs r br cr rr caller b c js lo a dep
 
   abbrev outer : List Item
   outer = Label None (length vs) None ∷ r
@@ -110,9 +113,9 @@ module _ (E : Env) (u : IntType) (narrow : width_of u ≡ W32) (T : Code) (test 
           let w3 : World = record w2 { fuel = f } in
           let now' : Now = lower E (suc f) now in
           let lt = k.less in
-          let k3 : Kept E now' w3 m2 = record { held = k.held; deep = k.deep; less = omega arith; bytes = k.bytes; temps = k.temps } in
+          let k3 : Kept E now' w3 m2 = kept_fuel E now (suc f) w2.objects (record w2 { fuel = suc f }) m2 f (omega arith) k in
           leads_paid E.site turn turn turn f w (record w2 { fuel = suc f }) m m2 (head m w) (head m2 w2) to (GoodFlow E l now) (again n w3) ld refl (omega (arith, room))
-          (weaken E l now (suc f) turn m2 (head m2 w2) w3 to (again n w3) (omega (arith, lt)) (ih now' (record { below = omega (arith, lt, le.below); waits = le.waits }) (omega (arith, lt, le')) w3 m2 k3 ag))
+          (weaken E l now (suc f) turn m2 (head m2 w2) w3 to (again n w3) (omega (arith, lt)) (ih now' (record { below = omega (arith, lt, le.below); waits = le.waits; seen = le.seen }) (omega (arith, lt, le')) w3 m2 k3 ag))
 
       -- behind the test
       decide : (z : ℕ) (t : Bool) → IsTest E z t → (w2 : World) (m2 : Mem) → Kept E now w2 m2 → Leads E.site ((1 + sB) + sT) w w2 m (head m w) m2 (thread (frame_of E m2 w2) (I32 z ∷ vs) (Do (BrIf 0) ∷ ring))
@@ -120,7 +123,7 @@ module _ (E : Env) (u : IntType) (narrow : width_of u ≡ W32) (T : Code) (test 
       decide z t (is_yes q ez et) w2 m2 k ld ag =
           let t2 = thread (frame_of E m2 w2) (I32 z ∷ vs) (Do (BrIf 0) ∷ ring) in
           let g = one_here E.site w2 m2 m2 (BrIf 0) (frame_of E m2 w2) (I32 z ∷ vs) ring (head m2 w2)
-          (ap (λ (y : ℕ). step.act (goes.store E.site m2) (BrIf 0) (thread (frame_of E m2 w2) (I32 y ∷ vs) ring)) ez ∙ ap (step.moved (goes.store E.site m2)) (loops.to_head E u narrow T test rt no_code (pure tt) no_step C body mx d rx N vs r br cr rr caller b c l at_depth a dep (frame_of E m2 w2))) in
+          (ap (λ (y : ℕ). step.act (goes.store E.site m2) (BrIf 0) (thread (frame_of E m2 w2) (I32 y ∷ vs) ring)) ez ∙ ap (step.moved (goes.store E.site m2)) (loops.to_head E u narrow T test rt no_code (pure tt) no_step C body mx d off rx N vs r br cr rr caller b c js lo a dep (frame_of E m2 w2))) in
           subst (λ (x : Bool). RunsTo E.site turn m (head m w) w to (GoodFlow E l now) (behind_test n x w2)) (sym et)
           (paid_runs w2 m2 w2.fuel k (leads_further E.site ((1 + sB) + sT) 1 w w2 w2 m m2 m2 (head m w) t2 (head m2 w2) ld g) (agrees_after E.site 1 w2 w2 m2 m2 t2 (head m2 w2) g ag))
       decide z t (is_no ez et) w2 m2 k ld ag =
@@ -134,11 +137,11 @@ module _ (E : Env) (u : IntType) (narrow : width_of u ≡ W32) (T : Code) (test 
       at_test m1 w1 = at_work E m1 w1 vs (front (T n2).instrs (Do (BrIf 0) ∷ ring))
 
       test_by : (w1 : World) (m1 : Mem) → Leads E.site (1 + sB) w w1 m (head m w) m1 (at_test m1 w1) → Agrees (goes.store E.site m1) (at_test m1 w1) (given w1) w1.grants
-          → (y : Result Value) → RunsTo E.site sT m1 (at_test m1 w1) w1 (To_ E (pushed (integer u)) vs (Do (BrIf 0) ∷ ring)) (Good E (IsOf (integer u)) now) y
+          → (y : Result Value) → RunsTo E.site sT m1 (at_test m1 w1) w1 (ToIn E (pushes E (integer u)) vs (Do (BrIf 0) ∷ ring)) (GoodIn E (IsValue E (integer u)) now) y
           → RunsTo E.site turn m (head m w) w to (GoodFlow E l now) (after y (λ v w2. after (is_true v w2) (behind_test n)))
       test_by w1 m1 ld ag (ends e w2) h = resize_to E.site ((1 + sB) + sT) turn m (head m w) w to (GoodFlow E l now) (ends e w2) (omega arith) (stops_behind E.site (1 + sB) sT w w1 w2 m m1 (head m w) (at_test m1 w1) e ld.goes h)
       test_by w1 m1 ld ag (gives v w2) h = by v h.1.0 h.2 where
-        by : (v : Value) → IsOf (integer u) v → goes.Goes E.site sT w1 w2 m1 (at_test m1 w1) h.0 (at_work E h.0 w2 (pushed (integer u) v vs) (Do (BrIf 0) ∷ ring))
+        by : (v : Value) → IsValue E (integer u) h.0.homes v → goes.Goes E.site sT w1 w2 m1 (at_test m1 w1) h.0 (at_work E h.0 w2 (pushes E (integer u) h.0.homes v vs) (Do (BrIf 0) ∷ ring))
             → RunsTo E.site turn m (head m w) w to (GoodFlow E l now) (after (is_true v w2) (behind_test n))
         by (number z) i g =
             let t2 = thread (frame_of E h.0 w2) (I32 (wrapped 32 z) ∷ vs) (Do (BrIf 0) ∷ ring) in
@@ -152,7 +155,7 @@ module _ (E : Env) (u : IntType) (narrow : width_of u ≡ W32) (T : Code) (test 
           let split = front_append (T n2).instrs (BrIf 0 ∷ []) ring in
           let ag' = subst (λ (q : List Item). Agrees (goes.store E.site m1) (at_work E m1 w1 vs q) (given w1) w1.grants) split ag in
           subst (λ (y : Result Flow). RunsTo E.site turn m (head m w) w to (GoodFlow E l now) y) (sym (after_after (test w1) is_true (behind_test n)))
-          (test_by w1 m1 (subst (λ (q : List Item). Leads E.site (1 + sB) w w1 m (head m w) m1 (at_work E m1 w1 vs q)) split ld) ag' (test w1) (rt n2 hasT now le.below vs (Do (BrIf 0) ∷ ring) dep w1 m1 k1 ag'))
+          (test_by w1 m1 (subst (λ (q : List Item). Leads E.site (1 + sB) w w1 m (head m w) m1 (at_work E m1 w1 vs q)) split ld) ag' (test w1) (rt n2 hasT now (starts E d now le) vs (Do (BrIf 0) ∷ ring) dep w1 m1 k1 ag'))
 
       abbrev t0 : Thread
       t0 = at_work E m w vs (front (bodied body C (suc N)).instrs (front tail1 ring))
@@ -165,7 +168,7 @@ module _ (E : Env) (u : IntType) (narrow : width_of u ≡ W32) (T : Code) (test 
       abbrev to_body : Flow → World → Mem → Thread
       to_body = to_flow E vs (front tail1 ring) r (front tail1 ring) rr caller
 
-      body_by : Agrees (goes.store E.site m) t0 (given w) w.grants → (y : Result Flow) → RunsTo E.site sB m t0 w to_body (GoodFlow E (body_way d C) now) y
+      body_by : Agrees (goes.store E.site m) t0 (given w) w.grants → (y : Result Flow) → RunsTo E.site sB m t0 w to_body (GoodFlow E (body_way d C off) now) y
           → RunsTo E.site turn m (head m w) w to (GoodFlow E l now) (after y (behind_body (meaning.test test >>= behind_test n)))
       body_by ag (ends e w1) h = resize_to E.site (1 + sB) turn m (head m w) w to (GoodFlow E l now) (ends e w1) (omega arith) (stops_behind E.site 1 sB w w w1 m m (head m w) t0 e first.goes h)
       body_by ag (gives next w1) q =
@@ -178,12 +181,12 @@ module _ (E : Env) (u : IntType) (narrow : width_of u ≡ W32) (T : Code) (test 
           resize_to E.site (1 + sB) turn m (head m w) w to (GoodFlow E l now) (gives next w1) (omega arith) (q.0, (tt, q.1.1), goes_on E.site 1 sB w w w1 m m q.0 (head m w) t0 (at_work E q.0 w1 vs r) first.goes q.2)
       body_by ag (gives (returned v) w1) q =
           resize_to E.site (1 + sB) turn m (head m w) w to (GoodFlow E l now) (gives (returned v) w1) (omega arith)
-          (q.0, (q.1.0, q.1.1), goes_on E.site 1 sB w w w1 m m q.0 (head m w) t0 (exit_ended caller (pushed E.result v vs) rr) first.goes q.2)
+          (q.0, (q.1.0, q.1.1), goes_on E.site 1 sB w w w1 m m q.0 (head m w) t0 (exit_ended caller (pushes E E.result q.0.homes v vs) rr) first.goes q.2)
 
       iterates : Kept E now w m → Runs E.site turn m (head m w) w to (GoodFlow E l now) (again (suc n) w)
       iterates k ag =
           let ag0 = agrees_after E.site 1 w w m m (head m w) t0 first.goes ag in
-          body_by ag0 (mx w) (loops.body_runs E u narrow T test rt no_code (pure tt) no_step C body mx d rx N vs r br cr rr caller b c l at_depth a dep hasB (omega (arith, room)) now le w m k ag0)
+          body_by ag0 (mx w) (loops.body_runs E u narrow T test rt no_code (pure tt) no_step C body mx d off rx N vs r br cr rr caller b c js lo a dep hasB (omega (arith, room)) now le w m k ag0)
 
     pub all_iterate : (n : ℕ) → Iterates n
     all_iterate zero now le le' w m k = absurd (let lt = k.less in omega (arith, lt, le'))
@@ -193,15 +196,15 @@ module _ (E : Env) (u : IntType) (narrow : width_of u ≡ W32) (T : Code) (test 
 
 module _ (E : Env) where
   pub do_runs : (u : IntType) → width_of u ≡ W32 → (T : Code) (test : Does Value) → Leaves E T (integer u) test
-      → (C : Bool) (body : Code) (mx : Does Flow) (d : ℕ) → FlowRuns E (body_way d C) (if C then 2 else 1) 0 body same mx → (l : Way) → l.depth ≡ d → (b c bound : ℕ) → E.bound ≤ bound
-      → FlowRuns E l b c (block None (repeat None (bodied body C ⨾ no_code ⨾ T ⨾ one (BrIf 0)))) same (do_loops bound (meaning.test test) mx)
-  do_runs u narrow T test rt C body mx d rx l at_depth b c bound wide n has small now le vs r br cr rr caller a dep w m k =
+      → (C : Bool) (body : Code) (mx : Does Flow) (d : ℕ) (off : Off) → FlowRuns E (body_way d C off) (if C then 2 else 1) 0 body same mx → (js : Jumps) (lo : Option ℕ) → (b c bound : ℕ) → E.bound ≤ bound
+      → FlowRuns E (way js d lo off) b c (block None (repeat None (bodied body C ⨾ no_code ⨾ T ⨾ one (BrIf 0)))) same (do_loops bound (meaning.test test) mx)
+  do_runs u narrow T test rt C body mx d off rx js lo b c bound wide n has small now le vs r br cr rr caller a dep w m k =
       let N = suc n in
       let loop = repeat None (bodied body C ⨾ no_code ⨾ T ⨾ one (BrIf 0)) in
       let to' = to_flow E vs r br cr rr caller in
-      let size = turn E u narrow T test rt C body mx d rx N vs r br cr rr caller b c l at_depth a dep in
+      let size = turn E u narrow T test rt C body mx d off rx N vs r br cr rr caller b c js lo a dep in
       let parts = part_sizes T C body N in
-      resize E.site (1 + size) (size_of (block None loop n)) m (at_work E m w vs (Do (Block None n) ∷ r)) w to' (GoodFlow E l now) (do_loops bound (meaning.test test) mx w) (omega (arith, parts))
-      (into E (Block None n) vs None size (Loop None N ∷ []) to' (GoodFlow E l now) (do_loops bound (meaning.test test) mx w) vs r w m
+      resize E.site (1 + size) (size_of (block None loop n)) m (at_work E m w vs (Do (Block None n) ∷ r)) w to' (GoodFlow E (way js d lo off) now) (do_loops bound (meaning.test test) mx w) (omega (arith, parts))
+      (into E (Block None n) vs None size (Loop None N ∷ []) to' (GoodFlow E (way js d lo off) now) (do_loops bound (meaning.test test) mx w) vs r w m
       (ap (λ (is : List Instr). step.Next (goes.store E.site m) (thread (frame_of E m w) vs (front is (Label None (length vs) None ∷ r))) None) has.0)
-      (all_iterate E u narrow T test rt C body mx d rx N vs r br cr rr caller b c l at_depth a dep has.1.0 has.1.1 (omega (arith, parts, small)) bound now (record { below = le.below; waits = le.waits ∙ at_depth }) (omega (arith, le.below, wide)) w m k))
+      (all_iterate E u narrow T test rt C body mx d off rx N vs r br cr rr caller b c js lo a dep has.1.0 has.1.1 (omega (arith, parts, small)) bound now le (omega (arith, le.below, wide)) w m k))

@@ -3,14 +3,15 @@ use Rattle.std.proofs.Common.{◌≡◌, ℕ, ◌^◌, ◌<◌, ◌≤◌, List,
 use Rattle.std.specs.Prelude.{ℤ, pos, ◌&&◌, not, slice_get, if◌then◌else◌}
 use Rattle.ms_linear.specs.declared.value.Value.{Value as Word}
 use Rattle.ms_types.specs.declared.types.ValType.TheVariants as vals
-use Rattle.ms_module.specs.declared.instr.Instr.TheVariants.{Call}
+use Rattle.ms_module.specs.declared.access.Segment.TheVariants as segment
+use Rattle.ms_module.specs.declared.instr.Instr.TheVariants.{Call, Segment}
 use Rattle.ms_module.specs.declared.numeric.Width.TheVariants.{W32}
 use Rattle.c_types.specs.declared.integers.IntType.{IntType}
 use Rattle.c_types.specs.declared.integers.IntType.TheVariants.{Char, SignedChar, UnsignedChar, Short, UnsignedShort, Int, UnsignedInt, Long, UnsignedLong, LongLong, UnsignedLongLong}
 use Rattle.c_types.specs.declared.types.Scalar.{Scalar}
 use Rattle.c_types.specs.declared.types.Scalar.TheVariants as scalars
 use Rattle.c_types.specs.Layout.{most_bytes}
-use Rattle.c_types.specs.Types.{Ty, void, integer, pointer, struct, array, function, Tys, no_types, scalar_of}
+use Rattle.c_types.specs.Types.{Ty, is_function, void, integer, pointer, struct, array, function, Tys, no_types, scalar_of}
 use Rattle.c_types.specs.Types as ty
 use Rattle.c_typed.specs.declared.ops.BinaryOp.{BinaryOp}
 use Rattle.c_typed.specs.declared.ops.UnaryOp.TheVariants as signs
@@ -19,28 +20,37 @@ use Rattle.c_typed.specs.declared.ops.Variable.TheVariants.{Local, Global}
 use Rattle.c_typed.specs.Tree as tree
 use Rattle.c_typed.specs.Tree.{Place, of, deref, member, Expr, Exprs, none, more}
 use Rattle.c_well_typed.specs.refinement.Expressions as well
-use Rattle.c_well_typed.specs.refinement.Expressions.{HasType, HaveTypes, IsNarrow, IsPlace}
-use Rattle.c_meaning.specs.Values.{Value, number}
-use Rattle.c_meaning.specs.World.{plain, World, Result, gives, ends, Does, after, ◌>>=◌, ◌>>◌, pure, stop, abort}
+use Rattle.c_well_typed.specs.refinement.Expressions.{HasType, HaveTypes, IsNarrow, IsPlace, is_visible}
+use Rattle.c_typed.specs.declared.ops.RelOp.TheVariants as relations
+use Rattle.c_meaning.specs.Objects.{same_place}
+use Rattle.c_meaning.specs.Values.{Value, null, number}
+use Rattle.c_meaning.specs.World.{World, Result, gives, ends, Does, after, ask, ◌>>=◌, ◌>>◌, pure, stop, abort}
 use Rattle.c_meaning.specs.Integers as meant
 use Rattle.c_meaning.specs.Integers.{value_of, wrap}
 use Rattle.c_meaning.specs.Expressions as meaning
 use Rattle.c_meaning.specs.Expressions.{as_number, expr, exprs, is_true, place, store}
-use Rattle.ms_emit.specs.Codes.{Code, one, no_code, ◌⨾◌, choice}
+use Rattle.ms_emit.specs.Codes.{Code, one, ◌⨾◌, choice}
 use Rattle.c_code.specs.Expressions as code
-use Rattle.c_code.specs.Expressions.{as_bit, begun, converted, ended, fetched, int, is_bit, left, number_in, of_type, updated}
+use Rattle.c_code.specs.Expressions.{as_bit, begun, converted, ended, fetched, int, is_bit, is_null, left, number_in, of_type, updated}
 use Rattle.c_code.specs.Operations.{constant, convert, eqz, i32, operated, truth, val_option, width_of}
-use Rattle.c_code.specs.Stage.{in_expr, in_exprs, is_local, is_number, is_number_or_void}
+use Rattle.c_code.specs.Stage.{in_expr, in_exprs, in_place}
 use Rattle.c_code.specs.Targets.{get, plain_in}
 use Rattle.c_code.specs.Uses as uses
 use Rattle.c_code.specs.Uses.{calls}
 use Rattle.c_numbers.proofs.Ranges.{value_in, wrap_in}
-use Rattle.c_runs.specs.Words.{pushed, value_word}
-use Rattle.c_runs.proofs.Related.{AreOf, Env, IsHeld, IsOf, piled}
-use Rattle.c_runs.proofs.Ops.{AllGiven, Op, op_assoc, op_given, op_look, op_none, op_over, op_then, same}
-use Rattle.c_runs.proofs.Nodes.{Carries, Leaves, assign_runs, chosen_runs, constant_runs, fetch_runs, behind_place, gone, left_runs, of_number, remains}
+use Rattle.c_runs.specs.Words.{pushed}
+use Rattle.ms_relate.specs.refinement.Homes.{Home, IsScalar}
+use Rattle.ms_relate.proofs.Growing.{Extends}
+use Rattle.c_runs.proofs.Values.{IsOf, pushed_is, value_still, word_of, word_still}
+use Rattle.c_runs.proofs.Related.{AreOf, Env, IsValue, piled, pushes}
+use Rattle.c_runs.proofs.Ops.{AllGiven, OpIn, op_any, op_assoc, op_given, op_look, op_look_in, op_none_in, op_over_in, op_then_in, same}
+use Rattle.c_runs.proofs.Nodes.{Carries, Leaves, assign_runs, chosen_runs, constant_runs, fetch_runs, behind_place, gone, left_runs, remains}
 use Rattle.c_runs.proofs.Operations.{AtHome, Linked, abort_runs, binary_runs, compare_runs, complement_runs, convert_runs, getchar_runs, narrow_truth_runs, negate_runs, not_runs, putchar_runs, truth_in, truth_runs, update_runs}
-use Rattle.c_runs.proofs.Ready.{IsCallable, IsReady, behind_test, called, parts}
+use Rattle.c_runs.proofs.Cells.{Leads, address_runs, assign_there, deref_leads, read_there, variable_leads}
+use Rattle.c_runs.proofs.Scalars.{IsData, data_scalar, data_value, null_runs, pointer_type, scalar_type, truth_pointer}
+use Rattle.c_runs.proofs.Equal.{equal_runs, unequal_runs}
+use Rattle.c_runs.proofs.Updates.{update_there}
+use Rattle.c_runs.proofs.Ready.{IsCallable, IsReady, addressed, called, either, in_expr_of, in_exprs_of, in_place_of, parts, taken}
 use Rattle.c_runs.proofs.Whole.{whole_as_bit, whole_expr, whole_plain}
 
 -- ---- types
@@ -60,8 +70,8 @@ narrow_width LongLong h = absurd (omega (arith, h))
 narrow_width UnsignedLongLong h = absurd (omega (arith, h))
 
 -- a type whose scalar is a number is an integer type
-pub number_type : (t : Ty) (s : Scalar) → is_number s ≡ true → scalar_of t ≡ Some s → (u : IntType) × (t ≡ integer u) × (s ≡ scalars.Int u)
-number_type t (scalars.Int u) n e = by t e where
+pub number_type : (t : Ty) (u : IntType) → scalar_of t ≡ Some (scalars.Int u) → (v : IntType) × (t ≡ integer v) × (scalars.Int u ≡ scalars.Int v)
+number_type t u e = by t e where
   int_or : IntType → Option Scalar → IntType
   int_or v (Some (scalars.Int w)) = w
   int_or v _ = v
@@ -78,8 +88,6 @@ number_type t (scalars.Int u) n e = by t e where
   by (pointer (array v n)) e = absurd cc
   by (array v n) e = absurd cc
   by (function r ps) e = absurd cc
-number_type t scalars.Pointer n e = absurd cc
-number_type t scalars.Function n e = absurd cc
 
 -- ---- conditions that give 0 or 1
 
@@ -102,6 +110,10 @@ module _ (E : Env) where
   bit_given (tree.truth s a) b h w = given_after E IsBit (meaning.test (value a) w) _ (λ x w1. (x, refl))
   bit_given (tree.not a) b h w = given_after E IsBit (meaning.test (value a) w) _ (λ x w1. (not x, refl))
   bit_given (tree.compare o t x y) b h w = given_after E IsBit (meaning.integer (value x) w) _ (λ p w1. given_after E IsBit (meaning.integer (value y) w1) _ (λ q w2. (meant.compared o p q, refl)))
+  bit_given (tree.compare_pointers relations.Equal x y) b h w =
+      given_after E IsBit (value x w) _ (λ p w1. given_after E IsBit (value y w1) _ (λ q w2. given_after E IsBit (ask (λ os. same_place os p q) w2) _ (λ r w3. (r, refl))))
+  bit_given (tree.compare_pointers relations.NotEqual x y) b h w =
+      given_after E IsBit (value x w) _ (λ p w1. given_after E IsBit (value y w1) _ (λ q w2. given_after E IsBit (ask (λ os. same_place os p q) w2) _ (λ r w3. (not r, refl))))
   bit_given (tree.and x y) b h w =
       given_after E IsBit (meaning.test (value x) w) _
       (λ p. if_given p (meaning.test (value y) >>= (λ q. pure (meaning.truth q))) (pure (meaning.truth false)) (λ w1. given_after E IsBit (meaning.test (value y) w1) _ (λ q w2. (q, refl))) (λ w1. (false, refl)))
@@ -126,6 +138,7 @@ module _ (E : Env) where
   bit_type k (tree.truth s a) t b h ty = ty.1
   bit_type k (tree.not a) t b h ty = ty.1
   bit_type k (tree.compare o u x y) t b h ty = ty.0
+  bit_type k (tree.compare_pointers o x y) t b h ty = ty.1
   bit_type k (tree.and x y) t b h ty = ty.2
   bit_type k (tree.or x y) t b h ty = ty.2
   bit_type k _ t b h ty = absurd cc
@@ -134,6 +147,10 @@ module _ (E : Env) where
       → Leaves E (as_bit b c) (integer Int) (meaning.test (value e) >>= (λ q. pure (meaning.truth q)))
   as_bit_runs k e u c true is h n ty r = bit_runs c (value e) (bit_given e is h) (subst (λ (t : Ty). Leaves E c t (value e)) (bit_type k e (integer u) is h ty) r)
   as_bit_runs k e u c false is h n ty r = narrow_truth_runs E u c (value e) n r
+
+  null_is : (a : Expr) → is_null a ≡ true → value a ≡ pure null
+  null_is tree.null e = refl
+  null_is _ e = absurd cc
 
   -- ---- a number that is known
 
@@ -155,13 +172,12 @@ module _ (E : Env) (L : Linked E.site) (home : AtHome E) (k : well.Context) (slo
   -- a call does what is meant, from this function
   abbrev pub CallsRun : Type 0
   CallsRun =
-      (f : ℕ) (t : Ty) (ps : Tys) → slice_get k.functions f ≡ Some (function t ps) → IsCallable E.unit f → (us : List Value) → AreOf ps us
-      → Op E (one (Call (E.target.index f))) (λ vs. piled ps us vs) (pushed t) (IsOf t) (E.calls f us)
+      (f : ℕ) (t : Ty) (ps : Tys) → slice_get k.functions f ≡ Some (function t ps) → IsCallable E.unit f → (hs : List Home) (us : List Value) → AreOf E ps hs us
+      → OpIn E hs (one (Call (E.target.index f))) (λ vs. piled E ps hs us vs) (pushes E t) (IsValue E t) (E.calls f us)
 
-  -- the parameters are integers
-  abbrev pub AreInts : Tys → Type 0
-  AreInts no_types = Unit {0}
-  AreInts (ty.types t ts) = ((u : IntType) × (t ≡ integer u)) × AreInts ts
+  abbrev pub AreScalars : Tys → Type 0
+  AreScalars no_types = Unit {0}
+  AreScalars (ty.types t ts) = IsScalar t × AreScalars ts
 
   abbrev pub code_of : Bool → ℕ → Expr → Code
   code_of kept d e = code.expr E.target kept d e
@@ -175,58 +191,75 @@ module _ (E : Env) (L : Linked E.site) (home : AtHome E) (k : well.Context) (slo
   left_int : (kept : Bool) (c : Code) (t : Ty) (u : IntType) (x : Does Value) → t ≡ integer u → Leaves E c (integer u) x → Carries E kept (left kept (of_type u) c) t x
   left_int kept c t u x e h = as_type kept (left kept (of_type u) c) t u x e (left_runs E kept (of_type u) (integer u) c x refl h)
 
-  module _ (calls_run : CallsRun) (ints : (f : ℕ) (t : Ty) (ps : Tys) → slice_get k.functions f ≡ Some (function t ps) → AreInts ps)
-      (slot_ints : (x : ℕ) (t : Ty) → slice_get k.slots x ≡ Some t → (u : IntType) × (t ≡ integer u)) where
-    one_of : (t : Ty) (u : IntType) (v : Value) → t ≡ integer u → IsOf t v → IsHeld t (plain v)
-    one_of t u v e ok = subst (λ (s : Ty). IsHeld s (plain v)) (sym e) (of_number E u (λ w. IsHeld (integer u) (plain w)) (λ z i. i) v (subst (λ (s : Ty). IsOf s v) e ok))
+  module _ (calls_run : CallsRun) (scalars_are : (f : ℕ) (t : Ty) (ps : Tys) → slice_get k.functions f ≡ Some (function t ps) → AreScalars ps)
+      (slots_data : (x : ℕ) (t : Ty) → slice_get k.slots x ≡ Some t → IsData t) (visible_are : k.visible ≡ E.visible) where
+    slot_scalar : (x : ℕ) (t : Ty) → slice_get k.slots x ≡ Some t → IsScalar t
+    slot_scalar x t e = data_scalar t (slots_data x t e)
 
-    arg_is : (t : Ty) (u : IntType) (v : Value) (vs : List Word) → t ≡ integer u → pushed t v vs ≡ value_word t v ∷ vs
-    arg_is t u v vs e = subst (λ (s : Ty). pushed s v vs ≡ value_word s v ∷ vs) (sym e) refl
+    -- a slot, by whether it is an object
+    kind_at : (x : ℕ) (t : Ty) → slice_get k.slots x ≡ Some t → (b : Bool) → E.target.is_object (Local x) ≡ b → slice_get E.kinds x ≡ Some (t, b)
+    kind_at x t e b q = E.kinds_are x t (subst (λ (ts : List Ty). slice_get ts x ≡ Some t) slots_are e) ∙ ap (λ (c : Bool). Some (t, c)) q
 
-    -- a slot of an integer type, which is no object
-    at_slot : (x : ℕ) (t : Ty) → slice_get k.slots x ≡ Some t → slice_get E.slots x ≡ Some t
-    at_slot x t e = subst (λ (ts : List Ty). slice_get ts x ≡ Some t) slots_are e
+    leads_at : (x : ℕ) (t : Ty) → IsPlace k (of (Local x)) t → E.target.is_object (Local x) ≡ true → Leads E (one (get E.target (Local x))) t (place E.unit E.calls (of (Local x)))
+    leads_at x t h q = variable_leads E x t (kind_at x t h.0 true q) (ap (λ (vs : List ℕ). is_visible vs x) (sym visible_are) ∙ h.1)
 
-    plain_is : (x : ℕ) (t : Ty) → slice_get k.slots x ≡ Some t → plain_in E.target (of (Local x)) ≡ Some (Local x)
-    plain_is x t e = ap (λ (b : Bool). if b then None else Some (Local x)) (E.plain_slots x t (at_slot x t e))
+    abbrev variable_in : Bool → ℕ → Option Variable
+    variable_in b x = if b then None else Some (Local x)
 
-    read_runs : (d : ℕ) (s : Scalar) (p : Place) (t : Ty) → is_local p ≡ true → IsPlace k p t → Leaves E (fetched E.target (plain_in E.target p) (code.place E.target d p) s) t (place E.unit E.calls p >>= meaning.fetch)
-    read_runs d s (of (Local x)) t l h =
-        let u = slot_ints x t h.0 in
-        let g = one (get E.target (Local x)) in
-        subst (λ (o : Option Variable). Leaves E (fetched E.target o (one (get E.target (Local x))) s) t (place E.unit E.calls (of (Local x)) >>= meaning.fetch)) (sym (plain_is x t h.0))
-        (subst (λ (q : Ty). Leaves E g q (place E.unit E.calls (of (Local x)) >>= meaning.fetch)) (sym u.1)
-        (behind_place E x u.0 (at_slot x t h.0 ∙ ap Some u.1) g same (pushed (integer u.0)) (IsOf (integer u.0)) meaning.fetch (fetch_runs E x u.0 (at_slot x t h.0 ∙ ap Some u.1))))
-    read_runs d s (of (Global x)) t l h = absurd cc
-    read_runs d s (deref e) t l h = absurd cc
-    read_runs d s (member p n m) t l h = absurd cc
+    -- a place that is no plain variable's
+    abbrev IsCell : Place → Type 0
+    IsCell (of (Local x)) = E.target.is_object (Local x) ≡ true
+    IsCell _ = Unit {0}
 
-    assigned : (kept : Bool) (d : ℕ) (s : Scalar) (p : Place) (t : Ty) (c : Code) (y : Does Value) → is_local p ≡ true → IsPlace k p t → Leaves E c t y
+    -- its handle is left
+    abbrev LeadsIn : ℕ → Place → Ty → Type 0
+    LeadsIn d p t = IsCell p → Leads E (code.place E.target d p) t (place E.unit E.calls p)
+
+    is_data : (p : Place) (t : Ty) → in_place p ≡ true → IsPlace k p t → is_function t ≡ false
+    is_data (of (Local x)) t l h = data_value t (slots_data x t h.0)
+    is_data (of (Global x)) t l h = absurd cc
+    is_data (deref a) t l h = h.0
+    is_data (member p n m) t l h = absurd cc
+
+    pointer_scalar : (t : Ty) → is_function t ≡ false → scalar_of (pointer t) ≡ Some scalars.Pointer
+    pointer_scalar t e = ap (λ (b : Bool). Some (if b then scalars.Function else scalars.Pointer)) e
+
+    read_runs : (d : ℕ) (s : Scalar) (p : Place) (t : Ty) → IsScalar t → in_place p ≡ true → scalar_of t ≡ Some s → IsPlace k p t → LeadsIn d p t → Leaves E (fetched E.target (plain_in E.target p) (code.place E.target d p) s) t (place E.unit E.calls p >>= meaning.fetch)
+    read_runs d s (of (Local x)) t sc l e h leads = by (E.target.is_object (Local x)) refl where
+      by : (b : Bool) → E.target.is_object (Local x) ≡ b → Leaves E (fetched E.target (variable_in b x) (one (get E.target (Local x))) s) t (place E.unit E.calls (of (Local x)) >>= meaning.fetch)
+      by true q = read_there E t s (slot_scalar x t h.0) e (one (get E.target (Local x))) (place E.unit E.calls (of (Local x))) (leads q)
+      by false q = behind_place E x t (slot_scalar x t h.0) (kind_at x t h.0 false q) (one (get E.target (Local x))) same (pushes E t) (IsValue E t) meaning.fetch (fetch_runs E x t (slot_scalar x t h.0) (kind_at x t h.0 false q))
+    read_runs d s (of (Global x)) t sc l e h leads = absurd cc
+    read_runs d s (deref a) t sc l e h leads = read_there E t s sc e (code.place E.target d (deref a)) (place E.unit E.calls (deref a)) (leads tt)
+    read_runs d s (member p n m) t sc l e h leads = absurd cc
+
+    assigned : (kept : Bool) (d : ℕ) (s : Scalar) (p : Place) (t : Ty) → IsScalar t → (c : Code) (y : Does Value) → in_place p ≡ true → scalar_of t ≡ Some s → IsPlace k p t → LeadsIn d p t → Leaves E c t y
         → Carries E kept (begun E.target (plain_in E.target p) (code.place E.target d p) ⨾ c ⨾ ended E.target kept (plain_in E.target p) s) t (place E.unit E.calls p >>= (λ q. y >>= (λ v. store q v >> pure v)))
-    assigned kept d s (of (Local x)) t c y l h r =
-        let u = slot_ints x t h.0 in
-        let x' = place E.unit E.calls (of (Local x)) >>= (λ q. y >>= (λ v. store q v >> pure v)) in
-        subst (λ (o : Option Variable). Carries E kept (begun E.target o (code.place E.target d (of (Local x))) ⨾ c ⨾ ended E.target kept o s) t x') (sym (plain_is x t h.0))
-        (as_type kept (no_code ⨾ c ⨾ ended E.target kept (Some (Local x)) s) t u.0 x' u.1
-        (assign_runs E x u.0 (at_slot x t h.0 ∙ ap Some u.1) kept s c y (subst (λ (q : Ty). Leaves E c q y) u.1 r)))
-    assigned kept d s (of (Global x)) t c y l h r = absurd cc
-    assigned kept d s (deref e) t c y l h r = absurd cc
-    assigned kept d s (member p n m) t c y l h r = absurd cc
+    assigned kept d s (of (Local x)) t sc c y l e h leads r = by (E.target.is_object (Local x)) refl where
+      by : (b : Bool) → E.target.is_object (Local x) ≡ b
+          → Carries E kept (begun E.target (variable_in b x) (one (get E.target (Local x))) ⨾ c ⨾ ended E.target kept (variable_in b x) s) t (place E.unit E.calls (of (Local x)) >>= (λ q. y >>= (λ v. store q v >> pure v)))
+      by true q = assign_there E t s (slot_scalar x t h.0) e kept (one (get E.target (Local x))) c (place E.unit E.calls (of (Local x))) y (leads q) r
+      by false q = assign_runs E x t (slot_scalar x t h.0) (kind_at x t h.0 false q) kept s c y r
+    assigned kept d s (of (Global x)) t sc c y l e h leads r = absurd cc
+    assigned kept d s (deref a) t sc c y l e h leads r = assign_there E t s sc e kept (code.place E.target d (deref a)) c (place E.unit E.calls (deref a)) y (leads tt) r
+    assigned kept d s (member p n m) t sc c y l e h leads r = absurd cc
 
     abbrev updating : Bool → (u v : IntType) → BinaryOp → Place → Does Value → Does Value
     updating old u v o p y =
         place E.unit E.calls p >>= (λ q. meaning.fetch q >>= (λ w0. as_number w0 >>= (λ z. meaning.integer y >>= (λ q'. meant.operated o v (wrap v z) q' >>= (λ p'.
         let new = number (wrap u p') in store q new >> pure (if old then w0 else new))))))
 
-    updates : (kept old : Bool) (d : ℕ) (u v : IntType) (o : BinaryOp) (p : Place) (c : Code) (y : Does Value) → is_local p ≡ true → well.IsPromoted v → IsPlace k p (integer u) → Leaves E c (integer v) y
+    updates : (kept old : Bool) (d : ℕ) (u v : IntType) (o : BinaryOp) (p : Place) (c : Code) (y : Does Value) → in_place p ≡ true → well.IsPromoted v → IsPlace k p (integer u) → LeadsIn d p (integer u) → Leaves E c (integer v) y
         → Carries E kept (updated E.target kept old (plain_in E.target p) (code.place E.target d p) (scalars.Int u) (convert u v ⨾ c ⨾ one (operated o v) ⨾ convert v u)) (integer u)
         (updating old u v o p y)
-    updates kept old d u v o (of (Local x)) c y l pr h r =
-        subst (λ (q : Option Variable). Carries E kept (updated E.target kept old q (code.place E.target d (of (Local x))) (scalars.Int u) (convert u v ⨾ c ⨾ one (operated o v) ⨾ convert v u)) (integer u) (updating old u v o (of (Local x)) y)) (sym (plain_is x (integer u) h.0))
-        (update_runs E o u v x (at_slot x (integer u) h.0) c y pr r kept old (code.place E.target d (of (Local x))) (scalars.Int u))
-    updates kept old d u v o (of (Global x)) c y l pr h r = absurd cc
-    updates kept old d u v o (deref e) c y l pr h r = absurd cc
-    updates kept old d u v o (member p n m) c y l pr h r = absurd cc
+    updates kept old d u v o (of (Local x)) c y l pr h leads r = by (E.target.is_object (Local x)) refl where
+      by : (b : Bool) → E.target.is_object (Local x) ≡ b
+          → Carries E kept (updated E.target kept old (variable_in b x) (one (get E.target (Local x))) (scalars.Int u) (convert u v ⨾ c ⨾ one (operated o v) ⨾ convert v u)) (integer u) (updating old u v o (of (Local x)) y)
+      by true q = update_there E o u v (one (get E.target (Local x))) (place E.unit E.calls (of (Local x))) (leads q) c y pr r kept old
+      by false q = update_runs E o u v x (kind_at x (integer u) h.0 false q) c y pr r kept old (one (get E.target (Local x))) (scalars.Int u)
+    updates kept old d u v o (of (Global x)) c y l pr h leads r = absurd cc
+    updates kept old d u v o (deref e) c y l pr h leads r = update_there E o u v (code.place E.target d (deref e)) (place E.unit E.calls (deref e)) (leads tt) c y pr r kept old
+    updates kept old d u v o (member p n m) c y l pr h leads r = absurd cc
 
     size_runs : (kept : Bool) (n : ℕ) (t : Ty) → t ≡ integer UnsignedInt → n < 2 ^ 32 → Carries E kept (left kept (of_type UnsignedInt) (one (i32 n))) t (pure (number (pos n)))
     size_runs kept n t e lt = left_int kept (one (i32 n)) t UnsignedInt (pure (number (pos n))) e (constant_runs E UnsignedInt (pos n) (value_in UnsignedInt n lt))
@@ -234,91 +267,133 @@ module _ (E : Env) (L : Linked E.site) (home : AtHome E) (k : well.Context) (slo
     small_size : (n m : ℕ) → n ≡ m → m ≤ most_bytes → n < 2 ^ 32
     small_size n m e le = omega (arith, e, le)
 
-    void_left : (kept : Bool) → gone E meaning.nothing_given ≡ remains E kept void meaning.nothing_given
-    void_left true = refl
-    void_left false = refl
+    void_left : (kept : Bool) (v : Value) (hs : List Home) (vs : List Word) → gone E v vs ≡ remains E kept void hs meaning.nothing_given vs
+    void_left true v hs vs = refl
+    void_left false v hs vs = refl
+
+    -- an argument as it is where more objects have homes
+    arg_is : (t : Ty) → IsScalar t → (gs hs : List Home) → Extends gs hs → (v : Value) (vs : List Word) → IsValue E t gs v → pushes E t gs v vs ≡ word_of E.places t hs v ∷ vs
+    arg_is t sc gs hs grown v vs ok = pushed_is E.unit.structs E.places gs t v vs sc ∙ ap (λ (u : Word). u ∷ vs) (sym (word_still E.unit.structs E.places gs hs grown t v ok))
+
+    -- what an address is taken of
+    cell : (p : Place) → IsReady E.target.is_object E.unit (in_place p) (uses.in_place p) (in_expr_of (tree.address p)) → IsCell p
+    cell (of (Local x)) i = taken E.target.is_object E.unit true [] x i
+    cell (of (Global x)) i = tt
+    cell (deref a) i = tt
+    cell (member p n m) i = tt
 
     mutual
-      pub expr_runs : (kept : Bool) (d : ℕ) (e : Expr) (t : Ty) → IsReady E.unit (in_expr e) (uses.in_expr e) → HasType k e t → Carries E kept (code_of kept d e) t (value_in_E e)
+      leads_run : (d : ℕ) (p : Place) (t : Ty) → IsReady E.target.is_object E.unit (in_place p) (uses.in_place p) (in_place_of p) → IsPlace k p t → LeadsIn d p t
+      leads_run d (of (Local x)) t i h q = leads_at x t h q
+      leads_run d (of (Global x)) t i h q = absurd (let e = i.in_stage in cc)
+      leads_run d (deref a) t i h q = deref_leads E (code_of true d a) t (value_in_E a) h.0 (expr_runs true d a (pointer t) i h.1)
+      leads_run d (member p n m) t i h q = absurd (let e = i.in_stage in cc)
+
+      pub expr_runs : (kept : Bool) (d : ℕ) (e : Expr) (t : Ty) → IsReady E.target.is_object E.unit (in_expr e) (uses.in_expr e) (in_expr_of e) → HasType k e t → Carries E kept (code_of kept d e) t (value_in_E e)
       expr_runs kept d (tree.number u n) t x h = left_int kept (one (constant (width_of u) (value_of u n))) t u (value_in_E (tree.number u n)) h.0 (constant_runs E u (value_of u n) (value_in u n h.1))
+      expr_runs kept d tree.null t x h =
+          subst (λ (r : Ty). Carries E kept (left kept (Some scalars.Pointer) (one (Segment segment.Null))) r (value_in_E tree.null)) (sym h.1)
+          (left_runs E kept (Some scalars.Pointer) (pointer h.0) (one (Segment segment.Null)) (value_in_E tree.null) (pointer_scalar h.0 h.2) (null_runs E h.0 h.2))
       expr_runs kept d (tree.read s p) t x h =
-          left_runs E kept (Some s) t (fetched E.target (plain_in E.target p) (code.place E.target d p) s) (value_in_E (tree.read s p)) h.0 (read_runs d s p t x.in_stage h.1)
+          left_runs E kept (Some s) t (fetched E.target (plain_in E.target p) (code.place E.target d p) s) (value_in_E (tree.read s p)) h.0
+          (read_runs d s p t (scalar_type t s h.0) x.in_stage h.0 h.1 (leads_run d p t x h.1))
+      expr_runs kept d (tree.address p) t x h =
+          let i = addressed E.target.is_object E.unit (in_place p) (uses.in_place p) p x in
+          let plain_type = is_data p h.0 i.in_stage h.2 in
+          subst (λ (r : Ty). Carries E kept (left kept (Some scalars.Pointer) (code.place E.target d p)) r (value_in_E (tree.address p))) (sym h.1)
+          (left_runs E kept (Some scalars.Pointer) (pointer h.0) (code.place E.target d p) (value_in_E (tree.address p)) (pointer_scalar h.0 plain_type)
+          (address_runs E (code.place E.target d p) h.0 (place E.unit E.calls p) plain_type (leads_run d p h.0 i h.2 (cell p x))))
       expr_runs kept d (tree.convert u v a) t x h =
           left_int kept (converted u v (number_in a) (code_of true d a)) t v (value_in_E (tree.convert u v a)) h.0 (converted_runs E u v a (code_of true d a) (number_in a) refl (expr_runs true d a (integer u) x h.1))
-      expr_runs kept d (tree.truth s a) t x h =
-          let q = behind_test E.unit (is_number s) (in_expr a) (uses.in_expr a) x in
-          let n = number_type h.0 s q.0 h.2 in
-          subst (λ (r : Scalar). Carries E kept (left kept int (code_of true d a ⨾ truth r)) t (value_in_E (tree.truth s a))) (sym n.2)
-          (left_int kept (code_of true d a ⨾ truth (scalars.Int n.0)) t Int (value_in_E (tree.truth s a)) h.1
-          (truth_runs E n.0 (code_of true d a) (value_in_E a) (subst (λ (r : Ty). Leaves E (code_of true d a) r (value_in_E a)) n.1 (expr_runs true d a h.0 q.1 h.3))))
+      expr_runs kept d (tree.truth (scalars.Int u) a) t x h =
+          let n = number_type h.0 u h.2 in
+          subst (λ (r : Scalar). Carries E kept (left kept int (code_of true d a ⨾ truth r)) t (value_in_E (tree.truth r a))) (sym n.2)
+          (left_int kept (code_of true d a ⨾ truth (scalars.Int n.0)) t Int (value_in_E (tree.truth (scalars.Int n.0) a)) h.1
+          (truth_runs E n.0 (code_of true d a) (value_in_E a) (subst (λ (r : Ty). Leaves E (code_of true d a) r (value_in_E a)) n.1 (expr_runs true d a h.0 x h.3))))
+      expr_runs kept d (tree.truth scalars.Pointer a) t x h =
+          let n = pointer_type h.0 h.2 in
+          left_int kept (code_of true d a ⨾ truth scalars.Pointer) t Int (value_in_E (tree.truth scalars.Pointer a)) h.1
+          (truth_pointer E n.0 n.2 (code_of true d a) (value_in_E a) (subst (λ (r : Ty). Leaves E (code_of true d a) r (value_in_E a)) n.1 (expr_runs true d a h.0 x h.3)))
       expr_runs kept d (tree.not a) t x h =
           left_int kept (code_of true d a ⨾ one eqz) t Int (value_in_E (tree.not a)) h.1 (not_runs E h.0 (code_of true d a) (value_in_E a) (narrow_width h.0 h.2) (expr_runs true d a (integer h.0) x h.3))
       expr_runs kept d (tree.unary signs.Negate u a) t x h = left_int kept _ t u (value_in_E (tree.unary signs.Negate u a)) h.0 (negate_runs E u (code_of true d a) (value_in_E a) h.1 (expr_runs true d a (integer u) x h.2))
       expr_runs kept d (tree.unary signs.Complement u a) t x h = left_int kept _ t u (value_in_E (tree.unary signs.Complement u a)) h.0 (complement_runs E u (code_of true d a) (value_in_E a) h.1 (expr_runs true d a (integer u) x h.2))
       expr_runs kept d (tree.binary o u a b) t x h =
-          let q = parts E.unit (in_expr a) (in_expr b) (uses.in_expr a) (uses.in_expr b) x in
+          let q = parts E.target.is_object E.unit (in_expr a) (in_expr b) (uses.in_expr a) (uses.in_expr b) (in_expr_of a) (in_expr_of b) x in
           left_int kept _ t u (value_in_E (tree.binary o u a b)) h.0 (binary_runs E o u (code_of true d a) (code_of true d b) (value_in_E a) (value_in_E b) h.1 (expr_runs true d a (integer u) q.0 h.2) (expr_runs true d b (integer u) q.1 h.3))
       expr_runs kept d (tree.compare o u a b) t x h =
-          let q = parts E.unit (in_expr a) (in_expr b) (uses.in_expr a) (uses.in_expr b) x in
+          let q = parts E.target.is_object E.unit (in_expr a) (in_expr b) (uses.in_expr a) (uses.in_expr b) (in_expr_of a) (in_expr_of b) x in
           left_int kept _ t Int (value_in_E (tree.compare o u a b)) h.0 (compare_runs E o u (code_of true d a) (code_of true d b) (value_in_E a) (value_in_E b) h.1 (expr_runs true d a (integer u) q.0 h.2) (expr_runs true d b (integer u) q.1 h.3))
+      expr_runs kept d (tree.compare_pointers relations.Equal a b) t x h =
+          let q = parts E.target.is_object E.unit (in_expr a) (in_expr b) (uses.in_expr a) (uses.in_expr b) (in_expr_of a) (in_expr_of b) x in
+          left_int kept _ t Int (value_in_E (tree.compare_pointers relations.Equal a b)) h.1
+          (equal_runs E h.0 h.2 (is_null b) (code_of true d a) (code_of true d b) (value_in_E a) (value_in_E b) (null_is E b) (expr_runs true d a (pointer h.0) q.0 h.3) (expr_runs true d b (pointer h.0) q.1 h.4))
+      expr_runs kept d (tree.compare_pointers relations.NotEqual a b) t x h =
+          let q = parts E.target.is_object E.unit (in_expr a) (in_expr b) (uses.in_expr a) (uses.in_expr b) (in_expr_of a) (in_expr_of b) x in
+          left_int kept _ t Int (value_in_E (tree.compare_pointers relations.NotEqual a b)) h.1
+          (unequal_runs E h.0 h.2 (is_null b) (code_of true d a) (code_of true d b) (value_in_E a) (value_in_E b) (null_is E b) (expr_runs true d a (pointer h.0) q.0 h.3) (expr_runs true d b (pointer h.0) q.1 h.4))
       expr_runs kept d (tree.and a b) t x h =
-          let q = parts E.unit (in_expr a) (in_expr b) (uses.in_expr a) (uses.in_expr b) x in
+          let q = parts E.target.is_object E.unit (in_expr a) (in_expr b) (uses.in_expr a) (uses.in_expr b) (in_expr_of a) (in_expr_of b) x in
           let y = as_bit (is_bit b) (code_of true d b) in
           left_int kept (code_of true d a ⨾ choice (Some vals.I32) y (one (i32 0))) t Int (value_in_E (tree.and a b)) h.2
-          (chosen_runs E h.0 (code_of true d a) y (one (i32 0)) (Some vals.I32) (value_in_E a) (meaning.test (value_in_E b) >>= (λ p. pure (meaning.truth p))) (pure (meaning.truth false)) (pushed (integer Int)) (IsOf (integer Int)) (narrow_width h.0 h.3) (whole_plain _)
+          (chosen_runs E h.0 (code_of true d a) y (one (i32 0)) (Some vals.I32) (value_in_E a) (meaning.test (value_in_E b) >>= (λ p. pure (meaning.truth p))) (pure (meaning.truth false)) (pushes E (integer Int)) (IsValue E (integer Int)) (narrow_width h.0 h.3) (whole_plain _)
           (expr_runs true d a (integer h.0) q.0 h.5)
           (as_bit_runs E k b h.1 (code_of true d b) (is_bit b) refl q.1.in_stage (narrow_width h.1 h.4) h.6 (expr_runs true d b (integer h.1) q.1 h.6))
           (constant_runs E Int (pos 0) (truth_in false)))
       expr_runs kept d (tree.or a b) t x h =
-          let q = parts E.unit (in_expr a) (in_expr b) (uses.in_expr a) (uses.in_expr b) x in
+          let q = parts E.target.is_object E.unit (in_expr a) (in_expr b) (uses.in_expr a) (uses.in_expr b) (in_expr_of a) (in_expr_of b) x in
           let y = as_bit (is_bit b) (code_of true d b) in
           left_int kept (code_of true d a ⨾ choice (Some vals.I32) (one (i32 1)) y) t Int (value_in_E (tree.or a b)) h.2
-          (chosen_runs E h.0 (code_of true d a) (one (i32 1)) y (Some vals.I32) (value_in_E a) (pure (meaning.truth true)) (meaning.test (value_in_E b) >>= (λ p. pure (meaning.truth p))) (pushed (integer Int)) (IsOf (integer Int)) (narrow_width h.0 h.3)
+          (chosen_runs E h.0 (code_of true d a) (one (i32 1)) y (Some vals.I32) (value_in_E a) (pure (meaning.truth true)) (meaning.test (value_in_E b) >>= (λ p. pure (meaning.truth p))) (pushes E (integer Int)) (IsValue E (integer Int)) (narrow_width h.0 h.3)
           (whole_as_bit (is_bit b) (code_of true d b) (whole_expr E.target true d b q.1.in_stage))
           (expr_runs true d a (integer h.0) q.0 h.5)
           (constant_runs E Int (pos 1) (truth_in true))
           (as_bit_runs E k b h.1 (code_of true d b) (is_bit b) refl q.1.in_stage (narrow_width h.1 h.4) h.6 (expr_runs true d b (integer h.1) q.1 h.6)))
       expr_runs kept d (tree.choose s e a b) t x h =
-          let q = behind_test E.unit (is_number_or_void s) (in_expr e && (in_expr a && in_expr b)) (uses.in_expr (tree.choose s e a b)) x in
-          let p = parts E.unit (in_expr e) (in_expr a && in_expr b) (uses.in_expr e) (uses.in_expr a ++ uses.in_expr b) q.1 in
-          let r = parts E.unit (in_expr a) (in_expr b) (uses.in_expr a) (uses.in_expr b) p.1 in
+          let p = parts E.target.is_object E.unit (in_expr e) (in_expr a && in_expr b) (uses.in_expr e) (uses.in_expr a ++ uses.in_expr b) (in_expr_of e) (either (in_expr_of a) (in_expr_of b)) x in
+          let r = parts E.target.is_object E.unit (in_expr a) (in_expr b) (uses.in_expr a) (uses.in_expr b) (in_expr_of a) (in_expr_of b) p.1 in
           left_runs E kept s t (code_of true d e ⨾ choice (val_option s) (code_of true d a) (code_of true d b)) (value_in_E (tree.choose s e a b)) h.1
-          (chosen_runs E h.0 (code_of true d e) (code_of true d a) (code_of true d b) (val_option s) (value_in_E e) (value_in_E a) (value_in_E b) (pushed t) (IsOf t) (narrow_width h.0 h.2) (whole_expr E.target true d b r.1.in_stage)
+          (chosen_runs E h.0 (code_of true d e) (code_of true d a) (code_of true d b) (val_option s) (value_in_E e) (value_in_E a) (value_in_E b) (pushes E t) (IsValue E t) (narrow_width h.0 h.2) (whole_expr E.target true d b r.1.in_stage)
           (expr_runs true d e (integer h.0) p.0 h.3) (expr_runs true d a t r.0 h.4) (expr_runs true d b t r.1 h.5))
       expr_runs kept d (tree.comma a b) t x h =
-          let q = parts E.unit (in_expr a) (in_expr b) (uses.in_expr a) (uses.in_expr b) x in
-          op_then E (code_of false d a) (code_of kept d b) same (gone E) (remains E kept t) (IsOf h.0) (IsOf t) (value_in_E a) (λ v. value_in_E b) (expr_runs false d a h.0 q.0 h.1) (λ v ok. expr_runs kept d b t q.1 h.2)
+          let q = parts E.target.is_object E.unit (in_expr a) (in_expr b) (uses.in_expr a) (uses.in_expr b) (in_expr_of a) (in_expr_of b) x in
+          op_then_in E [] (code_of false d a) (code_of kept d b) same (λ hs. gone E) (remains E kept t) (IsValue E h.0) (IsValue E t) (value_in_E a) (λ v. value_in_E b) (expr_runs false d a h.0 q.0 h.1)
+          (λ gs grown v ok. op_any E gs (code_of kept d b) same (remains E kept t) (IsValue E t) (value_in_E b) (expr_runs kept d b t q.1 h.2))
       expr_runs kept d (tree.assign s p e) t x h =
-          let q = parts E.unit (is_local p) (in_expr e) (uses.in_place p) (uses.in_expr e) x in
-          assigned kept d s p t (code_of true d e) (value_in_E e) q.0.in_stage h.1 (expr_runs true d e t q.1 h.2)
+          let q = parts E.target.is_object E.unit (in_place p) (in_expr e) (uses.in_place p) (uses.in_expr e) (in_place_of p) (in_expr_of e) x in
+          assigned kept d s p t (scalar_type t s h.0) (code_of true d e) (value_in_E e) q.0.in_stage h.0 h.1 (leads_run d p t q.0 h.1) (expr_runs true d e t q.1 h.2)
       expr_runs kept d (tree.update old u o v p e) t x h =
-          let q = parts E.unit (is_local p) (in_expr e) (uses.in_place p) (uses.in_expr e) x in
-          as_type kept (code_of kept d (tree.update old u o v p e)) t u (value_in_E (tree.update old u o v p e)) h.0 (updates kept old d u v o p (code_of true d e) (value_in_E e) q.0.in_stage h.1 h.2 (expr_runs true d e (integer v) q.1 h.3))
+          let q = parts E.target.is_object E.unit (in_place p) (in_expr e) (uses.in_place p) (uses.in_expr e) (in_place_of p) (in_expr_of e) x in
+          as_type kept (code_of kept d (tree.update old u o v p e)) t u (value_in_E (tree.update old u o v p e)) h.0 (updates kept old d u v o p (code_of true d e) (value_in_E e) q.0.in_stage h.1 h.2 (leads_run d p (integer u) q.0 h.2) (expr_runs true d e (integer v) q.1 h.3))
       expr_runs kept d (tree.call f s es) t x h =
-          let q = behind_test E.unit (is_number_or_void s) (in_exprs es) (calls f ∷ uses.in_exprs es) x in
-          let c = called E.unit f (in_exprs es) (uses.in_exprs es) q.1 in
+          let c = called E.target.is_object E.unit f (in_exprs es) (uses.in_exprs es) (in_exprs_of es) x in
           left_runs E kept s t (code.exprs E.target d es ⨾ one (Call (E.target.index f))) (value_in_E (tree.call f s es)) h.2
-          (op_then E (code.exprs E.target d es) (one (Call (E.target.index f))) same (λ us vs. piled h.0 us vs) (pushed t) (λ us. AreOf h.0 us) (IsOf t) (exprs E.unit E.calls es) (E.calls f) (exprs_run d es h.0 c.1 h.3 (ints f t h.0 h.1)) (λ us ok. calls_run f t h.0 h.1 c.0 us ok))
+          (op_then_in E [] (code.exprs E.target d es) (one (Call (E.target.index f))) same (λ hs us vs. piled E h.0 hs us vs) (pushes E t) (λ hs us. AreOf E h.0 hs us) (IsValue E t) (exprs E.unit E.calls es) (E.calls f) (exprs_run d es h.0 c.1 h.3 (scalars_are f t h.0 h.1))
+          (λ gs grown us ok. calls_run f t h.0 h.1 c.0 gs us ok))
       expr_runs kept d (tree.putchar e) t x h =
           left_int kept (code_of true d e ⨾ one (Call 0)) t Int (value_in_E (tree.putchar e)) h.0 (putchar_runs E L home (code_of true d e) (value_in_E e) (expr_runs true d e (integer Int) x h.1))
       expr_runs kept d tree.getchar t x h = left_int kept (one (Call 1)) t Int (value_in_E tree.getchar) h (getchar_runs E L home)
       expr_runs kept d tree.abort t x h = subst (λ (q : Ty). Carries E kept (one (Call 2)) q (stop abort)) (sym h) (abort_runs E L home (remains E kept void))
       expr_runs kept d (tree.discard e) t x h =
           subst (λ (q : Ty). Carries E kept (code_of false d e) q (value_in_E (tree.discard e))) (sym h.1)
-          (op_look E (code_of false d e) same (gone E) (remains E kept void) (IsOf h.0) (IsOf void) (value_in_E e) (λ v. pure meaning.nothing_given) (expr_runs false d e h.0 x h.2) (λ v ok. (meaning.nothing_given, refl, void_left kept, tt)))
+          (op_look_in E [] (code_of false d e) same (λ hs. gone E) (remains E kept void) (IsValue E h.0) (IsValue E void) (value_in_E e) (λ v. pure meaning.nothing_given) (expr_runs false d e h.0 x h.2)
+          (λ gs grown v ok. (meaning.nothing_given, refl, λ vs. void_left kept v gs vs, tt)))
       expr_runs kept d (tree.size_of_place n p) t x h = size_runs kept n t h.2 (small_size n _ h.4 h.3.1)
       expr_runs kept d (tree.size_of_value n e) t x h = size_runs kept n t h.2 (small_size n _ h.4 h.3.1)
       expr_runs kept d (tree.size_of_type n) t x h = size_runs kept n t h (ltb→lt n 4294967296 (subst T (sym x.in_stage) tt))
       expr_runs kept d _ t x h = absurd (let e = x.in_stage in cc)
 
-      pub exprs_run : (d : ℕ) (es : Exprs) (ts : Tys) → IsReady E.unit (in_exprs es) (uses.in_exprs es) → HaveTypes k es ts → AreInts ts → Op E (code.exprs E.target d es) same (λ us vs. piled ts us vs) (λ us. AreOf ts us) (exprs E.unit E.calls es)
-      exprs_run d none no_types x h i = op_none E same (λ us vs. piled no_types us vs) (λ us. AreOf no_types us) [] tt (λ vs. refl)
+      pub exprs_run : (d : ℕ) (es : Exprs) (ts : Tys) → IsReady E.target.is_object E.unit (in_exprs es) (uses.in_exprs es) (in_exprs_of es) → HaveTypes k es ts → AreScalars ts
+          → OpIn E [] (code.exprs E.target d es) same (λ hs us vs. piled E ts hs us vs) (λ hs us. AreOf E ts hs us) (exprs E.unit E.calls es)
+      exprs_run d none no_types x h i = op_none_in E [] same (λ hs us vs. piled E no_types hs us vs) (λ hs us. AreOf E no_types hs us) [] (λ gs grown. tt) (λ gs vs grown. refl)
       exprs_run d (more e es) (ty.types t ts) x h i =
-          let q = parts E.unit (in_expr e) (in_exprs es) (uses.in_expr e) (uses.in_exprs es) x in
-          op_then E (code_of true d e) (code.exprs E.target d es) same (pushed t) (λ us vs. piled (ty.types t ts) us vs) (IsOf t) (λ us. AreOf (ty.types t ts) us) (value_in_E e) (λ v. exprs E.unit E.calls es >>= (λ vs. pure (v ∷ vs))) (expr_runs true d e t q.0 h.0)
-          (λ v ok.
-          op_look E (code.exprs E.target d es) (pushed t v) (λ us vs. piled ts us (pushed t v vs)) (λ us vs. piled (ty.types t ts) us vs) (λ us. AreOf ts us) (λ us. AreOf (ty.types t ts) us) (exprs E.unit E.calls es) (λ us. pure (v ∷ us))
-          (op_over E (code.exprs E.target d es) same (pushed t v) (λ us vs. piled ts us vs) (λ us. AreOf ts us) (exprs E.unit E.calls es) (exprs_run d es ts q.1 h.1 i.1))
-          (λ us oks. (v ∷ us, refl, λ j vs. piled ts us (arg_is t i.0.0 v vs i.0.1 j), (one_of t i.0.0 v i.0.1 ok, oks))))
+          let q = parts E.target.is_object E.unit (in_expr e) (in_exprs es) (uses.in_expr e) (uses.in_exprs es) (in_expr_of e) (in_exprs_of es) x in
+          let all = λ (hs : List Home) (us : List Value) (vs : List Word). piled E (ty.types t ts) hs us vs in
+          op_then_in E [] (code_of true d e) (code.exprs E.target d es) same (pushes E t) all (IsValue E t) (λ hs us. AreOf E (ty.types t ts) hs us) (value_in_E e) (λ v. exprs E.unit E.calls es >>= (λ vs. pure (v ∷ vs))) (expr_runs true d e t q.0 h.0)
+          (λ gs grown v ok.
+          op_look_in E gs (code.exprs E.target d es) (pushes E t gs v) (λ hs us vs. piled E ts hs us (pushes E t gs v vs)) all (λ hs us. AreOf E ts hs us) (λ hs us. AreOf E (ty.types t ts) hs us) (exprs E.unit E.calls es) (λ us. pure (v ∷ us))
+          (op_over_in E gs (code.exprs E.target d es) same (pushes E t gs v) (λ hs us vs. piled E ts hs us vs) (λ hs us. AreOf E ts hs us) (exprs E.unit E.calls es)
+          (op_any E gs (code.exprs E.target d es) same (λ hs us vs. piled E ts hs us vs) (λ hs us. AreOf E ts hs us) (exprs E.unit E.calls es) (exprs_run d es ts q.1 h.1 i.1)))
+          (λ hs grown us oks. (v ∷ us, refl, λ vs. ap (piled E ts hs us) (arg_is t i.0 gs hs grown v vs ok), (value_still E.unit.structs E.places gs hs grown t v ok, oks))))
       exprs_run d none (ty.types t ts) x h i = absurd h
       exprs_run d (more e es) no_types x h i = absurd h

@@ -26,6 +26,7 @@ use Rattle.ms_task.specs.declared.func.FuncInst.{FuncInst}
 use Rattle.ms_task.specs.Thread.{Do, Frame, Item, Thread, thread}
 use Rattle.c_meaning.specs.World.{End, World, Result, gives, ends, after}
 use Rattle.c_meaning.specs.World as world
+use Rattle.ms_relate.specs.refinement.Homes.{Home}
 use Rattle.c_runs.specs.Threads.{Trapped, Ran, ran, behind, before, after_move, steps}
 use Rattle.c_runs.specs.Ends.{stop_of}
 use Rattle.c_runs.proofs.Grants.{Agrees, agrees_on, grants_append}
@@ -39,11 +40,11 @@ pub record Site : Type 0 where
   -- of instructions in a function
   pub most : ℕ
 
--- what changes: of the store; the segments of the objects so far; and locals that hold no variable
+-- what changes: of the store; the homes of the objects so far; and locals that hold no variable
 pub record Mem : Type 0 where
   pub globals : List GlobalInst
   pub segments : Memory
-  pub ids : List ℕ
+  pub homes : List Home
   pub temps : List Value
 
 abbrev pub store : Site → Mem → Store
@@ -193,6 +194,11 @@ module _ (S : Site) where
 
   pub resize : {B : Type 0} (size size' : ℕ) (m : Mem) (t : Thread) (w : World) (to : B → World → Mem → Thread) (Good : B → World → Mem → Type 0) (x : Result B) → size ≤ size' → Runs size m t w to Good x → Runs size' m t w to Good x
   resize size size' m t w to Good x le r a = resize_to size size' m t w to Good x le (r a)
+
+  -- with a fact that is weaker
+  pub weaker : {B : Type 0} (size : ℕ) (m : Mem) (t : Thread) (w : World) (to : B → World → Mem → Thread) (Good Good' : B → World → Mem → Type 0) (x : Result B) → ((b : B) (w1 : World) (m1 : Mem) → Good b w1 m1 → Good' b w1 m1) → Runs size m t w to Good x → Runs size m t w to Good' x
+  weaker size m t w to Good Good' (gives b w1) f r ag = let q = r ag in (q.0, f b w1 q.0 q.1, q.2)
+  weaker size m t w to Good Good' (ends e w1) f r ag = r ag
 
   bind_to : {A B : Type 0} (s1 s2 : ℕ) (m : Mem) (start : Thread) (w : World) (to1 : A → World → Mem → Thread) (Good1 : A → World → Mem → Type 0) (to2 : B → World → Mem → Thread) (Good2 : B → World → Mem → Type 0)
       (x : Result A) (f : A → World → Result B) → Agrees (store S m) start (given w) w.grants → RunsTo s1 m start w to1 Good1 x

@@ -31,6 +31,7 @@ use Rattle.c_runs.specs.Correct.{Behaves}
 use Rattle.c_runs.specs.Placed.{IsFunctionAt, IsPlaced}
 use Rattle.c_runs.proofs.Numbers.{from, is_below, numbers_are, or_zero, other, same, slice_left}
 use Rattle.c_runs.proofs.Placed.{same_one}
+use Rattle.ms_relate.proofs.Growing.{related_new}
 use Rattle.c_runs.proofs.Top.{compiled_behaves}
 
 -- ---- functions that are defined, from the k-th on: each has its rank among them, behind the three of the host, as its index
@@ -197,6 +198,7 @@ module _ (u : Typed) (name : List ℕ) (c : ℕ) (none : imported u ≡ []) wher
     getchar = refl;
     abort = refl;
     functions = function_at;
+    segments = (related_new [] (λ n. n) c).placed;
   }
 
   pub is_made : (s : Store) → linked ((name, compiled u) ∷ []) c ≡ Ok s → st ≡ s

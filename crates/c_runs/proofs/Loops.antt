@@ -33,18 +33,24 @@ use Rattle.c_runs.proofs.Ahead.{Leads, leads_first, leads_further, leads_out, le
 use Rattle.c_runs.proofs.Goes as goes
 use Rattle.c_runs.proofs.Grants.{Agrees}
 use Rattle.c_runs.proofs.Goes.{Mem, Runs, RunsTo, after_after, agrees_after, behind_goes, bind, given, goes_on, here, one_here, resize, resize_to, stops_behind}
-use Rattle.c_runs.specs.Words.{pushed}
-use Rattle.c_runs.proofs.Related.{Env, HasAll, IsOf, Kept, Now, depth_front, frame_of, front, front_append, has_back, has_front, total_append}
-use Rattle.c_runs.proofs.Ops.{Good, IsTest, Op, To_, at_work, choice_at, into, is_no, is_yes, runs_choice, same, size_joined}
+use Rattle.c_meaning.specs.Objects.{Object}
+use Rattle.ms_relate.specs.refinement.Homes.{Home}
+use Rattle.c_runs.proofs.Held.{ending}
+use Rattle.c_runs.proofs.Related.{Env, HasAll, IsValue, Kept, KeptAs, Now, kept_below, kept_fuel, pushes, depth_front, frame_of, front, front_append, has_back, has_front, total_append}
+use Rattle.c_runs.proofs.Ops.{GoodIn, IsTest, Op, ToIn, To_, Good, at_work, choice_at, into, is_no, is_yes, runs_choice, same, size_joined}
 use Rattle.c_runs.proofs.Nodes.{Always, Leaves, gone, of_number, test_is}
-use Rattle.c_runs.proofs.Flows.{Around, FlowRuns, GoodFlow, IsAt, Way, after_flow, in_label, lowest_all, to_flow, way}
+use Rattle.c_runs.proofs.Flows.{Around, FlowRuns, GoodFlow, IsAt, Off, Way, after_flow, ahead, starts, in_label, lowest_all, to_flow, way}
 
 -- the body may have a `continue` of its own
 abbrev pub jumps_in : Bool → Jumps
 jumps_in b = record { breaks = true; continues = b }
 
-abbrev pub body_way : (depth : ℕ) → Bool → Way
-body_way d b = way (jumps_in b) d None
+-- by a `return` alone it leaves blocks outside of the loop
+abbrev pub inside : Off → Off
+inside off = record { broken = []; continued = []; returned = off.returned }
+
+abbrev pub body_way : (depth : ℕ) → Bool → Off → Way
+body_way d b off = way (jumps_in b) d None (inside off)
 
 -- the body, in a block of its own where it has a `continue`
 abbrev pub bodied : Code → Bool → Code
@@ -58,19 +64,22 @@ iterated_is t false body S T = refl
 module _ (E : Env) where
   -- a fact that is weaker at the end
   abbrev pub lower : ℕ → Now → Now
-  lower below now = record { below = below; waits = now.waits; temps = now.temps }
+  lower below now = record now { below = below }
 
-  kept_on : (now : Now) (below : ℕ) (w : World) (m : Mem) → below ≤ now.below → Kept E (lower below now) w m → Kept E now w m
-  kept_on now below w m le k = record { held = k.held; deep = k.deep; less = (let lt = k.less in omega (arith, lt, le)); bytes = k.bytes; temps = k.temps }
+  kept_on : (now : Now) (below : ℕ) (os : List Object) (w : World) (m : Mem) → below ≤ now.below → KeptAs E (lower below now) os w m → KeptAs E now os w m
+  kept_on now below os w m le k = kept_below E (lower below now) now.below os w m (let lt = k.less in omega (arith, lt, le)) k
 
   pub weaken : (l : Way) (now : Now) (below size : ℕ) (m : Mem) (t : Thread) (w : World) (to : Flow → World → Mem → Thread) (y : Result Flow) → below ≤ now.below
       → RunsTo E.site size m t w to (GoodFlow E l (lower below now)) y → RunsTo E.site size m t w to (GoodFlow E l now) y
-  weaken l now below size m t w to (gives f w1) le q = (q.0, (q.1.0, kept_on (after_flow l f now) below w1 q.0 le q.1.1), q.2)
+  weaken l now below size m t w to (gives f w1) le q = (q.0, (q.1.0, kept_on (after_flow l f now) below (ending w1.locals (ahead l.off f) w1.objects) w1 q.0 le q.1.1), q.2)
   weaken l now below size m t w to (ends e w1) le q = q
 
   module _ (u : IntType) (narrow : width_of u ≡ W32) (T : Code) (test : Does Value) (rt : Leaves E T (integer u) test) (S : Code) (step' : Does (Unit {0})) (rs : Op E S same (gone E) (Always E) step')
-      (C : Bool) (body : Code) (mx : Does Flow) (d : ℕ) (rx : FlowRuns E (body_way d C) (if C then 2 else 1) 0 body same mx) (N : ℕ)
-      (vs : List Word) (r br cr rr : List Item) (caller : Frame) (b c : ℕ) (l : Way) (at_depth : l.depth ≡ d) (a : Around E vs r b c l br cr rr caller) (dep : depth_of r ≡ E.depth) where
+      (C : Bool) (body : Code) (mx : Does Flow) (d : ℕ) (off : Off) (rx : FlowRuns E (body_way d C off) (if C then 2 else 1) 0 body same mx) (N : ℕ)
+      (vs : List Word) (r br cr rr : List Item) (caller : Frame) (b c : ℕ) (js : Jumps) (lo : Option ℕ) (a : Around E vs r b c (way js d lo off) br cr rr caller) (dep : depth_of r ≡ E.depth) where
+    abbrev l : Way
+    l = way js d lo off
+
     abbrev B : Code
     B = bodied body C
 
@@ -126,14 +135,14 @@ module _ (E : Env) where
     abbrev to_body : Flow → World → Mem → Thread
     to_body = to_flow E vs (front tail1 ring) r (front tail1 ring) rr caller
 
-    returns_past : (v : Value) → IsOf E.result v → return_on (pushed E.result v vs) (front tail1 ring) ≡ To (thread caller (pushed E.result v vs) rr)
-    returns_past v ok = return_past (pushed E.result v vs) tail1 ring ∙ a.returns v ok
+    returns_past : (hs : List Home) (v : Value) → IsValue E E.result hs v → return_on (pushes E E.result hs v vs) (front tail1 ring) ≡ To (thread caller (pushes E E.result hs v vs) rr)
+    returns_past hs v ok = return_past (pushes E E.result hs v vs) tail1 ring ∙ a.returns hs v ok
 
     dep_tail : depth_of (front tail1 ring) ≡ E.depth
     dep_tail = depth_front tail1 ring ∙ dep
 
-    bare_runs : FlowRuns E (body_way d false) 1 0 body same mx → HasAll E.site.funcs E.fn (suc N) (body (suc N)).seqs → size_of (body (suc N)) ≤ E.site.most → (now : Now) → IsAt E d now → (w : World) (m : Mem) → Kept E now w m
-        → Runs E.site (size_of (body (suc N))) m (at_work E m w vs (front (body (suc N)).instrs (front tail1 ring))) w to_body (GoodFlow E (body_way d false) now) (mx w)
+    bare_runs : FlowRuns E (body_way d false off) 1 0 body same mx → HasAll E.site.funcs E.fn (suc N) (body (suc N)).seqs → size_of (body (suc N)) ≤ E.site.most → (now : Now) → IsAt E d now → (w : World) (m : Mem) → Kept E now w m
+        → Runs E.site (size_of (body (suc N))) m (at_work E m w vs (front (body (suc N)).instrs (front tail1 ring))) w to_body (GoodFlow E (body_way d false off) now) (mx w)
     bare_runs h has small now le w m k =
         h (suc N) has small now le vs (front tail1 ring) r (front tail1 ring) rr caller
         (record {
@@ -142,16 +151,16 @@ module _ (E : Env) where
           returns = returns_past;
         }) dep_tail w m k
 
-    blocked_runs : FlowRuns E (body_way d true) 2 0 body same mx → HasAll E.site.funcs E.fn (suc N) (block None body (suc N)).seqs → size_of (block None body (suc N)) ≤ E.site.most → (now : Now) → IsAt E d now → (w : World) (m : Mem) → Kept E now w m
-        → Runs E.site (size_of (block None body (suc N))) m (at_work E m w vs (front (block None body (suc N)).instrs (front tail1 ring))) w to_body (GoodFlow E (body_way d true) now) (mx w)
+    blocked_runs : FlowRuns E (body_way d true off) 2 0 body same mx → HasAll E.site.funcs E.fn (suc N) (block None body (suc N)).seqs → size_of (block None body (suc N)) ≤ E.site.most → (now : Now) → IsAt E d now → (w : World) (m : Mem) → Kept E now w m
+        → Runs E.site (size_of (block None body (suc N))) m (at_work E m w vs (front (block None body (suc N)).instrs (front tail1 ring))) w to_body (GoodFlow E (body_way d true off) now) (mx w)
     blocked_runs h has small now le w m k =
         let cx = body (suc (suc N)) in
         let r' = Label None (length vs) None ∷ front tail1 ring in
         let same_to : to_flow E vs r' r (front tail1 ring) rr caller ≡ to_body = λ j f w1 m1. in_label E None (length vs) None vs (front tail1 ring) r (front tail1 ring) rr caller f w1 m1 j in
-        resize E.site (1 + size_of cx) (size_of (block None body (suc N))) m (at_work E m w vs (Do (Block None (suc N)) ∷ front tail1 ring)) w to_body (GoodFlow E (body_way d true) now) (mx w) (omega arith)
-        (into E (Block None (suc N)) vs None (size_of cx) cx.instrs to_body (GoodFlow E (body_way d true) now) (mx w) vs (front tail1 ring) w m
+        resize E.site (1 + size_of cx) (size_of (block None body (suc N))) m (at_work E m w vs (Do (Block None (suc N)) ∷ front tail1 ring)) w to_body (GoodFlow E (body_way d true off) now) (mx w) (omega arith)
+        (into E (Block None (suc N)) vs None (size_of cx) cx.instrs to_body (GoodFlow E (body_way d true off) now) (mx w) vs (front tail1 ring) w m
         (ap (λ (is : List Instr). step.Next (goes.store E.site m) (thread (frame_of E m w) vs (front is r')) None) has.0)
-        (subst (λ (q : Flow → World → Mem → Thread). Runs E.site (size_of cx) m (at_work E m w vs (front cx.instrs r')) w q (GoodFlow E (body_way d true) now) (mx w)) same_to
+        (subst (λ (q : Flow → World → Mem → Thread). Runs E.site (size_of cx) m (at_work E m w vs (front cx.instrs r')) w q (GoodFlow E (body_way d true off) now) (mx w)) same_to
         (h (suc (suc N)) has.1 (omega (arith, small)) now le vs r' r (front tail1 ring) rr caller
         (record {
           breaks = λ e fr. branch_past 1 fr vs tail1 ring ∙ to_outside fr;
@@ -160,10 +169,10 @@ module _ (E : Env) where
         }) dep_tail w m k)))
 
     pub body_runs : HasAll E.site.funcs E.fn (suc N) (B (suc N)).seqs → sB ≤ E.site.most → (now : Now) → IsAt E d now → (w : World) (m : Mem) → Kept E now w m
-        → Runs E.site sB m (at_work E m w vs (front (B (suc N)).instrs (front tail1 ring))) w to_body (GoodFlow E (body_way d C) now) (mx w)
+        → Runs E.site sB m (at_work E m w vs (front (B (suc N)).instrs (front tail1 ring))) w to_body (GoodFlow E (body_way d C off) now) (mx w)
     body_runs = by C rx where
-      by : (C' : Bool) → FlowRuns E (body_way d C') (if C' then 2 else 1) 0 body same mx → HasAll E.site.funcs E.fn (suc N) (bodied body C' (suc N)).seqs → size_of (bodied body C' (suc N)) ≤ E.site.most → (now : Now) → IsAt E d now → (w : World) (m : Mem) → Kept E now w m
-          → Runs E.site (size_of (bodied body C' (suc N))) m (at_work E m w vs (front (bodied body C' (suc N)).instrs (front tail1 ring))) w (to_flow E vs (front tail1 ring) r (front tail1 ring) rr caller) (GoodFlow E (body_way d C') now) (mx w)
+      by : (C' : Bool) → FlowRuns E (body_way d C' off) (if C' then 2 else 1) 0 body same mx → HasAll E.site.funcs E.fn (suc N) (bodied body C' (suc N)).seqs → size_of (bodied body C' (suc N)) ≤ E.site.most → (now : Now) → IsAt E d now → (w : World) (m : Mem) → Kept E now w m
+          → Runs E.site (size_of (bodied body C' (suc N))) m (at_work E m w vs (front (bodied body C' (suc N)).instrs (front tail1 ring))) w (to_flow E vs (front tail1 ring) r (front tail1 ring) rr caller) (GoodFlow E (body_way d C' off) now) (mx w)
       by false h = bare_runs h
       by true h = blocked_runs h
 
@@ -188,10 +197,10 @@ module _ (E : Env) where
           let f = λ (t : Bool). if t then K else pure next in
           subst (λ (q : List Item). Runs E.site (sT + (1 + turn)) m (at_work E m w vs q) w to (GoodFlow E l now) ((meaning.test test >>= f) w)) (sym (front_append (T n2).instrs (BrIf 0 ∷ []) ring))
           (subst (λ (y : Result Flow). Runs E.site (sT + (1 + turn)) m (at_work E m w vs (front (T n2).instrs (Do (BrIf 0) ∷ ring))) w to (GoodFlow E l now) y) (sym (after_after (test w) is_true f))
-          (bind E.site sT (1 + turn) m (at_work E m w vs (front (T n2).instrs (Do (BrIf 0) ∷ ring))) w (To_ E (pushed (integer u)) vs (Do (BrIf 0) ∷ ring)) (Good E (IsOf (integer u)) now) to (GoodFlow E l now) (test w) (λ v w1. after (is_true v w1) f)
-          (rt n2 hasT now le.below vs (Do (BrIf 0) ∷ ring) dep w m k)
+          (bind E.site sT (1 + turn) m (at_work E m w vs (front (T n2).instrs (Do (BrIf 0) ∷ ring))) w (ToIn E (pushes E (integer u)) vs (Do (BrIf 0) ∷ ring)) (GoodIn E (IsValue E (integer u)) now) to (GoodFlow E l now) (test w) (λ v w1. after (is_true v w1) f)
+          (rt n2 hasT now (starts E d now le) vs (Do (BrIf 0) ∷ ring) dep w m k)
           (λ v w1 m1 g.
-          of_number E u (λ v. Runs E.site (1 + turn) m1 (at_work E m1 w1 (pushed (integer u) v vs) (Do (BrIf 0) ∷ ring)) w1 to (GoodFlow E l now) (after (is_true v w1) f))
+          of_number E u (λ v. Runs E.site (1 + turn) m1 (at_work E m1 w1 (pushes E (integer u) m1.homes v vs) (Do (BrIf 0) ∷ ring)) w1 to (GoodFlow E l now) (after (is_true v w1) f))
           (λ z i.
           subst (λ (wd : Width). Runs E.site (1 + turn) m1 (at_work E m1 w1 (operand wd z ∷ vs) (Do (BrIf 0) ∷ ring)) w1 to (GoodFlow E l now) (f (not (is_zero z)) w1)) (sym narrow)
           (decide (wrapped 32 z) (not (is_zero z)) (test_is E u z narrow i) K now w1 m1 g.1 (h w1 m1 g.1)))
@@ -235,10 +244,10 @@ module _ (E : Env) where
           let w3 : World = record w2 { fuel = f } in
           let now' : Now = lower (suc f) now in
           let lt = k.less in
-          let k3 : Kept E now' w3 m2 = record { held = k.held; deep = k.deep; less = omega arith; bytes = k.bytes; temps = k.temps } in
+          let k3 : Kept E now' w3 m2 = kept_fuel E now (suc f) w2.objects (record w2 { fuel = suc f }) m2 f (omega arith) k in
           leads_paid E.site turn (sT + (1 + turn)) turn f w (record w2 { fuel = suc f }) m m2 (head m w) (at_work E m2 w2 vs (front tail2 ring)) to (GoodFlow E l now) (again (suc n) w3) ld refl (omega (arith, room))
           (weaken l now (suc f) (sT + (1 + turn)) m2 (at_work E m2 w2 vs (front tail2 ring)) w3 to (again (suc n) w3) (omega (arith, lt))
-          (test_runs hasT' (iteration n) now' (record { below = omega (arith, lt, le.below); waits = le.waits }) (λ w' m' k'. ih n refl now' (record { below = omega (arith, lt, le.below); waits = le.waits }) (omega (arith, lt, le')) w' m' k') w3 m2 k3 ag))
+          (test_runs hasT' (iteration n) now' (record { below = omega (arith, lt, le.below); waits = le.waits; seen = le.seen }) (λ w' m' k'. ih n refl now' (record { below = omega (arith, lt, le.below); waits = le.waits; seen = le.seen }) (omega (arith, lt, le')) w' m' k') w3 m2 k3 ag))
 
       -- behind the body
       module _ (n : ℕ) (ih : (k : ℕ) → n ≡ suc k → Iterates k) (now : Now) (le : IsAt E d now) (le' : now.below ≤ suc n) (w : World) (m : Mem) where
@@ -257,7 +266,7 @@ module _ (E : Env) where
             let split = front_append (S n1).instrs tail2 ring in
             let ag' = subst (λ (q : List Item). Agrees (goes.store E.site m1) (at_work E m1 w1 vs q) (given w1) w1.grants) split ag in
             step_by w1 m1 (subst (λ (q : List Item). Leads E.site (1 + sB) w w1 m (head m w) m1 (at_work E m1 w1 vs q)) split ld) ag' (step' w1)
-            (rs n1 hasS now le.below vs (front tail2 ring) (depth_front tail2 ring ∙ dep) w1 m1 k1 ag')
+            (rs n1 hasS now (starts E d now le) vs (front tail2 ring) (depth_front tail2 ring ∙ dep) w1 m1 k1 ag')
 
         first : Leads E.site 1 w w m (head m w) m (at_work E m w vs (front (B (suc N)).instrs (front tail1 ring)))
         first =
@@ -267,7 +276,7 @@ module _ (E : Env) where
         abbrev t0 : Thread
         t0 = at_work E m w vs (front (B (suc N)).instrs (front tail1 ring))
 
-        body_by : Agrees (goes.store E.site m) t0 (given w) w.grants → (y : Result Flow) → RunsTo E.site sB m t0 w to_body (GoodFlow E (body_way d C) now) y → RunsTo E.site turn m (head m w) w to (GoodFlow E l now) (after y (behind_body (step' >> (spend >> again n))))
+        body_by : Agrees (goes.store E.site m) t0 (given w) w.grants → (y : Result Flow) → RunsTo E.site sB m t0 w to_body (GoodFlow E (body_way d C off) now) y → RunsTo E.site turn m (head m w) w to (GoodFlow E l now) (after y (behind_body (step' >> (spend >> again n))))
         body_by ag (ends e w1) h = resize_to E.site (1 + sB) turn m (head m w) w to (GoodFlow E l now) (ends e w1) (omega arith) (stops_behind E.site 1 sB w w w1 m m (head m w) t0 e first.goes h)
         body_by ag (gives next w1) q =
             let t1 = at_work E q.0 w1 vs (front tail1 ring) in
@@ -279,7 +288,7 @@ module _ (E : Env) where
             resize_to E.site (1 + sB) turn m (head m w) w to (GoodFlow E l now) (gives next w1) (omega arith) (q.0, (tt, q.1.1), goes_on E.site 1 sB w w w1 m m q.0 (head m w) t0 (at_work E q.0 w1 vs r) first.goes q.2)
         body_by ag (gives (returned v) w1) q =
             resize_to E.site (1 + sB) turn m (head m w) w to (GoodFlow E l now) (gives (returned v) w1) (omega arith)
-            (q.0, (q.1.0, q.1.1), goes_on E.site 1 sB w w w1 m m q.0 (head m w) t0 (exit_ended caller (pushed E.result v vs) rr) first.goes q.2)
+            (q.0, (q.1.0, q.1.1), goes_on E.site 1 sB w w w1 m m q.0 (head m w) t0 (exit_ended caller (pushes E E.result q.0.homes v vs) rr) first.goes q.2)
 
         iterates : sB ≤ E.site.most → Kept E now w m → Runs E.site turn m (head m w) w to (GoodFlow E l now) (iteration n w)
         iterates small k ag = let ag0 = agrees_after E.site 1 w w m m (head m w) t0 first.goes ag in body_by ag0 (mx w) (body_runs hasB small now le w m k ag0)
@@ -291,33 +300,33 @@ module _ (E : Env) where
   -- ---- the loop: the test, and the iterations where it holds
 
   pub while_runs : (u : IntType) → width_of u ≡ W32 → (T : Code) (test : Does Value) → Leaves E T (integer u) test → (S : Code) (step' : Does (Unit {0})) → Op E S same (gone E) (Always E) step'
-      → (C : Bool) (body : Code) (mx : Does Flow) (d : ℕ) → FlowRuns E (body_way d C) (if C then 2 else 1) 0 body same mx → (l : Way) → l.depth ≡ d → (b c bound : ℕ) → E.bound ≤ bound
-      → FlowRuns E l b c (T ⨾ choice None (repeat None (bodied body C ⨾ S ⨾ T ⨾ one (BrIf 0))) no_code) same (loops bound (meaning.test test) step' mx)
-  while_runs u narrow T test rt S step' rs C body mx d rx l at_depth b c zero wide n has small now le vs r br cr rr caller a dep w m k = absurd (let lt = k.less in omega (arith, lt, le.below, wide))
-  while_runs u narrow T test rt S step' rs C body mx d rx l at_depth b c (suc bound) wide n has small now le vs r br cr rr caller a dep w m k =
+      → (C : Bool) (body : Code) (mx : Does Flow) (d : ℕ) (off : Off) → FlowRuns E (body_way d C off) (if C then 2 else 1) 0 body same mx → (js : Jumps) (lo : Option ℕ) → (b c bound : ℕ) → E.bound ≤ bound
+      → FlowRuns E (way js d lo off) b c (T ⨾ choice None (repeat None (bodied body C ⨾ S ⨾ T ⨾ one (BrIf 0))) no_code) same (loops bound (meaning.test test) step' mx)
+  while_runs u narrow T test rt S step' rs C body mx d off rx js lo b c zero wide n has small now le vs r br cr rr caller a dep w m k = absurd (let lt = k.less in omega (arith, lt, le.below, wide))
+  while_runs u narrow T test rt S step' rs C body mx d off rx js lo b c (suc bound) wide n has small now le vs r br cr rr caller a dep w m k =
       let to' = to_flow E vs r br cr rr caller in
       let loop = repeat None (bodied body C ⨾ S ⨾ T ⨾ one (BrIf 0)) in
       let pick = choice None loop no_code in
       let ct = T n in
       let j = n + length ct.seqs in
       let cp = pick j in
-      let K = iteration u narrow T test rt S step' rs C body mx d rx (suc j) vs r br cr rr caller b c l at_depth a dep bound in
+      let K = iteration u narrow T test rt S step' rs C body mx d off rx (suc j) vs r br cr rr caller b c js lo a dep bound in
       let f = λ (t : Bool). if t then K else pure next in
       let sizes = size_joined ct cp in
       let hasP = has_back E.site.funcs E.fn n ct.seqs cp.seqs has in
-      subst (λ (s : ℕ). Runs E.site s m (at_work E m w vs (front (ct.instrs ++ cp.instrs) r)) w to' (GoodFlow E l now) ((meaning.test test >>= f) w)) sizes
-      (subst (λ (q : List Item). Runs E.site (size_of ct + size_of cp) m (at_work E m w vs q) w to' (GoodFlow E l now) ((meaning.test test >>= f) w)) (sym (front_append ct.instrs cp.instrs r))
-      (subst (λ (y : Result Flow). Runs E.site (size_of ct + size_of cp) m (at_work E m w vs (front ct.instrs (front cp.instrs r))) w to' (GoodFlow E l now) y) (sym (after_after (test w) is_true f))
-      (bind E.site (size_of ct) (size_of cp) m (at_work E m w vs (front ct.instrs (front cp.instrs r))) w (To_ E (pushed (integer u)) vs (front cp.instrs r)) (Good E (IsOf (integer u)) now) to' (GoodFlow E l now) (test w) (λ v w1. after (is_true v w1) f)
-      (rt n (has_front E.site.funcs E.fn n ct.seqs cp.seqs has) now le.below vs (front cp.instrs r) (depth_front cp.instrs r ∙ dep) w m k)
+      subst (λ (s : ℕ). Runs E.site s m (at_work E m w vs (front (ct.instrs ++ cp.instrs) r)) w to' (GoodFlow E (way js d lo off) now) ((meaning.test test >>= f) w)) sizes
+      (subst (λ (q : List Item). Runs E.site (size_of ct + size_of cp) m (at_work E m w vs q) w to' (GoodFlow E (way js d lo off) now) ((meaning.test test >>= f) w)) (sym (front_append ct.instrs cp.instrs r))
+      (subst (λ (y : Result Flow). Runs E.site (size_of ct + size_of cp) m (at_work E m w vs (front ct.instrs (front cp.instrs r))) w to' (GoodFlow E (way js d lo off) now) y) (sym (after_after (test w) is_true f))
+      (bind E.site (size_of ct) (size_of cp) m (at_work E m w vs (front ct.instrs (front cp.instrs r))) w (ToIn E (pushes E (integer u)) vs (front cp.instrs r)) (GoodIn E (IsValue E (integer u)) now) to' (GoodFlow E (way js d lo off) now) (test w) (λ v w1. after (is_true v w1) f)
+      (rt n (has_front E.site.funcs E.fn n ct.seqs cp.seqs has) now (starts E d now le) vs (front cp.instrs r) (depth_front cp.instrs r ∙ dep) w m k)
       (λ v w1 m1 g.
-      of_number E u (λ v. Runs E.site (size_of cp) m1 (at_work E m1 w1 (pushed (integer u) v vs) (front cp.instrs r)) w1 to' (GoodFlow E l now) (after (is_true v w1) f))
+      of_number E u (λ v. Runs E.site (size_of cp) m1 (at_work E m1 w1 (pushes E (integer u) m1.homes v vs) (front cp.instrs r)) w1 to' (GoodFlow E (way js d lo off) now) (after (is_true v w1) f))
       (λ z i.
-      subst (λ (wd : Width). Runs E.site (size_of cp) m1 (at_work E m1 w1 (operand wd z ∷ vs) (front cp.instrs r)) w1 to' (GoodFlow E l now) (f (not (is_zero z)) w1)) (sym narrow)
-      (subst (λ (y : Result Flow). Runs E.site (size_of cp) m1 (at_work E m1 w1 (I32 (wrapped 32 z) ∷ vs) (front cp.instrs r)) w1 to' (GoodFlow E l now) y) (choice_at E (not (is_zero z)) K (pure next) w1)
-      (runs_choice E None loop no_code j (wrapped 32 z) (not (is_zero z)) vs r w1 m1 to' (GoodFlow E l now) (K w1) (gives next w1) (λ n' e'. refl) (test_is E u z narrow i) hasP
+      subst (λ (wd : Width). Runs E.site (size_of cp) m1 (at_work E m1 w1 (operand wd z ∷ vs) (front cp.instrs r)) w1 to' (GoodFlow E (way js d lo off) now) (f (not (is_zero z)) w1)) (sym narrow)
+      (subst (λ (y : Result Flow). Runs E.site (size_of cp) m1 (at_work E m1 w1 (I32 (wrapped 32 z) ∷ vs) (front cp.instrs r)) w1 to' (GoodFlow E (way js d lo off) now) y) (choice_at E (not (is_zero z)) K (pure next) w1)
+      (runs_choice E None loop no_code j (wrapped 32 z) (not (is_zero z)) vs r w1 m1 to' (GoodFlow E (way js d lo off) now) (K w1) (gives next w1) (λ n' e'. refl) (test_is E u z narrow i) hasP
       (λ h. enters h w1 m1 g.1)
-      (λ h. here E.site 0 w1 m1 to' (GoodFlow E l now) next (tt, g.1)))))
+      (λ h. here E.site 0 w1 m1 to' (GoodFlow E (way js d lo off) now) next (tt, g.1)))))
       v g.0))))
     where
       -- the parts' sizes
@@ -334,8 +343,8 @@ module _ (E : Env) where
 
       enters : HasAll E.site.funcs E.fn (suc (n + length (T n).seqs)) (repeat None (bodied body C ⨾ S ⨾ T ⨾ one (BrIf 0)) (suc (n + length (T n).seqs))).seqs → (w1 : World) (m1 : Mem) → Kept E now w1 m1
           → Runs E.site (size_of (repeat None (bodied body C ⨾ S ⨾ T ⨾ one (BrIf 0)) (suc (n + length (T n).seqs)))) m1
-          (at_work E m1 w1 vs (front (repeat None (bodied body C ⨾ S ⨾ T ⨾ one (BrIf 0)) (suc (n + length (T n).seqs))).instrs (Label None (length vs) None ∷ r))) w1 (to_flow E vs r br cr rr caller) (GoodFlow E l now)
-          (iteration u narrow T test rt S step' rs C body mx d rx (suc (n + length (T n).seqs)) vs r br cr rr caller b c l at_depth a dep bound w1)
+          (at_work E m1 w1 vs (front (repeat None (bodied body C ⨾ S ⨾ T ⨾ one (BrIf 0)) (suc (n + length (T n).seqs))).instrs (Label None (length vs) None ∷ r))) w1 (to_flow E vs r br cr rr caller) (GoodFlow E (way js d lo off) now)
+          (iteration u narrow T test rt S step' rs C body mx d off rx (suc (n + length (T n).seqs)) vs r br cr rr caller b c js lo a dep bound w1)
       enters h w1 m1 k1 =
           let j = n + length (T n).seqs in
           let N = suc j in
@@ -343,6 +352,6 @@ module _ (E : Env) where
           let parts = part_sizes N in
           let all = size_joined (T n) (choice None loop no_code j) in
           let inside = total_append (inner (loop (suc j))) [] in
-          resize E.site (turn u narrow T test rt S step' rs C body mx d rx N vs r br cr rr caller b c l at_depth a dep) (size_of (loop N)) m1 (at_work E m1 w1 vs (Do (Loop None N) ∷ Label None (length vs) None ∷ r)) w1 (to_flow E vs r br cr rr caller) (GoodFlow E l now)
-          (iteration u narrow T test rt S step' rs C body mx d rx N vs r br cr rr caller b c l at_depth a dep bound w1) (omega (arith, parts))
-          (all_iterate u narrow T test rt S step' rs C body mx d rx N vs r br cr rr caller b c l at_depth a dep h.0 h.1 (omega (arith, parts, all, inside, small)) bound now (record { below = le.below; waits = le.waits ∙ at_depth }) (omega (arith, le.below, wide)) w1 m1 k1)
+          resize E.site (turn u narrow T test rt S step' rs C body mx d off rx N vs r br cr rr caller b c js lo a dep) (size_of (loop N)) m1 (at_work E m1 w1 vs (Do (Loop None N) ∷ Label None (length vs) None ∷ r)) w1 (to_flow E vs r br cr rr caller) (GoodFlow E (way js d lo off) now)
+          (iteration u narrow T test rt S step' rs C body mx d off rx N vs r br cr rr caller b c js lo a dep bound w1) (omega (arith, parts))
+          (all_iterate u narrow T test rt S step' rs C body mx d off rx N vs r br cr rr caller b c js lo a dep h.0 h.1 (omega (arith, parts, all, inside, small)) bound now le (omega (arith, le.below, wide)) w1 m1 k1)

@@ -51,8 +51,10 @@ use Rattle.c_runs.proofs.Goes as goes
 use Rattle.c_runs.proofs.Goes.{Mem, Site, after_after, puts_one, takes_one, tells_nothing}
 use Rattle.ms_machine.specs.Crews.{Input}
 use Rattle.c_runs.specs.Words.{pushed}
-use Rattle.c_runs.proofs.Related.{Env, IsOf, Kept, Now, frame_of}
-use Rattle.c_runs.proofs.Ops.{Good, Op, Stack, To_, at_work, op_agree, op_assoc, op_bare, op_carried, op_look, op_over, op_seen, op_then, op_trap, same}
+use Rattle.ms_relate.specs.refinement.Homes.{Home}
+use Rattle.c_runs.proofs.Values.{IsOf}
+use Rattle.c_runs.proofs.Related.{Env, IsValue, Kept, Now, frame_of, kept_world}
+use Rattle.c_runs.proofs.Ops.{Good, Op, OpIn, Stack, To_, at_work, op_agree, op_assoc, op_bare, op_carried, op_look, op_over, op_seen, op_then, op_trap_in, same}
 use Rattle.c_runs.proofs.Nodes.{Always, Leaves, Num, Spot_of_x, behind_place, fetch_runs, fetch_twice_runs, gone, of_number, op_integer, op_integer_then, op_number_then, remains, set_gives, set_runs, two_run, write_runs}
 use Rattle.c_runs.proofs.Whole.{bare_convert}
 
@@ -90,7 +92,7 @@ small_same n lt = omega arith
 small_is : (n : ℕ) → n < 2 ^ 8 → IsIn Int (pos n)
 small_is n lt = ap (signed 32) (small_same n lt) ∙ ap (λ (b : Bool). if b then pos n else pos n -ℤ pos (2 ^ 32)) (lt-ltb n (2 ^ 31) (omega (arith, lt)))
 
-after_same : {A B : Type 0} (y : Result A) (f g : A → World → Result B) → ((a : A) (w : World) → f a w ≡ g a w) → after y f ≡ after y g
+pub after_same : {A B : Type 0} (y : Result A) (f g : A → World → Result B) → ((a : A) (w : World) → f a w ≡ g a w) → after y f ≡ after y g
 after_same (gives a w) f g e = e a w
 after_same (ends q w) f g e = refl
 
@@ -100,7 +102,7 @@ module _ (E : Env) where
   pub binary_runs : (o : BinaryOp) (u : IntType) (a b : Code) (x y : Does Value) → IsPromoted u → Leaves E a (integer u) x → Leaves E b (integer u) y
       → Leaves E (a ⨾ b ⨾ one (code.operated o u)) (integer u) (meaning.integer x >>= (λ p. meaning.integer y >>= (λ q. operated o u p q >>= (λ z. pure (number z)))))
   binary_runs o u a b x y pr ra rb =
-      two_run E u (code.operated o u) (integer u) (λ p q. operated o u p q >>= (λ z. pure (number z))) a b x y ra rb
+      two_run E u (code.operated o u) u (λ p q. operated o u p q >>= (λ z. pure (number z))) a b x y ra rb
       (λ p q ip iq.
       op_look E (one (code.operated o u)) (λ vs. Num E u q (Num E u p vs)) (Num E u) (pushed (integer u)) (IsIn u) (IsOf (integer u)) (operated o u p q) (λ z. pure (number z))
       (op_agree E (code.operated o u) (λ vs. Num E u q (Num E u p vs)) u (operated o u p q) (λ vs. operation o u pr p q vs ip iq))
@@ -109,7 +111,7 @@ module _ (E : Env) where
   pub compare_runs : (o : RelOp) (u : IntType) (a b : Code) (x y : Does Value) → IsPromoted u → Leaves E a (integer u) x → Leaves E b (integer u) y
       → Leaves E (a ⨾ b ⨾ one (code.compared o u)) (integer Int) (meaning.integer x >>= (λ p. meaning.integer y >>= (λ q. pure (meaning.truth (compared o p q)))))
   compare_runs o u a b x y pr ra rb =
-      two_run E u (code.compared o u) (integer Int) (λ p q. pure (meaning.truth (compared o p q))) a b x y ra rb
+      two_run E u (code.compared o u) Int (λ p q. pure (meaning.truth (compared o p q))) a b x y ra rb
       (λ p q ip iq.
       op_carried E (code.compared o u) (λ vs. Num E u q (Num E u p vs)) (pushed (integer Int)) (IsOf (integer Int)) (meaning.truth (compared o p q)) (truth_in (compared o p q)) (λ vs. comparison o u pr p q vs ip iq))
 
@@ -172,10 +174,10 @@ module _ (E : Env) where
 
   -- ---- assignments with an operator
 
-  abbrev changes : BinaryOp → IntType → IntType → Does Value → ℤ → Does ℤ
+  abbrev pub changes : BinaryOp → IntType → IntType → Does Value → ℤ → Does ℤ
   changes o u v y z = meaning.integer y >>= (λ q. operated o v (wrap v z) q >>= (λ p. pure (wrap u p)))
 
-  change_runs : (o : BinaryOp) (u v : IntType) (c : Code) (y : Does Value) → IsPromoted v → Leaves E c (integer v) y → (z : ℤ) → IsIn u z
+  pub change_runs : (o : BinaryOp) (u v : IntType) (c : Code) (y : Does Value) → IsPromoted v → Leaves E c (integer v) y → (z : ℤ) → IsIn u z
       → Op E (convert u v ⨾ c ⨾ one (code.operated o v) ⨾ convert v u) (Num E u z) (Num E u) (IsIn u) (changes o u v y z)
   change_runs o u v c y pr h z i =
       let z' = wrap v z in
@@ -190,7 +192,7 @@ module _ (E : Env) where
       (op_agree E (code.operated o v) (λ vs. Num E v q (Num E v z' vs)) v (operated o v z' q) (λ vs. operation o v pr z' q vs (wrap_in v z) iq))
       (λ p ip. convert_at v u p ip)))
 
-  module _ (o : BinaryOp) (u v : IntType) (x : ℕ) (at_x : slice_get E.slots x ≡ Some (integer u)) (c : Code) (y : Does Value) (pr : IsPromoted v) (h : Leaves E c (integer v) y) where
+  module _ (o : BinaryOp) (u v : IntType) (x : ℕ) (at_x : slice_get E.kinds x ≡ Some (integer u, false)) (c : Code) (y : Does Value) (pr : IsPromoted v) (h : Leaves E c (integer v) y) where
     abbrev change : Code
     change = convert u v ⨾ c ⨾ one (code.operated o v) ⨾ convert v u
 
@@ -206,38 +208,43 @@ module _ (E : Env) where
         after_after (meaning.integer y w) (λ q. operated o v (wrap v z) q >>= (λ p. pure (wrap u p))) (puts old z)
         ∙ after_same (meaning.integer y w) _ _ (λ q w1. after_after (operated o v (wrap v z) q w1) (λ p. pure (wrap u p)) (puts old z))
 
+    -- what remains of it
+    abbrev keeps : Bool → Value → Stack
+    keeps true = pushed (integer u)
+    keeps false = gone E
+
     -- behind the old value, where one of the two may remain
     abbrev End_runs : (d : Code) (k old : Bool) → Type 0
-    End_runs d k old = (z p : ℤ) → IsIn u z → IsIn u p → Op E d (Num E u p) (remains E k (integer u)) (IsOf (integer u)) (puts old z p)
+    End_runs d k old = (z p : ℤ) → IsIn u z → IsIn u p → Op E d (Num E u p) (keeps k) (IsOf (integer u)) (puts old z p)
 
     end_runs : (k old : Bool) (s : Scalar) → (k ≡ false) ⊎ (old ≡ false) → End_runs (ended E.target k (Some (Local x)) s) k old
     end_runs true true s (inl e) z p iz ip = absurd cc
     end_runs true true s (inr e) z p iz ip = absurd cc
-    end_runs true false s e z p iz ip = write_runs E x u at_x p ip true s
-    end_runs false false s e z p iz ip = write_runs E x u at_x p ip false s
-    end_runs false true s e z p iz ip = set_gives E x u at_x p ip (number z) iz
+    end_runs true false s e z p iz ip = write_runs E x (integer u) tt at_x [] (number p) ip true s
+    end_runs false false s e z p iz ip = write_runs E x (integer u) tt at_x [] (number p) ip false s
+    end_runs false true s e z p iz ip = set_gives E x (integer u) tt at_x [] (number p) ip (number z) iz
 
     one_value : (k old : Bool) (d : Code) → End_runs d k old
-        → Op E (one (get E.target (Local x)) ⨾ change ⨾ d) same (remains E k (integer u)) (IsOf (integer u)) (Spot_of_x E x u at_x >>= (λ q. fetch q >>= (λ w0. as_number w0 >>= (λ z. meaning.integer y >>= (λ q'. operated o v (wrap v z) q' >>= (λ p. let new = number (wrap u p) in store q new >> pure (if old then w0 else new)))))))
+        → Op E (one (get E.target (Local x)) ⨾ change ⨾ d) same (keeps k) (IsOf (integer u)) (Spot_of_x E x (integer u) tt at_x >>= (λ q. fetch q >>= (λ w0. as_number w0 >>= (λ z. meaning.integer y >>= (λ q'. operated o v (wrap v z) q' >>= (λ p. let new = number (wrap u p) in store q new >> pure (if old then w0 else new)))))))
     one_value k old d e =
         let g = one (get E.target (Local x)) in
-        behind_place E x u at_x (g ⨾ change ⨾ d) same (remains E k (integer u)) (IsOf (integer u)) _
-        (op_then E g (change ⨾ d) same (pushed (integer u)) (remains E k (integer u)) (IsOf (integer u)) (IsOf (integer u)) (fetch (variable (Local x))) (behind_old old) (fetch_runs E x u at_x)
+        behind_place E x (integer u) tt at_x (g ⨾ change ⨾ d) same (λ hs. keeps k) (λ hs. IsOf (integer u)) _
+        (op_then E g (change ⨾ d) same (pushed (integer u)) (keeps k) (IsOf (integer u)) (IsOf (integer u)) (fetch (variable (Local x))) (behind_old old) (fetch_runs E x (integer u) tt at_x)
         (λ w0 ok.
-        of_number E u (λ w0. Op E (change ⨾ d) (pushed (integer u) w0) (remains E k (integer u)) (IsOf (integer u)) (behind_old old w0))
+        of_number E u (λ w0. Op E (change ⨾ d) (pushed (integer u) w0) (keeps k) (IsOf (integer u)) (behind_old old w0))
         (λ z iz.
-        op_seen E (change ⨾ d) (Num E u z) (remains E k (integer u)) (IsOf (integer u)) (changes o u v y z >>= puts old z) (behind_old old (number z)) (same_meaning old z)
-        (op_then E change d (Num E u z) (Num E u) (remains E k (integer u)) (IsIn u) (IsOf (integer u)) (changes o u v y z) (puts old z) (change_runs o u v c y pr h z iz) (λ p ip. e z p iz ip)))
+        op_seen E (change ⨾ d) (Num E u z) (keeps k) (IsOf (integer u)) (changes o u v y z >>= puts old z) (behind_old old (number z)) (same_meaning old z)
+        (op_then E change d (Num E u z) (Num E u) (keeps k) (IsIn u) (IsOf (integer u)) (changes o u v y z) (puts old z) (change_runs o u v c y pr h z iz) (λ p ip. e z p iz ip)))
         w0 ok))
 
     -- the old value remains below
     two_values : (s : Scalar)
-        → Op E (begun_over_old E.target (Some (Local x)) no_code s ⨾ change ⨾ put E.target (Some (Local x)) s) same (pushed (integer u)) (IsOf (integer u)) (Spot_of_x E x u at_x >>= (λ q. fetch q >>= (λ w0. as_number w0 >>= (λ z. meaning.integer y >>= (λ q'. operated o v (wrap v z) q' >>= (λ p. let new = number (wrap u p) in store q new >> pure w0))))))
+        → Op E (begun_over_old E.target (Some (Local x)) no_code s ⨾ change ⨾ put E.target (Some (Local x)) s) same (pushed (integer u)) (IsOf (integer u)) (Spot_of_x E x (integer u) tt at_x >>= (λ q. fetch q >>= (λ w0. as_number w0 >>= (λ z. meaning.integer y >>= (λ q'. operated o v (wrap v z) q' >>= (λ p. let new = number (wrap u p) in store q new >> pure w0))))))
     two_values s =
         let g = begun_over_old E.target (Some (Local x)) no_code s in
         let d = put E.target (Some (Local x)) s in
-        behind_place E x u at_x (g ⨾ change ⨾ d) same (pushed (integer u)) (IsOf (integer u)) _
-        (op_then E g (change ⨾ d) same (λ w0 vs. pushed (integer u) w0 (pushed (integer u) w0 vs)) (pushed (integer u)) (IsOf (integer u)) (IsOf (integer u)) (fetch (variable (Local x))) (behind_old true) (fetch_twice_runs E x u at_x)
+        behind_place E x (integer u) tt at_x (g ⨾ change ⨾ d) same (λ hs. pushed (integer u)) (λ hs. IsOf (integer u)) _
+        (op_then E g (change ⨾ d) same (λ w0 vs. pushed (integer u) w0 (pushed (integer u) w0 vs)) (pushed (integer u)) (IsOf (integer u)) (IsOf (integer u)) (fetch (variable (Local x))) (behind_old true) (fetch_twice_runs E x (integer u) tt at_x)
         (λ w0 ok.
         of_number E u (λ w0. Op E (change ⨾ d) (λ vs. pushed (integer u) w0 (pushed (integer u) w0 vs)) (pushed (integer u)) (IsOf (integer u)) (behind_old true w0))
         (λ z iz.
@@ -246,12 +253,12 @@ module _ (E : Env) where
         (op_over E change (Num E u z) (Num E u z) (Num E u) (IsIn u) (changes o u v y z) (change_runs o u v c y pr h z iz))
         (λ p ip.
         op_look E d (λ vs. Num E u p (Num E u z vs)) (λ q vs. Num E u z vs) (pushed (integer u)) (Always E) (IsOf (integer u)) (hold (Local x) (plain (number p))) (λ q. pure (number z))
-        (op_over E d (Num E u p) (Num E u z) (gone E) (Always E) (hold (Local x) (plain (number p))) (set_runs E x u at_x p ip))
+        (op_over E d (Num E u p) (Num E u z) (gone E) (Always E) (hold (Local x) (plain (number p))) (set_runs E x (integer u) tt at_x [] (number p) ip))
         (λ q ok'. (number z, refl, refl, iz)))))
         w0 ok))
 
     pub update_runs : (k old : Bool) (pl : Code) (s : Scalar)
-        → Op E (updated E.target k old (Some (Local x)) pl s change) same (remains E k (integer u)) (IsOf (integer u)) (Spot_of_x E x u at_x >>= (λ q. fetch q >>= (λ w0. as_number w0 >>= (λ z. meaning.integer y >>= (λ q'. operated o v (wrap v z) q' >>= (λ p. let new = number (wrap u p) in store q new >> pure (if old then w0 else new)))))))
+        → OpIn E [] (updated E.target k old (Some (Local x)) pl s change) same (remains E k (integer u)) (IsValue E (integer u)) (Spot_of_x E x (integer u) tt at_x >>= (λ q. fetch q >>= (λ w0. as_number w0 >>= (λ z. meaning.integer y >>= (λ q'. operated o v (wrap v z) q' >>= (λ p. let new = number (wrap u p) in store q new >> pure (if old then w0 else new)))))))
     update_runs true true pl s = two_values s
     update_runs true false pl s = one_value true false (ended E.target true (Some (Local x)) s) (end_runs true false s (inr refl))
     update_runs false true pl s = one_value false true (ended E.target false (Some (Local x)) s) (end_runs false true s (inl refl))
@@ -277,7 +284,7 @@ module _ (E : Env) where
         let lt : b < 2 ^ 8 = byte_below z in
         let room : 0 < length E.site.funcs = let t = L.three in omega (arith, t) in (
           m,
-          (small_is b lt, record { held = k.held; deep = k.deep; less = k.less; bytes = k.bytes; temps = k.temps }),
+          (small_is b lt, kept_world E now w.objects w w' m refl refl refl k.less k.bytes k),
           puts_one E.site w w' m (Call 0) (frame_of E m w) (I32 (wrapped 32 z) ∷ vs) (I32 (wrapped 32 (pos b)) ∷ vs) r hosts.Putchar b
               (call_is m w 0 (I32 (wrapped 32 z) ∷ vs) r room ∙ ap (called (goes.store E.site m) 0 (thread (frame_of E m w) (I32 (wrapped 32 z) ∷ vs) r)) L.putchar)
               (ap (λ (q : ℕ). hosting.Gives (I32 q ∷ vs) (Some q)) byte ∙ ap (λ (q : ℕ). hosting.Gives (I32 q ∷ vs) (Some b)) (sym (small_same b lt))) refl refl refl
@@ -304,7 +311,7 @@ module _ (E : Env) where
         let bytes : AreBytes (None ∷ bs) = subst AreBytes e k.bytes in
         let w' : World = record w { input = bs } in (
           m,
-          (refl, record { held = k.held; deep = k.deep; less = k.less; bytes = bytes.1; temps = k.temps }),
+          (refl, kept_world E now w.objects w w' m refl refl refl k.less bytes.1 k),
           takes_one E.site w w' m (Call 1) (frame_of E m w) vs (I32 4294967295 ∷ vs) r hosts.Getchar
               (call_is m w 1 vs r room ∙ ap (called (goes.store E.site m) 1 (thread (frame_of E m w) vs r)) L.getchar)
               (ap (λ (l : Input). host_on hosts.Getchar (first_of l) vs) e) refl
@@ -316,7 +323,7 @@ module _ (E : Env) where
         let lt : b < 256 = bytes.0 in
         let w' : World = record w { input = bs } in (
           m,
-          (small_is b lt, record { held = k.held; deep = k.deep; less = k.less; bytes = bytes.1; temps = k.temps }),
+          (small_is b lt, kept_world E now w.objects w w' m refl refl refl k.less bytes.1 k),
           takes_one E.site w w' m (Call 1) (frame_of E m w) vs (I32 (wrapped 32 (pos b)) ∷ vs) r hosts.Getchar
               (call_is m w 1 vs r room ∙ ap (called (goes.store E.site m) 1 (thread (frame_of E m w) vs r)) L.getchar)
               (ap (λ (l : Input). host_on hosts.Getchar (first_of l) vs) e ∙ ap (λ (q : ℕ). hosting.Gives (I32 q ∷ vs) None) (sym (small_same b lt))) refl
@@ -326,7 +333,7 @@ module _ (E : Env) where
     pub getchar_runs : Leaves E (one (Call 1)) (integer Int) (take_byte >>= (λ b. pure (byte_value b)))
     getchar_runs n has now le vs r dep w m k ag = getchar_by now vs r w m k w.input refl
 
-    pub abort_runs : (post : Value → Stack) → Op E (one (Call 2)) same post (IsOf void) (stop abort)
+    pub abort_runs : (post : List Home → Value → Stack) → OpIn E [] (one (Call 2)) same post (IsValue E void) (stop abort)
     abort_runs post =
-        op_trap E (Call 2) same post (IsOf void) traps.Abort abort (λ w. tt) refl (λ m t w. tt)
+        op_trap_in E [] (Call 2) same post (IsValue E void) traps.Abort abort (λ w. tt) refl (λ m t w. tt)
         (λ m w vs r. call_is m w 2 vs r L.three ∙ ap (called (goes.store E.site m) 2 (thread (frame_of E m w) vs r)) L.abort)

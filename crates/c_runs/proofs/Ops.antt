@@ -12,12 +12,15 @@ use Rattle.ms_task.specs.Control.{exit_ended}
 use Rattle.ms_task.specs.Thread.{Do, Frame, Item, Label, Thread, thread, depth_of}
 use Rattle.ms_host.specs.declared.trap.TrapKind.{TrapKind}
 use Rattle.c_types.specs.declared.integers.IntType.{IntType}
+use Rattle.c_meaning.specs.Objects.{Object}
 use Rattle.c_meaning.specs.World.{End, zero_divide, overflow, World, Result, gives, ends, Does, after, ◌>>=◌, pure, stop}
 use Rattle.c_runs.specs.Threads.{Trapped}
 use Rattle.c_runs.specs.Ends.{stop_of}
 use Rattle.ms_emit.specs.Codes.{Code, Coded, plain, one, no_code, ◌⨾◌, joined, choice, inner, second, second_seqs, size_of, total}
-use Rattle.c_runs.proofs.Goes.{Mem, store, Runs, RunsTo, Goes, bind, behind_goes, here, one_here, resize, after_after, trapped, IsEnd, Asks}
-use Rattle.c_runs.proofs.Related.{Env, Kept, Now, frame_of, front, front_append, depth_front, HasAll, has_front, has_back, total_append}
+use Rattle.c_runs.proofs.Goes.{Mem, store, Runs, RunsTo, Goes, bind, behind_goes, here, one_here, resize, after_after, trapped, weaker, IsEnd, Asks}
+use Rattle.ms_relate.specs.refinement.Homes.{Home}
+use Rattle.ms_relate.proofs.Growing.{Extends}
+use Rattle.c_runs.proofs.Related.{Env, Kept, KeptAs, Now, Starts, extends_none, extends_same, extends_trans, with_homes, frame_of, front, front_append, depth_front, HasAll, has_front, has_back, total_append}
 use Rattle.ms_operate.specs.Outcomes as operate
 use Rattle.ms_operate.specs.declared.trap.Trap.{Trap as OperateTrap}
 use Rattle.ms_operate.specs.declared.trap.Trap.TheVariants as operate-traps
@@ -40,55 +43,101 @@ module _ (E : Env) where
   abbrev pub at_work : Mem → World → List Word → List Item → Thread
   at_work m w vs r = exit_ended (frame_of E m w) vs r
 
+  -- what is left, by the homes that the objects then have
+  abbrev pub ToIn : {A : Type 0} → (List Home → A → Stack) → List Word → List Item → A → World → Mem → Thread
+  ToIn post vs r a w m = at_work m w (post m.homes a vs) r
+
   abbrev pub To_ : {A : Type 0} → (A → Stack) → List Word → List Item → A → World → Mem → Thread
-  To_ post vs r a w m = at_work m w (post a vs) r
+  To_ post = ToIn (λ hs. post)
+
+  abbrev pub GoodIn : {A : Type 0} → (List Home → A → Type 0) → Now → A → World → Mem → Type 0
+  GoodIn Ok now a w m = Ok m.homes a × Kept E now w m
 
   abbrev pub Good : {A : Type 0} → (A → Type 0) → Now → A → World → Mem → Type 0
-  Good Ok now a w m = Ok a × Kept E now w m
+  Good Ok now = GoodIn (λ hs. Ok) now
 
-  -- from these operands the code comes to those
-  abbrev pub Op : {A : Type 0} → Code → Stack → (A → Stack) → (A → Type 0) → Does A → Type 0
-  Op c pre post Ok x =
-      (n : ℕ) → HasAll E.site.funcs E.fn n (c n).seqs → (now : Now) → now.below ≤ E.bound → (vs : List Word) (r : List Item) → depth_of r ≡ E.depth
+  -- from these operands the code comes to those, where objects have these homes at least
+  abbrev pub OpIn : {A : Type 0} → List Home → Code → Stack → (List Home → A → Stack) → (List Home → A → Type 0) → Does A → Type 0
+  OpIn hs c pre post Ok x =
+      (n : ℕ) → HasAll E.site.funcs E.fn n (c n).seqs → (now : Now) → Starts E hs now → (vs : List Word) (r : List Item) → depth_of r ≡ E.depth
       → (w : World) (m : Mem) → Kept E now w m
-      → Runs E.site (size_of (c n)) m (at_work m w (pre vs) (front (c n).instrs r)) w (To_ post vs r) (Good Ok now) (x w)
+      → Runs E.site (size_of (c n)) m (at_work m w (pre vs) (front (c n).instrs r)) w (ToIn post vs r) (GoodIn Ok now) (x w)
+
+  -- of values without a pointer
+  abbrev pub Op : {A : Type 0} → Code → Stack → (A → Stack) → (A → Type 0) → Does A → Type 0
+  Op c pre post Ok x = OpIn [] c pre (λ hs. post) (λ hs. Ok) x
+
+  -- ---- homes at the start
+
+  pub kept_from : (now : Now) (hs : List Home) (os : List Object) (w : World) (m : Mem) → Extends now.homes hs → KeptAs E (with_homes hs now) os w m → KeptAs E now os w m
+  kept_from now hs os w m more k = record { held = k.held; deep = k.deep; less = k.less; bytes = k.bytes; temps = k.temps; grown = extends_trans now.homes hs m.homes more k.grown; related = k.related; open' = k.open'; apart = k.apart; own = k.own; lasts = k.lasts }
+
+  pub kept_here : (now : Now) (os : List Object) (w : World) (m : Mem) → KeptAs E now os w m → KeptAs E (with_homes m.homes now) os w m
+  kept_here now os w m k = record { held = k.held; deep = k.deep; less = k.less; bytes = k.bytes; temps = k.temps; grown = extends_same m.homes; related = k.related; open' = k.open'; apart = k.apart; own = k.own; lasts = k.lasts }
+
+  pub op_more : {A : Type 0} (hs hs' : List Home) (c : Code) (pre : Stack) (post : List Home → A → Stack) (Ok : List Home → A → Type 0) (x : Does A) → Extends hs hs' → OpIn hs c pre post Ok x → OpIn hs' c pre post Ok x
+  op_more hs hs' c pre post Ok x more h n has now le = h n has now (record { below = le.below; grown = extends_trans hs hs' now.homes more le.grown; seen = le.seen })
+
+  pub op_any : {A : Type 0} (hs : List Home) (c : Code) (pre : Stack) (post : List Home → A → Stack) (Ok : List Home → A → Type 0) (x : Does A) → OpIn [] c pre post Ok x → OpIn hs c pre post Ok x
+  op_any hs c pre post Ok x h = op_more [] hs c pre post Ok x (extends_none hs) h
 
   -- ---- what lies below stays
+  pub op_over_in : {A : Type 0} (hs : List Home) (c : Code) (pre under : Stack) (post : List Home → A → Stack) (Ok : List Home → A → Type 0) (x : Does A) → OpIn hs c pre post Ok x → OpIn hs c (λ vs. pre (under vs)) (λ gs a vs. post gs a (under vs)) Ok x
+  op_over_in hs c pre under post Ok x h n has now le vs r dep w m k = h n has now le (under vs) r dep w m k
+
   pub op_over : {A : Type 0} (c : Code) (pre under : Stack) (post : A → Stack) (Ok : A → Type 0) (x : Does A) → Op c pre post Ok x → Op c (λ vs. pre (under vs)) (λ a vs. post a (under vs)) Ok x
-  op_over c pre under post Ok x h n has now le vs r dep w m k = h n has now le (under vs) r dep w m k
+  op_over c pre under post Ok x h = op_over_in [] c pre under (λ hs. post) (λ hs. Ok) x h
 
   -- ---- no code
+  pub op_none_in : {A : Type 0} (hs : List Home) (pre : Stack) (post : List Home → A → Stack) (Ok : List Home → A → Type 0) (a : A) → ((gs : List Home) → Extends hs gs → Ok gs a) → ((gs : List Home) (vs : List Word) → Extends hs gs → post gs a vs ≡ pre vs) → OpIn hs no_code pre post Ok (pure a)
+  op_none_in hs pre post Ok a ok e n has now le vs r dep w m k =
+      let more = extends_trans hs now.homes m.homes le.grown k.grown in
+      subst (λ (us : List Word). Runs E.site 0 m (at_work m w us r) w (ToIn post vs r) (GoodIn Ok now) (gives a w)) (e m.homes vs more)
+      (here E.site 0 w m (ToIn post vs r) (GoodIn Ok now) a (ok m.homes more, k))
+
   pub op_none : {A : Type 0} (pre : Stack) (post : A → Stack) (Ok : A → Type 0) (a : A) → Ok a → ((vs : List Word) → post a vs ≡ pre vs) → Op no_code pre post Ok (pure a)
-  op_none pre post Ok a ok e n has now le vs r dep w m k =
-      subst (λ (us : List Word). Runs E.site 0 m (at_work m w us r) w (To_ post vs r) (Good Ok now) (gives a w)) (e vs)
-      (here E.site 0 w m (To_ post vs r) (Good Ok now) a (ok, k))
+  op_none pre post Ok a ok e = op_none_in [] pre (λ hs. post) (λ hs. Ok) a (λ gs more. ok) (λ gs vs more. e vs)
 
   -- ---- one behind the other
-  pub op_then : {A B : Type 0} (a b : Code) (pre : Stack) (mid : A → Stack) (post : B → Stack) (Ok1 : A → Type 0) (Ok2 : B → Type 0) (x : Does A) (f : A → Does B)
-      → Op a pre mid Ok1 x → ((v : A) → Ok1 v → Op b (mid v) post Ok2 (f v)) → Op (a ⨾ b) pre post Ok2 (x >>= f)
-  op_then a b pre mid post Ok1 Ok2 x f ra rb n has now le vs r dep w m k =
+  pub op_then_in : {A B : Type 0} (hs : List Home) (a b : Code) (pre : Stack) (mid : List Home → A → Stack) (post : List Home → B → Stack) (Ok1 : List Home → A → Type 0) (Ok2 : List Home → B → Type 0) (x : Does A) (f : A → Does B)
+      → OpIn hs a pre mid Ok1 x → ((gs : List Home) → Extends hs gs → (v : A) → Ok1 gs v → OpIn gs b (mid gs v) post Ok2 (f v)) → OpIn hs (a ⨾ b) pre post Ok2 (x >>= f)
+  op_then_in hs a b pre mid post Ok1 Ok2 x f ra rb n has now le vs r dep w m k =
       let xa = a n in
       let n' = n + length xa.seqs in
       let xb = b n' in
-      subst (λ (s : ℕ). Runs E.site s m (at_work m w (pre vs) (front (xa.instrs ++ xb.instrs) r)) w (To_ post vs r) (Good Ok2 now) (after (x w) f)) (size_joined xa xb)
-      (subst (λ (l : List Item). Runs E.site (size_of xa + size_of xb) m (at_work m w (pre vs) l) w (To_ post vs r) (Good Ok2 now) (after (x w) f)) (sym (front_append xa.instrs xb.instrs r))
-      (bind E.site (size_of xa) (size_of xb) m (at_work m w (pre vs) (front xa.instrs (front xb.instrs r))) w (To_ mid vs (front xb.instrs r)) (Good Ok1 now) (To_ post vs r) (Good Ok2 now) (x w) f
+      subst (λ (s : ℕ). Runs E.site s m (at_work m w (pre vs) (front (xa.instrs ++ xb.instrs) r)) w (ToIn post vs r) (GoodIn Ok2 now) (after (x w) f)) (size_joined xa xb)
+      (subst (λ (l : List Item). Runs E.site (size_of xa + size_of xb) m (at_work m w (pre vs) l) w (ToIn post vs r) (GoodIn Ok2 now) (after (x w) f)) (sym (front_append xa.instrs xb.instrs r))
+      (bind E.site (size_of xa) (size_of xb) m (at_work m w (pre vs) (front xa.instrs (front xb.instrs r))) w (ToIn mid vs (front xb.instrs r)) (GoodIn Ok1 now) (ToIn post vs r) (GoodIn Ok2 now) (x w) f
       (ra n (has_front E.site.funcs E.fn n xa.seqs xb.seqs has) now le vs (front xb.instrs r) (depth_front xb.instrs r ∙ dep) w m k)
-      (λ v w1 m1 g. rb v g.0 n' (has_back E.site.funcs E.fn n xa.seqs xb.seqs has) now le vs r dep w1 m1 g.1)))
+      (λ v w1 m1 g.
+      let now1 = with_homes m1.homes now in
+      weaker E.site (size_of xb) m1 (at_work m1 w1 (mid m1.homes v vs) (front xb.instrs r)) w1 (ToIn post vs r) (GoodIn Ok2 now1) (GoodIn Ok2 now) (f v w1)
+      (λ c w2 m2 q. (q.0, kept_from now m1.homes w2.objects w2 m2 g.1.grown q.1))
+      (rb m1.homes (extends_trans hs now.homes m1.homes le.grown g.1.grown) v g.0 n' (has_back E.site.funcs E.fn n xa.seqs xb.seqs has) now1 (record { below = le.below; grown = extends_same m1.homes; seen = le.seen }) vs r dep w1 m1 (kept_here now w1.objects w1 m1 g.1)))))
+
+  pub op_then : {A B : Type 0} (a b : Code) (pre : Stack) (mid : A → Stack) (post : B → Stack) (Ok1 : A → Type 0) (Ok2 : B → Type 0) (x : Does A) (f : A → Does B)
+      → Op a pre mid Ok1 x → ((v : A) → Ok1 v → Op b (mid v) post Ok2 (f v)) → Op (a ⨾ b) pre post Ok2 (x >>= f)
+  op_then a b pre mid post Ok1 Ok2 x f ra rb =
+      op_then_in [] a b pre (λ hs. mid) (λ hs. post) (λ hs. Ok1) (λ hs. Ok2) x f ra (λ gs more v ok. op_any gs b (mid v) (λ hs. post) (λ hs. Ok2) (f v) (rb v ok))
 
   -- a value is looked at, which needs no code
-  pub op_look : {A B : Type 0} (c : Code) (pre : Stack) (mid : A → Stack) (post : B → Stack) (Ok1 : A → Type 0) (Ok2 : B → Type 0) (x : Does A) (f : A → Does B)
-      → Op c pre mid Ok1 x → ((v : A) → Ok1 v → (b : B) × (f v ≡ pure b) × (mid v ≡ post b) × Ok2 b) → Op c pre post Ok2 (x >>= f)
-  op_look {B = B} c pre mid post Ok1 Ok2 x f h g n has now le vs r dep w m k =
+  pub op_look_in : {A B : Type 0} (hs : List Home) (c : Code) (pre : Stack) (mid : List Home → A → Stack) (post : List Home → B → Stack) (Ok1 : List Home → A → Type 0) (Ok2 : List Home → B → Type 0) (x : Does A) (f : A → Does B)
+      → OpIn hs c pre mid Ok1 x → ((gs : List Home) → Extends hs gs → (v : A) → Ok1 gs v → (b : B) × (f v ≡ pure b) × ((vs : List Word) → mid gs v vs ≡ post gs b vs) × Ok2 gs b) → OpIn hs c pre post Ok2 (x >>= f)
+  op_look_in {B = B} hs c pre mid post Ok1 Ok2 x f h g n has now le vs r dep w m k =
       let s = size_of (c n) in
       let e : s + 0 ≡ s = omega arith in
-      subst (λ (q : ℕ). Runs E.site q m (at_work m w (pre vs) (front (c n).instrs r)) w (To_ post vs r) (Good Ok2 now) (after (x w) f)) e
-      (bind E.site s 0 m (at_work m w (pre vs) (front (c n).instrs r)) w (To_ mid vs r) (Good Ok1 now) (To_ post vs r) (Good Ok2 now) (x w) f (h n has now le vs r dep w m k)
+      subst (λ (q : ℕ). Runs E.site q m (at_work m w (pre vs) (front (c n).instrs r)) w (ToIn post vs r) (GoodIn Ok2 now) (after (x w) f)) e
+      (bind E.site s 0 m (at_work m w (pre vs) (front (c n).instrs r)) w (ToIn mid vs r) (GoodIn Ok1 now) (ToIn post vs r) (GoodIn Ok2 now) (x w) f (h n has now le vs r dep w m k)
       (λ v w1 m1 p.
-      let q = g v p.0 in
-      subst (λ (y : Does B). Runs E.site 0 m1 (To_ mid vs r v w1 m1) w1 (To_ post vs r) (Good Ok2 now) (y w1)) (sym q.1)
-      (subst (λ (st : Stack). Runs E.site 0 m1 (at_work m1 w1 (st vs) r) w1 (To_ post vs r) (Good Ok2 now) (gives q.0 w1)) (sym q.2)
-      (here E.site 0 w1 m1 (To_ post vs r) (Good Ok2 now) q.0 (q.3, p.1)))))
+      let q = g m1.homes (extends_trans hs now.homes m1.homes le.grown p.1.grown) v p.0 in
+      subst (λ (y : Does B). Runs E.site 0 m1 (ToIn mid vs r v w1 m1) w1 (ToIn post vs r) (GoodIn Ok2 now) (y w1)) (sym q.1)
+      (subst (λ (us : List Word). Runs E.site 0 m1 (at_work m1 w1 us r) w1 (ToIn post vs r) (GoodIn Ok2 now) (gives q.0 w1)) (sym (q.2 vs))
+      (here E.site 0 w1 m1 (ToIn post vs r) (GoodIn Ok2 now) q.0 (q.3, p.1)))))
+
+  pub op_look : {A B : Type 0} (c : Code) (pre : Stack) (mid : A → Stack) (post : B → Stack) (Ok1 : A → Type 0) (Ok2 : B → Type 0) (x : Does A) (f : A → Does B)
+      → Op c pre mid Ok1 x → ((v : A) → Ok1 v → (b : B) × (f v ≡ pure b) × (mid v ≡ post b) × Ok2 b) → Op c pre post Ok2 (x >>= f)
+  op_look c pre mid post Ok1 Ok2 x f h g =
+      op_look_in [] c pre (λ hs. mid) (λ hs. post) (λ hs. Ok1) (λ hs. Ok2) x f h (λ gs more v ok. let q = g v ok in (q.0, q.1, λ vs. ap (λ (st : Stack). st vs) q.2, q.3))
 
   -- ---- one instruction that changes the operands alone
   pub op_step : {A : Type 0} (i : Instr) (pre : Stack) (post : A → Stack) (Ok : A → Type 0) (a : A) → Ok a
@@ -105,21 +154,25 @@ module _ (E : Env) where
       (m, (ok, k), one_here E.site w m m i (frame_of E m w) (pre vs) r (thread (frame_of E m w) (post a vs) r) (e m w vs r))
 
   -- one that stops the program
-  pub op_trap : {A : Type 0} (i : Instr) (pre : Stack) (post : A → Stack) (Ok : A → Type 0) (k : TrapKind) (e : End) → ((w : World) → IsEnd E.site e w) → stop_of e ≡ Trapped k
+  pub op_trap_in : {A : Type 0} (hs : List Home) (i : Instr) (pre : Stack) (post : List Home → A → Stack) (Ok : List Home → A → Type 0) (k : TrapKind) (e : End) → ((w : World) → IsEnd E.site e w) → stop_of e ≡ Trapped k
       → ((m : Mem) (t : Thread) (w : World) → Asks E.site e 1 m t w [])
       → ((m : Mem) (w : World) (vs : List Word) (r : List Item) → act (store E.site m) i (thread (frame_of E m w) (pre vs) r) ≡ step.Trap k)
-      → Op (one i) pre post Ok (stop e)
-  op_trap i pre post Ok kind e is so asks h n has now le vs r dep w m k ag =
+      → OpIn hs (one i) pre post Ok (stop e)
+  op_trap_in hs i pre post Ok kind e is so asks h n has now le vs r dep w m k ag =
       trapped E.site w m i (frame_of E m w) (pre vs) r kind e (h m w vs r) (is w) so (asks m (thread (frame_of E m w) (pre vs) (Do i ∷ r)) w)
 
   -- the same meaning
   pub op_as : {A : Type 0} (c : Code) (pre : Stack) (post : A → Stack) (Ok : A → Type 0) (x y : Does A) → x ≡ y → Op c pre post Ok x → Op c pre post Ok y
   op_as {A = A} c pre post Ok x y e h = subst (λ (z : Does A). Op c pre post Ok z) e h
 
+  pub op_assoc_in : {A B C : Type 0} (hs : List Home) (c : Code) (pre : Stack) (post : List Home → C → Stack) (Ok : List Home → C → Type 0) (x : Does A) (f : A → Does B) (g : B → Does C)
+      → OpIn hs c pre post Ok (x >>= (λ a. f a >>= g)) → OpIn hs c pre post Ok (x >>= f >>= g)
+  op_assoc_in {C = C} hs c pre post Ok x f g h n has now le vs r dep w m k =
+      subst (λ (y : Result C). Runs E.site (size_of (c n)) m (at_work m w (pre vs) (front (c n).instrs r)) w (ToIn post vs r) (GoodIn Ok now) y) (sym (after_after (x w) f g)) (h n has now le vs r dep w m k)
+
   pub op_assoc : {A B C : Type 0} (c : Code) (pre : Stack) (post : C → Stack) (Ok : C → Type 0) (x : Does A) (f : A → Does B) (g : B → Does C)
       → Op c pre post Ok (x >>= (λ a. f a >>= g)) → Op c pre post Ok (x >>= f >>= g)
-  op_assoc {C = C} c pre post Ok x f g h n has now le vs r dep w m k =
-      subst (λ (y : Result C). Runs E.site (size_of (c n)) m (at_work m w (pre vs) (front (c n).instrs r)) w (To_ post vs r) (Good Ok now) y) (sym (after_after (x w) f g)) (h n has now le vs r dep w m k)
+  op_assoc c pre post Ok x f g h = op_assoc_in [] c pre (λ hs. post) (λ hs. Ok) x f g h
 
   -- ---- a choice, by a number that is tested
   pub data IsTest (n : ℕ) (t : Bool) : Type 0 where
@@ -188,33 +241,33 @@ module _ (E : Env) where
   choice_at true x y w = refl
   choice_at false x y w = refl
 
-  pub op_choice : {A : Type 0} (ty : Option ValType) (a b : Code) (z : ℕ) (t : Bool) (post : A → Stack) (Ok : A → Type 0) (x y : Does A) → IsWhole b → IsTest z t
-      → Op a same post Ok x → Op b same post Ok y → Op (choice ty a b) (λ vs. I32 z ∷ vs) post Ok (if t then x else y)
-  op_choice {A = A} ty a b z t post Ok x y whole test ra rb n has now le vs r dep w m k =
-      subst (λ (q : Result A). Runs E.site (size_of (choice ty a b n)) m (thread (frame_of E m w) (I32 z ∷ vs) (front (choice ty a b n).instrs r)) w (To_ post vs r) (Good Ok now) q) (choice_at t x y w)
-      (runs_choice ty a b n z t vs r w m (To_ post vs r) (Good Ok now) (x w) (y w) whole test has
+  pub op_choice_in : {A : Type 0} (hs : List Home) (ty : Option ValType) (a b : Code) (z : ℕ) (t : Bool) (post : List Home → A → Stack) (Ok : List Home → A → Type 0) (x y : Does A) → IsWhole b → IsTest z t
+      → OpIn hs a same post Ok x → OpIn hs b same post Ok y → OpIn hs (choice ty a b) (λ vs. I32 z ∷ vs) post Ok (if t then x else y)
+  op_choice_in {A = A} hs ty a b z t post Ok x y whole test ra rb n has now le vs r dep w m k =
+      subst (λ (q : Result A). Runs E.site (size_of (choice ty a b n)) m (thread (frame_of E m w) (I32 z ∷ vs) (front (choice ty a b n).instrs r)) w (ToIn post vs r) (GoodIn Ok now) q) (choice_at t x y w)
+      (runs_choice ty a b n z t vs r w m (ToIn post vs r) (GoodIn Ok now) (x w) (y w) whole test has
       (λ h. ra (suc n) h now le vs (Label ty (length vs) None ∷ r) dep w m k)
       (λ h. rb (suc (suc n + length (a (suc n)).seqs)) h now le vs (Label ty (length vs) None ∷ r) dep w m k))
 
   -- ---- the same with other words
 
   -- what is left is seen otherwise
-  pub op_post : {A : Type 0} (c : Code) (pre : Stack) (post post' : A → Stack) (Ok : A → Type 0) (x : Does A) → Op c pre post Ok x → ((a : A) → Ok a → post a ≡ post' a) → Op c pre post' Ok x
-  op_post {A = A} c pre post post' Ok x h e n has now le vs r dep w m k ag = by (x w) (h n has now le vs r dep w m k ag) where
-    by : (y : Result A) → RunsTo E.site (size_of (c n)) m (at_work m w (pre vs) (front (c n).instrs r)) w (To_ post vs r) (Good Ok now) y
-        → RunsTo E.site (size_of (c n)) m (at_work m w (pre vs) (front (c n).instrs r)) w (To_ post' vs r) (Good Ok now) y
-    by (gives a w') q = (q.0, q.1, subst (λ (st : Stack). Goes E.site (size_of (c n)) w w' m (at_work m w (pre vs) (front (c n).instrs r)) q.0 (at_work q.0 w' (st vs) r)) (e a q.1.0) q.2)
+  pub op_post_in : {A : Type 0} (hs : List Home) (c : Code) (pre : Stack) (post post' : List Home → A → Stack) (Ok : List Home → A → Type 0) (x : Does A) → OpIn hs c pre post Ok x → ((gs : List Home) (a : A) (vs : List Word) → Ok gs a → post gs a vs ≡ post' gs a vs) → OpIn hs c pre post' Ok x
+  op_post_in {A = A} hs c pre post post' Ok x h e n has now le vs r dep w m k ag = by (x w) (h n has now le vs r dep w m k ag) where
+    by : (y : Result A) → RunsTo E.site (size_of (c n)) m (at_work m w (pre vs) (front (c n).instrs r)) w (ToIn post vs r) (GoodIn Ok now) y
+        → RunsTo E.site (size_of (c n)) m (at_work m w (pre vs) (front (c n).instrs r)) w (ToIn post' vs r) (GoodIn Ok now) y
+    by (gives a w') q = (q.0, q.1, subst (λ (us : List Word). Goes E.site (size_of (c n)) w w' m (at_work m w (pre vs) (front (c n).instrs r)) q.0 (at_work q.0 w' us r)) (e q.0.homes a vs q.1.0) q.2)
     by (ends e' w') q = q
 
-  after_pure : {A : Type 0} (y : Result A) → after y (λ a w. gives a w) ≡ y
+  pub after_pure : {A : Type 0} (y : Result A) → after y (λ a w. gives a w) ≡ y
   after_pure (gives a w) = refl
   after_pure (ends e w) = refl
 
   -- more code that leaves the value as it is
-  pub op_after : {A : Type 0} (c d : Code) (pre : Stack) (mid post : A → Stack) (Ok1 Ok : A → Type 0) (x : Does A) → Op c pre mid Ok1 x → ((a : A) → Ok1 a → Op d (mid a) post Ok (pure a)) → Op (c ⨾ d) pre post Ok x
-  op_after {A = A} c d pre mid post Ok1 Ok x h g n has now le vs r dep w m k =
-      subst (λ (y : Result A). Runs E.site (size_of ((c ⨾ d) n)) m (at_work m w (pre vs) (front ((c ⨾ d) n).instrs r)) w (To_ post vs r) (Good Ok now) y) (after_pure (x w))
-      (op_then c d pre mid post Ok1 Ok x (λ a. pure a) h g n has now le vs r dep w m k)
+  pub op_after_in : {A : Type 0} (hs : List Home) (c d : Code) (pre : Stack) (mid post : List Home → A → Stack) (Ok1 Ok : List Home → A → Type 0) (x : Does A) → OpIn hs c pre mid Ok1 x → ((gs : List Home) → Extends hs gs → (a : A) → Ok1 gs a → OpIn gs d (mid gs a) post Ok (pure a)) → OpIn hs (c ⨾ d) pre post Ok x
+  op_after_in {A = A} hs c d pre mid post Ok1 Ok x h g n has now le vs r dep w m k =
+      subst (λ (y : Result A). Runs E.site (size_of ((c ⨾ d) n)) m (at_work m w (pre vs) (front ((c ⨾ d) n).instrs r)) w (ToIn post vs r) (GoodIn Ok now) y) (after_pure (x w))
+      (op_then_in hs c d pre mid post Ok1 Ok x (λ a. pure a) h g n has now le vs r dep w m k)
 
   -- a fact of every value that is given
   abbrev pub AllGiven : {A : Type 0} → (A → Type 0) → Result A → Type 0
@@ -290,6 +343,9 @@ module _ (E : Env) where
       (agree_by i pre t n now vs r w m k (h vs).answer (h vs).is_made (h vs).in_range)
 
   -- a meaning that is the same in each world
+  pub op_seen_in : {A : Type 0} (hs : List Home) (c : Code) (pre : Stack) (post : List Home → A → Stack) (Ok : List Home → A → Type 0) (x y : Does A) → ((w : World) → x w ≡ y w) → OpIn hs c pre post Ok x → OpIn hs c pre post Ok y
+  op_seen_in {A = A} hs c pre post Ok x y e h n has now le vs r dep w m k =
+      subst (λ (q : Result A). Runs E.site (size_of (c n)) m (at_work m w (pre vs) (front (c n).instrs r)) w (ToIn post vs r) (GoodIn Ok now) q) (e w) (h n has now le vs r dep w m k)
+
   pub op_seen : {A : Type 0} (c : Code) (pre : Stack) (post : A → Stack) (Ok : A → Type 0) (x y : Does A) → ((w : World) → x w ≡ y w) → Op c pre post Ok x → Op c pre post Ok y
-  op_seen {A = A} c pre post Ok x y e h n has now le vs r dep w m k =
-      subst (λ (q : Result A). Runs E.site (size_of (c n)) m (at_work m w (pre vs) (front (c n).instrs r)) w (To_ post vs r) (Good Ok now) q) (e w) (h n has now le vs r dep w m k)
+  op_seen c pre post Ok x y e h = op_seen_in [] c pre (λ hs. post) (λ hs. Ok) x y e h

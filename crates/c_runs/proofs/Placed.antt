@@ -1,6 +1,6 @@
 -- What a call needs of each function, from what a store has of the unit.
 use Rattle.std.proofs.Common.{◌≡◌, ℕ, zero, suc, ◌+◌, ◌≤◌, List, [], ◌∷◌, length, map, max, Bool, true, false, is_some, Option, Some, None, refl, sym, ap, ◌∙◌, arith, subst}
-use Rattle.std.specs.Prelude.{not, slice_get, ◌&&◌}
+use Rattle.std.specs.Prelude.{get_or, not, slice_get, ◌&&◌}
 use Rattle.std.specs.List.{All, list_any}
 use Rattle.std.proofs.lemmas.Option.{slice_get_within}
 use Rattle.std.proofs.lemmas.List.{length-map}
@@ -12,14 +12,15 @@ use Rattle.ms_module.specs.declared.instr.Instr.{Instr}
 use Rattle.ms_module.specs.Numbered.{sequence_at}
 use Rattle.ms_task.specs.declared.func.FuncInst.{FuncInst}
 use Rattle.ms_task.specs.Thread.{body_in, body_of, sequence}
-use Rattle.c_types.specs.Types.{Ty, void, integer, function, Tys, no_types}
+use Rattle.c_types.specs.Types.{Ty, void, integer, function, Tys, no_types, types}
+use Rattle.c_typed.specs.Objects.{is_whole}
 use Rattle.c_typed.specs.Tree.{Function, Made, Stmt, Typed}
 use Rattle.c_well_typed.specs.Units.{IsBody, IsFunction, IsWellTyped, list_of}
 use Rattle.ms_emit.specs.Codes.{total}
 use Rattle.c_code.specs.Functions.{body, held_as, listed, locals, params_in, result_in}
 use Rattle.c_code.specs.Modules.{index_of, is_call_of, is_defined, is_defined_at, target_of}
 use Rattle.c_code.specs.Operations.{val_of}
-use Rattle.c_code.specs.Stage.{are_integers, are_plain, in_body, in_functions, in_stage, in_stmt, is_empty, is_integer_or_void, is_plain_function}
+use Rattle.c_code.specs.Stage.{are_data, are_slots, count_in, in_body, in_functions, in_stage, in_stmt, is_empty, is_integer_or_void, is_plain_function, parameters}
 use Rattle.c_code.specs.Uses as uses
 use Rattle.c_code.specs.Uses.{waits_stmt}
 use Rattle.c_runs.specs.Placed.{IsPlaced, instructions_in, longest_in, longest_of}
@@ -29,7 +30,7 @@ use Rattle.c_runs.proofs.Related.{HasAll}
 use Rattle.c_runs.proofs.Bodies.{IsResult, is_void}
 use Rattle.c_runs.proofs.Callees.{Compiled, slots_of}
 use Rattle.c_runs.proofs.Numbers.{never_passes}
-use Rattle.c_runs.proofs.Ready.{AreCallable, IsCallable, any_left, any_right}
+use Rattle.c_runs.proofs.Ready.{AreCallable, IsCallable, any_left, any_right, in_stmt_of, right_of}
 use Rattle.c_runs.proofs.Whole.{both}
 
 -- ---- one of a list
@@ -118,6 +119,10 @@ abbrev types_in : Ty → Tys
 types_in (function r ps) = ps
 types_in t = no_types
 
+counted : (ps : Tys) → count_in ps ≡ length (list_of ps)
+counted no_types = refl
+counted (types t ps) = ap suc (counted ps)
+
 first_listed : (o : Option ValType) → slice_get (listed o) 0 ≡ o
 first_listed None = refl
 first_listed (Some v) = refl
@@ -133,7 +138,7 @@ abbrev pub site_of : Typed → Store → Site
 site_of u s = record { funcs = s.funcs; instances = s.instances; tables = s.tables; memories = s.memories; most = longest_of u }
 
 abbrev pub mem_of : Store → Mem
-mem_of s = record { globals = s.globals; segments = s.segments; ids = []; temps = [] }
+mem_of s = record { globals = s.globals; segments = s.segments; homes = []; temps = [] }
 
 module _ (u : Typed) (s : Store) (well : IsWellTyped u) (staged : in_stage u ≡ true) (placed : IsPlaced u s) where
   pub linked : Linked (site_of u s)
@@ -155,10 +160,10 @@ module _ (u : Typed) (s : Store) (well : IsWellTyped u) (staged : in_stage u ≡
     in_stage_here : IsStaged found.0
     in_stage_here = staged_at u.functions n found.0 found.1 split.1
 
-    plain_here : (is_integer_or_void t ≡ true) × (are_integers ps ≡ true)
-    plain_here = both (is_integer_or_void t) (are_integers ps) (ap is_plain_function (sym found.2) ∙ in_stage_here.0)
+    plain_here : (is_integer_or_void t ≡ true) × (are_data ps ≡ true)
+    plain_here = both (is_integer_or_void t) (are_data ps) (ap is_plain_function (sym found.2) ∙ in_stage_here.0)
 
-    pub params_are : are_integers ps ≡ true
+    pub params_are : are_data ps ≡ true
     params_are = plain_here.1
 
     callable : (b : Stmt) → found.0.body ≡ Some b → AreCallable u (uses.in_stmt b)
@@ -178,7 +183,7 @@ module _ (u : Typed) (s : Store) (well : IsWellTyped u) (staged : in_stage u ≡
         let ps_is : here.1 ≡ ps = ap types_in (sym here.2 ∙ ty_is) in
         let bd : IsBody u t ps f.slots (Some b.0) =
         subst (λ (r : Ty). IsBody u r ps f.slots (Some b.0)) r_is (subst (λ (qs : Tys). IsBody u here.0 qs f.slots (Some b.0)) ps_is (subst (λ (o : Option Stmt). IsBody u here.0 here.1 f.slots o) b.1 here.4)) in
-        let st = both (are_plain b.0 0 f.slots) (in_stmt b.0) (ap (in_body f) (sym b.1) ∙ in_stage_here.1) in
+        let st = both (are_slots b.0 (parameters f.ty) 0 f.slots) (in_stmt b.0) (ap (in_body f) (sym b.1) ∙ in_stage_here.1) in
         let as_many : length (params_in f.ty) ≡ length (list_of ps) = ap (λ (ty : Ty). length (params_in ty)) ty_is in
         record {
           inst = at.inst;
@@ -198,7 +203,7 @@ module _ (u : Typed) (s : Store) (well : IsWellTyped u) (staged : in_stage u ≡
           others = bd.0.0;
           begins = bd.0.1;
           well = bd.2;
-          slots_are = slots_of b.0 0 f.slots st.0;
-          ready = record { in_stage = st.1; callable = callable b.0 b.1 };
+          slots_are = slots_of b.0 (length (list_of ps)) 0 f.slots (ap (λ (k : ℕ). are_slots b.0 k 0 f.slots) (sym (counted ps) ∙ ap parameters (sym ty_is)) ∙ st.0);
+          ready = record { in_stage = st.1; callable = callable b.0 b.1; objects = λ x e. right_of (is_whole (get_or f.slots x void)) (in_stmt_of b.0 x) e };
           result = result_kind t plain_here.0;
         }

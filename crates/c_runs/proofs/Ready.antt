@@ -1,8 +1,12 @@
--- What is asked of a part of a unit: it is of the stage, and each function that it uses is defined.
-use Rattle.std.proofs.Common.{◌≡◌, ℕ, ◌<◌, List, [], ◌∷◌, ◌++◌, length, Bool, true, false, refl, ap, arith}
+-- What is asked of a part of a function: it is of the stage, each function that it uses is defined, and each variable whose address it
+-- takes is an object.
+use Rattle.std.proofs.Common.{◌≡◌, ℕ, ◌<◌, List, [], ◌∷◌, ◌++◌, length, Bool, true, false, Option, Some, None, refl, ap, arith}
 use Rattle.std.specs.Prelude.{◌==◌, ◌&&◌, ◌||◌}
 use Rattle.std.specs.List.{list_any}
-use Rattle.c_typed.specs.Tree.{Typed}
+use Rattle.c_typed.specs.declared.ops.Variable.{Variable}
+use Rattle.c_typed.specs.declared.ops.Variable.TheVariants.{Local}
+use Rattle.c_typed.specs.Objects as addresses
+use Rattle.c_typed.specs.Tree.{Place, of, Expr, address, Exprs, Stmt, loop, Stmts, Typed}
 use Rattle.c_code.specs.Modules.{is_call_of, is_defined_at}
 use Rattle.c_code.specs.Uses.{Use, calls}
 use Rattle.c_runs.proofs.Whole.{both}
@@ -14,9 +18,36 @@ IsCallable u n = n < length u.functions → is_defined_at u n ≡ true
 abbrev pub AreCallable : Typed → List Use → Type 0
 AreCallable u us = (n : ℕ) → list_any (is_call_of n) us ≡ true → IsCallable u n
 
-pub record IsReady (u : Typed) (staged : Bool) (us : List Use) : Type 0 where
+pub record IsReady (is_object : Variable → Bool) (u : Typed) (staged : Bool) (us : List Use) (taken : ℕ → Bool) : Type 0 where
   pub in_stage : staged ≡ true
   pub callable : AreCallable u us
+  pub objects : (x : ℕ) → taken x ≡ true → is_object (Local x) ≡ true
+
+-- ---- variables whose addresses are taken
+
+abbrev pub either : (f g : ℕ → Bool) → ℕ → Bool
+either f g = λ x. f x || g x
+
+abbrev pub in_place_of : Place → ℕ → Bool
+in_place_of p = λ x. addresses.in_place (Local x) p
+
+abbrev pub in_expr_of : Expr → ℕ → Bool
+in_expr_of e = λ x. addresses.in_expr (Local x) e
+
+abbrev pub in_exprs_of : Exprs → ℕ → Bool
+in_exprs_of es = λ x. addresses.in_exprs (Local x) es
+
+abbrev pub in_step_of : Option Expr → ℕ → Bool
+in_step_of None = λ x. false
+in_step_of (Some e) = in_expr_of e
+
+abbrev pub in_stmt_of : Stmt → ℕ → Bool
+in_stmt_of s = λ x. addresses.in_stmt (Local x) s
+
+abbrev pub in_stmts_of : Stmts → ℕ → Bool
+in_stmts_of ss = λ x. addresses.in_stmts (Local x) ss
+
+-- ---- parts
 
 pub any_left : (p : Use → Bool) (us vs : List Use) → list_any p us ≡ true → list_any p (us ++ vs) ≡ true
 any_left p [] vs e = absurd cc
@@ -35,22 +66,43 @@ any_right p (x ∷ us) vs e = by (p x) (any_right p us vs e) where
 same_number : (n : ℕ) (b : Bool) → ((n == n) || b) ≡ true
 same_number n b = let e : n == n ≡ true = grind arith in ap (λ (a : Bool). a || b) e
 
-module _ (u : Typed) where
+left_of : (a b : Bool) → a ≡ true → (a || b) ≡ true
+left_of true b e = refl
+left_of false b e = absurd cc
+
+pub right_of : (a b : Bool) → b ≡ true → (a || b) ≡ true
+right_of true b e = refl
+right_of false b e = e
+
+module _ (is_object : Variable → Bool) (u : Typed) where
   -- two parts
-  pub parts : (a b : Bool) (us vs : List Use) → IsReady u (a && b) (us ++ vs) → IsReady u a us × IsReady u b vs
-  parts a b us vs h =
+  pub parts : (a b : Bool) (us vs : List Use) (f g : ℕ → Bool) → IsReady is_object u (a && b) (us ++ vs) (either f g) → IsReady is_object u a us f × IsReady is_object u b vs g
+  parts a b us vs f g h =
       let q = both a b h.in_stage in (
-        record { in_stage = q.0; callable = λ n e. h.callable n (any_left (is_call_of n) us vs e) },
-        record { in_stage = q.1; callable = λ n e. h.callable n (any_right (is_call_of n) us vs e) },
+        record { in_stage = q.0; callable = λ n e. h.callable n (any_left (is_call_of n) us vs e); objects = λ x e. h.objects x (left_of (f x) (g x) e) },
+        record { in_stage = q.1; callable = λ n e. h.callable n (any_right (is_call_of n) us vs e); objects = λ x e. h.objects x (right_of (f x) (g x) e) },
       )
 
   -- a part behind a test
-  pub behind_test : (a b : Bool) (us : List Use) → IsReady u (a && b) us → (a ≡ true) × IsReady u b us
-  behind_test a b us h = let q = both a b h.in_stage in (q.0, record { in_stage = q.1; callable = h.callable })
+  pub behind_test : (a b : Bool) (us : List Use) (f : ℕ → Bool) → IsReady is_object u (a && b) us f → (a ≡ true) × IsReady is_object u b us f
+  behind_test a b us f h = let q = both a b h.in_stage in (q.0, record { in_stage = q.1; callable = h.callable; objects = h.objects })
 
   -- the function that is called first, and the part behind it
-  pub called : (n : ℕ) (b : Bool) (us : List Use) → IsReady u b (calls n ∷ us) → IsCallable u n × IsReady u b us
-  called n b us h = (
+  pub called : (n : ℕ) (b : Bool) (us : List Use) (f : ℕ → Bool) → IsReady is_object u b (calls n ∷ us) f → IsCallable u n × IsReady is_object u b us f
+  called n b us f h = (
     h.callable n (same_number n (list_any (is_call_of n) us)),
-    record { in_stage = h.in_stage; callable = λ m e. h.callable m (any_right (is_call_of m) (calls n ∷ []) us e) },
+    record { in_stage = h.in_stage; callable = λ m e. h.callable m (any_right (is_call_of m) (calls n ∷ []) us e); objects = h.objects },
   )
+
+  -- the place of an address
+  pub addressed : (b : Bool) (us : List Use) (p : Place) → IsReady is_object u b us (in_expr_of (address p)) → IsReady is_object u b us (in_place_of p)
+  addressed b us p h = record { in_stage = h.in_stage; callable = h.callable; objects = λ x e. h.objects x (right_of (addresses.is_of (Local x) p) (in_place_of p x) e) }
+
+  -- of a variable
+  pub taken : (b : Bool) (us : List Use) (x : ℕ) → IsReady is_object u b us (in_expr_of (address (of (Local x)))) → is_object (Local x) ≡ true
+  taken b us x h = h.objects x (same_number x false)
+
+  -- a loop, with what it does after each turn or without
+  pub looped : (b : Bool) (us : List Use) (c : Expr) (o : Option Expr) (s : Stmt) → IsReady is_object u b us (in_stmt_of (loop c o s)) → IsReady is_object u b us (either (in_expr_of c) (either (in_step_of o) (in_stmt_of s)))
+  looped b us c None s h = h
+  looped b us c (Some e) s h = h

@@ -1,131 +1,185 @@
 -- Variables and locals; and what is known of a function that is carried out.
 use Rattle.ms_machine.specs.Running.{AreBytes}
-use Rattle.std.proofs.Common.{◌≡◌, ℕ, zero, suc, ◌+◌, ◌<◌, List, [], ◌∷◌, ◌++◌, length, false, Option, Some, None, refl, sym, ap, arith, subst}
-use Rattle.std.specs.Prelude.{ℤ, slice_get, slice_set}
+use Rattle.std.proofs.Common.{◌≡◌, ℕ, zero, suc, ◌+◌, ◌^◌, ◌<◌, ◌≤◌, List, [], ◌∷◌, ◌++◌, length, true, false, Some, refl, sym, ap, ◌∙◌, arith, subst}
+use Rattle.std.specs.Prelude.{slice_get, slice_set}
 use Rattle.ms_linear.specs.declared.value.Value.{Value as Word}
-use Rattle.ms_linear.specs.declared.value.Value.TheVariants.{I32}
 use Rattle.ms_module.specs.declared.instr.Instr.{Instr}
 use Rattle.ms_task.specs.declared.func.FuncInst.{FuncInst}
 use Rattle.ms_task.specs.Thread.{Do, Frame, Item, dos, depth_of, sequence}
-use Rattle.c_types.specs.declared.integers.IntType.{IntType}
-use Rattle.c_types.specs.Types.{Ty, void, integer, Tys, no_types, types}
+use Rattle.c_types.specs.Layout.{Table, size as type_size}
+use Rattle.c_types.specs.Types.{Ty, Tys, no_types, types, is_function}
 use Rattle.c_typed.specs.declared.ops.Variable.TheVariants.{Local}
 use Rattle.c_typed.specs.Tree.{Typed}
-use Rattle.c_meaning.specs.Values.{Value, number}
-use Rattle.c_meaning.specs.World.{Held, plain, object, World}
+use Rattle.c_meaning.specs.Shapes.{shape, size}
+use Rattle.c_meaning.specs.Values.{Value}
+use Rattle.c_meaning.specs.Objects.{Object}
+use Rattle.c_meaning.specs.World.{Held, plain, World}
 use Rattle.c_meaning.specs.Expressions.{Calls}
 use Rattle.ms_emit.specs.Codes.{total}
+use Rattle.c_well_typed.specs.refinement.Expressions.{is_visible}
 use Rattle.c_code.specs.Targets.{Target}
-use Rattle.c_numbers.specs.Operands.{IsIn, word}
-use Rattle.c_runs.specs.Words.{value_word}
+use Rattle.ms_relate.specs.refinement.Homes.{Home}
+use Rattle.ms_relate.specs.refinement.Laid.{Fits}
+use Rattle.ms_relate.specs.refinement.Relation.{Related}
+use Rattle.ms_relate.proofs.Growing.{Extends}
 use Rattle.c_runs.proofs.Goes.{Site, Mem}
+use Rattle.c_runs.proofs.Held.{AreApart, AreHeld, AreOpen, AreOwn, IsHeld, Lasts, Slot, words}
+use Rattle.c_runs.proofs.Values.{IsValueOf, pushed_of, value_still, word_of, word_still}
 
-abbrev pub IsOf : Ty → Value → Type 0
-IsOf void v = Unit {0}
-IsOf (integer u) (number z) = IsIn u z
-IsOf _ _ = ⊥
+-- ---- a function that is carried out: its slots are locals, behind so many others
 
--- ---- variables as locals
-
-abbrev pub held_word : Ty → Held → Word
-held_word t (plain v) = value_word t v
-held_word t (object n) = I32 0
-
-abbrev pub words : List Ty → List Held → List Word
-words [] hs = []
-words (t ∷ ts) [] = []
-words (t ∷ ts) (h ∷ hs) = held_word t h ∷ words ts hs
-
-abbrev pub IsHeld : Ty → Held → Type 0
-IsHeld (integer u) (plain (number z)) = IsIn u z
-IsHeld _ _ = ⊥
-
-abbrev pub AreHeld : List Ty → List Held → Type 0
-AreHeld [] [] = Unit {0}
-AreHeld (t ∷ ts) (h ∷ hs) = IsHeld t h × AreHeld ts hs
-AreHeld _ _ = ⊥
-
--- ---- a function that is carried out: its slots are its first locals
+-- of an object's type: its shape lies as the type does
+pub record IsSlot (table : Table) (t : Ty) : Type 0 where
+  pub is_data : is_function t ≡ false
+  pub fits : Fits (shape table t)
+  pub sized : size (shape table t) ≡ type_size table t
+  pub small : size (shape table t) < 2 ^ 32
 
 pub record Env : Type 0 where
   pub site : Site
   pub unit : Typed
+  -- the entry of a function in the table, but for one
+  pub places : ℕ → ℕ
   pub target : Target
-  pub first_is : target.first ≡ 0
+  pub structs_are : target.structs ≡ unit.structs
+  -- the locals in front of the slots
+  pub args : List Word
+  pub first_is : target.first ≡ length args
   pub calls : Calls
   -- fuel is below it; of loops, too
   pub bound : ℕ
   pub turn_bound : ℕ
   pub fn : ℕ
   pub slots : List Ty
-  -- no slot is an object
-  pub plain_slots : (x : ℕ) (t : Ty) → slice_get slots x ≡ Some t → target.is_object (Local x) ≡ false
+  -- and whether they are objects
+  pub kinds : List Slot
+  pub as_long : length kinds ≡ length slots
+  pub kinds_are : (x : ℕ) (t : Ty) → slice_get slots x ≡ Some t → slice_get kinds x ≡ Some (t, target.is_object (Local x))
+  pub objects_are : (x : ℕ) (t : Ty) → slice_get kinds x ≡ Some (t, true) → IsSlot unit.structs t
   -- behind them are the scratch locals, and those of so many values that wait
-  pub scratch_is : target.scratch ≡ length slots
+  pub scratch_is : target.scratch ≡ length args + length slots
   pub waits : ℕ
   pub result : Ty
   pub depth : ℕ
+  -- the variables that may be named, at least
+  pub visible : List ℕ
+
+abbrev pub IsValue : Env → Ty → List Home → Value → Type 0
+IsValue E t = IsValueOf E.unit.structs E.places t
+
+-- what an expression of the type leaves on the operands
+abbrev pub pushes : Env → Ty → List Home → Value → List Word → List Word
+pushes E t = pushed_of E.places t
+
+abbrev pub locals_of : Env → Mem → World → List Word
+locals_of E m w = words E.places E.kinds m.homes w.locals
 
 abbrev pub frame_of : Env → Mem → World → Frame
-frame_of E m w = record { function = E.fn; locals = words E.slots w.locals ++ m.temps }
+frame_of E m w = record { function = E.fn; locals = E.args ++ (locals_of E m w ++ m.temps) }
 
--- what stands at the start of a piece of code: fuel is below, so many values wait, and the locals behind the slots
+-- What stands at the start of a piece of code: fuel is below, so many values wait, and the locals behind the slots; the homes of the
+-- objects, the objects at the function's start, and the variables that may be named.
 pub record Now : Type 0 where
   pub below : ℕ
   pub waits : ℕ
   pub temps : List Word
+  pub homes : List Home
+  pub objects : List Object
+  pub visible : List ℕ
 
--- the first values that wait are the same
-pub record Temps (E : Env) (waits : ℕ) (before after : List Word) : Type 0 where
-  pub long : length after ≡ 4 + E.waits
+-- the first values that wait, of so many, are the same
+pub record Temps (all waits : ℕ) (before after : List Word) : Type 0 where
+  pub long : length after ≡ 4 + all
   pub stay : (j : ℕ) → j < waits → slice_get after (4 + j) ≡ slice_get before (4 + j)
 
-pub record Kept (E : Env) (now : Now) (w : World) (m : Mem) : Type 0 where
-  pub held : AreHeld E.slots w.locals
-  pub deep : w.depth ≡ E.depth
+-- what is kept, where the segments are those of these objects
+pub record Keeps (structs : Table) (places : ℕ → ℕ) (kinds : List Slot) (depth all : ℕ) (now : Now) (os : List Object) (w : World) (m : Mem) : Type 0 where
+  pub held : AreHeld structs places kinds m.homes w.locals
+  pub deep : w.depth ≡ depth
   pub less : w.fuel < now.below
   pub bytes : AreBytes w.input
-  pub temps : Temps E now.waits now.temps m.temps
+  pub temps : Temps all now.waits now.temps m.temps
+  pub grown : Extends now.homes m.homes
+  pub related : Related structs places m.homes os m.segments
+  pub open' : AreOpen kinds now.visible w.objects w.locals
+  pub apart : AreApart w.locals
+  pub own : AreOwn (length now.objects) w.locals
+  pub lasts : Lasts now.objects w.objects
 
--- ---- reading and writing
+abbrev pub KeptAs : Env → Now → List Object → World → Mem → Type 0
+KeptAs E now os w m = Keeps E.unit.structs E.places E.kinds E.depth E.waits now os w m
 
-pub record Found (ts : List Ty) (hs : List Held) (x : ℕ) (u : IntType) : Type 0 where
-  pub value : ℤ
-  pub is_in : IsIn u value
-  pub is : slice_get hs x ≡ Some (plain (number value))
-  pub word_is : slice_get (words ts hs) x ≡ Some (word u value)
+abbrev pub Kept : Env → Now → World → Mem → Type 0
+Kept E now w m = KeptAs E now w.objects w m
 
-pub some_is : (t t' : Ty) → Some t ≡ Some t' → t ≡ t'
-some_is t t' e = ap (λ (o : Option Ty). or o) e where
-  or : Option Ty → Ty
-  or None = t
-  or (Some s) = s
+-- these variables are among those
+abbrev pub Sees : List ℕ → List ℕ → Type 0
+Sees vs us = (x : ℕ) → is_visible vs x ≡ true → is_visible us x ≡ true
 
-found_here : (t : Ty) (ts : List Ty) (h : Held) (hs : List Held) (u : IntType) → t ≡ integer u → IsHeld t h → Found (t ∷ ts) (h ∷ hs) 0 u
-found_here t ts h hs u e i = go h (subst (λ (s : Ty). IsHeld s h) e i) where
-  go : (h : Held) → IsHeld (integer u) h → Found (t ∷ ts) (h ∷ hs) 0 u
-  go (plain (number z)) i = record { value = z; is_in = i; is = refl; word_is = ap (λ (s : Ty). Some (value_word s (number z))) e }
-  go _ i = absurd i
+pub sees_none : (us : List ℕ) → Sees [] us
+sees_none us x e = absurd cc
 
-pub found : (ts : List Ty) (hs : List Held) (x : ℕ) (u : IntType) → AreHeld ts hs → slice_get ts x ≡ Some (integer u) → Found ts hs x u
-found [] [] x u a e = absurd cc
-found (t ∷ ts) (h ∷ hs) zero u a e = found_here t ts h hs u (some_is t (integer u) e) a.0
-found (t ∷ ts) (h ∷ hs) (suc x) u a e = let f = found ts hs x u a.1 e in record { value = f.value; is_in = f.is_in; is = f.is; word_is = f.word_is }
-found [] (h ∷ hs) x u a e = absurd a
-found (t ∷ ts) [] x u a e = absurd a
+-- objects have these homes at least, these variables may be named, and the calls' bound is above
+pub record StartsIn (bound : ℕ) (visible : List ℕ) (hs : List Home) (now : Now) : Type 0 where
+  pub below : now.below ≤ bound
+  pub grown : Extends hs now.homes
+  pub seen : Sees visible now.visible
 
-pub words_set : (ts : List Ty) (hs : List Held) (x : ℕ) (u : IntType) (z : ℤ) → slice_get ts x ≡ Some (integer u) → words ts (slice_set hs x (plain (number z))) ≡ slice_set (words ts hs) x (word u z)
-words_set [] hs x u z e = refl
-words_set (t ∷ ts) [] x u z e = refl
-words_set (t ∷ ts) (h ∷ hs) zero u z e = ap (λ (s : Ty). value_word s (number z) ∷ words ts hs) (some_is t (integer u) e)
-words_set (t ∷ ts) (h ∷ hs) (suc x) u z e = ap (λ (l : List Word). held_word t h ∷ l) (words_set ts hs x u z e)
+abbrev pub Starts : Env → List Home → Now → Type 0
+Starts E hs now = StartsIn E.bound E.visible hs now
 
-pub held_set : (ts : List Ty) (hs : List Held) (x : ℕ) (u : IntType) (z : ℤ) → slice_get ts x ≡ Some (integer u) → AreHeld ts hs → IsIn u z → AreHeld ts (slice_set hs x (plain (number z)))
-held_set [] [] x u z e a i = tt
-held_set (t ∷ ts) (h ∷ hs) zero u z e a i = (subst (λ (s : Ty). IsHeld s (plain (number z))) (sym (some_is t (integer u) e)) i, a.1)
-held_set (t ∷ ts) (h ∷ hs) (suc x) u z e a i = (a.0, held_set ts hs x u z e a.1 i)
-held_set [] (h ∷ hs) x u z e a i = absurd a
-held_set (t ∷ ts) [] x u z e a i = absurd a
+-- the same with other homes at the start
+abbrev pub with_homes : List Home → Now → Now
+with_homes hs now = record now { homes = hs }
+
+-- where these variables may be named
+abbrev pub seeing : List ℕ → Env → Env
+seeing vs E = record E { visible = vs }
+
+-- the variables are held so
+abbrev pub Holds : Env → Mem → World → Type 0
+Holds E m w = AreHeld E.unit.structs E.places E.kinds m.homes w.locals
+
+pub extends_trans : (a b c : List Home) → Extends a b → Extends b c → Extends a c
+extends_trans a b c f g n h e = g n h (f n h e)
+
+pub extends_same : (a : List Home) → Extends a a
+extends_same a n h e = e
+
+pub extends_none : (a : List Home) → Extends [] a
+extends_none a n h e = absurd cc
+
+-- in another world, of the same variables and objects
+pub kept_world : (E : Env) (now : Now) (os : List Object) (w w' : World) (m : Mem) → w'.locals ≡ w.locals → w'.objects ≡ w.objects → w'.depth ≡ w.depth → w'.fuel < now.below → AreBytes w'.input → KeptAs E now os w m → KeptAs E now os w' m
+kept_world E now os w w' m el eo ed less bytes k = record {
+  held = subst (λ (l : List Held). AreHeld E.unit.structs E.places E.kinds m.homes l) (sym el) k.held;
+  deep = ed ∙ k.deep;
+  less = less;
+  bytes = bytes;
+  temps = k.temps;
+  grown = k.grown;
+  related = k.related;
+  open' = subst (λ (l : List Held). AreOpen E.kinds now.visible w'.objects l) (sym el) (subst (λ (os : List Object). AreOpen E.kinds now.visible os w.locals) (sym eo) k.open');
+  apart = subst AreApart (sym el) k.apart;
+  own = subst (AreOwn (length now.objects)) (sym el) k.own;
+  lasts = subst (Lasts now.objects) (sym eo) k.lasts;
+}
+
+-- with other variables that may be named
+pub kept_seen : (E : Env) (now : Now) (us : List ℕ) (os : List Object) (w : World) (m : Mem) → AreOpen E.kinds us w.objects w.locals → KeptAs E now os w m → KeptAs E (record now { visible = us }) os w m
+kept_seen E now us os w m open' k = record { held = k.held; deep = k.deep; less = k.less; bytes = k.bytes; temps = k.temps; grown = k.grown; related = k.related; open' = open'; apart = k.apart; own = k.own; lasts = k.lasts }
+
+-- below another bound
+pub kept_below : (E : Env) (now : Now) (below : ℕ) (os : List Object) (w : World) (m : Mem) → w.fuel < below → KeptAs E now os w m → KeptAs E (record now { below = below }) os w m
+kept_below E now below os w m less k = record { held = k.held; deep = k.deep; less = less; bytes = k.bytes; temps = k.temps; grown = k.grown; related = k.related; open' = k.open'; apart = k.apart; own = k.own; lasts = k.lasts }
+
+-- with less fuel, below another bound
+pub kept_fuel : (E : Env) (now : Now) (below : ℕ) (os : List Object) (w : World) (m : Mem) (q : ℕ) → q < below → KeptAs E now os w m → KeptAs E (record now { below = below }) os (record w { fuel = q }) m
+kept_fuel E now below os w m q less k = record { held = k.held; deep = k.deep; less = less; bytes = k.bytes; temps = k.temps; grown = k.grown; related = k.related; open' = k.open'; apart = k.apart; own = k.own; lasts = k.lasts }
+
+-- with other values that wait
+pub kept_temps : (E : Env) (now : Now) (n : ℕ) (before : List Word) (os : List Object) (w : World) (m : Mem) (q : List Word) → Temps E.waits n before q → KeptAs E now os w m → KeptAs E (record now { waits = n; temps = before }) os w (record m { temps = q })
+kept_temps E now n before os w m q temps k = record { held = k.held; deep = k.deep; less = k.less; bytes = k.bytes; temps = temps; grown = k.grown; related = k.related; open' = k.open'; apart = k.apart; own = k.own; lasts = k.lasts }
 
 -- ---- in front of other locals
 
@@ -178,13 +232,26 @@ total_append (is ∷ a) b = let e = total_append a b in omega (arith, e)
 
 -- ---- arguments on the operands, the last one topmost
 
-abbrev pub piled : Tys → List Value → List Word → List Word
-piled no_types us vs = vs
-piled (types t ts) [] vs = vs
-piled (types t ts) (u ∷ us) vs = piled ts us (value_word t u ∷ vs)
+abbrev pub piled : Env → Tys → List Home → List Value → List Word → List Word
+piled E no_types hs us vs = vs
+piled E (types t ts) hs [] vs = vs
+piled E (types t ts) hs (u ∷ us) vs = piled E ts hs us (word_of E.places t hs u ∷ vs)
 
--- values of integer types
-abbrev pub AreOf : Tys → List Value → Type 0
-AreOf no_types [] = Unit {0}
-AreOf (types t ts) (v ∷ vs) = IsHeld t (plain v) × AreOf ts vs
-AreOf _ _ = ⊥
+-- values of scalar types
+abbrev pub AreOf : Env → Tys → List Home → List Value → Type 0
+AreOf E no_types hs [] = Unit {0}
+AreOf E (types t ts) hs (v ∷ vs) = IsHeld E.unit.structs E.places (t, false) hs (plain v) × AreOf E ts hs vs
+AreOf E _ hs _ = ⊥
+
+pub are_still : (E : Env) (old new : List Home) → Extends old new → (ts : Tys) (us : List Value) → AreOf E ts old us → AreOf E ts new us
+are_still E old new more no_types [] a = tt
+are_still E old new more (types t ts) (u ∷ us) a = (value_still E.unit.structs E.places old new more t u a.0, are_still E old new more ts us a.1)
+are_still E old new more no_types (u ∷ us) a = absurd a
+are_still E old new more (types t ts) [] a = absurd a
+
+pub piled_still : (E : Env) (old new : List Home) → Extends old new → (ts : Tys) (us : List Value) (vs : List Word) → AreOf E ts old us → piled E ts new us vs ≡ piled E ts old us vs
+piled_still E old new more no_types [] vs a = refl
+piled_still E old new more (types t ts) (u ∷ us) vs a =
+    piled_still E old new more ts us (word_of E.places t new u ∷ vs) a.1 ∙ ap (λ (x : Word). piled E ts old us (x ∷ vs)) (word_still E.unit.structs E.places old new more t u a.0)
+piled_still E old new more no_types (u ∷ us) vs a = absurd a
+piled_still E old new more (types t ts) [] vs a = absurd a

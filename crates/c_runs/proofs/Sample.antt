@@ -1,5 +1,5 @@
 -- A unit that is compiled, linked alone, and run, and does what is meant: the premises can be met at once.
-use Rattle.std.proofs.Common.{◌≡◌, ℕ, List, map, [], ◌∷◌, Some, None, Ok, Err, refl, arith}
+use Rattle.std.proofs.Common.{◌≡◌, ℕ, true, [], ◌∷◌, Some, None, Ok, Err, refl, arith}
 use Rattle.std.specs.Prelude.{Result, codes}
 use Rattle.std.proofs.lemmas.List.Elements.{All-nil, All-cons}
 use Rattle.ms_host.specs.declared.trap.TrapKind.TheVariants as traps
@@ -13,7 +13,7 @@ use Rattle.ms_task.specs.Thread.{sequence}
 use Rattle.c_types.specs.declared.integers.IntType.TheVariants.{Int}
 use Rattle.c_types.specs.declared.types.Scalar.TheVariants as scalars
 use Rattle.c_types.specs.Layout.{Layout, layout_at}
-use Rattle.c_types.specs.Types.{Ty, integer, function, no_types, types}
+use Rattle.c_types.specs.Types.{Ty, integer, pointer, function, no_types, types}
 use Rattle.c_typed.specs.declared.ops.BinaryOp.TheVariants as ops
 use Rattle.c_typed.specs.declared.ops.Variable.TheVariants.{Local}
 use Rattle.c_typed.specs.Tree as tree
@@ -56,19 +56,27 @@ digit =
     tree.switch Int x [] (three ∷ other ∷ [])
     (tree.seq (tree.perform (tree.putchar (number 51))) (tree.seq tree.break (tree.seq (tree.perform (tree.putchar (more_than_x 48))) tree.done)))
 
--- int main(void){int x; x=3; while(x){switch(x){..} x=x+-1;} return f(x);}
+-- p=&x
+abbrev point : Expr
+point = tree.assign scalars.Pointer (tree.of (Local 1)) (tree.address (tree.of (Local 0)))
+
+-- *p=3
+abbrev set_there : Expr
+set_there = tree.assign (scalars.Int Int) (tree.deref (tree.read scalars.Pointer (tree.of (Local 1)))) (number 3)
+
+-- int main(void){int x; int *p; p=&x; *p=3; while(x){switch(x){..} x=x+-1;} return f(x);}
 abbrev main_body : Stmt
 main_body =
-    tree.scope (0 ∷ []) (tree.seq (tree.perform (set_x (number 3))) (tree.seq
+    tree.scope (0 ∷ 1 ∷ []) (tree.seq (tree.perform point) (tree.seq (tree.perform set_there) (tree.seq
     (tree.loop x None (tree.scope [] (tree.seq digit (tree.seq (tree.perform (set_x (more_than_x 4294967295))) tree.done))))
-    (tree.seq (tree.return (tree.call 2 (Some (scalars.Int Int)) (tree.more x tree.none))) tree.done)))
+    (tree.seq (tree.return (tree.call 2 (Some (scalars.Int Int)) (tree.more x tree.none))) tree.done))))
 
 -- int f(int n){return 7/n;}
 abbrev f_body : Stmt
 f_body = tree.return (tree.binary ops.Div Int (number 7) x)
 
 abbrev main_is : Function
-main_is = record { name = codes "main"; ty = function i no_types; slots = i ∷ []; body = Some main_body }
+main_is = record { name = codes "main"; ty = function i no_types; slots = i ∷ pointer i ∷ []; body = Some main_body }
 
 abbrev f_is : Function
 f_is = record { name = codes "f"; ty = function i (types i no_types); slots = i ∷ []; body = Some f_body }
@@ -89,10 +97,10 @@ abbrev Other : Function → Function → Type 0
 Other f g = g.name ≡ f.name → ⊥
 
 abbrev context : Context
-context = context_of unit (i ∷ []) 0
+context = context_of unit (i ∷ pointer i ∷ []) 0
 
--- where its variable is visible
-digit_typed : IsStatement (opened context (0 ∷ [])) i in_loop digit
+-- where its variables are visible
+digit_typed : IsStatement (opened context (0 ∷ 1 ∷ [])) i in_loop digit
 digit_typed = (
   refl,
   (refl, (refl, refl)),
@@ -109,19 +117,22 @@ main_typed = (
   refl,
   (tt, tt, tt),
   (
-    (i ∷ [], refl),
-    All-cons (IsObject []) i [] (tt, (tt, omega arith)) (All-nil (IsObject [])),
+    (i ∷ pointer i ∷ [], refl),
+    All-cons (IsObject []) i (pointer i ∷ []) (tt, (tt, omega arith)) (All-cons (IsObject []) (pointer i) [] ((tt, tt), (tt, omega arith)) (All-nil (IsObject []))),
     (
-      (omega arith, refl, tt),
+      (omega arith, refl, (omega arith, refl, tt)),
       (
-        (i, (refl, (refl, refl), (refl, omega arith))),
+        (pointer i, (refl, (refl, refl), (i, refl, (refl, refl)))),
         (
+          (i, (refl, (refl, (refl, (refl, refl))), (refl, omega arith))),
           (
-            (Int, omega arith, (refl, (refl, refl))),
-            tt,
-            (tt, (digit_typed, ((i, (refl, (refl, refl), (refl, refl, (refl, (refl, refl)), (refl, omega arith)))), tt))),
+            (
+              (Int, omega arith, (refl, (refl, refl))),
+              tt,
+              (tt, (digit_typed, ((i, (refl, (refl, refl), (refl, refl, (refl, (refl, refl)), (refl, omega arith)))), tt))),
+            ),
+            ((tt, (types i no_types, refl, refl, ((refl, (refl, refl)), tt))), tt),
           ),
-          ((tt, (types i no_types, refl, refl, ((refl, (refl, refl)), tt))), tt),
         ),
       ),
     ),
@@ -191,5 +202,5 @@ sample_end : (run_at st 3 [] 200).end ≡ Trap (Task 0) traps.Zero
 unfolding sequence
 sample_end = refl
 
-sample_means : (means unit [] [] 100).0 ≡ zero_divide
+sample_means : (means unit [] (true ∷ []) 100).0 ≡ zero_divide
 sample_means = refl

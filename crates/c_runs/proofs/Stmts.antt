@@ -1,26 +1,28 @@
 -- Statements do what is meant.
-use Rattle.std.proofs.Common.{append-nil, ◌≡◌, ℕ, zero, suc, ◌+◌, ◌<◌, ◌≤◌, List, [], ◌∷◌, ◌++◌, length, take, filter, map, Bool, true, false, Option, Some, None, refl, sym, ap, ◌∙◌, arith, subst, cond, T, ltb→lt}
-use Rattle.std.specs.Prelude.{pos, nat_lt, ◌-◌, not, ◌&&◌, ◌||◌, slice_get, get_or, if◌then◌else◌}
+use Rattle.std.proofs.Common.{◌≡◌, ℕ, zero, suc, ◌+◌, ◌<◌, ◌≤◌, List, [], ◌∷◌, ◌++◌, length, take, filter, map, Bool, true, false, Option, Some, None, refl, sym, ap, ◌∙◌, arith, subst, cond, T, eqb→eq, ltb→lt}
+use Rattle.std.proofs.lemmas.Option.{slice_get_within}
+use Rattle.std.specs.Prelude.{pos, nat_lt, ◌==◌, ◌-◌, not, ◌&&◌, ◌||◌, slice_get, get_or, if◌then◌else◌}
 use Rattle.ms_linear.specs.declared.value.Value.{Value as Word}
 use Rattle.ms_module.specs.declared.instr.Instr.{Instr}
-use Rattle.ms_module.specs.declared.instr.Instr.TheVariants.{Br, Return}
+use Rattle.ms_module.specs.declared.instr.Instr.TheVariants.{Br, Return, Segment}
+use Rattle.ms_module.specs.declared.access.Segment.TheVariants as segment
 use Rattle.ms_module.specs.declared.numeric.Width.{Width}
 use Rattle.ms_task.specs.Thread.{Thread}
 use Rattle.ms_num.specs.Integers.{wrapped}
 use Rattle.c_types.specs.declared.integers.IntType.{IntType}
-use Rattle.c_types.specs.declared.integers.IntType.TheVariants.{Char, SignedChar, UnsignedChar, Short, UnsignedShort, Int, UnsignedInt, Long, UnsignedLong, LongLong, UnsignedLongLong}
 use Rattle.c_types.specs.declared.types.Scalar.{Scalar}
-use Rattle.c_types.specs.Types.{Ty, void, integer, function, Tys, scalar_of}
+use Rattle.c_types.specs.declared.types.Scalar.TheVariants as scalars
+use Rattle.c_types.specs.Types.{Ty, void, integer, pointer, struct, array, function, is_function, Tys, scalar_of}
 use Rattle.c_typed.specs.declared.ops.Variable.{Variable}
 use Rattle.c_typed.specs.declared.ops.Variable.TheVariants.{Local}
 use Rattle.c_typed.specs.Tree as tree
 use Rattle.c_typed.specs.Tree.{Expr, Stmt, nothing, perform, if_else, loop, scope, return, return_nothing, break, continue, Stmts, done, seq}
 use Rattle.c_well_typed.specs.declared.jumps.Jumps.{Jumps}
 use Rattle.c_well_typed.specs.refinement.Expressions as well
-use Rattle.c_well_typed.specs.refinement.Expressions.{HasType}
+use Rattle.c_well_typed.specs.refinement.Expressions.{HasType, is_visible}
 use Rattle.c_well_typed.specs.Statements as judged
 use Rattle.c_well_typed.specs.Statements.{AreNew, AreStatements, IsStatement, IsStep, count, in_loop}
-use Rattle.c_meaning.specs.Values.{Value, number}
+use Rattle.c_meaning.specs.Values.{Value, null, no_function, number, zero_value}
 use Rattle.c_meaning.specs.World.{Held, plain, World, Result, gives, Does, after, ◌>>=◌, ◌>>◌, pure, known}
 use Rattle.c_meaning.specs.Integers.{bits_of, is_zero}
 use Rattle.c_meaning.specs.Accesses.{hold}
@@ -28,45 +30,36 @@ use Rattle.c_meaning.specs.Expressions as meaning
 use Rattle.c_meaning.specs.Expressions.{expr, is_true}
 use Rattle.c_meaning.specs.Statements as meant
 use Rattle.c_meaning.specs.Statements.{Flow, next, broken, continued, returned, behind_switch, goes_to, enter, enter_slot, leave, leave_held, loops, step_of, stmts_from}
-use Rattle.ms_emit.specs.Codes.{Code, coded, one, no_code, ◌⨾◌, block, choice, size_of}
+use Rattle.ms_emit.specs.Codes.{Code, one, no_code, ◌⨾◌, block, choice, size_of}
 use Rattle.c_code.specs.Expressions as code
 use Rattle.c_code.specs.Operations.{constant, width_of}
 use Rattle.c_code.specs.Stage.{in_expr, in_step, in_stmt, in_stmts}
 use Rattle.c_code.specs.Statements as scheme
 use Rattle.c_code.specs.Statements.{Exits, any_continues, continues, entered, enters, freed, iterated, objects_in, with_objects, within}
-use Rattle.c_code.specs.Targets.{set, waiting}
+use Rattle.c_code.specs.Targets.{Target, set, waiting}
 use Rattle.c_code.specs.Uses as uses
 use Rattle.c_code.specs.Uses.{waits_stmt, waits_stmts}
-use Rattle.c_numbers.specs.Operands.{IsIn, operand}
+use Rattle.c_numbers.specs.Operands.{operand}
 use Rattle.c_numbers.proofs.Conversions.{constant_is}
+use Rattle.ms_relate.specs.refinement.Homes.{Home}
 use Rattle.c_runs.proofs.Goes.{Mem, Runs, bind, here, after_after}
+use Rattle.c_runs.proofs.Ending.{differ_both, new_differ, none_new, visible_either, visible_left, visible_right}
+use Rattle.c_runs.proofs.Scopes.{IsOff, frees_out, held_scope, scope_runs, with_off}
+use Rattle.c_runs.proofs.Held.{some_is, Slot, found}
+use Rattle.c_runs.proofs.Values.{IsOf}
 use Rattle.c_runs.specs.Words.{pushed}
-use Rattle.c_runs.proofs.Switches.{HeldRuns, flow_leave, from_group, goes_small, group_then, held_behind, leaves, switch_runs, switched}
-use Rattle.c_runs.proofs.Related.{AreHeld, Env, IsOf, Now, found, front}
-use Rattle.c_runs.proofs.Ops.{Op, Stack, at_work, op_carried, op_look, op_none, op_then, same}
+use Rattle.c_runs.proofs.Switches.{HeldRuns, flow_leave, from_group, goes_small, group_then, leaves, switch_runs, switched}
+use Rattle.c_runs.proofs.Related.{Env, Holds, IsValue, Now, extends_none, front, pushes, seeing, sees_none}
+use Rattle.c_runs.proofs.Ops.{Op, OpIn, Stack, at_work, op_carried, op_look_in, op_none, op_then, op_then_in, same}
 use Rattle.c_runs.proofs.Nodes.{Always, Num, gone, remains, set_runs, of_number, test_is}
 use Rattle.c_runs.proofs.Operations.{AtHome, Linked}
-use Rattle.c_runs.proofs.Exprs.{AreInts, CallsRun, expr_runs, narrow_width}
-use Rattle.c_runs.proofs.Flows.{FlowRuns, GoodFlow, to_flow, flow_none, flow_behind, flow_of, flow_seq, flow_return, flow_continue, flow_choice, no_group, Way, way}
+use Rattle.c_runs.proofs.Scalars.{IsData, null_runs, zero_in}
+use Rattle.c_runs.proofs.Exprs.{AreScalars, CallsRun, expr_runs, narrow_width}
+use Rattle.c_runs.proofs.Flows.{FlowIn, FlowOut, FlowRuns, GoodFlow, Off, ahead, to_flow, flow_none, flow_behind, flow_behind_in, flow_of, flow_seq, flow_return, flow_continue, flow_choice, no_group, Way, way}
 use Rattle.c_runs.proofs.Dos.{do_runs}
-use Rattle.c_runs.proofs.Loops.{iterated_is, jumps_in, while_runs}
-use Rattle.c_runs.proofs.Ready.{IsReady, behind_test, parts}
+use Rattle.c_runs.proofs.Loops.{inside, iterated_is, jumps_in, while_runs}
+use Rattle.c_runs.proofs.Ready.{IsReady, behind_test, either, in_expr_of, in_step_of, in_stmt_of, in_stmts_of, looped, parts}
 use Rattle.c_runs.proofs.Whole.{IsWhole, both, whole_choice, whole_expr, whole_plain, whole_then}
-
--- ---- a zero is in every type
-
-pub zero_in : (u : IntType) → IsIn u (pos 0)
-zero_in Char = refl
-zero_in SignedChar = refl
-zero_in UnsignedChar = refl
-zero_in Short = refl
-zero_in UnsignedShort = refl
-zero_in Int = refl
-zero_in UnsignedInt = refl
-zero_in Long = refl
-zero_in UnsignedLong = refl
-zero_in LongLong = refl
-zero_in UnsignedLongLong = refl
 
 -- ---- a statement without a `continue` of its own is one where none may stand
 
@@ -128,194 +121,276 @@ never_in : (a b : List Instr) (i : Instr) (c : List Instr) → (a ++ i ∷ b) ++
 never_in [] b i c e = absurd cc
 never_in (j ∷ a) b i c e = absurd cc
 
-pub get_is : (ts : List Ty) (x : ℕ) (t : Ty) → slice_get ts x ≡ Some t → get_or ts x void ≡ t
-get_is [] x t e = absurd cc
-get_is (s ∷ ts) zero t e = ap (λ (o : Option Ty). or o) e where
-  or : Option Ty → Ty
-  or None = s
-  or (Some q) = q
-get_is (s ∷ ts) (suc x) t e = get_is ts x t e
-
 -- ---- the ways out of a statement that has no objects around it
 
-pub record IsOut (E : Env) (d : ℕ) (o : Option ℕ) (x : Exits) : Type 0 where
-  pub objects : x.objects ≡ []
+abbrev pub no_off : Off
+no_off = record { broken = []; continued = []; returned = [] }
+
+-- the objects of these blocks are freed where it is left so
+pub record IsOut (E : Env) (vs : List ℕ) (d : ℕ) (o : Option ℕ) (x : Exits) (off : Off) : Type 0 where
+  pub objects : x.objects ≡ objects_in E.target E.slots off.returned
+  pub by_break : take x.left_by_break x.objects ≡ objects_in E.target E.slots off.broken
+  pub by_continue : take x.left_by_continue x.objects ≡ objects_in E.target E.slots off.continued
   pub leaving : x.leaving ≡ leaves E.target o
   pub around : (q : ℕ) → o ≡ Some q → q < d
+  pub returned' : IsOff E vs off.returned
+  pub broken' : IsOff E vs off.broken
+  pub continued' : IsOff E vs off.continued
+
+pub off_none : (E : Env) (vs : List ℕ) → IsOff E vs []
+off_none E vs = record { differ = tt; among = λ x e. absurd cc }
+
+-- of a statement of a function without parameters that are objects
+pub out_none : (E : Env) (vs : List ℕ) → IsOut E vs 0 None (scheme.at_body []) no_off
+out_none E vs = record { objects = refl; by_break = refl; by_continue = refl; leaving = refl; around = λ q e. absurd cc; returned' = off_none E vs; broken' = off_none E vs; continued' = off_none E vs }
+
+take_append : (us vs : List Variable) (k : ℕ) → take (length us + k) (us ++ vs) ≡ us ++ take k vs
+take_append [] vs k = let z : 0 + k ≡ k = omega arith in ap (λ (j : ℕ). take j vs) z
+take_append (u ∷ us) vs k = let z : suc (length us) + k ≡ suc (length us + k) = omega arith in ap (λ (j : ℕ). take j (u ∷ (us ++ vs))) z ∙ ap (λ (l : List Variable). u ∷ l) (take_append us vs k)
+
+take_zero : (vs : List Variable) → take 0 vs ≡ []
+take_zero [] = refl
+take_zero (v ∷ vs) = refl
+
+module _ (t : Target) (slots : List Ty) where
+  objects_both : (is js : List ℕ) → objects_in t slots (is ++ js) ≡ objects_in t slots is ++ objects_in t slots js
+  objects_both [] js = refl
+  objects_both (i ∷ is) js = by (t.is_object (Local i)) (objects_both is js) where
+    by : (b : Bool) → map Local (filter (scheme.object_of t slots) (is ++ js)) ≡ map Local (filter (scheme.object_of t slots) is) ++ map Local (filter (scheme.object_of t slots) js)
+        → map Local (cond b (i ∷ filter (scheme.object_of t slots) (is ++ js)) (filter (scheme.object_of t slots) (is ++ js))) ≡ map Local (cond b (i ∷ filter (scheme.object_of t slots) is) (filter (scheme.object_of t slots) is)) ++ map Local (filter (scheme.object_of t slots) js)
+    by true h = ap (λ (l : List Variable). Local i ∷ l) h
+    by false h = h
 
 -- ---- statements
 
-module _ (E : Env) (L : Linked E.site) (home : AtHome E) (k : well.Context) (slots_are : k.slots ≡ E.slots) (calls_run : CallsRun E L home k slots_are)
-    (ints : (f : ℕ) (t : Ty) (ps : Tys) → slice_get k.functions f ≡ Some (function t ps) → AreInts E L home k slots_are ps)
-    (slot_ints : (x : ℕ) (t : Ty) → slice_get k.slots x ≡ Some t → (u : IntType) × (t ≡ integer u))
-    (kinds : List (Ty × Bool)) (kinds_are : (x : ℕ) (t : Ty) → slice_get k.slots x ≡ Some t → slice_get kinds x ≡ Some (t, false))
-    (slot_at : (x : ℕ) → x < length k.slots → (t : Ty) × (slice_get k.slots x ≡ Some t)) (wide : E.bound ≤ E.turn_bound) where
+abbrev pub IsPlain : Env → ℕ → Type 0
+IsPlain E x = (t : Ty) × (slice_get E.kinds x ≡ Some (t, false)) × (E.target.is_object (Local x) ≡ false)
+
+-- slots that are no objects
+abbrev pub ArePlain : Env → List ℕ → Type 0
+ArePlain E [] = Unit {0}
+ArePlain E (x ∷ xs) = IsPlain E x × ArePlain E xs
+
+module _ (E0 : Env) (L : Linked E0.site) (home : AtHome E0) (k : well.Context) (slots_are : k.slots ≡ E0.slots) (calls_run : CallsRun (seeing [] E0) L home k slots_are)
+    (scalars_are : (f : ℕ) (t : Ty) (ps : Tys) → slice_get k.functions f ≡ Some (function t ps) → AreScalars (seeing [] E0) L home k slots_are ps)
+    (slots_data : (x : ℕ) (t : Ty) → slice_get k.slots x ≡ Some t → IsData t)
+    (slot_at : (x : ℕ) → x < length k.slots → (t : Ty) × (slice_get k.slots x ≡ Some t)) (wide : E0.bound ≤ E0.turn_bound) where
   -- with these variables visible
   abbrev in_blocks : List ℕ → well.Context
   in_blocks ns = record k { visible = ns }
 
-  abbrev value : Expr → Does Value
-  value e = expr E.unit E.calls e
-
-  run_expr : (v : List ℕ) (kept : Bool) (d : ℕ) (e : Expr) (t : Ty) → IsReady E.unit (in_expr e) (uses.in_expr e) → HasType (in_blocks v) e t → Op E (code.expr E.target kept d e) same (remains E kept t) (IsOf t) (value e)
-  run_expr v = expr_runs E L home (in_blocks v) slots_are calls_run ints slot_ints
-
-  at_slot : (x : ℕ) (t : Ty) → slice_get k.slots x ≡ Some t → slice_get E.slots x ≡ Some t
+  at_slot : (x : ℕ) (t : Ty) → slice_get k.slots x ≡ Some t → slice_get E0.slots x ≡ Some t
   at_slot x t e = subst (λ (ts : List Ty). slice_get ts x ≡ Some t) slots_are e
+
+  abbrev at : List ℕ → Env
+  at v = seeing v E0
+
+  abbrev value : Expr → Does Value
+  value e = expr E0.unit E0.calls e
+
+  calls_at : (v : List ℕ) → CallsRun (at v) L home (in_blocks v) slots_are
+  calls_at v f t ps e b hs us ok n has now le vs r dep w m kp =
+      calls_run f t ps e b hs us ok n has now (record { below = le.below; grown = le.grown; seen = sees_none now.visible }) vs r dep w m kp
+
+  run_expr : (v : List ℕ) (kept : Bool) (d : ℕ) (e : Expr) (t : Ty) → IsReady E0.target.is_object E0.unit (in_expr e) (uses.in_expr e) (in_expr_of e) → HasType (in_blocks v) e t → OpIn (at v) [] (code.expr E0.target kept d e) same (remains (at v) kept t) (IsValue (at v) t) (value e)
+  run_expr v = expr_runs (at v) L home (in_blocks v) slots_are (calls_at v) scalars_are slots_data refl
 
   -- ---- blocks
 
-  zero_runs : (x : ℕ) (u : IntType) → slice_get k.slots x ≡ Some (integer u) → Op E (scheme.zeroed E.target (Local x) (scalar_of (integer u))) same (gone E) (Always E) (hold (Local x) (plain (number (pos 0))))
-  zero_runs x u e =
-      op_then E (one (constant (width_of u) (pos 0))) (one (set E.target (Local x))) same (λ (q : Unit {0}). Num E u (pos 0)) (gone E) (Always E) (Always E) (pure tt) (λ q. hold (Local x) (plain (number (pos 0))))
-      (op_carried E (constant (width_of u) (pos 0)) same (λ (q : Unit {0}). Num E u (pos 0)) (Always E) tt tt (λ vs. constant_is (width_of u) (pos 0) vs))
-      (λ q ok. set_runs E x u (at_slot x (integer u) e) (pos 0) (zero_in u))
+  abbrev kinds : List Slot
+  kinds = E0.kinds
 
-  enter_one : (x : ℕ) (t : Ty) → slice_get k.slots x ≡ Some t → Op E (entered E.target (E.target.is_object (Local x)) (Local x) (get_or E.slots x void)) same (gone E) (Always E) (known (slice_get kinds x) >>= enter_slot E.unit E.calls E.turn_bound kinds x)
-  enter_one x t e =
-      let u = slot_ints x t e in
-      let eu : slice_get k.slots x ≡ Some (integer u.0) = e ∙ ap Some u.1 in
-      subst (λ (b : Bool). Op E (entered E.target b (Local x) (get_or E.slots x void)) same (gone E) (Always E) (known (slice_get kinds x) >>= enter_slot E.unit E.calls E.turn_bound kinds x)) (sym (E.plain_slots x t (at_slot x t e)))
-      (subst (λ (s : Ty). Op E (entered E.target false (Local x) s) same (gone E) (Always E) (known (slice_get kinds x) >>= enter_slot E.unit E.calls E.turn_bound kinds x)) (sym (get_is E.slots x (integer u.0) (at_slot x (integer u.0) eu)))
-      (subst (λ (o : Option (Ty × Bool)). Op E (entered E.target false (Local x) (integer u.0)) same (gone E) (Always E) (known o >>= enter_slot E.unit E.calls E.turn_bound kinds x)) (sym (kinds_are x (integer u.0) eu))
-      (zero_runs x u.0 eu)))
+  zero_runs : (v : List ℕ) (x : ℕ) (u : IntType) → slice_get E0.kinds x ≡ Some (integer u, false) → Op (at v) (scheme.zeroed E0.target (Local x) (scalar_of (integer u))) same (gone (at v)) (Always (at v)) (hold (Local x) (plain (number (pos 0))))
+  zero_runs v x u e =
+      op_then (at v) (one (constant (width_of u) (pos 0))) (one (set E0.target (Local x))) same (λ (q : Unit {0}). Num (at v) u (pos 0)) (gone (at v)) (Always (at v)) (Always (at v)) (pure tt) (λ q. hold (Local x) (plain (number (pos 0))))
+      (op_carried (at v) (constant (width_of u) (pos 0)) same (λ (q : Unit {0}). Num (at v) u (pos 0)) (Always (at v)) tt tt (λ vs. constant_is (width_of u) (pos 0) vs))
+      (λ q ok. set_runs (at v) x (integer u) tt e [] (number (pos 0)) (zero_in u))
 
-  enter_runs : (ns : List ℕ) → Below (length k.slots) ns → Op E (enters E.target E.slots ns) same (gone E) (Always E) (enter E.unit E.calls E.turn_bound kinds ns)
-  enter_runs [] h = op_none E same (gone E) (Always E) tt tt (λ vs. refl)
-  enter_runs (x ∷ ns) h =
-      let s = slot_at x h.0 in
-      op_then E (entered E.target (E.target.is_object (Local x)) (Local x) (get_or E.slots x void)) (enters E.target E.slots ns) same (gone E) (gone E) (Always E) (Always E)
-      (known (slice_get kinds x) >>= enter_slot E.unit E.calls E.turn_bound kinds x) (λ q. enter E.unit E.calls E.turn_bound kinds ns) (enter_one x s.0 s.1) (λ q ok. enter_runs ns h.1)
+  null_zero : (v : List ℕ) (x : ℕ) (t : Ty) → is_function t ≡ false → slice_get E0.kinds x ≡ Some (pointer t, false) → Op (at v) (scheme.zeroed E0.target (Local x) (Some scalars.Pointer)) same (gone (at v)) (Always (at v)) (hold (Local x) (plain null))
+  null_zero v x t d e =
+      op_then_in (at v) [] (one (Segment segment.Null)) (one (set E0.target (Local x))) same (pushes (at v) (pointer t)) (λ hs. gone (at v)) (IsValue (at v) (pointer t)) (λ hs. Always (at v)) (pure null) (λ q. hold (Local x) (plain q)) (null_runs (at v) t d)
+      (λ gs grown q ok. set_runs (at v) x (pointer t) tt e gs q ok)
+
+  zero_of : (v : List ℕ) (x : ℕ) (t : Ty) → IsData t → slice_get E0.kinds x ≡ Some (t, false) → Op (at v) (scheme.zeroed E0.target (Local x) (scalar_of t)) same (gone (at v)) (Always (at v)) (hold (Local x) (plain (zero_value t)))
+  zero_of v x (integer u) d e = zero_runs v x u e
+  zero_of v x (pointer t) d e =
+      subst (λ (b : Bool). Op (at v) (scheme.zeroed E0.target (Local x) (Some (if b then scalars.Function else scalars.Pointer))) same (gone (at v)) (Always (at v)) (hold (Local x) (plain (if b then no_function else null)))) (sym d) (null_zero v x t d e)
+  zero_of v x void d e = absurd d
+  zero_of v x (struct n) d e = absurd d
+  zero_of v x (array t n) d e = absurd d
+  zero_of v x (function r ps) d e = absurd d
 
   -- plain variables are left as they are
-  pub leave_is : (ns : List ℕ) → Below (length k.slots) ns → (w : World) → AreHeld E.slots w.locals → leave E.unit E.calls E.turn_bound kinds ns w ≡ gives tt w
-  leave_is [] h w held = refl
-  leave_is (x ∷ ns) h w held =
-      let s = slot_at x h.0 in
-      let u = slot_ints x s.0 s.1 in
-      let f = found E.slots w.locals x u.0 held (at_slot x (integer u.0) (s.1 ∙ ap Some u.1)) in
-      ap (λ (o : Option Held). after (after (known o w) (leave_held E.unit E.calls E.turn_bound kinds)) (λ q. leave E.unit E.calls E.turn_bound kinds ns)) f.is
-      ∙ leave_is ns h.1 w held
+  pub leave_is : (ns : List ℕ) → ArePlain E0 ns → (w : World) (m : Mem) → Holds E0 m w → leave E0.unit E0.calls E0.turn_bound kinds ns w ≡ gives tt w
+  leave_is [] h w m held = refl
+  leave_is (x ∷ ns) h w m held =
+      let f = found E0.unit.structs E0.places E0.kinds m.homes w.locals x h.0.0 held h.0.1 in
+      ap (λ (o : Option Held). after (after (known o w) (leave_held E0.unit E0.calls E0.turn_bound kinds)) (λ q. leave E0.unit E0.calls E0.turn_bound kinds ns)) f.is
+      ∙ leave_is ns h.1 w m held
 
-  leaves_on : (l : Way) (size : ℕ) (now : Now) (w : World) (m : Mem) (t : Thread) (to : Flow → World → Mem → Thread) (y : Does Flow) (ns : List ℕ) → Below (length k.slots) ns
-      → Runs E.site size m t w to (GoodFlow E l now) (y w) → Runs E.site size m t w to (GoodFlow E l now) ((y >>= (λ f. leave E.unit E.calls E.turn_bound kinds ns >> pure f)) w)
-  leaves_on l size now w m t to y ns al h =
+  leaves_on : (v : List ℕ) (l : Way) (size : ℕ) (now : Now) (w : World) (m : Mem) (t : Thread) (to : Flow → World → Mem → Thread) (y : Does Flow) (ns : List ℕ) → ArePlain E0 ns
+      → Runs E0.site size m t w to (GoodFlow (at v) l now) (y w) → Runs E0.site size m t w to (GoodFlow (at v) l now) ((y >>= (λ f. leave E0.unit E0.calls E0.turn_bound kinds ns >> pure f)) w)
+  leaves_on v l size now w m t to y ns al h =
       let z : size + 0 ≡ size = omega arith in
-      let f = λ (f : Flow). leave E.unit E.calls E.turn_bound kinds ns >> pure f in
-      subst (λ (q : ℕ). Runs E.site q m t w to (GoodFlow E l now) (after (y w) f)) z
-      (bind E.site size 0 m t w to (GoodFlow E l now) to (GoodFlow E l now) (y w) f h
-      (λ g w1 m1 ok. subst (λ (q : Result (Unit {0})). Runs E.site 0 m1 (to g w1 m1) w1 to (GoodFlow E l now) (after q (λ u. pure g))) (sym (leave_is ns al w1 ok.1.held)) (here E.site 0 w1 m1 to (GoodFlow E l now) g ok)))
+      let f = λ (f : Flow). leave E0.unit E0.calls E0.turn_bound kinds ns >> pure f in
+      subst (λ (q : ℕ). Runs E0.site q m t w to (GoodFlow (at v) l now) (after (y w) f)) z
+      (bind E0.site size 0 m t w to (GoodFlow (at v) l now) to (GoodFlow (at v) l now) (y w) f h
+      (λ g w1 m1 ok. subst (λ (q : Result (Unit {0})). Runs E0.site 0 m1 (to g w1 m1) w1 to (GoodFlow (at v) l now) (after q (λ u. pure g))) (sym (leave_is ns al w1 m1 ok.1.held)) (here E0.site 0 w1 m1 to (GoodFlow (at v) l now) g ok)))
 
-  pub left_runs : (l : Way) (b c : ℕ) (x : Code) (y : Does Flow) (ns : List ℕ) → Below (length k.slots) ns → FlowRuns E l b c x same y → FlowRuns E l b c x same (y >>= (λ f. leave E.unit E.calls E.turn_bound kinds ns >> pure f))
-  left_runs l b c x y ns al h n has small now le vs r br cr rr caller a dep w m kp =
-      leaves_on l (size_of (x n)) now w m (at_work E m w vs (front (x n).instrs r)) (to_flow E vs r br cr rr caller) y ns al (h n has small now le vs r br cr rr caller a dep w m kp)
+  pub left_runs : (v : List ℕ) (l : Way) (b c : ℕ) (x : Code) (y : Does Flow) (ns : List ℕ) → ArePlain E0 ns → FlowRuns (at v) l b c x same y → FlowRuns (at v) l b c x same (y >>= (λ f. leave E0.unit E0.calls E0.turn_bound kinds ns >> pure f))
+  left_runs v l b c x y ns al h n has small now le vs r br cr rr caller a dep w m kp =
+      leaves_on v l (size_of (x n)) now w m (at_work (at v) m w vs (front (x n).instrs r)) (to_flow (at v) vs r br cr rr caller) y ns al (h n has small now le vs r br cr rr caller a dep w m kp)
 
-  pub no_objects : (ns : List ℕ) → Below (length k.slots) ns → objects_in E.target E.slots ns ≡ []
+  pub no_objects : (ns : List ℕ) → ArePlain E0 ns → objects_in E0.target E0.slots ns ≡ []
   no_objects [] h = refl
   no_objects (x ∷ ns) h =
-      let s = slot_at x h.0 in
-      let e = E.plain_slots x s.0 (at_slot x s.0 s.1) in
-      ap (λ (b : Bool). map Local (cond b (x ∷ filter (scheme.object_of E.target E.slots) ns) (filter (scheme.object_of E.target E.slots) ns))) e ∙ no_objects ns h.1
+      ap (λ (b : Bool). map Local (cond b (x ∷ filter (scheme.object_of E0.target E0.slots) ns) (filter (scheme.object_of E0.target E0.slots) ns))) h.0.2 ∙ no_objects ns h.1
 
-  -- ---- an empty piece in front
+  -- ---- ways out
 
-  behind_none : (l : Way) (b c : ℕ) (x : Code) (pre : Stack) (y : Does Flow) → FlowRuns E l b c x pre y → FlowRuns E l b c (no_code ⨾ x) pre y
-  behind_none l b c x pre y h = flow_behind E l b c no_code x pre (λ (q : Unit {0}). pre) (Always E) (pure tt) (λ q. y) (op_none E pre (λ (q : Unit {0}). pre) (Always E) tt tt (λ vs. refl)) (λ q ok. h)
+  -- the slots of a block are the function's
+  among_of : (v ns : List ℕ) → AreNew (in_blocks v) ns → (x : ℕ) → is_visible ns x ≡ true → x < length E0.slots
+  among_of v ns h x e = subst (λ (ts : List Ty). x < length ts) slots_are (below_seen (length k.slots) ns (new_below (in_blocks v) ns h) x e) where
+    below_seen : (n : ℕ) (ms : List ℕ) → Below n ms → (y : ℕ) → is_visible ms y ≡ true → y < n
+    below_seen n [] h y e = absurd cc
+    below_seen n (m ∷ ms) h y e = by (m == y) refl e (below_seen n ms h.1 y) where
+      by : (b : Bool) → (m == y) ≡ b → (b || is_visible ms y) ≡ true → (is_visible ms y ≡ true → y < n) → y < n
+      by true q e f = subst (λ (z : ℕ). z < n) (eqb→eq m y (subst T (sym q) tt)) h.0
+      by false q e f = f e
 
-  freed_none : (l : Way) (b c : ℕ) (vs : List Variable) (x : Code) (pre : Stack) (y : Does Flow) → vs ≡ [] → FlowRuns E l b c x pre y → FlowRuns E l b c (freed E.target vs ⨾ x) pre y
-  freed_none l b c vs x pre y e h = subst (λ (us : List Variable). FlowRuns E l b c (freed E.target us ⨾ x) pre y) (sym e) (behind_none l b c x pre y h)
+  out_frees : (v : List ℕ) (l : Way) (hs : List Home) (f : Flow) (b c : ℕ) (tail : Code) (pre : Stack) (us : List Variable) → us ≡ objects_in E0.target E0.slots (ahead l.off f) → IsOff (at v) v (ahead l.off f) → FlowOut (at v) l hs f b c tail pre → FlowIn (at v) l hs b c (freed E0.target us ⨾ tail) pre (pure f)
+  out_frees v l hs f b c tail pre us e off h =
+      subst (λ (ws : List Variable). FlowIn (at v) l hs b c (freed E0.target ws ⨾ tail) pre (pure f)) (sym e) (frees_out (at v) l hs f b c tail pre off h)
 
-  -- and behind
-  then_none : (x : Code) → (x ⨾ no_code) ≡ x
-  then_none x = λ j n. coded (append-nil (x n).instrs j) (append-nil (x n).seqs j)
+  -- of no value
+  out_here : (v : List ℕ) (l : Way) (b c : ℕ) (x : Code) (pre : Stack) (y : Does Flow) → FlowIn (at v) l [] b c x pre y → FlowRuns (at v) l b c x pre y
+  out_here v l b c x pre y h n has small now le vs r br cr rr caller a dep w m kp = h n has small now le vs r br cr rr caller a dep w m (extends_none m.homes) kp
 
-  freed_behind : (x : Code) (vs : List Variable) → vs ≡ [] → (x ⨾ freed E.target vs) ≡ x
-  freed_behind x vs e = ap (λ (us : List Variable). x ⨾ freed E.target us) e ∙ then_none x
+  -- with the variables of one more block
+  off_more : (v ns is : List ℕ) → AreNew (in_blocks v) ns → IsOff E0 v is → IsOff E0 (v ++ ns) (ns ++ is)
+  off_more v ns is h o = record {
+    differ = differ_both ns is (new_differ (in_blocks v) ns h) o.differ (λ x e. seen_not (is_visible is x) refl (λ q. let a = none_new (in_blocks v) ns h x (o.among x q).1 in let z : false ≡ true = sym a ∙ e in cc));
+    among = λ x e. visible_either ns is x e (λ a. (among_of v ns h x a, visible_right v ns x a)) (λ a. let q = o.among x a in (q.0, visible_left v ns x q.1));
+  } where
+    seen_not : (b : Bool) {c : Bool} → c ≡ b → (c ≡ true → ⊥) → c ≡ false
+    seen_not true e f = absurd (f e)
+    seen_not false e f = e
+
+  out_more : (v ns : List ℕ) (d : ℕ) (o : Option ℕ) (x : Exits) (off : Off) → AreNew (in_blocks v) ns → IsOut E0 v d o x off → IsOut E0 (v ++ ns) d o (with_objects (objects_in E0.target E0.slots ns) x) (with_off ns off)
+  out_more v ns d o x off h out =
+      let us = objects_in E0.target E0.slots ns in
+      record {
+        objects = ap (λ (ws : List Variable). us ++ ws) out.objects ∙ sym (objects_both E0.target E0.slots ns off.returned);
+        by_break = take_append us x.objects x.left_by_break ∙ ap (λ (ws : List Variable). us ++ ws) out.by_break ∙ sym (objects_both E0.target E0.slots ns off.broken);
+        by_continue = take_append us x.objects x.left_by_continue ∙ ap (λ (ws : List Variable). us ++ ws) out.by_continue ∙ sym (objects_both E0.target E0.slots ns off.continued);
+        leaving = out.leaving;
+        around = out.around;
+        returned' = off_more v ns off.returned h out.returned';
+        broken' = off_more v ns off.broken h out.broken';
+        continued' = off_more v ns off.continued h out.continued';
+      }
+
+  loop_out : (v : List ℕ) (d : ℕ) (o : Option ℕ) (x : Exits) (off : Off) (C : Bool) → IsOut E0 v d o x off → IsOut E0 v d None (scheme.in_loop C x) (inside off)
+  loop_out v d o x off C out = record { objects = out.objects; by_break = take_zero x.objects; by_continue = take_zero x.objects; leaving = refl; around = λ q e'. absurd cc; returned' = out.returned'; broken' = off_none E0 v; continued' = off_none E0 v }
 
   -- ---- what is evaluated for what it does
 
-  perform_runs : (v : List ℕ) (l : Way) (b c d : ℕ) (e : Expr) (t : Ty) → IsReady E.unit (in_expr e) (uses.in_expr e) → HasType (in_blocks v) e t → FlowRuns E l b c (code.expr E.target false d e) same (value e >> pure next)
-  perform_runs v l b c d e t x h = flow_of E l b c (code.expr E.target false d e) (gone E) (IsOf t) (value e) (run_expr v false d e t x h) (λ a vs. refl)
+  perform_runs : (v : List ℕ) (l : Way) (b c d : ℕ) (e : Expr) (t : Ty) → IsReady E0.target.is_object E0.unit (in_expr e) (uses.in_expr e) (in_expr_of e) → HasType (in_blocks v) e t → FlowRuns (at v) l b c (code.expr E0.target false d e) same (value e >> pure next)
+  perform_runs v l b c d e t x h = flow_of (at v) l b c (code.expr E0.target false d e) (λ hs. gone (at v)) (IsValue (at v) t) (value e) (run_expr v false d e t x h) (λ hs a vs. refl)
 
-  step_runs : (v : List ℕ) (d : ℕ) (s : Option Expr) → IsReady E.unit (in_step s) (uses.in_step s) → IsStep (in_blocks v) s → Op E (code.step E.target d s) same (gone E) (Always E) (step_of E.unit E.calls E.turn_bound s)
-  step_runs v d None x h = op_none E same (gone E) (Always E) tt tt (λ vs. refl)
+  step_runs : (v : List ℕ) (d : ℕ) (s : Option Expr) → IsReady E0.target.is_object E0.unit (in_step s) (uses.in_step s) (in_step_of s) → IsStep (in_blocks v) s → Op (at v) (code.step E0.target d s) same (gone (at v)) (Always (at v)) (step_of E0.unit E0.calls E0.turn_bound s)
+  step_runs v d None x h = op_none (at v) same (gone (at v)) (Always (at v)) tt tt (λ vs. refl)
   step_runs v d (Some e) x h =
-      op_look E (code.expr E.target false d e) same (gone E) (gone E) (IsOf h.0) (Always E) (value e) (λ q. pure tt) (run_expr v false d e h.0 x h.1) (λ q ok. (tt, refl, refl, tt))
+      op_look_in (at v) [] (code.expr E0.target false d e) same (λ hs. gone (at v)) (λ hs. gone (at v)) (IsValue (at v) h.0) (λ hs. Always (at v)) (value e) (λ q. pure tt) (run_expr v false d e h.0 x h.1) (λ gs more q ok. (tt, refl, λ vs. refl, tt))
 
   -- ---- if
 
-  if_runs : (v : List ℕ) (l : Way) (b c d : ℕ) (e : Expr) (u : IntType) (x y : Code) (f g : Does Flow) → IsReady E.unit (in_expr e) (uses.in_expr e) → well.IsNarrow u → HasType (in_blocks v) e (integer u) → IsWhole y → FlowRuns E l (suc b) (suc c) x same f → FlowRuns E l (suc b) (suc c) y same g
-      → FlowRuns E l b c (code.expr E.target true d e ⨾ choice None x y) same (meaning.test (value e) >>= (λ t. if t then f else g))
+  if_runs : (v : List ℕ) (l : Way) (b c d : ℕ) (e : Expr) (u : IntType) (x y : Code) (f g : Does Flow) → IsReady E0.target.is_object E0.unit (in_expr e) (uses.in_expr e) (in_expr_of e) → well.IsNarrow u → HasType (in_blocks v) e (integer u) → IsWhole y → FlowRuns (at v) l (suc b) (suc c) x same f → FlowRuns (at v) l (suc b) (suc c) y same g
+      → FlowRuns (at v) l b c (code.expr E0.target true d e ⨾ choice None x y) same (meaning.test (value e) >>= (λ t. if t then f else g))
   if_runs v l b c d e u x y f g s narrow h whole rx ry n has small now le vs r br cr rr caller a dep w m kp =
-      let ce = code.expr E.target true d e in
+      let ce = code.expr E0.target true d e in
       let all = (ce ⨾ choice None x y) n in
       let q = λ (t : Bool). if t then f else g in
-      subst (λ (p : Result Flow). Runs E.site (size_of all) m (at_work E m w vs (front all.instrs r)) w (to_flow E vs r br cr rr caller) (GoodFlow E l now) p) (sym (after_after (value e w) is_true q))
-      (flow_behind E l b c ce (choice None x y) same (pushed (integer u)) (IsOf (integer u)) (value e) (λ z. is_true z >>= q) (run_expr v true d e (integer u) s h)
+      subst (λ (p : Result Flow). Runs E0.site (size_of all) m (at_work (at v) m w vs (front all.instrs r)) w (to_flow (at v) vs r br cr rr caller) (GoodFlow (at v) l now) p) (sym (after_after (value e w) is_true q))
+      (flow_behind (at v) l b c ce (choice None x y) same (pushed (integer u)) (IsOf (integer u)) (value e) (λ z. is_true z >>= q) (run_expr v true d e (integer u) s h)
       (λ z ok.
-      of_number E u (λ z. FlowRuns E l b c (choice None x y) (pushed (integer u) z) (is_true z >>= q))
+      of_number (at v) u (λ z. FlowRuns (at v) l b c (choice None x y) (pushed (integer u) z) (is_true z >>= q))
       (λ z i.
-      subst (λ (wd : Width). FlowRuns E l b c (choice None x y) (λ us. operand wd z ∷ us) (q (not (is_zero z)))) (sym (narrow_width u narrow))
-      (flow_choice E l b c x y (wrapped 32 z) (not (is_zero z)) f g whole (test_is E u z (narrow_width u narrow) i) rx ry))
+      subst (λ (wd : Width). FlowRuns (at v) l b c (choice None x y) (λ us. operand wd z ∷ us) (q (not (is_zero z)))) (sym (narrow_width u narrow))
+      (flow_choice (at v) l b c x y (wrapped 32 z) (not (is_zero z)) f g whole (test_is (at v) u z (narrow_width u narrow) i) rx ry))
       z ok)
       n has small now le vs r br cr rr caller a dep w m kp)
 
   -- ---- returns
 
-  returns_nothing : (l : Way) (b c : ℕ) → E.result ≡ void → FlowRuns E l b c (one Return) same (pure (returned meaning.nothing_given))
-  returns_nothing l b c e =
-      let v = meaning.nothing_given in
-      let is : (λ (vs : List Word). pushed E.result v vs) ≡ same = λ q vs. pushed (e q) v vs in
-      subst (λ (st : Stack). FlowRuns E l b c (one Return) st (pure (returned v))) is (flow_return E l b c v (subst (λ (t : Ty). IsOf t v) (sym e) tt))
+  returns_nothing : (v : List ℕ) (l : Way) (b c : ℕ) → E0.result ≡ void → FlowOut (at v) l [] (returned meaning.nothing_given) b c (one Return) same
+  returns_nothing v l b c e =
+      let z = meaning.nothing_given in
+      let is : (λ (vs : List Word). pushes (at v) E0.result [] z vs) ≡ same = λ q vs. pushes (at v) (e q) [] z vs in
+      subst (λ (st : Stack). FlowOut (at v) l [] (returned z) b c (one Return) st) is (flow_return (at v) l [] b c z (subst (λ (t : Ty). IsValue (at v) t [] z) (sym e) tt))
 
   -- ---- code without instructions has no sequences
 
   abbrev codes : ℕ → Exits → Stmt → Code
-  codes d x s = scheme.stmt E.target E.slots d x s
+  codes d x s = scheme.stmt E0.target E0.slots d x s
 
   abbrev all_codes : ℕ → Exits → Stmts → Code
-  all_codes d x ss = scheme.stmts E.target E.slots d x ss
+  all_codes d x ss = scheme.stmts E0.target E0.slots d x ss
 
-  whole_entered : (x : ℕ) → x < length k.slots → IsWhole (entered E.target (E.target.is_object (Local x)) (Local x) (get_or E.slots x void))
-  whole_entered x lt =
-      let s = slot_at x lt in
-      subst (λ (b : Bool). IsWhole (entered E.target b (Local x) (get_or E.slots x void))) (sym (E.plain_slots x s.0 (at_slot x s.0 s.1))) (zeroes (scalar_of (get_or E.slots x void)))
-    where
-      zeroes : (o : Option Scalar) → IsWhole (scheme.zeroed E.target (Local x) o)
-      zeroes None = whole_plain []
-      zeroes (Some s) = whole_plain _
+  whole_entered : (x : ℕ) → IsWhole (entered E0.target (E0.target.is_object (Local x)) (Local x) (get_or E0.slots x void))
+  whole_entered x = by (E0.target.is_object (Local x)) where
+    zeroes : (o : Option Scalar) → IsWhole (scheme.zeroed E0.target (Local x) o)
+    zeroes None = whole_plain []
+    zeroes (Some s) = whole_plain _
 
-  whole_enters : (ns : List ℕ) → Below (length k.slots) ns → IsWhole (enters E.target E.slots ns)
-  whole_enters [] h = whole_plain []
-  whole_enters (x ∷ ns) h = whole_then (entered E.target (E.target.is_object (Local x)) (Local x) (get_or E.slots x void)) (enters E.target E.slots ns) (whole_entered x h.0) (whole_enters ns h.1)
+    by : (b : Bool) → IsWhole (entered E0.target b (Local x) (get_or E0.slots x void))
+    by true = λ n e. absurd cc
+    by false = zeroes (scalar_of (get_or E0.slots x void))
 
-  whole_freed : (vs : List Variable) → vs ≡ [] → IsWhole (freed E.target vs)
-  whole_freed vs e = subst (λ (us : List Variable). IsWhole (freed E.target us)) (sym e) (whole_plain [])
+  whole_enters : (ns : List ℕ) → IsWhole (enters E0.target E0.slots ns)
+  whole_enters [] = whole_plain []
+  whole_enters (x ∷ ns) = whole_then (entered E0.target (E0.target.is_object (Local x)) (Local x) (get_or E0.slots x void)) (enters E0.target E0.slots ns) (whole_entered x) (whole_enters ns)
+
+  whole_freed : (vs : List Variable) → IsWhole (freed E0.target vs)
+  whole_freed [] = whole_plain []
+  whole_freed (v ∷ vs) = λ n e. absurd cc
+
+  -- the same of this function where these may be named
+  off_at : (v is : List ℕ) → IsOff E0 v is → IsOff (at v) v is
+  off_at v is o = record { differ = o.differ; among = o.among }
+
+  zeros : (v : List ℕ) (x : ℕ) (t : Ty) → slice_get E0.kinds x ≡ Some (t, false) → Op (at v) (scheme.zeroed E0.target (Local x) (scalar_of t)) same (gone (at v)) (Always (at v)) (hold (Local x) (plain (zero_value t)))
+  zeros v x t e =
+      let lt = slice_get_within E0.kinds x (t, false) e in
+      let long = E0.as_long in
+      let s = slot_at x (subst (λ (ts : List Ty). x < length ts) (sym slots_are) (omega (arith, lt, long))) in
+      let at_kind = E0.kinds_are x s.0 (at_slot x s.0 s.1) in
+      let same_type : s.0 ≡ t = ap (λ (q : Slot). q.0) (some_is (s.0, E0.target.is_object (Local x)) (t, false) (sym at_kind ∙ e)) in
+      zero_of v x t (subst IsData same_type (slots_data x s.0 s.1)) e
 
   mutual
-    whole_stmt : (v : List ℕ) (d : ℕ) (x : Exits) (l : Jumps) (s : Stmt) → in_stmt s ≡ true → IsStatement (in_blocks v) E.result l s → IsWhole (codes d x s)
+    whole_stmt : (v : List ℕ) (d : ℕ) (x : Exits) (l : Jumps) (s : Stmt) → in_stmt s ≡ true → IsStatement (in_blocks v) E0.result l s → IsWhole (codes d x s)
     whole_stmt v d x l nothing i h = whole_plain []
-    whole_stmt v d x l (perform e) i h = whole_expr E.target false d e i
+    whole_stmt v d x l (perform e) i h = whole_expr E0.target false d e i
     whole_stmt v d x l (if_else e s t) i h =
         let q = both (in_expr e) (in_stmt s && in_stmt t) i in
-        whole_then (code.expr E.target true d e) (choice None (codes d (within x) s) (codes d (within x) t)) (whole_expr E.target true d e q.0) (whole_choice None (codes d (within x) s) (codes d (within x) t))
+        whole_then (code.expr E0.target true d e) (choice None (codes d (within x) s) (codes d (within x) t)) (whole_expr E0.target true d e q.0) (whole_choice None (codes d (within x) s) (codes d (within x) t))
     whole_stmt v d x l (loop e after s) i h =
         let q = both (in_expr e) (in_step after && in_stmt s) i in
-        let y = iterated E.target (continues s) (codes d (scheme.in_loop (continues s) x) s) (code.step E.target d after) (code.expr E.target true d e) in
-        whole_then (code.expr E.target true d e) (choice None y no_code) (whole_expr E.target true d e q.0) (whole_choice None y no_code)
+        let y = iterated E0.target (continues s) (codes d (scheme.in_loop (continues s) x) s) (code.step E0.target d after) (code.expr E0.target true d e) in
+        whole_then (code.expr E0.target true d e) (choice None y no_code) (whole_expr E0.target true d e q.0) (whole_choice None y no_code)
     whole_stmt v d x l (scope ns ss) i h =
-        let al = new_below (in_blocks v) ns h.0 in
-        whole_then (enters E.target E.slots ns) _ (whole_enters ns al) (whole_then (all_codes d (with_objects (objects_in E.target E.slots ns) x) ss) (freed E.target (objects_in E.target E.slots ns))
-        (whole_stmts (v ++ ns) d (with_objects (objects_in E.target E.slots ns) x) l ss i h.1) (whole_freed (objects_in E.target E.slots ns) (no_objects ns al)))
-    whole_stmt v d x l (return e) i h = λ n e'. absurd (never_both (code.expr E.target true d e n).instrs (freed E.target x.objects (n + length (code.expr E.target true d e n).seqs)).instrs Return e')
-    whole_stmt v d x l return_nothing i h = λ n e'. absurd (never_one (freed E.target x.objects n).instrs Return e')
-    whole_stmt v d x l break i h = λ n e'. absurd (never_both (freed E.target (take x.left_by_break x.objects) n).instrs (x.leaving (n + length (freed E.target (take x.left_by_break x.objects) n).seqs)).instrs (Br x.break_label) e')
-    whole_stmt v d x l continue i h = λ n e'. absurd (never_one (freed E.target (take x.left_by_continue x.objects) n).instrs (Br x.continue_label) e')
+        whole_then (enters E0.target E0.slots ns) _ (whole_enters ns) (whole_then (all_codes d (with_objects (objects_in E0.target E0.slots ns) x) ss) (freed E0.target (objects_in E0.target E0.slots ns))
+        (whole_stmts (v ++ ns) d (with_objects (objects_in E0.target E0.slots ns) x) l ss i h.1) (whole_freed (objects_in E0.target E0.slots ns)))
+    whole_stmt v d x l (return e) i h = λ n e'. absurd (never_both (code.expr E0.target true d e n).instrs (freed E0.target x.objects (n + length (code.expr E0.target true d e n).seqs)).instrs Return e')
+    whole_stmt v d x l return_nothing i h = λ n e'. absurd (never_one (freed E0.target x.objects n).instrs Return e')
+    whole_stmt v d x l break i h = λ n e'. absurd (never_both (freed E0.target (take x.left_by_break x.objects) n).instrs (x.leaving (n + length (freed E0.target (take x.left_by_break x.objects) n).seqs)).instrs (Br x.break_label) e')
+    whole_stmt v d x l continue i h = λ n e'. absurd (never_one (freed E0.target (take x.left_by_continue x.objects) n).instrs (Br x.continue_label) e')
     whole_stmt v d x l (tree.fill q n bytes) i h = absurd cc
     whole_stmt v d x l (tree.do_while s e) i h = λ n e'. absurd cc
-    whole_stmt v d x l (tree.switch t e ns cases ss) i h = λ n e'. absurd (never_in (code.expr E.target true d e n).instrs _ _ _ e')
+    whole_stmt v d x l (tree.switch t e ns cases ss) i h = λ n e'. absurd (never_in (code.expr E0.target true d e n).instrs _ _ _ e')
 
-    whole_stmts : (v : List ℕ) (d : ℕ) (x : Exits) (l : Jumps) (ss : Stmts) → in_stmts ss ≡ true → AreStatements (in_blocks v) E.result l ss → IsWhole (all_codes d x ss)
+    whole_stmts : (v : List ℕ) (d : ℕ) (x : Exits) (l : Jumps) (ss : Stmts) → in_stmts ss ≡ true → AreStatements (in_blocks v) E0.result l ss → IsWhole (all_codes d x ss)
     whole_stmts v d x l done i h = whole_plain []
     whole_stmts v d x l (seq s ss) i h =
         let q = both (in_stmt s) (in_stmts ss) i in
@@ -324,18 +399,18 @@ module _ (E : Env) (L : Linked E.site) (home : AtHome E) (k : well.Context) (slo
   -- ---- all statements
 
   abbrev does : Stmt → Does Flow
-  does s = meant.stmt E.unit E.calls E.turn_bound kinds s
+  does s = meant.stmt E0.unit E0.calls E0.turn_bound kinds s
 
   abbrev do_all : Stmts → Does Flow
-  do_all ss = stmts_from E.unit E.calls E.turn_bound kinds 0 ss
+  do_all ss = stmts_from E0.unit E0.calls E0.turn_bound kinds 0 ss
 
   -- ---- groups of a switch
 
   abbrev do_from : ℕ → Stmts → Does Flow
-  do_from n ss = stmts_from E.unit E.calls E.turn_bound kinds n ss
+  do_from n ss = stmts_from E0.unit E0.calls E0.turn_bound kinds n ss
 
   abbrev all_groups : ℕ → Exits → ℕ → Stmts → Code
-  all_groups d x i ss = scheme.groups E.target E.slots d x i ss
+  all_groups d x i ss = scheme.groups E0.target E0.slots d x i ss
 
   past : (ss : Stmts) (n : ℕ) → count ss ≤ n → do_from n ss ≡ pure next
   past done n le = refl
@@ -346,8 +421,8 @@ module _ (E : Env) (L : Linked E.site) (home : AtHome E) (k : well.Context) (slo
   from_group_is s ss zero = refl
   from_group_is s ss (suc n) = refl
 
-  no_groups : (l : Way) (b c g : ℕ) → HeldRuns E g l b c no_code (pure next)
-  no_groups l b c g n has small now le vs r br cr rr caller a dep w m k held = here E.site 0 w m (to_flow E vs r br cr rr caller) (GoodFlow E l now) next (tt, k)
+  no_groups : (v : List ℕ) (l : Way) (b c g : ℕ) → HeldRuns (at v) g l b c no_code (pure next)
+  no_groups v l b c g n has small now le vs r br cr rr caller a dep w m k held = here E0.site 0 w m (to_flow (at v) vs r br cr rr caller) (GoodFlow (at v) l now) next (tt, k)
 
   same_below : (d q : ℕ) → Some d ≡ Some q → q < suc d
   same_below d q e = let z : d ≡ q = ap (λ (o : Option ℕ). or o) e in omega (arith, z) where
@@ -355,112 +430,101 @@ module _ (E : Env) (L : Linked E.site) (home : AtHome E) (k : well.Context) (slo
     or None = d
     or (Some n) = n
 
-  left_groups : (l : Way) (b c g : ℕ) (x : Code) (y : Does Flow) (ns : List ℕ) → Below (length k.slots) ns → HeldRuns E g l b c x (switched y)
-      → HeldRuns E g l b c x (y >>= (λ f. leave E.unit E.calls E.turn_bound kinds ns >> pure (behind_switch f)))
-  left_groups l b c g x y ns al h n has small now le vs r br cr rr caller a dep w m kp held =
-      let to = to_flow E vs r br cr rr caller in
-      let start = at_work E m w vs (front (x n).instrs r) in
-      subst (λ (q : Result Flow). Runs E.site (size_of (x n)) m start w to (GoodFlow E l now) q) (after_after (y w) (λ f. pure (behind_switch f)) (λ f. leave E.unit E.calls E.turn_bound kinds ns >> pure f))
-      (leaves_on l (size_of (x n)) now w m start to (switched y) ns al (h n has small now le vs r br cr rr caller a dep w m kp held))
-
-  loop_out : (d : ℕ) (x : Exits) (C : Bool) → x.objects ≡ [] → IsOut E d None (scheme.in_loop C x)
-  loop_out d x C e = record { objects = e; leaving = refl; around = λ q e'. absurd cc }
-
-  within_blocks : (d : ℕ) (o : Option ℕ) (x : Exits) (vs : List Variable) → vs ≡ [] → IsOut E d o x → IsOut E d o (with_objects vs x)
-  within_blocks d o x vs e h = record { objects = ap (λ (us : List Variable). us ++ x.objects) e ∙ h.objects; leaving = h.leaving; around = h.around }
+  -- `break` leaves the switch when its objects have ended
+  left_groups : (v : List ℕ) (l : Way) (b c g : ℕ) (x : Code) (y : Does Flow) (ns : List ℕ) → HeldRuns (at v) g l b c x (enter E0.unit E0.calls E0.turn_bound kinds ns >> (switched y >>= (λ f. leave E0.unit E0.calls E0.turn_bound kinds ns >> pure f)))
+      → HeldRuns (at v) g l b c x (enter E0.unit E0.calls E0.turn_bound kinds ns >> (y >>= (λ f. leave E0.unit E0.calls E0.turn_bound kinds ns >> pure (behind_switch f))))
+  left_groups v l b c g x y ns h n has small now le vs r br cr rr caller a dep w m kp held =
+      let to = to_flow (at v) vs r br cr rr caller in
+      let start = at_work (at v) m w vs (front (x n).instrs r) in
+      let en = enter E0.unit E0.calls E0.turn_bound kinds ns in
+      subst (λ (q : Does Flow). Runs E0.site (size_of (x n)) m start w to (GoodFlow (at v) l now) (after (en w) (λ u. q)))
+      (λ i w1. after_after (y w1) (λ f. pure (behind_switch f)) (λ f. leave E0.unit E0.calls E0.turn_bound kinds ns >> pure f) i)
+      (h n has small now le vs r br cr rr caller a dep w m kp held)
 
   mutual
-    pub stmt_runs : (v : List ℕ) (d : ℕ) (o : Option ℕ) (x : Exits) (j : Jumps) (s : Stmt) → IsOut E d o x → d + waits_stmt s ≤ E.waits → IsReady E.unit (in_stmt s) (uses.in_stmt s)
-        → IsStatement (in_blocks v) E.result j s → FlowRuns E (way j d o) x.break_label x.continue_label (codes d x s) same (does s)
-    stmt_runs v d o x j nothing out room i h = flow_none E (way j d o) x.break_label x.continue_label
-    stmt_runs v d o x j (perform e) out room i h = perform_runs v (way j d o) x.break_label x.continue_label d e h.0 i h.1
-    stmt_runs v d o x j (if_else e s t) out room i h =
-        let q = parts E.unit (in_expr e) (in_stmt s && in_stmt t) (uses.in_expr e) (uses.in_stmt s ++ uses.in_stmt t) i in
-        let q' = parts E.unit (in_stmt s) (in_stmt t) (uses.in_stmt s) (uses.in_stmt t) q.1 in
-        let out' : IsOut E d o (within x) = record { objects = out.objects; leaving = out.leaving; around = out.around } in
-        if_runs v (way j d o) x.break_label x.continue_label d e h.0.0 (codes d (within x) s) (codes d (within x) t) (does s) (does t) q.0 h.0.1 h.0.2 (whole_stmt v d (within x) j t q'.1.in_stage h.2)
-        (stmt_runs v d o (within x) j s out' (omega (arith, room)) q'.0 h.1) (stmt_runs v d o (within x) j t out' (omega (arith, room)) q'.1 h.2)
-    stmt_runs v d o x j (loop e after' s) out room i h =
-        let q = parts E.unit (in_expr e) (in_step after' && in_stmt s) (uses.in_expr e) (uses.in_step after' ++ uses.in_stmt s) i in
-        let q' = parts E.unit (in_step after') (in_stmt s) (uses.in_step after') (uses.in_stmt s) q.1 in
-        let T = code.expr E.target true d e in
-        let S = code.step E.target d after' in
+    pub stmt_runs : (v : List ℕ) (d : ℕ) (o : Option ℕ) (x : Exits) (j : Jumps) (off : Off) (s : Stmt) → IsOut E0 v d o x off → d + waits_stmt s ≤ E0.waits → IsReady E0.target.is_object E0.unit (in_stmt s) (uses.in_stmt s) (in_stmt_of s)
+        → IsStatement (in_blocks v) E0.result j s → FlowRuns (at v) (way j d o off) x.break_label x.continue_label (codes d x s) same (does s)
+    stmt_runs v d o x j off nothing out room i h = flow_none (at v) (way j d o off) x.break_label x.continue_label
+    stmt_runs v d o x j off (perform e) out room i h = perform_runs v (way j d o off) x.break_label x.continue_label d e h.0 i h.1
+    stmt_runs v d o x j off (if_else e s t) out room i h =
+        let q = parts E0.target.is_object E0.unit (in_expr e) (in_stmt s && in_stmt t) (uses.in_expr e) (uses.in_stmt s ++ uses.in_stmt t) (in_expr_of e) (either (in_stmt_of s) (in_stmt_of t)) i in
+        let q' = parts E0.target.is_object E0.unit (in_stmt s) (in_stmt t) (uses.in_stmt s) (uses.in_stmt t) (in_stmt_of s) (in_stmt_of t) q.1 in
+        let out' : IsOut E0 v d o (within x) off = record { objects = out.objects; by_break = out.by_break; by_continue = out.by_continue; leaving = out.leaving; around = out.around; returned' = out.returned'; broken' = out.broken'; continued' = out.continued' } in
+        if_runs v (way j d o off) x.break_label x.continue_label d e h.0.0 (codes d (within x) s) (codes d (within x) t) (does s) (does t) q.0 h.0.1 h.0.2 (whole_stmt v d (within x) j t q'.1.in_stage h.2)
+        (stmt_runs v d o (within x) j off s out' (omega (arith, room)) q'.0 h.1) (stmt_runs v d o (within x) j off t out' (omega (arith, room)) q'.1 h.2)
+    stmt_runs v d o x j off (loop e after' s) out room i h =
+        let i' = looped E0.target.is_object E0.unit (in_stmt (loop e after' s)) (uses.in_stmt (loop e after' s)) e after' s i in
+        let q = parts E0.target.is_object E0.unit (in_expr e) (in_step after' && in_stmt s) (uses.in_expr e) (uses.in_step after' ++ uses.in_stmt s) (in_expr_of e) (either (in_step_of after') (in_stmt_of s)) i' in
+        let q' = parts E0.target.is_object E0.unit (in_step after') (in_stmt s) (uses.in_step after') (uses.in_stmt s) (in_step_of after') (in_stmt_of s) q.1 in
+        let T = code.expr E0.target true d e in
+        let S = code.step E0.target d after' in
         let body = codes d (scheme.in_loop (continues s) x) s in
-        subst (λ (y : Code). FlowRuns E (way j d o) x.break_label x.continue_label (T ⨾ choice None y no_code) same (does (loop e after' s))) (iterated_is E.target (continues s) body S T)
-        (while_runs E h.0.0 (narrow_width h.0.0 h.0.1) T (value e) (run_expr v true d e (integer h.0.0) q.0 h.0.2) S (step_of E.unit E.calls E.turn_bound after') (step_runs v d after' q'.0 h.1)
-        (continues s) body (does s) d (stmt_runs v d None (scheme.in_loop (continues s) x) (jumps_in (continues s)) s (loop_out d x (continues s) out.objects) (omega (arith, room)) q'.1 (jumps_of (in_blocks v) E.result s (continues s) refl h.2))
-        (way j d o) refl x.break_label x.continue_label E.turn_bound wide)
-    stmt_runs v d o x j (scope ns ss) out room i h =
-        let al = new_below (in_blocks v) ns h.0 in
-        let vs = objects_in E.target E.slots ns in
-        let e = no_objects ns al in
-        let inner' = all_codes d (with_objects vs x) ss in
-        flow_behind E (way j d o) x.break_label x.continue_label (enters E.target E.slots ns) (inner' ⨾ freed E.target vs) same (gone E) (Always E) (enter E.unit E.calls E.turn_bound kinds ns) (λ u. do_all ss >>= (λ f. leave E.unit E.calls E.turn_bound kinds ns >> pure f)) (enter_runs ns al)
-        (λ u ok. left_runs (way j d o) x.break_label x.continue_label (inner' ⨾ freed E.target vs) (do_all ss) ns al
-        (subst (λ (y : Code). FlowRuns E (way j d o) x.break_label x.continue_label y same (do_all ss)) (sym (freed_behind inner' vs e))
-        (stmts_run (v ++ ns) d o (with_objects vs x) j ss (within_blocks d o x vs e out) room i h.1)))
-    stmt_runs v d o x j (return e) out room i h =
-        flow_behind E (way j d o) x.break_label x.continue_label (code.expr E.target true d e) (freed E.target x.objects ⨾ one Return) same (pushed E.result) (IsOf E.result) (value e) (λ z. pure (returned z)) (run_expr v true d e E.result i h.1)
-        (λ z ok. freed_none (way j d o) x.break_label x.continue_label x.objects (one Return) (pushed E.result z) (pure (returned z)) out.objects (flow_return E (way j d o) x.break_label x.continue_label z ok))
-    stmt_runs v d o x j return_nothing out room i h =
-        freed_none (way j d o) x.break_label x.continue_label x.objects (one Return) same (pure (returned meaning.nothing_given)) out.objects (returns_nothing (way j d o) x.break_label x.continue_label h)
-    stmt_runs v d o x j break out room i h =
-        freed_none (way j d o) x.break_label x.continue_label (take x.left_by_break x.objects) (x.leaving ⨾ one (Br x.break_label)) same (pure broken) (take_none x.left_by_break x.objects out.objects)
-        (subst (λ (y : Code). FlowRuns E (way j d o) x.break_label x.continue_label (y ⨾ one (Br x.break_label)) same (pure broken)) (sym out.leaving)
-        (flow_leave E j d o x.break_label x.continue_label out.around (omega (arith, room)) h))
-    stmt_runs v d o x j continue out room i h =
-        freed_none (way j d o) x.break_label x.continue_label (take x.left_by_continue x.objects) (one (Br x.continue_label)) same (pure continued) (take_none x.left_by_continue x.objects out.objects)
-        (flow_continue E (way j d o) x.break_label x.continue_label h)
-    stmt_runs v d o x j (tree.fill q n bytes) out room i h = absurd (let e = i.in_stage in cc)
-    stmt_runs v d o x j (tree.do_while s e) out room i h =
-        let q = parts E.unit (in_stmt s) (in_expr e) (uses.in_stmt s) (uses.in_expr e) i in
-        let T = code.expr E.target true d e in
+        subst (λ (y : Code). FlowRuns (at v) (way j d o off) x.break_label x.continue_label (T ⨾ choice None y no_code) same (does (loop e after' s))) (iterated_is E0.target (continues s) body S T)
+        (while_runs (at v) h.0.0 (narrow_width h.0.0 h.0.1) T (value e) (run_expr v true d e (integer h.0.0) q.0 h.0.2) S (step_of E0.unit E0.calls E0.turn_bound after') (step_runs v d after' q'.0 h.1)
+        (continues s) body (does s) d off (stmt_runs v d None (scheme.in_loop (continues s) x) (jumps_in (continues s)) (inside off) s (loop_out v d o x off (continues s) out) (omega (arith, room)) q'.1 (jumps_of (in_blocks v) E0.result s (continues s) refl h.2))
+        j o x.break_label x.continue_label E0.turn_bound wide)
+    stmt_runs v d o x j off (scope ns ss) out room i h =
+        scope_runs (at v) (zeros v) ns (new_differ (in_blocks v) ns h.0) (among_of v ns h.0) (none_new (in_blocks v) ns h.0) (way j d o off) x.break_label x.continue_label (all_codes d (with_objects (objects_in E0.target E0.slots ns) x) ss) (do_all ss)
+        (stmts_run (v ++ ns) d o (with_objects (objects_in E0.target E0.slots ns) x) j (with_off ns off) ss (out_more v ns d o x off h.0 out) room i h.1)
+    stmt_runs v d o x j off (return e) out room i h =
+        flow_behind_in (at v) (way j d o off) x.break_label x.continue_label (code.expr E0.target true d e) (freed E0.target x.objects ⨾ one Return) same (pushes (at v) E0.result) (IsValue (at v) E0.result) (value e) (λ z. pure (returned z)) (run_expr v true d e E0.result i h.1)
+        (λ hs z ok. out_frees v (way j d o off) hs (returned z) x.break_label x.continue_label (one Return) (pushes (at v) E0.result hs z) x.objects out.objects (off_at v off.returned out.returned') (flow_return (at v) (way j d o off) hs x.break_label x.continue_label z ok))
+    stmt_runs v d o x j off return_nothing out room i h =
+        out_here v (way j d o off) x.break_label x.continue_label (freed E0.target x.objects ⨾ one Return) same (pure (returned meaning.nothing_given))
+        (out_frees v (way j d o off) [] (returned meaning.nothing_given) x.break_label x.continue_label (one Return) same x.objects out.objects (off_at v off.returned out.returned') (returns_nothing v (way j d o off) x.break_label x.continue_label h))
+    stmt_runs v d o x j off break out room i h =
+        out_here v (way j d o off) x.break_label x.continue_label (freed E0.target (take x.left_by_break x.objects) ⨾ (x.leaving ⨾ one (Br x.break_label))) same (pure broken)
+        (out_frees v (way j d o off) [] broken x.break_label x.continue_label (x.leaving ⨾ one (Br x.break_label)) same (take x.left_by_break x.objects) out.by_break (off_at v off.broken out.broken')
+        (subst (λ (y : Code). FlowOut (at v) (way j d o off) [] broken x.break_label x.continue_label (y ⨾ one (Br x.break_label)) same) (sym out.leaving)
+        (flow_leave (at v) j d o x.break_label x.continue_label off out.around (omega (arith, room)) h)))
+    stmt_runs v d o x j off continue out room i h =
+        out_here v (way j d o off) x.break_label x.continue_label (freed E0.target (take x.left_by_continue x.objects) ⨾ one (Br x.continue_label)) same (pure continued)
+        (out_frees v (way j d o off) [] continued x.break_label x.continue_label (one (Br x.continue_label)) same (take x.left_by_continue x.objects) out.by_continue (off_at v off.continued out.continued') (flow_continue (at v) (way j d o off) x.break_label x.continue_label h))
+    stmt_runs v d o x j off (tree.fill q n bytes) out room i h = absurd (let e = i.in_stage in cc)
+    stmt_runs v d o x j off (tree.do_while s e) out room i h =
+        let q = parts E0.target.is_object E0.unit (in_stmt s) (in_expr e) (uses.in_stmt s) (uses.in_expr e) (in_stmt_of s) (in_expr_of e) i in
+        let T = code.expr E0.target true d e in
         let body = codes d (scheme.in_loop (continues s) x) s in
-        subst (λ (y : Code). FlowRuns E (way j d o) x.break_label x.continue_label (block None y) same (does (tree.do_while s e))) (iterated_is E.target (continues s) body no_code T)
-        (do_runs E h.1.0 (narrow_width h.1.0 h.1.1) T (value e) (run_expr v true d e (integer h.1.0) q.1 h.1.2) (continues s) body (does s) d (stmt_runs v d None (scheme.in_loop (continues s) x) (jumps_in (continues s)) s (loop_out d x (continues s) out.objects) (omega (arith, room)) q.0 (jumps_of (in_blocks v) E.result s (continues s) refl h.0))
-        (way j d o) refl x.break_label x.continue_label E.turn_bound wide)
-    stmt_runs v d o x j (tree.switch t e ns cases ss) out room i h =
-        let l = way j d o in
-        let al = new_below (in_blocks v) ns h.2 in
-        let vs = objects_in E.target E.slots ns in
-        let none = no_objects ns al in
-        let counted = behind_test E.unit (nat_lt (count ss) no_group) (in_expr e && in_stmts ss) (uses.in_expr e ++ uses.in_stmts ss) i in
-        let q = parts E.unit (in_expr e) (in_stmts ss) (uses.in_expr e) (uses.in_stmts ss) counted.1 in
+        subst (λ (y : Code). FlowRuns (at v) (way j d o off) x.break_label x.continue_label (block None y) same (does (tree.do_while s e))) (iterated_is E0.target (continues s) body no_code T)
+        (do_runs (at v) h.1.0 (narrow_width h.1.0 h.1.1) T (value e) (run_expr v true d e (integer h.1.0) q.1 h.1.2) (continues s) body (does s) d off (stmt_runs v d None (scheme.in_loop (continues s) x) (jumps_in (continues s)) (inside off) s (loop_out v d o x off (continues s) out) (omega (arith, room)) q.0 (jumps_of (in_blocks v) E0.result s (continues s) refl h.0))
+        j o x.break_label x.continue_label E0.turn_bound wide)
+    stmt_runs v d o x j off (tree.switch t e ns cases ss) out room i h =
+        let l = way j d o off in
+        let vs = objects_in E0.target E0.slots ns in
+        let counted = behind_test E0.target.is_object E0.unit (nat_lt (count ss) no_group) (in_expr e && in_stmts ss) (uses.in_expr e ++ uses.in_stmts ss) (either (in_expr_of e) (in_stmts_of ss)) i in
+        let q = parts E0.target.is_object E0.unit (in_expr e) (in_stmts ss) (uses.in_expr e) (uses.in_stmts ss) (in_expr_of e) (in_stmts_of ss) counted.1 in
         let few = ltb→lt (count ss) no_group (subst T (sym counted.0) tt) in
-        let gs = all_groups d (scheme.in_group (waiting E.target d) (with_objects vs x)) 0 ss in
-        switch_runs E t h.0 (count ss) cases h.3 h.4 (omega (arith, few)) d (omega (arith, room)) (code.expr E.target true d e) (value e) (run_expr v true d e (integer t) q.0 h.1) j o x.break_label x.continue_label
-        (enters E.target E.slots ns ⨾ gs ⨾ freed E.target vs)
-        (λ z. enter E.unit E.calls E.turn_bound kinds ns >> (do_from (goes_to cases (bits_of t z) (count ss)) ss >>= (λ f. leave E.unit E.calls E.turn_bound kinds ns >> pure (behind_switch f))))
+        let gs = all_groups d (scheme.in_group (waiting E0.target d) (with_objects vs x)) 0 ss in
+        switch_runs (at v) t h.0 (count ss) cases h.3 h.4 (omega (arith, few)) d (omega (arith, room)) (code.expr E0.target true d e) (value e) (run_expr v true d e (integer t) q.0 h.1) j o off x.break_label x.continue_label
+        (enters E0.target E0.slots ns ⨾ (gs ⨾ freed E0.target vs))
+        (λ z. enter E0.unit E0.calls E0.turn_bound kinds ns >> (do_from (goes_to cases (bits_of t z) (count ss)) ss >>= (λ f. leave E0.unit E0.calls E0.turn_bound kinds ns >> pure (behind_switch f))))
         (λ z iz.
         let g = goes_to cases (bits_of t z) (count ss) in
         let small = goes_small t (count ss) (bits_of t z) cases h.3 in
-        held_behind E g l x.break_label x.continue_label (enters E.target E.slots ns) (gs ⨾ freed E.target vs) (Always E) (enter E.unit E.calls E.turn_bound kinds ns)
-        (λ u. do_from g ss >>= (λ f. leave E.unit E.calls E.turn_bound kinds ns >> pure (behind_switch f))) (enter_runs ns al)
-        (λ u ok.
-        subst (λ (y : Code). HeldRuns E g l x.break_label x.continue_label y (do_from g ss >>= (λ f. leave E.unit E.calls E.turn_bound kinds ns >> pure (behind_switch f)))) (sym (freed_behind gs vs none))
-        (left_groups l x.break_label x.continue_label g gs (do_from g ss) ns al
-        (subst (λ (n : ℕ). HeldRuns E g l x.break_label x.continue_label gs (switched (do_from n ss))) (let y : g - 0 ≡ g = omega arith in y)
-        (groups_run (v ++ ns) d o (with_objects vs x) j ss 0 (within_blocks d o x vs none out).objects (omega (arith, few)) (omega (arith, room)) q.1 h.5 x.break_label g (omega (arith, small, few)))))))
+        left_groups v l x.break_label x.continue_label g (enters E0.target E0.slots ns ⨾ (gs ⨾ freed E0.target vs)) (do_from g ss) ns
+        (held_scope (at v) (zeros v) ns (new_differ (in_blocks v) ns h.2) (among_of v ns h.2) (none_new (in_blocks v) ns h.2) g l x.break_label x.continue_label gs (switched (do_from g ss))
+        (subst (λ (n : ℕ). HeldRuns (at (v ++ ns)) g (way j d o (with_off ns off)) x.break_label x.continue_label gs (switched (do_from n ss))) (let y : g - 0 ≡ g = omega arith in y)
+        (groups_run (v ++ ns) d o (with_objects vs x) j (with_off ns off) ss 0 (out_more v ns d o x off h.2 out) (omega (arith, few)) (omega (arith, room)) q.1 h.5 x.break_label g (omega (arith, small, few))))))
 
-    pub stmts_run : (v : List ℕ) (d : ℕ) (o : Option ℕ) (x : Exits) (j : Jumps) (ss : Stmts) → IsOut E d o x → d + waits_stmts ss ≤ E.waits → IsReady E.unit (in_stmts ss) (uses.in_stmts ss)
-        → AreStatements (in_blocks v) E.result j ss → FlowRuns E (way j d o) x.break_label x.continue_label (all_codes d x ss) same (do_all ss)
-    stmts_run v d o x j done out room i h = flow_none E (way j d o) x.break_label x.continue_label
-    stmts_run v d o x j (seq s ss) out room i h =
-        let q = parts E.unit (in_stmt s) (in_stmts ss) (uses.in_stmt s) (uses.in_stmts ss) i in
-        flow_seq E (way j d o) x.break_label x.continue_label (codes d x s) (all_codes d x ss) (does s) (do_all ss) (stmt_runs v d o x j s out (omega (arith, room)) q.0 h.0) (stmts_run v d o x j ss out (omega (arith, room)) q.1 h.1)
+    pub stmts_run : (v : List ℕ) (d : ℕ) (o : Option ℕ) (x : Exits) (j : Jumps) (off : Off) (ss : Stmts) → IsOut E0 v d o x off → d + waits_stmts ss ≤ E0.waits → IsReady E0.target.is_object E0.unit (in_stmts ss) (uses.in_stmts ss) (in_stmts_of ss)
+        → AreStatements (in_blocks v) E0.result j ss → FlowRuns (at v) (way j d o off) x.break_label x.continue_label (all_codes d x ss) same (do_all ss)
+    stmts_run v d o x j off done out room i h = flow_none (at v) (way j d o off) x.break_label x.continue_label
+    stmts_run v d o x j off (seq s ss) out room i h =
+        let q = parts E0.target.is_object E0.unit (in_stmt s) (in_stmts ss) (uses.in_stmt s) (uses.in_stmts ss) (in_stmt_of s) (in_stmts_of ss) i in
+        flow_seq (at v) (way j d o off) x.break_label x.continue_label (codes d x s) (all_codes d x ss) (does s) (do_all ss) (stmt_runs v d o x j off s out (omega (arith, room)) q.0 h.0) (stmts_run v d o x j off ss out (omega (arith, room)) q.1 h.1)
 
     -- the groups of a switch, from the i-th on
-    groups_run : (v : List ℕ) (d : ℕ) (o : Option ℕ) (x : Exits) (j : Jumps) (ss : Stmts) (i : ℕ) → x.objects ≡ [] → i + count ss ≤ no_group → suc d + waits_stmts ss ≤ E.waits
-        → IsReady E.unit (in_stmts ss) (uses.in_stmts ss) → AreStatements (in_blocks v) E.result (judged.in_switch j) ss → (b g : ℕ) → g ≤ no_group
-        → HeldRuns E g (way j d o) b x.continue_label (all_groups d (scheme.in_group (waiting E.target d) x) i ss) (switched (do_from (g - i) ss))
-    groups_run v d o x j done i none few room ready h b g le = no_groups (way j d o) b x.continue_label g
-    groups_run v d o x j (seq s ss) i none few room ready h b g le =
-        let q = parts E.unit (in_stmt s) (in_stmts ss) (uses.in_stmt s) (uses.in_stmts ss) ready in
-        let xg = scheme.in_group (waiting E.target d) x in
-        let out : IsOut E (suc d) (Some d) xg = record { objects = none; leaving = refl; around = λ k e. same_below d k e } in
-        subst (λ (y : Does Flow). HeldRuns E g (way j d o) b x.continue_label (all_groups d xg i (seq s ss)) (switched y)) (from_group_is s ss (g - i))
-        (group_then E j d o b x.continue_label i (omega (arith, few)) (codes (suc d) xg s) (does s)
-        (stmt_runs v (suc d) (Some d) xg (judged.in_switch j) s out (omega (arith, room)) q.0 h.0)
+    groups_run : (v : List ℕ) (d : ℕ) (o : Option ℕ) (x : Exits) (j : Jumps) (off : Off) (ss : Stmts) (i : ℕ) → IsOut E0 v d o x off → i + count ss ≤ no_group → suc d + waits_stmts ss ≤ E0.waits
+        → IsReady E0.target.is_object E0.unit (in_stmts ss) (uses.in_stmts ss) (in_stmts_of ss) → AreStatements (in_blocks v) E0.result (judged.in_switch j) ss → (b g : ℕ) → g ≤ no_group
+        → HeldRuns (at v) g (way j d o off) b x.continue_label (all_groups d (scheme.in_group (waiting E0.target d) x) i ss) (switched (do_from (g - i) ss))
+    groups_run v d o x j off done i out few room ready h b g le = no_groups v (way j d o off) b x.continue_label g
+    groups_run v d o x j off (seq s ss) i out few room ready h b g le =
+        let q = parts E0.target.is_object E0.unit (in_stmt s) (in_stmts ss) (uses.in_stmt s) (uses.in_stmts ss) (in_stmt_of s) (in_stmts_of ss) ready in
+        let xg = scheme.in_group (waiting E0.target d) x in
+        let out' : IsOut E0 v (suc d) (Some d) xg (record off { broken = [] }) = record { objects = out.objects; by_break = take_zero x.objects; by_continue = out.by_continue; leaving = refl; around = λ k e. same_below d k e; returned' = out.returned'; broken' = off_none E0 v; continued' = out.continued' } in
+        subst (λ (y : Does Flow). HeldRuns (at v) g (way j d o off) b x.continue_label (all_groups d xg i (seq s ss)) (switched y)) (from_group_is s ss (g - i))
+        (group_then (at v) j d o off b x.continue_label i (omega (arith, few)) (codes (suc d) xg s) (does s)
+        (stmt_runs v (suc d) (Some d) xg (judged.in_switch j) (record off { broken = [] }) s out' (omega (arith, room)) q.0 h.0)
         (all_groups d xg (suc i) ss) (λ k. do_from k ss) (omega (arith, few)) (past ss (no_group - suc i) (omega (arith, few)))
-        (λ g' le'. groups_run v d o x j ss (suc i) none (omega (arith, few)) (omega (arith, room)) q.1 h.1 b g' le')
+        (λ g' le'. groups_run v d o x j off ss (suc i) out (omega (arith, few)) (omega (arith, room)) q.1 h.1 b g' le')
         g le)

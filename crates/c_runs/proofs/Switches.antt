@@ -21,7 +21,7 @@ use Rattle.ms_task.specs.Thread.{Do, Frame, Item, Label, Thread, thread, depth_o
 use Rattle.c_types.specs.declared.integers.IntType.{IntType}
 use Rattle.c_types.specs.declared.integers.IntType.TheVariants.{Int}
 use Rattle.c_types.specs.Integers.{bits}
-use Rattle.c_types.specs.Types.{Ty, integer}
+use Rattle.c_types.specs.Types.{integer}
 use Rattle.c_typed.specs.declared.ops.RelOp.TheVariants.{NotEqual}
 use Rattle.c_typed.specs.declared.tree.Case.{Case}
 use Rattle.c_well_typed.specs.declared.jumps.Jumps.{Jumps}
@@ -31,7 +31,7 @@ use Rattle.c_meaning.specs.Integers.{bits_of, compared, from_truth, value_of}
 use Rattle.c_meaning.specs.Expressions as meaning
 use Rattle.c_meaning.specs.Expressions.{as_number}
 use Rattle.c_meaning.specs.Values.{Value}
-use Rattle.c_meaning.specs.World.{Held, World, Result, Does, gives, after, ◌>>=◌, pure}
+use Rattle.c_meaning.specs.World.{World, Result, Does, gives, after, ◌>>=◌, pure}
 use Rattle.c_meaning.specs.Statements.{Flow, next, broken, continued, returned, behind_switch, followed, goes_to, group_at, is_label, or_else}
 use Rattle.ms_emit.specs.Codes.{Code, plain, one, no_code, ◌⨾◌, choice, size_of}
 use Rattle.c_code.specs.Operations.{constant, i32, rel, width_of}
@@ -44,49 +44,12 @@ use Rattle.c_numbers.proofs.Ranges.{value_in}
 use Rattle.c_numbers.proofs.Wrapping.{back}
 use Rattle.c_runs.proofs.Goes as goes
 use Rattle.c_runs.proofs.Goes.{Goes, Mem, Runs, after_after, behind_goes, bind, goes_on, here, one_here, resize, sized, stays}
-use Rattle.c_runs.proofs.Related.{AreHeld, Env, HasAll, IsOf, Kept, Now, Temps, depth_front, frame_of, front, front_append, has_back, has_front, total_append, words}
-use Rattle.c_runs.specs.Words.{pushed}
-use Rattle.c_runs.proofs.Ops.{Good, IsTest, Op, To_, at_work, carried_is, choice_at, is_no, is_yes, op_none, runs_choice, same, size_joined}
+use Rattle.c_meaning.specs.Objects.{Object}
+use Rattle.c_runs.proofs.Held.{ending, get_behind, length_set, length_words, set_behind, set_elsewhere, set_there}
+use Rattle.c_runs.proofs.Related.{Env, HasAll, Holds, IsValue, Kept, KeptAs, Now, Temps, kept_temps, locals_of, pushes, depth_front, frame_of, front, front_append, has_back, has_front, total_append}
+use Rattle.c_runs.proofs.Ops.{Good, GoodIn, IsTest, Op, ToIn, To_, at_work, carried_is, choice_at, is_no, is_yes, runs_choice, same, size_joined}
 use Rattle.c_runs.proofs.Nodes.{Leaves, gone, of_number}
-use Rattle.c_runs.proofs.Flows.{Around, FlowRuns, GoodFlow, IsAt, Way, around_front, flow_behind, flow_break, in_label, lowest_all, no_group, to_flow, way}
-
--- ---- an element that is set
-
-module _ {A : Type 0} where
-  pub set_there : (xs : List A) (i : ℕ) (x : A) → i < length xs → slice_get (slice_set xs i x) i ≡ Some x
-  set_there [] i x lt = absurd (omega (arith, lt))
-  set_there (y ∷ xs) zero x lt = refl
-  set_there (y ∷ xs) (suc i) x lt = set_there xs i x (omega (arith, lt))
-
-  pub set_elsewhere : (xs : List A) (i j : ℕ) (x : A) → i ≢ j → slice_get (slice_set xs i x) j ≡ slice_get xs j
-  set_elsewhere [] i j x d = refl
-  set_elsewhere (y ∷ xs) zero zero x d = absurd (d refl)
-  set_elsewhere (y ∷ xs) zero (suc j) x d = refl
-  set_elsewhere (y ∷ xs) (suc i) zero x d = refl
-  set_elsewhere (y ∷ xs) (suc i) (suc j) x d = set_elsewhere xs i j x (λ e. d (ap suc e))
-
-  pub length_set : (xs : List A) (i : ℕ) (x : A) → length (slice_set xs i x) ≡ length xs
-  length_set [] i x = refl
-  length_set (y ∷ xs) zero x = refl
-  length_set (y ∷ xs) (suc i) x = ap suc (length_set xs i x)
-
-  set_behind : (xs ys : List A) (i : ℕ) (x : A) → slice_set (xs ++ ys) (length xs + i) x ≡ xs ++ slice_set ys i x
-  set_behind [] ys i x = let z : 0 + i ≡ i = omega arith in ap (λ (k : ℕ). slice_set ys k x) z
-  set_behind (y ∷ xs) ys i x =
-      let z : suc (length xs) + i ≡ suc (length xs + i) = omega arith in
-      ap (λ (k : ℕ). slice_set (y ∷ (xs ++ ys)) k x) z ∙ ap (λ (l : List A). y ∷ l) (set_behind xs ys i x)
-
-  get_behind : (xs ys : List A) (i : ℕ) → slice_get (xs ++ ys) (length xs + i) ≡ slice_get ys i
-  get_behind [] ys i = let z : 0 + i ≡ i = omega arith in ap (slice_get ys) z
-  get_behind (y ∷ xs) ys i =
-      let z : suc (length xs) + i ≡ suc (length xs + i) = omega arith in
-      ap (slice_get (y ∷ (xs ++ ys))) z ∙ get_behind xs ys i
-
-length_words : (ts : List Ty) (hs : List Held) → AreHeld ts hs → length (words ts hs) ≡ length ts
-length_words [] [] a = refl
-length_words (t ∷ ts) (h ∷ hs) a = ap suc (length_words ts hs a.1)
-length_words [] (h ∷ hs) a = absurd a
-length_words (t ∷ ts) [] a = absurd a
+use Rattle.c_runs.proofs.Flows.{Around, FlowRuns, GoodFlow, IsAt, Off, Way, around_front, FlowOut, flow_break, in_label, lowest_all, starts, no_group, to_flow, way}
 
 -- what stands in front of the branch of `break`
 abbrev pub leaves : Target → Option ℕ → Code
@@ -101,25 +64,26 @@ module _ (E : Env) where
 
   -- the local that stands there
   abbrev pub IsTemp : (x i : ℕ) → Type 0
-  IsTemp x i = x ≡ length E.slots + i
+  IsTemp x i = x ≡ (length E.args + length E.slots) + i
 
   pub waiting_is : (d : ℕ) → IsTemp (waiting E.target d) (4 + d)
   waiting_is d = let e = E.scratch_is in omega (arith, e)
 
-  module _ (w : World) (m : Mem) (held : AreHeld E.slots w.locals) (x i : ℕ) (is : IsTemp x i) where
+  module _ (w : World) (m : Mem) (held : Holds E m w) (x i : ℕ) (is : IsTemp x i) where
     abbrev ws : List Word
-    ws = words E.slots w.locals
+    ws = locals_of E m w
 
-    there : x ≡ length ws + i
-    there = let e = length_words E.slots w.locals held in omega (arith, is, e)
+    there : x ≡ length E.args + (length ws + i)
+    there = let e = length_words E.unit.structs E.places E.kinds m.homes w.locals held in let f = E.as_long in omega (arith, is, e, f)
 
-    set_temp : i < length m.temps → (v : Word) (us vs : List Word) (r : List Item)
+    pub set_temp : i < length m.temps → (v : Word) (us vs : List Word) (r : List Item)
         → step.set_local (goes.store E.site m) (thread (frame_of E m w) us r) x v vs ≡ step.Next (goes.store E.site m) (thread (frame_of E (with_temp m i v) w) vs r) None
     set_temp lt v us vs r =
         let go : List Word → step.Outcome = λ ls. step.Next (goes.store E.site m) (thread (record { function = E.fn; locals = ls }) vs r) None in
         let long = length-append ws m.temps in
-        ap (λ (b : Bool). cond b (go (slice_set (ws ++ m.temps) x v)) step.Stuck) (lt-ltb x (length (ws ++ m.temps)) (omega (arith, lt, there, long)))
-        ∙ ap go (ap (λ (k : ℕ). slice_set (ws ++ m.temps) k v) there ∙ set_behind ws m.temps i v)
+        let all = length-append E.args (ws ++ m.temps) in
+        ap (λ (b : Bool). cond b (go (slice_set (E.args ++ (ws ++ m.temps)) x v)) step.Stuck) (lt-ltb x (length (E.args ++ (ws ++ m.temps))) (omega (arith, lt, there, long, all)))
+        ∙ ap go (ap (λ (k : ℕ). slice_set (E.args ++ (ws ++ m.temps)) k v) there ∙ set_behind E.args (ws ++ m.temps) (length ws + i) v ∙ ap (λ (l : List Word). E.args ++ l) (set_behind ws m.temps i v))
 
     pub set_goes : i < length m.temps → (v : Word) (vs : List Word) (r : List Item) → Goes E.site 1 w w m (thread (frame_of E m w) (v ∷ vs) (Do (LocalSet x) ∷ r)) (with_temp m i v) (at_work E (with_temp m i v) w vs r)
     set_goes lt v vs r = one_here E.site w m (with_temp m i v) (LocalSet x) (frame_of E m w) (v ∷ vs) r (thread (frame_of E (with_temp m i v) w) vs r) (set_temp lt v (v ∷ vs) vs r)
@@ -127,22 +91,18 @@ module _ (E : Env) where
     pub get_temp : (v : Word) → slice_get m.temps i ≡ Some v → (vs : List Word) (r : List Item)
         → act (goes.store E.site m) (LocalGet x) (thread (frame_of E m w) vs r) ≡ step.Next (goes.store E.site m) (thread (frame_of E m w) (v ∷ vs) r) None
     get_temp v e vs r =
-        ap (step.pushed (goes.store E.site m) (thread (frame_of E m w) vs r)) (ap (slice_get (ws ++ m.temps)) there ∙ get_behind ws m.temps i ∙ e)
+        ap (step.pushed (goes.store E.site m) (thread (frame_of E m w) vs r)) (ap (slice_get (E.args ++ (ws ++ m.temps))) there ∙ get_behind E.args (ws ++ m.temps) (length ws + i) ∙ get_behind ws m.temps i ∙ e)
 
   -- what waits stays where a local is set that isn't among the first of them
-  pub set_stays : (now : Now) (w : World) (m : Mem) (i : ℕ) (v : Word) → ((j : ℕ) → j < now.waits → i ≢ 4 + j) → Kept E now w m → Kept E now w (with_temp m i v)
-  set_stays now w m i v d k = record {
-    held = k.held;
-    deep = k.deep;
-    less = k.less;
-    bytes = k.bytes;
-    temps = record { long = length_set m.temps i v ∙ k.temps.long; stay = λ j lt. set_elsewhere m.temps i (4 + j) v (d j lt) ∙ k.temps.stay j lt };
-  }
+  pub set_stays : (now : Now) (os : List Object) (w : World) (m : Mem) (i : ℕ) (v : Word) → ((j : ℕ) → j < now.waits → i ≢ 4 + j) → KeptAs E now os w m → KeptAs E now os w (with_temp m i v)
+  set_stays now os w m i v d k =
+      kept_temps E now now.waits now.temps os w m (slice_set m.temps i v)
+      (record { long = length_set m.temps i v ∙ k.temps.long; stay = λ j lt. set_elsewhere m.temps i (4 + j) v (d j lt) ∙ k.temps.stay j lt }) k
 
   -- ---- out of a loop, or of a switch
 
-  switch_left : (j : Jumps) (d q b c : ℕ) → q < d → d ≤ E.waits → j.breaks ≡ true → FlowRuns E (way j d (Some q)) b c (leaves E.target (Some q) ⨾ one (Br b)) same (pure broken)
-  switch_left j d q b c lt room e n has small now le vs r br cr rr caller a dep w m k ag =
+  switch_left : (j : Jumps) (d q b c : ℕ) (off : Off) → q < d → d ≤ E.waits → j.breaks ≡ true → FlowOut E (way j d (Some q) off) [] broken b c (leaves E.target (Some q) ⨾ one (Br b)) same
+  switch_left j d q b c off lt room e n has small now le vs r br cr rr caller a dep w m more k ag =
       let i = 4 + q in
       let out = I32 no_group in
       let m' = with_temp m i out in
@@ -156,18 +116,17 @@ module _ (E : Env) where
       let push = one_here E.site w m m (constant W32 (negsuc 0)) (frame_of E m w) vs (front (LocalSet (waiting E.target q) ∷ Br b ∷ []) r) t1 refl in
       let put = set_goes w m k.held (waiting E.target q) i (waiting_is q) inside out vs (front (Br b ∷ []) r) in
       let jump = one_here E.site w m' m' (Br b) (frame_of E m' w) vs r (thread (frame_of E m' w) vs br) (ap (step.moved s) (a.breaks e (frame_of E m' w))) in
-      let few : Now = record { below = now.below; waits = q; temps = now.temps } in
-      let k' : Kept E few w m = record { held = k.held; deep = k.deep; less = k.less; bytes = k.bytes; temps = record { long = k.temps.long; stay = λ h l. k.temps.stay h (omega (arith, l, lt, waits)) } } in (
+      let few : Now = record now { waits = q } in
+      let os = ending w.locals off.broken w.objects in
+      let k' : KeptAs E few os w m = kept_temps E now q now.temps os w m m.temps (record { long = k.temps.long; stay = λ h l. k.temps.stay h (omega (arith, l, lt, waits)) }) k in (
         m',
-        ((e, set_there m.temps i out inside), set_stays few w m i out (λ h l p. omega (arith, l, p)) k'),
+        ((e, set_there m.temps i out inside), set_stays few os w m i out (λ h l p. omega (arith, l, p)) k'),
         goes_on E.site 1 2 w w w m m m' t0 t1 (at_work E m' w vs br) push (goes_on E.site 1 1 w w w m m' m' t1 t2 (at_work E m' w vs br) put jump),
       )
 
-  pub flow_leave : (j : Jumps) (d : ℕ) (o : Option ℕ) (b c : ℕ) → ((q : ℕ) → o ≡ Some q → q < d) → d ≤ E.waits → j.breaks ≡ true → FlowRuns E (way j d o) b c (leaves E.target o ⨾ one (Br b)) same (pure broken)
-  flow_leave j d (Some q) b c around room e = switch_left j d q b c (around q refl) room e
-  flow_leave j d None b c around room e =
-      flow_behind E (way j d None) b c no_code (one (Br b)) same (λ (q : Unit {0}). same) (λ q. Unit {0}) (pure tt) (λ q. pure broken)
-      (op_none E same (λ (q : Unit {0}). same) (λ q. Unit {0}) tt tt (λ vs. refl)) (λ q ok. flow_break E j d b c e)
+  pub flow_leave : (j : Jumps) (d : ℕ) (o : Option ℕ) (b c : ℕ) (off : Off) → ((q : ℕ) → o ≡ Some q → q < d) → d ≤ E.waits → j.breaks ≡ true → FlowOut E (way j d o off) [] broken b c (leaves E.target o ⨾ one (Br b)) same
+  flow_leave j d (Some q) b c off around room e = switch_left j d q b c off (around q refl) room e
+  flow_leave j d None b c off around room e = flow_break E j d b c off e
 
 -- ---- the group that is chosen: of labels that differ, the one that is equal, else what was there
 
@@ -273,7 +232,7 @@ module _ (E : Env) (w : World) (m : Mem) where
 
   -- ---- the choice among the labels, of a number that stands in a local
 
-  module _ (held : AreHeld E.slots w.locals) (x i : ℕ) (is : IsTemp E x i) (u : IntType) (pr : IsPromoted u) (z : ℤ) (in_u : IsIn u z) (there : slice_get m.temps i ≡ Some (word u z)) where
+  module _ (held : Holds E m w) (x i : ℕ) (is : IsTemp E x i) (u : IntType) (pr : IsPromoted u) (z : ℤ) (in_u : IsIn u z) (there : slice_get m.temps i ≡ Some (word u z)) where
     abbrev Num : ℕ → Word
     Num n = I32 (wrapped 32 (pos n))
 
@@ -356,19 +315,14 @@ module _ (E : Env) where
 
   -- from here on, so many values wait
   abbrev inner : (n : ℕ) → Mem → Now → Now
-  inner n m now = record { below = now.below; waits = n; temps = m.temps }
+  inner n m now = record now { waits = n; temps = m.temps }
 
-  kept_in : (now : Now) (n : ℕ) (w : World) (m : Mem) → Kept E now w m → Kept E (inner n m now) w m
-  kept_in now n w m k = record { held = k.held; deep = k.deep; less = k.less; bytes = k.bytes; temps = record { long = k.temps.long; stay = λ j l. refl } }
+  kept_in : (now : Now) (n : ℕ) (os : List Object) (w : World) (m : Mem) → KeptAs E now os w m → KeptAs E (inner n m now) os w m
+  kept_in now n os w m k = kept_temps E now n m.temps os w m m.temps (record { long = k.temps.long; stay = λ j l. refl }) k
 
-  kept_out : (now : Now) (n : ℕ) (m : Mem) (w1 : World) (m1 : Mem) → now.waits ≤ n → Temps E now.waits now.temps m.temps → Kept E (inner n m now) w1 m1 → Kept E now w1 m1
-  kept_out now n m w1 m1 le t k = record {
-    held = k.held;
-    deep = k.deep;
-    less = k.less;
-    bytes = k.bytes;
-    temps = record { long = k.temps.long; stay = λ j lt. k.temps.stay j (omega (arith, lt, le)) ∙ t.stay j lt };
-  }
+  kept_out : (now : Now) (n : ℕ) (os : List Object) (m : Mem) (w1 : World) (m1 : Mem) → now.waits ≤ n → Temps E.waits now.waits now.temps m.temps → KeptAs E (inner n m now) os w1 m1 → KeptAs E now os w1 m1
+  kept_out now n os m w1 m1 le t k =
+      kept_temps E (inner n m now) now.waits now.temps os w1 m1 m1.temps (record { long = k.temps.long; stay = λ j lt. k.temps.stay j (omega (arith, lt, le)) ∙ t.stay j lt }) k
 
   pub held_behind : {A : Type 0} (g : ℕ) (l : Way) (b c : ℕ) (x y : Code) (Ok : A → Type 0) (e : Does A) (f : A → Does Flow)
       → Op E x same (gone E) Ok e → ((v : A) → Ok v → HeldRuns g l b c y (f v)) → HeldRuns g l b c (x ⨾ y) (e >>= f)
@@ -382,18 +336,19 @@ module _ (E : Env) where
       subst (λ (s : ℕ). Runs E.site s m (at_work E m w vs (front (cx.instrs ++ cy.instrs) r)) w to (GoodFlow E l now) (after (e w) f)) (size_joined cx cy)
       (subst (λ (q : List Item). Runs E.site (size_of cx + size_of cy) m (at_work E m w vs q) w to (GoodFlow E l now) (after (e w) f)) (sym (front_append cx.instrs cy.instrs r))
       (bind E.site (size_of cx) (size_of cy) m (at_work E m w vs (front cx.instrs (front cy.instrs r))) w (To_ E (gone E) vs (front cy.instrs r)) (Good E Ok now') to (GoodFlow E l now) (e w) f
-      (rx n (has_front E.site.funcs E.fn n cx.seqs cy.seqs has) now' le.below vs (front cy.instrs r) (depth_front cy.instrs r ∙ dep) w m (kept_in now (suc l.depth) w m k))
+      (rx n (has_front E.site.funcs E.fn n cx.seqs cy.seqs has) now' (starts E (suc l.depth) now' (record { below = le.below; waits = refl; seen = le.seen })) vs (front cy.instrs r) (depth_front cy.instrs r ∙ dep) w m (kept_in now (suc l.depth) w.objects w m k))
       (λ v w1 m1 q. ry v q.0 n' (has_back E.site.funcs E.fn n cx.seqs cy.seqs has) (let s = size_joined cx cy in omega (arith, s, small)) now le vs r br cr rr caller a dep w1 m1
-      (kept_out now (suc l.depth) m w1 m1 (omega (arith, waits)) k.temps q.1) (q.1.temps.stay l.depth (omega arith) ∙ held))))
+      (kept_out now (suc l.depth) w1.objects m w1 m1 (omega (arith, waits)) k.temps q.1) (q.1.temps.stay l.depth (omega arith) ∙ held))))
 
   -- ---- a group
 
-  module _ (j : Jumps) (d : ℕ) (o : Option ℕ) (b c : ℕ) where
+  module _ (j : Jumps) (d : ℕ) (o : Option ℕ) (off : Off) (b c : ℕ) where
     abbrev l : Way
-    l = way j d o
+    l = way j d o off
 
+    -- `break` leaves none of the blocks around the switch
     abbrev lg : Way
-    lg = way (in_switch j) (suc d) (Some d)
+    lg = way (in_switch j) (suc d) (Some d) (record off { broken = [] })
 
     abbrev code_of : ℕ → Code → Code
     code_of i body = group_from E.target (waiting E.target d) i body
@@ -401,7 +356,7 @@ module _ (E : Env) where
     abbrev tests : ℕ → List Instr
     tests i = LocalGet (waiting E.target d) ∷ i32 i ∷ rel W32 rels.LeU ∷ []
 
-    test_row : (i g : ℕ) → i < 2 ^ 32 → (w : World) (m : Mem) → AreHeld E.slots w.locals → slice_get m.temps (4 + d) ≡ Some (I32 g) → (vs : List Word) → Row E w m (tests i) vs (I32 (truth (nat_le g i)) ∷ vs)
+    test_row : (i g : ℕ) → i < 2 ^ 32 → (w : World) (m : Mem) → Holds E m w → slice_get m.temps (4 + d) ≡ Some (I32 g) → (vs : List Word) → Row E w m (tests i) vs (I32 (truth (nat_le g i)) ∷ vs)
     test_row i g lt w m held is vs =
         let x = waiting E.target d in
         row_then E w m (LocalGet x ∷ []) (i32 i ∷ rel W32 rels.LeU ∷ []) vs (I32 g ∷ vs) _ (row_one E w m (LocalGet x) vs (I32 g ∷ vs) (λ r. get_temp E w m held x (4 + d) (waiting_is E d) (I32 g) is vs r))
@@ -422,7 +377,7 @@ module _ (E : Env) where
           let to = to_flow E vs r r cr rr caller in
           let r' = Label None (length vs) None ∷ r in
           let same_to : to_flow E vs r' r cr rr caller ≡ to = λ h f w1 m1. in_label E None (length vs) None vs r r cr rr caller f w1 m1 h in
-          let k' = kept_in now (suc d) w m k in
+          let k' = kept_in now (suc d) w.objects w m k in
           let sizes = size_joined (plain (tests i) n) cp in
           let parts = total_append (Rattle.ms_emit.specs.Codes.inner (body (suc n0))) [] in
           let around : Around E vs r' 0 (suc c) lg r cr rr caller = record { breaks = λ e fr. ap (λ (q : Option (List Word)). kept q fr r) (lowest_all vs); continues = a.continues; returns = a.returns } in
@@ -432,7 +387,7 @@ module _ (E : Env) where
           (subst (λ (y : Result Flow). Runs E.site (size_of cp) m (at_work E m w (I32 (truth t) ∷ vs) (front cp.instrs r)) w to (GoodFlow E lg now') y) (choice_at E t mx (pure next) w)
           (runs_choice E None body no_code n0 (truth t) t vs r w m to (GoodFlow E lg now') (mx w) (gives next w) (λ q e. refl) (truth_test E t) (has_back E.site.funcs E.fn n [] cp.seqs has)
           (λ h. subst (λ (q : Flow → World → Mem → Thread). Runs E.site (size_of (body (suc n0))) m (at_work E m w vs (front (body (suc n0)).instrs r')) w q (GoodFlow E lg now') (mx w)) same_to
-          (rx (suc n0) h (omega (arith, sizes, parts, small)) now' (record { below = le.below; waits = refl }) vs r' r cr rr caller around dep w m k'))
+          (rx (suc n0) h (omega (arith, sizes, parts, small)) now' (record { below = le.below; waits = refl; seen = le.seen }) vs r' r cr rr caller around dep w m k'))
           (λ h. here E.site 0 w m to (GoodFlow E lg now') next (tt, k')))))
 
       -- and the groups that follow
@@ -467,12 +422,12 @@ module _ (E : Env) where
                 → Runs E.site (size_of (rest (n + length (code_of i body n).seqs))) m1
                 (to_flow E vs (front (rest (n + length (code_of i body n).seqs)).instrs r) (front (rest (n + length (code_of i body n).seqs)).instrs r) cr rr caller f w1 m1) w1
                 (to_flow E vs r br cr rr caller) (GoodFlow E l now) (on_flow (more (g - suc i)) f w1)
-            on next w1 m1 q = goes_on_with g few w1 m1 (kept_out now (suc d) m w1 m1 (omega (arith, waits)) k.temps q.1) (q.1.temps.stay d (omega arith) ∙ held)
+            on next w1 m1 q = goes_on_with g few w1 m1 (kept_out now (suc d) w1.objects m w1 m1 (omega (arith, waits)) k.temps q.1) (q.1.temps.stay d (omega arith) ∙ held)
             on broken w1 m1 q =
                 subst (λ (y : Does Flow). Runs E.site (size_of (rest (n + length (code_of i body n).seqs))) m1 (at_work E m1 w1 vs (front (rest (n + length (code_of i body n).seqs)).instrs r)) w1 (to_flow E vs r br cr rr caller) (GoodFlow E l now) (switched y w1)) never
-                (goes_on_with no_group (omega arith) w1 m1 (kept_out now d m w1 m1 (omega (arith, waits)) k.temps q.1) q.0.1)
-            on continued w1 m1 q = here E.site (size_of (rest (n + length (code_of i body n).seqs))) w1 m1 (to_flow E vs r br cr rr caller) (GoodFlow E l now) continued (q.0, kept_out now (suc d) m w1 m1 (omega (arith, waits)) k.temps q.1)
-            on (returned v) w1 m1 q = here E.site (size_of (rest (n + length (code_of i body n).seqs))) w1 m1 (to_flow E vs r br cr rr caller) (GoodFlow E l now) (returned v) (q.0, kept_out now (suc d) m w1 m1 (omega (arith, waits)) k.temps q.1)
+                (goes_on_with no_group (omega arith) w1 m1 (kept_out now d w1.objects m w1 m1 (omega (arith, waits)) k.temps q.1) q.0.1)
+            on continued w1 m1 q = here E.site (size_of (rest (n + length (code_of i body n).seqs))) w1 m1 (to_flow E vs r br cr rr caller) (GoodFlow E l now) continued (q.0, kept_out now (suc d) (ending w1.locals off.continued w1.objects) m w1 m1 (omega (arith, waits)) k.temps q.1)
+            on (returned v) w1 m1 q = here E.site (size_of (rest (n + length (code_of i body n).seqs))) w1 m1 (to_flow E vs r br cr rr caller) (GoodFlow E l now) (returned v) (q.0, kept_out now (suc d) (ending w1.locals off.returned w1.objects) m w1 m1 (omega (arith, waits)) k.temps q.1)
 
   -- ---- the choice of the group, and what goes on with it
 
@@ -543,8 +498,8 @@ module _ (E : Env) where
       pub chosen_kept : Kept E now w m2
       chosen_kept =
           let s = scratch_few (width_of u) in
-          set_stays E now w m1 (4 + d) (I32 (wrapped 32 (pos g))) (λ h l e. omega (arith, l, e, waits))
-          (set_stays E now w m i (word u z) (λ h l e. omega (arith, l, e, s)) kept)
+          set_stays E now w.objects w m1 (4 + d) (I32 (wrapped 32 (pos g))) (λ h l e. omega (arith, l, e, waits))
+          (set_stays E now w.objects w m i (word u z) (λ h l e. omega (arith, l, e, s)) kept)
 
       pub chosen_held : slice_get m2.temps (4 + d) ≡ Some (I32 (goes_to cases (bits_of u z) k))
       chosen_held =
@@ -553,11 +508,11 @@ module _ (E : Env) where
           set_there m1.temps (4 + d) (I32 (wrapped 32 (pos g))) waits_inside
           ∙ ap (λ (q : ℕ). Some (I32 q)) (wrapped_small g (omega (arith, is, small, few)) ∙ is)
 
-    pub switch_runs : (ce : Code) (ev : Does Value) → Leaves E ce (integer u) ev → (j : Jumps) (o : Option ℕ) (b c : ℕ) (rest : Code) (M : ℤ → Does Flow)
-        → ((z : ℤ) → IsIn u z → HeldRuns (goes_to cases (bits_of u z) k) (way j d o) b c rest (M z))
-        → FlowRuns E (way j d o) b c (selected E.target u x y cases k ce ⨾ rest) same (meaning.integer ev >>= M)
-    switch_runs ce ev re j o b c rest M ry n has small now le vs r br cr rr caller a dep w m kp =
-        let l' = way j d o in
+    pub switch_runs : (ce : Code) (ev : Does Value) → Leaves E ce (integer u) ev → (j : Jumps) (o : Option ℕ) (off : Off) (b c : ℕ) (rest : Code) (M : ℤ → Does Flow)
+        → ((z : ℤ) → IsIn u z → HeldRuns (goes_to cases (bits_of u z) k) (way j d o off) b c rest (M z))
+        → FlowRuns E (way j d o off) b c (selected E.target u x y cases k ce ⨾ rest) same (meaning.integer ev >>= M)
+    switch_runs ce ev re j o off b c rest M ry n has small now le vs r br cr rr caller a dep w m kp =
+        let l' = way j d o off in
         let c1 = ce n in
         let n1 = n + length c1.seqs in
         let c2 = behind_value n1 in
@@ -574,10 +529,10 @@ module _ (E : Env) where
         (subst (λ (q : List Item). Runs E.site (size_of sel + size_of c3) m (at_work E m w vs q) w to (GoodFlow E l' now) ((meaning.integer ev >>= M) w)) (sym (front_append sel.instrs c3.instrs r ∙ front_append c1.instrs c2.instrs R))
         (resize E.site (size_of c1 + (size_of c2 + size_of c3)) (size_of sel + size_of c3) m start w to (GoodFlow E l' now) ((meaning.integer ev >>= M) w) (omega (arith, sizes'))
         (subst (λ (q : Result Flow). Runs E.site (size_of c1 + (size_of c2 + size_of c3)) m start w to (GoodFlow E l' now) q) (sym (after_after (ev w) as_number M))
-        (bind E.site (size_of c1) (size_of c2 + size_of c3) m start w (To_ E (pushed (integer u)) vs (front c2.instrs R)) (Good E (IsOf (integer u)) now) to (GoodFlow E l' now) (ev w) (λ v. as_number v >>= M)
-        (re n (has_front E.site.funcs E.fn n c1.seqs c2.seqs hasS) now le.below vs (front c2.instrs R) (depth_front c2.instrs R ∙ depth_front c3.instrs r ∙ dep) w m kp)
+        (bind E.site (size_of c1) (size_of c2 + size_of c3) m start w (ToIn E (pushes E (integer u)) vs (front c2.instrs R)) (GoodIn E (IsValue E (integer u)) now) to (GoodFlow E l' now) (ev w) (λ v. as_number v >>= M)
+        (re n (has_front E.site.funcs E.fn n c1.seqs c2.seqs hasS) now (starts E d now le) vs (front c2.instrs R) (depth_front c2.instrs R ∙ depth_front c3.instrs r ∙ dep) w m kp)
         (λ v w1 m1 q.
-        of_number E u (λ v. Runs E.site (size_of c2 + size_of c3) m1 (at_work E m1 w1 (pushed (integer u) v vs) (front c2.instrs R)) w1 to (GoodFlow E l' now) ((as_number v >>= M) w1))
+        of_number E u (λ v. Runs E.site (size_of c2 + size_of c3) m1 (at_work E m1 w1 (pushes E (integer u) m1.homes v vs) (front c2.instrs R)) w1 to (GoodFlow E l' now) ((as_number v >>= M) w1))
         (λ z i.
         let m3 = m2 z i now le.waits w1 m1 q.1 in
         behind_goes E.site (size_of c2) (size_of c3) w1 w1 m1 m3 (at_work E m1 w1 (word u z ∷ vs) (front c2.instrs R)) (at_work E m3 w1 vs R) to (GoodFlow E l' now) (M z w1) (chosen_goes z i now le.waits w1 m1 q.1 n1 vs R)

@@ -23,17 +23,17 @@ use Rattle.c_meaning.specs.World as world
 use Rattle.c_meaning.specs.World.{End, World, Result, gives, ends, Does, after, ◌>>=◌, ◌>>◌, pure}
 use Rattle.ms_emit.specs.Codes.{Coded, size_of}
 use Rattle.c_code.specs.Modules.{index_of, is_defined, is_defined_at}
-use Rattle.c_code.specs.Stage.{are_integers, in_stage}
+use Rattle.c_code.specs.Stage.{are_data, in_stage}
 use Rattle.c_runs.specs.Correct.{Behaves, IsPrefix, Reports, main_result, meant, result_in, run_at}
 use Rattle.c_runs.specs.Crews.{Same, crew_end}
 use Rattle.c_runs.specs.Ends.{stop_of}
 use Rattle.c_runs.specs.Placed.{IsPlaced, longest_of}
-use Rattle.c_runs.specs.Threads.{Ended, Trapped, Paused, Stuck, Stop, steps}
+use Rattle.c_runs.specs.Threads.{Ended, Trapped, Paused, Stuck, Stop, behind, ran, steps}
 use Rattle.c_runs.specs.Words.{pushed}
 use Rattle.c_runs.proofs.Bodies.{IsResult, is_integer, is_void}
-use Rattle.c_runs.proofs.Callees.{Compiled, Callees, D, E, K, home, begun, callee_runs, calls_run, does, fits, frame_is, ints_of, sequence_is, start_kept, start_now, temps}
-use Rattle.c_runs.proofs.Exprs.{AreInts}
-use Rattle.c_runs.proofs.Goes.{Asks, IsEnd, Mem, Runs, RunsTo, Site, Stops, store}
+use Rattle.c_runs.proofs.Callees.{Compiled, Callees, D, E, K, Left, home, begun, callee_runs, calls_run, does, fits, frame_is, ints_of, sequence_is, start_kept, start_now, temps}
+use Rattle.c_runs.proofs.Exprs.{AreScalars}
+use Rattle.c_runs.proofs.Goes.{Asks, IsEnd, Mem, Runs, RunsTo, Site, Stops, store, weaker}
 use Rattle.c_runs.proofs.Grants.{Agrees}
 use Rattle.c_runs.proofs.Longer.{same_run}
 use Rattle.c_runs.proofs.Operations.{Linked}
@@ -41,13 +41,17 @@ use Rattle.c_runs.proofs.Outcomes.{How, Known, agrees, asking, bound_law, end_la
 use Rattle.c_runs.proofs.Placed as stands
 use Rattle.c_runs.proofs.Placed.{mem_of, site_of}
 use Rattle.c_runs.proofs.Ready.{IsCallable}
-use Rattle.c_runs.proofs.Related.{IsOf, frame_of, front}
+use Rattle.ms_linear.specs.declared.value.Value.{Value as Word}
+use Rattle.ms_segment.specs.Memory.{Placed}
+use Rattle.ms_relate.specs.refinement.Homes.{Home}
+use Rattle.ms_relate.specs.refinement.Relation.{Related}
+use Rattle.c_runs.proofs.Related.{Env, IsValue, Now, frame_of, front, pushes}
 
 -- ---- the meaning of the unit is that of main's body
 
 module _ (S : Site) (L : Linked S) (unit : Typed) (all : (f : ℕ) (t : Ty) (ps : Tys) → slice_get (map (λ (g : Function). g.ty) unit.functions) f ≡ Some (function t ps) → IsCallable unit f → Compiled S unit f t ps)
-    (par_ints : (f : ℕ) (t : Ty) (ps : Tys) → slice_get (map (λ (g : Function). g.ty) unit.functions) f ≡ Some (function t ps) → are_integers ps ≡ true)
-    (m0 : Mem) (f : ℕ) (t : Ty) (p : Compiled S unit f t no_types) (is_main : main_number unit ≡ Some f) (none_made : unit.made ≡ []) (longest_is : S.most ≡ longest_of unit) where
+    (par_ints : (f : ℕ) (t : Ty) (ps : Tys) → slice_get (map (λ (g : Function). g.ty) unit.functions) f ≡ Some (function t ps) → are_data ps ≡ true)
+    (m0 : Mem) (new : m0.homes ≡ []) (placed : Placed m0.segments) (f : ℕ) (t : Ty) (p : Compiled S unit f t no_types) (is_main : main_number unit ≡ Some f) (none_made : unit.made ≡ []) (longest_is : S.most ≡ longest_of unit) where
   abbrev pub here_store : Store
   here_store = store S m0
 
@@ -61,7 +65,7 @@ module _ (S : Site) (L : Linked S) (unit : Typed) (all : (f : ℕ) (t : Ty) (ps 
     callees : Callees S L unit all par_ints (suc fuel) f 1 t no_types p
     callees = calls_run S L unit all par_ints (suc fuel) f 1 t no_types p
 
-    abbrev ints : (g' : ℕ) (s : Ty) (qs : Tys) → slice_get (map (λ (h : Function). h.ty) unit.functions) g' ≡ Some (function s qs) → AreInts (E S L unit (suc fuel) f 1 t no_types p) L (home S L unit (suc fuel) f 1 t no_types p) (K S L unit (suc fuel) f 1 t no_types p) refl qs
+    abbrev ints : (g' : ℕ) (s : Ty) (qs : Tys) → slice_get (map (λ (h : Function). h.ty) unit.functions) g' ≡ Some (function s qs) → AreScalars (E S L unit (suc fuel) f 1 t no_types p) L (home S L unit (suc fuel) f 1 t no_types p) (K S L unit (suc fuel) f 1 t no_types p) refl qs
     ints = ints_of S L unit all par_ints (suc fuel) f 1 t no_types p
 
     abbrev whole : Coded
@@ -71,7 +75,7 @@ module _ (S : Site) (L : Linked S) (unit : Typed) (all : (f : ℕ) (t : Ty) (ps 
     nobody' = nobody S.funcs
 
     abbrev ws : World
-    ws = begun S L unit (suc fuel) f 1 t no_types p [] tt w
+    ws = begun S L unit (suc fuel) f 1 t no_types p [] [] tt w
 
     abbrev m' : Mem
     m' = record m0 { temps = temps S L unit (suc fuel) f 1 t no_types p }
@@ -83,21 +87,45 @@ module _ (S : Site) (L : Linked S) (unit : Typed) (all : (f : ℕ) (t : Ty) (ps 
     start_is =
         ap (λ (o : Option FuncInst). start_of here_store (index_of unit f) o) p.is_at
         ∙ ap (λ (is : List Instr). exit_ended (record { function = index_of unit f; locals = map default_of p.inst.locals }) [] (front is marked)) (sequence_is S L unit (suc fuel) f 1 t no_types p callees ints)
-        ∙ ap (λ (fr : Frame). exit_ended fr [] (front whole.instrs marked)) (frame_is S L unit (suc fuel) f 1 t no_types p [] tt w m0)
+        ∙ ap (λ (fr : Frame). exit_ended fr [] (front whole.instrs marked)) (frame_is S L unit (suc fuel) f 1 t no_types p [] [] tt w m0 new)
 
     abbrev body : World → Result Value
     body = does S L unit (suc fuel) f 1 t no_types p callees ints []
 
+    abbrev Em : Env
+    Em = E S L unit (suc fuel) f 1 t no_types p
+
+    abbrev now : Now
+    now = start_now S L unit (suc fuel) f 1 t no_types p (suc fuel) m0.homes []
+
+    -- no object is there yet
+    related : Related Em.unit.structs Em.places m0.homes [] m0.segments
+    related = subst (λ (hs : List Home). Related Em.unit.structs Em.places hs [] m0.segments) (sym new) (record {
+      long = refl;
+      each = λ n o h at at'. absurd cc;
+      rising = λ i j g h less at at'. absurd cc;
+      made = λ n h at. absurd cc;
+      placed = placed;
+    })
+
     abbrev to_end : Value → World → Mem → Thread
-    to_end v w1 m1 = exit_ended nobody' (pushed t v []) []
+    to_end v w1 m1 = exit_ended nobody' (pushes Em t m1.homes v []) []
 
     abbrev AtEnd : Value → World → Mem → Type 0
-    AtEnd v w1 m1 = IsOf t v × (w1.fuel < suc fuel) × AreBytes w1.input
+    AtEnd v w1 m1 = IsValue Em t m1.homes v × (w1.fuel < suc fuel) × AreBytes w1.input
+
+    -- of a type without a pointer
+    pushed_end : (hs : List Home) (v : Value) → pushes Em t hs v [] ≡ pushed t v []
+    pushed_end hs v = go p.result where
+      go : IsResult t → pushes Em t hs v [] ≡ pushed t v []
+      go (is_void q) = subst (λ (s : Ty). pushes Em s hs v [] ≡ pushed s v []) (sym q) refl
+      go (is_integer u q) = subst (λ (s : Ty). pushes Em s hs v [] ≡ pushed s v []) (sym q) refl
 
     main_runs : Runs S (size_of whole) m' start ws to_end AtEnd (body ws)
     main_runs =
         subst (λ (t0 : Thread). Runs S (size_of whole) m' t0 ws to_end AtEnd (body ws)) (sym start_is)
-        (callee_runs S L unit (suc fuel) f 1 t no_types p callees ints [] tt nobody' [] [] refl (start_now S L unit (suc fuel) f 1 t no_types p (suc fuel)) (record { below = omega arith; waits = refl }) ws m' (start_kept S L unit (suc fuel) f 1 t no_types p [] tt (suc fuel) w m0 refl (omega arith) are_bytes))
+        (weaker S (size_of whole) m' (exit_ended (frame_of (E S L unit (suc fuel) f 1 t no_types p) m' ws) [] (front whole.instrs marked)) ws to_end (Left S L unit (suc fuel) f 1 t no_types p callees ints now) AtEnd (body ws) (λ v w1 m1 q. (q.0, q.1, q.2))
+        (callee_runs S L unit (suc fuel) f 1 t no_types p callees ints [] [] tt nobody' [] [] refl now (record { below = omega arith; waits = refl; seen = refl }) ws m' (start_kept S L unit (suc fuel) f 1 t no_types p [] [] tt (suc fuel) w m0 new refl (omega arith) are_bytes related)))
 
     abbrev ending : Result Value → End × World
     ending x = closed unit (after (back_to w x) (λ v. pure (as_result unit t v)))
@@ -173,7 +201,7 @@ module _ (S : Site) (L : Linked S) (unit : Typed) (all : (f : ℕ) (t : Ty) (ps 
             puts = h.puts;
             events = h.events;
             cost = h.cost;
-            so = ap (λ (n : ℕ). steps n here_store start input) (sym none_more) ∙ h.by 0;
+            so = ap (λ (n : ℕ). steps n here_store start input) (sym none_more) ∙ h.by 0 ∙ ap (λ (us : List Word). behind h.puts h.events (ran (Ended (slice_get us 0)))) (pushed_end r.0.homes v);
             output = h.tells.output;
             sizes = h.tells.sizes;
             taken = h.tells.grants;
@@ -261,7 +289,7 @@ pub compiled_behaves : (u : Typed) (s : Store) (n : ℕ) (f : Function) (b : Stm
 compiled_behaves u s n f b t well staged is_main at has_body ty_is placed =
     let all = stands.compiled u s well staged placed in
     let there : is_defined_at u n ≡ true = ap is_defined at ∙ ap (λ (o : Option Stmt). is_some o) has_body in
-    behaves (site_of u s) (stands.linked u s well staged placed) u all (stands.params_are u s well staged placed) (mem_of s) n t
+    behaves (site_of u s) (stands.linked u s well staged placed) u all (stands.params_are u s well staged placed) (mem_of s) refl placed.segments n t
     (all n t no_types (typed_at u.functions n at) (λ lt. there)) is_main (stands.none_made u s well staged placed) refl
   where
     typed_at : (fs : List Function) (k : ℕ) → slice_get fs k ≡ Some f → slice_get (map (λ (g : Function). g.ty) fs) k ≡ Some (function t no_types)

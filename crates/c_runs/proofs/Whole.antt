@@ -12,15 +12,16 @@ use Rattle.c_types.specs.declared.integers.IntType.TheVariants.{Int}
 use Rattle.c_types.specs.declared.types.Scalar.{Scalar}
 use Rattle.c_types.specs.declared.types.Scalar.TheVariants as scalars
 use Rattle.c_types.specs.Integers.{bits, is_signed}
+use Rattle.c_typed.specs.declared.ops.RelOp.TheVariants as relations
 use Rattle.c_typed.specs.declared.ops.UnaryOp.TheVariants as signs
 use Rattle.c_typed.specs.declared.ops.Variable.{Variable}
 use Rattle.c_typed.specs.declared.ops.Variable.TheVariants.{Local, Global}
 use Rattle.c_typed.specs.Tree as tree
 use Rattle.c_typed.specs.Tree.{Place, of, Expr, Exprs, none, more}
 use Rattle.ms_emit.specs.Codes.{Code, plain, one, no_code, ◌⨾◌, choice}
-use Rattle.c_code.specs.Expressions.{as_bit, begun, begun_with_old, begun_over_old, converted, ended, expr, exprs, fetched, int, is_bit, left, number_in, place, put, updated}
+use Rattle.c_code.specs.Expressions.{as_bit, begun, begun_with_old, begun_over_old, converted, ended, expr, exprs, fetched, int, is_bit, is_null, left, number_in, place, pointers_compared, put, updated}
 use Rattle.c_code.specs.Operations.{by_width, convert, i32, narrow, to_type, truth, val_option, width_of}
-use Rattle.c_code.specs.Stage.{in_expr, in_exprs, is_local, is_number, is_number_or_void}
+use Rattle.c_code.specs.Stage.{in_expr, in_exprs, in_place, is_value}
 use Rattle.c_code.specs.Targets.{Target, plain_in, tee}
 
 -- both of two
@@ -96,6 +97,14 @@ pub whole_as_bit : (b : Bool) (a : Code) → IsWhole a → IsWhole (as_bit b a)
 whole_as_bit true a h = h
 whole_as_bit false a h = whole_then a (truth (scalars.Int Int)) h (whole_plain _)
 
+whole_equal : (n : Bool) (a b : Code) → IsWhole a → IsWhole b → IsWhole (pointers_compared relations.Equal n a b)
+whole_equal true a b ha hb = whole_then a _ ha (whole_plain _)
+whole_equal false a b ha hb = whole_then a _ ha (whole_then b _ hb (whole_plain _))
+
+whole_unequal : (n : Bool) (a b : Code) → IsWhole a → IsWhole b → IsWhole (pointers_compared relations.NotEqual n a b)
+whole_unequal true a b ha hb = whole_then a _ ha (whole_plain _)
+whole_unequal false a b ha hb = whole_then a _ ha (whole_then b _ hb (whole_plain _))
+
 module _ (t : Target) where
   whole_fetched : (v : Option Variable) (p : Code) (s : Scalar) → IsWhole p → IsWhole (fetched t v p s)
   whole_fetched (Some v) p s h = whole_plain _
@@ -135,23 +144,27 @@ module _ (t : Target) where
 
   -- ---- of expressions
 
-  whole_place : (d : ℕ) (p : Place) → is_local p ≡ true → IsWhole (place t d p)
-  whole_place d (of (Local n)) e = whole_plain _
-  whole_place d (of (Global n)) e = absurd cc
-  whole_place d (tree.deref a) e = absurd cc
-  whole_place d (tree.member p n m) e = absurd cc
-
   mutual
+    whole_place : (d : ℕ) (p : Place) → in_place p ≡ true → IsWhole (place t d p)
+    whole_place d (of (Local n)) e = whole_plain _
+    whole_place d (of (Global n)) e = absurd cc
+    whole_place d (tree.deref a) e = whole_expr true d a e
+    whole_place d (tree.member p n m) e = absurd cc
+
     pub whole_expr : (k : Bool) (d : ℕ) (e : Expr) → in_expr e ≡ true → IsWhole (expr t k d e)
     whole_expr k d (tree.number u n) h = whole_left k _ _ (whole_plain _)
+    whole_expr k d tree.null h = whole_left k _ _ (whole_plain _)
     whole_expr k d (tree.read s p) h = whole_left k _ _ (whole_fetched (plain_in t p) (place t d p) s (whole_place d p h))
+    whole_expr k d (tree.address p) h = whole_left k _ _ (whole_place d p h)
     whole_expr k d (tree.convert u v a) h = whole_left k _ _ (whole_converted u v (number_in a) (expr t true d a) (whole_expr true d a h))
-    whole_expr k d (tree.truth s a) h = let q = both (is_number s) (in_expr a) h in whole_left k _ _ (whole_then (expr t true d a) (truth s) (whole_expr true d a q.1) (whole_truth s))
+    whole_expr k d (tree.truth s a) h = let q = both (is_value s) (in_expr a) h in whole_left k _ _ (whole_then (expr t true d a) (truth s) (whole_expr true d a q.1) (whole_truth s))
     whole_expr k d (tree.not a) h = whole_left k _ _ (whole_then (expr t true d a) _ (whole_expr true d a h) (whole_plain _))
     whole_expr k d (tree.unary signs.Negate u a) h = whole_left k _ _ (whole_then (one _) _ (whole_plain _) (whole_then (expr t true d a) _ (whole_expr true d a h) (whole_plain _)))
     whole_expr k d (tree.unary signs.Complement u a) h = whole_left k _ _ (whole_then (expr t true d a) _ (whole_expr true d a h) (whole_plain _))
     whole_expr k d (tree.binary o u a b) h = let q = both (in_expr a) (in_expr b) h in whole_left k _ _ (whole_then (expr t true d a) _ (whole_expr true d a q.0) (whole_then (expr t true d b) _ (whole_expr true d b q.1) (whole_plain _)))
     whole_expr k d (tree.compare o u a b) h = let q = both (in_expr a) (in_expr b) h in whole_left k _ _ (whole_then (expr t true d a) _ (whole_expr true d a q.0) (whole_then (expr t true d b) _ (whole_expr true d b q.1) (whole_plain _)))
+    whole_expr k d (tree.compare_pointers relations.Equal a b) h = let q = both (in_expr a) (in_expr b) h in whole_left k _ _ (whole_equal (is_null b) (expr t true d a) (expr t true d b) (whole_expr true d a q.0) (whole_expr true d b q.1))
+    whole_expr k d (tree.compare_pointers relations.NotEqual a b) h = let q = both (in_expr a) (in_expr b) h in whole_left k _ _ (whole_unequal (is_null b) (expr t true d a) (expr t true d b) (whole_expr true d a q.0) (whole_expr true d b q.1))
     whole_expr k d (tree.and a b) h =
         let q = both (in_expr a) (in_expr b) h in let y = as_bit (is_bit b) (expr t true d b) in let z = one (i32 0) in
         whole_left k int _ (whole_then (expr t true d a) (choice (Some vals.I32) y z) (whole_expr true d a q.0) (whole_choice (Some vals.I32) y z))
@@ -159,18 +172,17 @@ module _ (t : Target) where
         let q = both (in_expr a) (in_expr b) h in let y = one (i32 1) in let z = as_bit (is_bit b) (expr t true d b) in
         whole_left k int _ (whole_then (expr t true d a) (choice (Some vals.I32) y z) (whole_expr true d a q.0) (whole_choice (Some vals.I32) y z))
     whole_expr k d (tree.choose s c a b) h =
-        let q = both (is_number_or_void s) (in_expr c && (in_expr a && in_expr b)) h in
-        let p = both (in_expr c) (in_expr a && in_expr b) q.1 in let y = expr t true d a in let z = expr t true d b in
+        let p = both (in_expr c) (in_expr a && in_expr b) h in let y = expr t true d a in let z = expr t true d b in
         whole_left k s _ (whole_then (expr t true d c) (choice (val_option s) y z) (whole_expr true d c p.0) (whole_choice (val_option s) y z))
     whole_expr k d (tree.comma a b) h = let q = both (in_expr a) (in_expr b) h in whole_then (expr t false d a) (expr t k d b) (whole_expr false d a q.0) (whole_expr k d b q.1)
     whole_expr k d (tree.assign s p e) h =
-        let q = both (is_local p) (in_expr e) h in
+        let q = both (in_place p) (in_expr e) h in
         whole_then (begun t (plain_in t p) (place t d p)) _ (whole_begun (plain_in t p) (place t d p) (whole_place d p q.0)) (whole_then (expr t true d e) _ (whole_expr true d e q.1) (whole_ended k (plain_in t p) s))
     whole_expr k d (tree.update old u o v p e) h =
-        let q = both (is_local p) (in_expr e) h in
+        let q = both (in_place p) (in_expr e) h in
         whole_updated k old (plain_in t p) (place t d p) (scalars.Int u) _ (whole_place d p q.0)
         (whole_then (convert u v) _ (whole_bare (convert u v) (bare_convert u v)) (whole_then (expr t true d e) _ (whole_expr true d e q.1) (whole_then (one _) (convert v u) (whole_plain _) (whole_bare (convert v u) (bare_convert v u)))))
-    whole_expr k d (tree.call n s es) h = let q = both (is_number_or_void s) (in_exprs es) h in whole_left k _ _ (whole_then (exprs t d es) _ (whole_exprs d es q.1) (whole_plain _))
+    whole_expr k d (tree.call n s es) h = whole_left k _ _ (whole_then (exprs t d es) _ (whole_exprs d es h) (whole_plain _))
     whole_expr k d (tree.putchar e) h = whole_left k _ _ (whole_then (expr t true d e) _ (whole_expr true d e h) (whole_plain _))
     whole_expr k d tree.getchar h = whole_left k _ _ (whole_plain _)
     whole_expr k d tree.abort h = whole_plain _

@@ -4,6 +4,7 @@ use Rattle.ms_host.specs.declared.host.Host.TheVariants as hosts
 use Rattle.ms_machine.specs.Step.{host_in}
 use Rattle.ms_machine.specs.Store.{Store}
 use Rattle.ms_machine.specs.declared.store.Instance.{Instance}
+use Rattle.ms_segment.specs.Memory.{Placed}
 use Rattle.ms_task.specs.declared.func.FuncInst.{FuncInst}
 use Rattle.c_typed.specs.Tree.{Function, Stmt, Typed}
 use Rattle.ms_emit.specs.Codes.{total}
@@ -32,6 +33,8 @@ pub record IsPlaced (u : Typed) (s : Store) : Type 0 where
   pub getchar : host_in (slice_get s.funcs 1) ≡ Some hosts.Getchar
   pub abort : host_in (slice_get s.funcs 2) ≡ Some hosts.Abort
   pub functions : (n : ℕ) (f : Function) (b : Stmt) → slice_get u.functions n ≡ Some f → f.body ≡ Some b → IsFunctionAt u s n f b
+  -- the live segments lie within the memory and apart
+  pub segments : Placed s.segments
 
 -- ---- how many instructions a body has at most
 

@@ -4,7 +4,7 @@ use Rattle.c_types.specs.Layout.{Table}
 use Rattle.c_types.specs.Types.{Ty, void, integer, struct, pointer, array, function, is_function}
 use Rattle.c_types.specs.declared.integers.IntType.{IntType}
 use Rattle.c_types.specs.declared.integers.IntType.TheVariants.{LongLong}
-use Rattle.ms_relate.specs.Laid.{Fits, is_handle}
+use Rattle.ms_relate.specs.refinement.Laid.{Fits, is_handle}
 use Rattle.c_meaning.specs.Shapes.{Shape, elements, Part, part_of, shape, size}
 use Rattle.c_meaning.specs.Values.{Value, null, number, to_member, inside}
 use Rattle.c_meaning.specs.Objects.{Kind, Object, Outcome, distance, free, further, moved, read, same_place, write}
@@ -31,9 +31,9 @@ use Rattle.ms_num.specs.Integers.{truth, wrapped}
 use Rattle.ms_segment.specs.Calls.{Change, store}
 use Rattle.ms_segment.specs.Memory.{Memory, loaded, once_more}
 use Rattle.ms_segment.specs.declared.trap.SegTrap.{SegTrap}
-use Rattle.ms_relate.specs.Homes.{Home, handle, IsIn, IsOf, is_number, IsScalar, Leads, word}
-use Rattle.ms_relate.specs.Relation.{Related, kind_of}
-use Rattle.ms_relate.specs.Operations.{Ends, null_ends, invalid_ends, freed_ends, bounds_ends, whole_ends, kind_ends, readonly_ends, Reads, reads, stopped, ReadsPointer, reads_pointer, pointer_stopped, Changes, changes, change_stopped, Creates, created, refused}
+use Rattle.ms_relate.specs.refinement.Homes.{Home, handle, IsIn, IsOf, is_number, IsScalar, Leads, word}
+use Rattle.ms_relate.specs.refinement.Relation.{Related, kind_of}
+use Rattle.ms_relate.specs.refinement.Operations.{Ends, null_ends, invalid_ends, freed_ends, bounds_ends, whole_ends, kind_ends, readonly_ends, Reads, reads, stopped, ReadsPointer, reads_pointer, pointer_stopped, Changes, changes, change_stopped, Creates, created, refused}
 use Rattle.ms_relate.proofs.Ending.{free_object}
 use Rattle.ms_relate.proofs.Comparing.{Differs, differs, are_apart, differs_is, same_is}
 use Rattle.ms_relate.proofs.Making.{creates}
@@ -42,7 +42,7 @@ use Rattle.ms_relate.proofs.Slicing.{elements_give, member_gives}
 use Rattle.ms_relate.proofs.Moving.{moved_is}
 use Rattle.ms_relate.proofs.Reading.{read_number, read_pointer}
 use Rattle.ms_relate.proofs.Writing.{write_number, write_pointer}
-use Rattle.ms_relate.specs.Acts.{load_of, store_of, operand, load_instr, store_instr, Traps, null_traps, invalid_traps, freed_traps, bounds_traps, whole_traps, kind_traps, readonly_traps, LoadActs, loads', load_traps, ChangeActs, changes', change_traps, DiffActs, diff_gives, diff_traps, apart_traps, NewActs, new_created, new_refused}
+use Rattle.ms_relate.specs.refinement.Acts.{load_of, store_of, operand, load_instr, store_instr, Traps, null_traps, invalid_traps, freed_traps, bounds_traps, whole_traps, kind_traps, readonly_traps, LoadActs, loads', load_traps, ChangeActs, changes', change_traps, DiffActs, diff_gives, diff_traps, apart_traps, NewActs, new_created, new_refused}
 use Rattle.ms_relate.proofs.Operands.{load_width, store_is, value_is}
 
 trap_from : (u : _) (e : SegTrap) → Ends u e → Traps u (trap_of e)

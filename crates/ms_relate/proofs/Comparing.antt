@@ -9,8 +9,8 @@ use Rattle.c_meaning.specs.Objects.{Object, Span, Outcome, apart, distance, give
 use Rattle.ms_handle.specs.declared.handle.Apart.{Apart}
 use Rattle.ms_handle.specs.Handle.{difference, eq}
 use Rattle.ms_segment.specs.Memory.{Memory}
-use Rattle.ms_relate.specs.Homes.{Home, handle, IsOf, is_null, is_invalid, is_pointer, is_named, is_no_function, span_of}
-use Rattle.ms_relate.specs.Relation.{IsAt, Related}
+use Rattle.ms_relate.specs.refinement.Homes.{Home, handle, IsOf, is_null, is_invalid, is_pointer, is_named, is_no_function, span_of}
+use Rattle.ms_relate.specs.refinement.Relation.{IsAt, Related}
 use Rattle.ms_relate.proofs.Reading.{object_there}
 use Rattle.ms_relate.proofs.Writing.{other_identity, same_Some}
 

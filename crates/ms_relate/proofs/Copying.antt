@@ -7,7 +7,7 @@ use Rattle.c_meaning.specs.Shapes.{Shape, scalar, elements, record', Members, no
 use Rattle.c_meaning.specs.Values.{Value}
 use Rattle.c_meaning.specs.Objects.{Object, Outcome, after, moved, read, write}
 use Rattle.c_meaning.specs.Objects.{copy, copy_members, copy_value, each_from}
-use Rattle.ms_relate.specs.Laid.{Fits, FitMembers, is_handle}
+use Rattle.ms_relate.specs.refinement.Laid.{Fits, FitMembers, is_handle}
 use Rattle.ms_relate.proofs.Laid.{member_fits, size-positive}
 use Rattle.ms_event.specs.declared.event.Event.{Event}
 use Rattle.ms_handle.specs.declared.handle.Handle.{Handle}
@@ -15,10 +15,10 @@ use Rattle.ms_handle.specs.Handle.{add, slice}
 use Rattle.ms_segment.specs.Memory.{Memory, loaded, once_more}
 use Rattle.ms_segment.specs.Calls.{Change, load_handle, store, store_handle}
 use Rattle.ms_segment.specs.declared.trap.SegTrap.{SegTrap}
-use Rattle.ms_relate.specs.Homes.{Home, handle, IsOf, IsScalar, Leads}
-use Rattle.ms_relate.specs.Relation.{Related}
-use Rattle.ms_relate.specs.Operations.{Reads, reads, stopped, ReadsPointer, reads_pointer, pointer_stopped, Changes, changes, change_stopped}
-use Rattle.ms_relate.specs.Copies.{Scalars, MemberScalars, Copies, copied, copy_stopped, copy_members_on, copy_on, each_on, left, next}
+use Rattle.ms_relate.specs.refinement.Homes.{Home, handle, IsOf, IsScalar, Leads}
+use Rattle.ms_relate.specs.refinement.Relation.{Related}
+use Rattle.ms_relate.specs.refinement.Operations.{Reads, reads, stopped, ReadsPointer, reads_pointer, pointer_stopped, Changes, changes, change_stopped}
+use Rattle.ms_relate.specs.refinement.Copies.{Scalars, MemberScalars, Copies, copied, copy_stopped, copy_members_on, copy_on, each_on, left, next}
 use Rattle.ms_relate.proofs.Growing.{related_once_more}
 use Rattle.ms_relate.proofs.Moving.{is_of_leads, moved_leads, moved_still_leads}
 use Rattle.ms_relate.proofs.Reading.{no_function_scalar, read_number, read_pointer, scalar_shape}

@@ -23,9 +23,9 @@ use Rattle.ms_segment.specs.Parts.{with_ended}
 use Rattle.ms_segment.specs.Calls.{ended_at}
 use Rattle.ms_segment.specs.Calls as call
 use Rattle.ms_segment.proofs.Finds.{find-filter_gone, find-filter_kept}
-use Rattle.ms_relate.specs.Homes.{Home, handle, IsOf, is_null, is_invalid, is_pointer, is_named, is_no_function, span_of}
-use Rattle.ms_relate.specs.Relation.{IsAt, IsThere, Related, gone, kind_of, lives}
-use Rattle.ms_relate.specs.Operations.{Changes, changes, change_stopped, invalid_ends, freed_ends, whole_ends, kind_ends, readonly_ends}
+use Rattle.ms_relate.specs.refinement.Homes.{Home, handle, IsOf, is_null, is_invalid, is_pointer, is_named, is_no_function, span_of}
+use Rattle.ms_relate.specs.refinement.Relation.{IsAt, IsThere, Related, gone, kind_of, lives}
+use Rattle.ms_relate.specs.refinement.Operations.{Changes, changes, change_stopped, invalid_ends, freed_ends, whole_ends, kind_ends, readonly_ends}
 use Rattle.ms_relate.proofs.Accesses.{negsuc-times}
 use Rattle.ms_relate.proofs.Reading.{object_there}
 use Rattle.ms_segment.proofs.Standing.{live_is}

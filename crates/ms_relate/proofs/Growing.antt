@@ -6,8 +6,8 @@ use Rattle.c_types.specs.Types.{Ty}
 use Rattle.c_meaning.specs.Shapes.{width}
 use Rattle.c_meaning.specs.Values.{Value}
 use Rattle.ms_tagged.specs.Bytes.{Byte, Data, range}
-use Rattle.ms_relate.specs.Homes.{Home, handle, handle_in, IsOf, is_number, is_null, is_invalid, is_pointer, is_named, is_no_function}
-use Rattle.ms_relate.specs.Relation.{ArePieces, IsAt, Related, StandsAt}
+use Rattle.ms_relate.specs.refinement.Homes.{Home, handle, handle_in, IsOf, is_number, is_null, is_invalid, is_pointer, is_named, is_no_function}
+use Rattle.ms_relate.specs.refinement.Relation.{ArePieces, IsAt, Related, StandsAt}
 use Rattle.c_meaning.specs.Objects.{Object}
 use Rattle.ms_live.specs.declared.gaps.Live.{Live}
 use Rattle.ms_segment.specs.Memory.{IsWithin, Memory, once_more}

@@ -8,7 +8,7 @@ use Rattle.c_types.specs.Types.{Ty, void, integer, struct, pointer, array, funct
 use Rattle.c_meaning.specs.Shapes.{Shape, scalar, elements, record', Members, no_members, member, size, width, Part, nth_member, part_of}
 use Rattle.c_meaning.specs.Values.{Value, Step, to_member, inside, Tree, leaf, group, Trees, none, more, count, nth, put, so_many, zeros, member_zeros, zero_value, under, first, array_by, array_at, with_array_by, with_array, with_element}
 use Rattle.c_meaning.specs.Objects.{Span, length_of, member_at, elements_at, span_by, span_at}
-use Rattle.ms_relate.specs.Laid.{Fits, FitMembers, Laid, AreLaid, MembersLaid, has_handles, have_handles, is_handle}
+use Rattle.ms_relate.specs.refinement.Laid.{Fits, FitMembers, Laid, AreLaid, MembersLaid, has_handles, have_handles, is_handle}
 
 abbrev offset_in : Option Part → ℕ
 offset_in None = 0

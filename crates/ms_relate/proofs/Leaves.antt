@@ -8,7 +8,7 @@ use Rattle.c_types.specs.Types.{Ty, void, integer, struct, pointer, array, funct
 use Rattle.c_types.specs.declared.integers.IntType.{IntType}
 use Rattle.c_types.specs.declared.integers.IntType.TheVariants.{Char, SignedChar, UnsignedChar, Short, UnsignedShort, Int, UnsignedInt, Long, UnsignedLong, LongLong, UnsignedLongLong}
 use Rattle.c_meaning.specs.Shapes.{width}
-use Rattle.ms_relate.specs.Laid.{is_handle}
+use Rattle.ms_relate.specs.refinement.Laid.{is_handle}
 use Rattle.c_meaning.specs.Values.{Value}
 use Rattle.ms_handle.specs.declared.handle.Handle.{Handle}
 use Rattle.ms_num.specs.Integers.{wrapped}
@@ -17,8 +17,8 @@ use Rattle.ms_tagged.specs.Bytes as bytes'
 use Rattle.ms_tagged.proofs.Numbers.{number_at-data_of}
 use Rattle.ms_segment.specs.Calls.{handle_at}
 use Rattle.ms_segment.proofs.Functions.{handle_at_is}
-use Rattle.ms_relate.specs.Homes.{Home, handle, IsOf, is_number, is_null, is_invalid, is_pointer, is_named, is_no_function, word}
-use Rattle.ms_relate.specs.Relation.{ArePieces, whole, cleared, StandsAt}
+use Rattle.ms_relate.specs.refinement.Homes.{Home, handle, IsOf, is_number, is_null, is_invalid, is_pointer, is_named, is_no_function, word}
+use Rattle.ms_relate.specs.refinement.Relation.{ArePieces, whole, cleared, StandsAt}
 
 -- ---- widths
 

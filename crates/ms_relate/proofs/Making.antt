@@ -12,7 +12,7 @@ use Rattle.c_types.specs.declared.integers.IntType.TheVariants.{Char, SignedChar
 use Rattle.c_meaning.specs.Shapes.{Shape, size, width}
 use Rattle.c_meaning.specs.Values.{null, no_function, points, zero_value}
 use Rattle.c_meaning.specs.Objects.{Kind, Object, new_object, whole_of}
-use Rattle.ms_relate.specs.Laid.{Fits, is_handle}
+use Rattle.ms_relate.specs.refinement.Laid.{Fits, is_handle}
 use Rattle.ms_relate.proofs.Laid.{are_weaker, handle_width, span_zeros}
 use Rattle.ms_handle.specs.declared.handle.Handle.TheVariants as handles
 use Rattle.ms_live.specs.declared.gaps.Live.{Live}
@@ -27,9 +27,9 @@ use Rattle.ms_segment.proofs.Places.{IsPlace-place_of}
 use Rattle.std.proofs.lemmas.List.Quantifiers.{all_pairs_push}
 use Rattle.ms_segment.proofs.Standing.{live_is, made_range, new_live, old_live}
 use Rattle.ms_segment.proofs.Placing.{place-within}
-use Rattle.ms_relate.specs.Homes.{Home, handle, IsIn, IsOf, is_number, is_null, is_no_function, Leads, leads_to, word}
-use Rattle.ms_relate.specs.Relation.{ArePieces, cleared, IsAt, IsThere, Related, Spell, StandsAt, gone, kind_of, lives}
-use Rattle.ms_relate.specs.Operations.{Creates, created, refused}
+use Rattle.ms_relate.specs.refinement.Homes.{Home, handle, IsIn, IsOf, is_number, is_null, is_no_function, Leads, leads_to, word}
+use Rattle.ms_relate.specs.refinement.Relation.{ArePieces, cleared, IsAt, IsThere, Related, Spell, StandsAt, gone, kind_of, lives}
+use Rattle.ms_relate.specs.refinement.Operations.{Creates, created, refused}
 use Rattle.ms_relate.proofs.Growing.{Extends, push_cases, slice_get-push_new, slice_get-push_old, stands_grown}
 use Rattle.ms_relate.proofs.Leaves.{stands_still}
 

@@ -11,7 +11,7 @@ use Rattle.c_meaning.specs.Objects.{is_near, moved, moved_to, length_of}
 use Rattle.ms_handle.specs.declared.handle.Handle.{Handle}
 use Rattle.ms_handle.specs.declared.handle.Handle.TheVariants as handles
 use Rattle.ms_handle.specs.Handle.{add, moved as moved_handle}
-use Rattle.ms_relate.specs.Homes.{Home, handle, IsOf, is_null, is_invalid, is_pointer, is_named, is_no_function, Leads, leads_null, leads_invalid, leads_to}
+use Rattle.ms_relate.specs.refinement.Homes.{Home, handle, IsOf, is_null, is_invalid, is_pointer, is_named, is_no_function, Leads, leads_null, leads_invalid, leads_to}
 use Rattle.ms_relate.proofs.Ending.{zero_index}
 
 times_suc : (x : ℤ) (n : ℕ) → x *ℤ pos (suc n) ≡ x *ℤ pos n +ℤ x

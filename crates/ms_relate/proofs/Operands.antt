@@ -6,7 +6,7 @@ use Rattle.c_types.specs.declared.integers.IntType.TheVariants.{Char, SignedChar
 use Rattle.ms_module.specs.Accesses.{load_bytes, store_bytes}
 use Rattle.ms_num.specs.Integers.{wrapped}
 use Rattle.ms_operate.specs.Accesses.{value_of}
-use Rattle.ms_relate.specs.Homes.{IsIn}
+use Rattle.ms_relate.specs.refinement.Homes.{IsIn}
 use Rattle.ms_handle.specs.declared.handle.Handle.{Handle}
 use Rattle.ms_linear.specs.declared.value.Value.{Value as Operand}
 use Rattle.ms_linear.specs.declared.value.Value.TheVariants as operands
@@ -15,7 +15,7 @@ use Rattle.ms_module.specs.declared.access.Segment.TheVariants.{Store}
 use Rattle.ms_segment.specs.Calls.{store, stored_at}
 use Rattle.ms_segment.specs.Memory.{Memory, access, writable}
 use Rattle.ms_tagged.specs.Bytes.{Data, data_of}
-use Rattle.ms_relate.specs.Acts.{integer_operand, load_of, store_of}
+use Rattle.ms_relate.specs.refinement.Acts.{integer_operand, load_of, store_of}
 
 pub load_width : (t : IntType) → load_bytes (load_of t) ≡ bits t / 8
 load_width Char = refl

@@ -8,16 +8,16 @@ use Rattle.c_types.specs.Types.{Ty, void, integer, struct, pointer, array, funct
 use Rattle.c_meaning.specs.Shapes.{Shape, scalar, shape, size, width}
 use Rattle.c_meaning.specs.Values.{Pointer, Step, Value, Tree, leaf, group, Trees, count, nth, array_at}
 use Rattle.c_meaning.specs.Objects.{Object, Span, length_of, whole_of, after, if_alive, if_within, element_at, value_in, index_in, read}
-use Rattle.ms_relate.specs.Laid.{Laid, AreLaid, is_handle}
+use Rattle.ms_relate.specs.refinement.Laid.{Laid, AreLaid, is_handle}
 use Rattle.ms_relate.proofs.Laid.{handle_width, laid_at, laid_nth}
 use Rattle.ms_handle.specs.declared.handle.Handle.TheVariants as handles
 use Rattle.ms_live.specs.declared.gaps.Live.{Live}
 use Rattle.ms_tagged.specs.Bytes.{Byte, number_at, range}
 use Rattle.ms_segment.specs.Memory.{Memory, access, aligned, handle_access, live_of, loaded, loaded_at}
 use Rattle.ms_segment.specs.Calls.{handle_at, handle_loaded_at, load_handle}
-use Rattle.ms_relate.specs.Homes.{Home, handle, IsOf, IsScalar, is_null, is_invalid, is_pointer, is_named, is_no_function, span_of, word}
-use Rattle.ms_relate.specs.Relation.{IsAt, IsThere, Related, StandsAt, gone, lives}
-use Rattle.ms_relate.specs.Operations.{Reads, reads, stopped, ReadsPointer, reads_pointer, pointer_stopped, null_ends, invalid_ends, freed_ends, bounds_ends}
+use Rattle.ms_relate.specs.refinement.Homes.{Home, handle, IsOf, IsScalar, is_null, is_invalid, is_pointer, is_named, is_no_function, span_of, word}
+use Rattle.ms_relate.specs.refinement.Relation.{IsAt, IsThere, Related, StandsAt, gone, lives}
+use Rattle.ms_relate.specs.refinement.Operations.{Reads, reads, stopped, ReadsPointer, reads_pointer, pointer_stopped, null_ends, invalid_ends, freed_ends, bounds_ends}
 use Rattle.ms_relate.proofs.Accesses.{access_is, index_in-within, located, located_in}
 use Rattle.ms_relate.proofs.Leaves.{number_read, handle_read, width_positive}
 

@@ -12,7 +12,7 @@ use Rattle.c_types.specs.Types.{Ty, void, integer, struct, pointer, array, funct
 use Rattle.c_types.specs.declared.integers.IntType.{IntType}
 use Rattle.c_types.specs.declared.integers.IntType.TheVariants.{Char, SignedChar, UnsignedChar, Short, UnsignedShort, Int, UnsignedInt, Long, UnsignedLong, LongLong, UnsignedLongLong}
 use Rattle.c_meaning.specs.Shapes.{Shape, scalar, elements, record', member, members_with, nth_member, part_of, shape, shape_in, shape_with, size, struct_shape}
-use Rattle.ms_relate.specs.Laid.{Fits, FitMembers, have_handles, has_handles}
+use Rattle.ms_relate.specs.refinement.Laid.{Fits, FitMembers, have_handles, has_handles}
 use Rattle.ms_relate.proofs.Laid.{fit_end, handle_width, size-positive}
 
 -- ---- structs hold only structs that are less deep

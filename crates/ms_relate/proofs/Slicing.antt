@@ -12,8 +12,8 @@ use Rattle.ms_handle.specs.declared.handle.Handle.{Handle}
 use Rattle.ms_handle.specs.declared.handle.Handle.TheVariants as handles
 use Rattle.ms_handle.specs.Handle.{part, slice}
 use Rattle.ms_segment.specs.Memory.{Memory}
-use Rattle.ms_relate.specs.Homes.{Home, handle, Leads, leads_null, leads_invalid, leads_to, span_of}
-use Rattle.ms_relate.specs.Relation.{Related}
+use Rattle.ms_relate.specs.refinement.Homes.{Home, handle, Leads, leads_null, leads_invalid, leads_to, span_of}
+use Rattle.ms_relate.specs.refinement.Relation.{Related}
 use Rattle.ms_relate.proofs.Accesses.{index_ends, index_in-within, negsuc-times}
 use Rattle.ms_relate.proofs.Reading.{object_there}
 

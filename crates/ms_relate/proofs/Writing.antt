@@ -9,7 +9,7 @@ use Rattle.c_types.specs.Types.{Ty, pointer}
 use Rattle.c_meaning.specs.Shapes.{Shape, scalar, size, width}
 use Rattle.c_meaning.specs.Values.{Pointer, Step, Value, leaf, array_at, with_element}
 use Rattle.c_meaning.specs.Objects.{Object, stops, readonly, Span, length_of, whole_of, after, gives, if_alive, if_within, element_at, index_in, with_trees, write}
-use Rattle.ms_relate.specs.Laid.{Fits, Laid, is_handle}
+use Rattle.ms_relate.specs.refinement.Laid.{Fits, Laid, is_handle}
 use Rattle.ms_relate.proofs.Laid.{are_weaker, handle_width, laid_write, path_within, index_within}
 use Rattle.ms_live.specs.declared.gaps.Live.{Live}
 use Rattle.ms_tagged.specs.Bytes.{Byte, data_of, overwritten, pieces, range}
@@ -17,9 +17,9 @@ use Rattle.ms_tagged.proofs.Numbers.{length-data_of}
 use Rattle.ms_tagged.proofs.Ranges.{range-overwritten_apart, range-overwritten_same}
 use Rattle.ms_segment.specs.Memory.{Access, access, handle_access, Memory, Placed, live_of, with_bytes, writable}
 use Rattle.ms_segment.specs.Calls.{stored_at}
-use Rattle.ms_relate.specs.Homes.{Home, handle, IsOf, IsScalar, is_null, is_invalid, is_pointer, is_named, is_no_function, span_of, word}
-use Rattle.ms_relate.specs.Relation.{whole, IsAt, IsThere, Related, Spell, StandsAt, gone, lives}
-use Rattle.ms_relate.specs.Operations.{Changes, changes, change_stopped, null_ends, invalid_ends, freed_ends, bounds_ends, readonly_ends}
+use Rattle.ms_relate.specs.refinement.Homes.{Home, handle, IsOf, IsScalar, is_null, is_invalid, is_pointer, is_named, is_no_function, span_of, word}
+use Rattle.ms_relate.specs.refinement.Relation.{whole, IsAt, IsThere, Related, Spell, StandsAt, gone, lives}
+use Rattle.ms_relate.specs.refinement.Operations.{Changes, changes, change_stopped, null_ends, invalid_ends, freed_ends, bounds_ends, readonly_ends}
 use Rattle.ms_relate.proofs.Accesses.{access_is, index_in-within, located, located_in}
 use Rattle.ms_relate.proofs.Leaves.{stands_still, width_positive}
 use Rattle.ms_relate.proofs.Reading.{array_stands, element_leaf, no_function_scalar, object_there, pointer_access, scalar_shape, scalar_width}

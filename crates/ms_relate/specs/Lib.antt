@@ -1,6 +1,1 @@
-pub mod Laid
-pub mod Homes
-pub mod Relation
-pub mod Operations
-pub mod Copies
-pub mod Acts
+pub mod refinement

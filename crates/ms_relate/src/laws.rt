@@ -16,11 +16,11 @@ ghost use Rattle.ms_linear.specs.declared.value.Value.TheVariants.{Handle, I32, 
 ghost use Rattle.ms_machine.specs.Segments.{Gives, segment_on, slice_event};
 ghost use Rattle.ms_module.specs.declared.access.Segment.TheVariants.{Add, Diff, Eq, Free, New, Slice};
 ghost use Rattle.ms_num.specs.Integers.{truth, wrapped};
-ghost use Rattle.ms_relate.specs.Acts.{ChangeActs, DiffActs, LoadActs, NewActs, load_instr, operand, store_instr};
-ghost use Rattle.ms_relate.specs.Copies.{Copies, Scalars, copy_on};
-ghost use Rattle.ms_relate.specs.Homes.{Home, IsIn, IsOf, IsScalar, Leads, handle};
-ghost use Rattle.ms_relate.specs.Laid.{Fits};
-ghost use Rattle.ms_relate.specs.Relation.{Related, kind_of};
+ghost use Rattle.ms_relate.specs.refinement.Acts.{ChangeActs, DiffActs, LoadActs, NewActs, load_instr, operand, store_instr};
+ghost use Rattle.ms_relate.specs.refinement.Copies.{Copies, Scalars, copy_on};
+ghost use Rattle.ms_relate.specs.refinement.Homes.{Home, IsIn, IsOf, IsScalar, Leads, handle};
+ghost use Rattle.ms_relate.specs.refinement.Laid.{Fits};
+ghost use Rattle.ms_relate.specs.refinement.Relation.{Related, kind_of};
 ghost use Rattle.ms_segment.specs.Calls as call;
 ghost use Rattle.ms_segment.specs.Memory.{Memory};
 

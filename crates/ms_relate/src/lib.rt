@@ -2,7 +2,7 @@
 //! objects that the machine's does what it means.
 //!
 //! There is no code, but the laws as clauses (`laws.rt`). It stands on the meaning of C (`c_meaning`) and on the segment memory (`ms_segment`, `ms_handle`, `ms_tagged`). Read
-//! `specs/Relation.antt` first.
+//! `specs/refinement/Relation.antt` first.
 #![tactic(auto)]
 
 mod laws;

@@ -6,7 +6,7 @@ use Rattle.c_types.specs.Types.{Ty, integer}
 use Rattle.c_types.specs.declared.integers.IntType.{IntType}
 use Rattle.c_types.specs.declared.integers.IntType.TheVariants.{Char, SignedChar, UnsignedChar, Short, UnsignedShort, LongLong, UnsignedLongLong}
 use Rattle.c_meaning.specs.Shapes.{Shape}
-use Rattle.ms_relate.specs.Laid.{is_handle}
+use Rattle.ms_relate.specs.refinement.Laid.{is_handle}
 use Rattle.c_meaning.specs.Values.{Value, number, points}
 use Rattle.c_meaning.specs.Objects.{Kind, Object, Outcome, Unsafe, gives, new_object, stops, at_null, at_invalid, freed, bounds, whole, wrong_kind, readonly, apart}
 use Rattle.ms_event.specs.declared.event.Event.{Event}
@@ -25,8 +25,8 @@ use Rattle.ms_module.specs.declared.access.Segment.{Segment}
 use Rattle.ms_module.specs.declared.access.Segment.TheVariants.{Load, Store, LoadHandle, StoreHandle}
 use Rattle.ms_num.specs.Integers.{wrapped}
 use Rattle.ms_segment.specs.Memory.{Memory, once_more}
-use Rattle.ms_relate.specs.Homes.{Home, handle, IsOf, word}
-use Rattle.ms_relate.specs.Relation.{Related}
+use Rattle.ms_relate.specs.refinement.Homes.{Home, handle, IsOf, word}
+use Rattle.ms_relate.specs.refinement.Relation.{Related}
 
 -- ---- operands
 

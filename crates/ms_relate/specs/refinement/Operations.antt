@@ -13,8 +13,8 @@ use Rattle.ms_segment.specs.Memory.{Memory}
 use Rattle.ms_segment.specs.Calls.{Change}
 use Rattle.ms_segment.specs.declared.trap.SegTrap.{SegTrap}
 use Rattle.ms_segment.specs.declared.trap.SegTrap.TheVariants as traps
-use Rattle.ms_relate.specs.Homes.{Home, handle, IsOf, word}
-use Rattle.ms_relate.specs.Relation.{Related}
+use Rattle.ms_relate.specs.refinement.Homes.{Home, handle, IsOf, word}
+use Rattle.ms_relate.specs.refinement.Relation.{Related}
 
 -- an unsafe end is that trap
 pub data Ends : Unsafe → SegTrap → Type 0 where

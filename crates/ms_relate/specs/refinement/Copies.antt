@@ -3,16 +3,16 @@ use Rattle.std.specs.Prelude.{ℕ, zero, suc, ◌*◌, pos, List, Result, Ok, Er
 use Rattle.c_types.specs.Layout.{Table}
 use Rattle.c_types.specs.Types.{Ty}
 use Rattle.c_meaning.specs.Shapes.{Shape, scalar, elements, record', Members, no_members, member, size, width}
-use Rattle.ms_relate.specs.Laid.{is_handle}
+use Rattle.ms_relate.specs.refinement.Laid.{is_handle}
 use Rattle.c_meaning.specs.Objects.{Object, Outcome, gives, stops, Unsafe}
 use Rattle.ms_handle.specs.declared.handle.Handle.{Handle}
 use Rattle.ms_handle.specs.Handle.{add, slice}
 use Rattle.ms_segment.specs.Memory.{Memory, loaded, once_more}
 use Rattle.ms_segment.specs.Calls.{Change, load_handle, store, store_handle}
 use Rattle.ms_segment.specs.declared.trap.SegTrap.{SegTrap}
-use Rattle.ms_relate.specs.Homes.{Home, IsScalar}
-use Rattle.ms_relate.specs.Relation.{Related}
-use Rattle.ms_relate.specs.Operations.{Ends}
+use Rattle.ms_relate.specs.refinement.Homes.{Home, IsScalar}
+use Rattle.ms_relate.specs.refinement.Relation.{Related}
+use Rattle.ms_relate.specs.refinement.Operations.{Ends}
 
 -- each leaf is of a type of one value
 abbrev mutual

@@ -5,7 +5,7 @@ use Rattle.c_types.specs.Types.{Ty}
 use Rattle.c_meaning.specs.Shapes.{size, width}
 use Rattle.c_meaning.specs.Values.{Value, count}
 use Rattle.c_meaning.specs.Objects.{Kind, heap, frame, Object}
-use Rattle.ms_relate.specs.Laid.{Fits, AreLaid, is_handle}
+use Rattle.ms_relate.specs.refinement.Laid.{Fits, AreLaid, is_handle}
 use Rattle.ms_handle.specs.declared.handle.Handle.{Handle}
 use Rattle.ms_handle.specs.declared.handle.Handle.TheVariants as handles
 use Rattle.ms_handle.specs.declared.handle.Kind.{Kind as SegmentKind}
@@ -13,7 +13,7 @@ use Rattle.ms_handle.specs.declared.handle.Kind.TheVariants as kinds
 use Rattle.ms_live.specs.declared.gaps.Live.{Live}
 use Rattle.ms_tagged.specs.Bytes.{Byte, data_of, pieces, range, zeros}
 use Rattle.ms_segment.specs.Memory.{Memory, Placed, live_of}
-use Rattle.ms_relate.specs.Homes.{Home, handle, IsOf, word}
+use Rattle.ms_relate.specs.refinement.Homes.{Home, handle, IsOf, word}
 
 abbrev pub kind_of : Kind → SegmentKind
 kind_of heap = kinds.Heap
