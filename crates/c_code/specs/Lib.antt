@@ -7,4 +7,3 @@ pub mod Statements
 pub mod Functions
 pub mod Modules
 pub mod Limits
-pub mod Stage

@@ -1,11 +1,10 @@
 -- What passes a limit of the compiler, and is refused before any code is made.
-use Rattle.std.specs.Prelude.{ℕ, ◌||◌, Bool, true, false, List, [], ◌∷◌, length, nat_lt, Option, Some, None, is_some, not, ◌&&◌, if◌then◌else◌}
+use Rattle.std.specs.Prelude.{ℕ, ◌||◌, Bool, true, false, List, [], ◌∷◌, length, nat_lt, Option, Some, None, is_some, ◌&&◌, if◌then◌else◌}
 use Rattle.std.specs.List.{list_any}
 use Rattle.c_types.specs.Layout.{Table}
 use Rattle.c_typed.specs.Tree.{Function, Typed}
 use Rattle.c_code.specs.Leaves.{leaves}
 use Rattle.c_code.specs.Modules.{named}
-use Rattle.c_code.specs.Stage.{in_stage}
 use Rattle.c_code.specs.Uses.{Use, copies, uses}
 
 -- of the variables and parameters of a function, the leaves of a struct that is copied, and the functions that are values
@@ -26,7 +25,7 @@ is_long_copy structs (copies n) = nat_lt most_leaves (length (leaves structs n))
 is_long_copy structs _ = false
 
 pub data Limit : Type 0 where
-  stage locals copy functions : Limit
+  locals copy functions : Limit
 
 abbrev pub first_true : Bool → Limit → Option Limit → Option Limit
 first_true b l rest = if b then Some l else rest
@@ -37,7 +36,3 @@ limit_of u =
     first_true (list_any has_many_slots u.functions) locals
     (first_true (list_any (is_long_copy u.structs) (uses u)) copy
     (first_true (nat_lt most_named (length (named u))) functions None))
-
--- why it is refused: first, what the laws on the meaning of the code don't speak of yet
-abbrev pub refusal_of : Typed → Option Limit
-refusal_of u = first_true (not (in_stage u)) stage (limit_of u)

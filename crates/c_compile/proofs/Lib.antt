@@ -5,8 +5,6 @@ pub mod Nodes
 pub mod Plain
 pub mod Sizes
 pub mod Steps
-pub mod Staging
-pub mod ParameterTypes
 pub mod ObjectFlags
 pub mod Bodies
 pub mod Walk

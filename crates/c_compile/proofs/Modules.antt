@@ -17,9 +17,8 @@ use Rattle.c_place.specs.refinement.Flags.{globals_from as flags_from}
 use Rattle.c_well_typed.specs.Units.{literals_in}
 use Rattle.c_code.specs.Functions.{held_as}
 use Rattle.c_code.specs.Limits as words
-use Rattle.c_code.specs.Limits.{Limit, first_true, has_many_slots, is_long_copy, limit_of, most_named, refusal_of}
+use Rattle.c_code.specs.Limits.{Limit, first_true, has_many_slots, is_long_copy, limit_of, most_named}
 use Rattle.c_code.specs.Modules.{all_functions, export_of, func_of, function_at, funcs_from, global_of, globals_from, import_from_c, import_of, index_of, is_exported, is_name_of, literal_globals, name_in, named, no_slots}
-use Rattle.c_code.specs.Stage.{in_stage}
 use Rattle.c_code.specs.Uses.{uses}
 use Rattle.c_compile.proofs.ObjectFlags.{flags_at_start}
 
@@ -137,7 +136,5 @@ none_passed u a b flags n ea eb ef en fa fb le =
     limit_is u a b flags n ea eb ef en ∙ ap (λ (x : Bool). limit_by x b n) fa ∙ ap (λ (x : Bool). limit_by false x n) fb
     ∙ ap (λ (x : Bool). first_true x words.functions None) t
 
-pub refused_by : (x y : TypedUnit) (b : Bool) (o : Option Limit) → x ≡ y → b ≡ in_stage (typed_of x) → b ≡ true → limit_of (typed_of x) ≡ o → refusal_of (typed_of y) ≡ o
-refused_by x y b o e eb et el =
-    ap (λ (v : TypedUnit). refusal_of (typed_of v)) (sym e)
-    ∙ ap (λ (s : Bool). first_true (not s) words.stage (limit_of (typed_of x))) (sym eb ∙ et) ∙ el
+pub refused_by : (x y : TypedUnit) (o : Option Limit) → x ≡ y → limit_of (typed_of x) ≡ o → limit_of (typed_of y) ≡ o
+refused_by x y o e el = ap (λ (v : TypedUnit). limit_of (typed_of v)) (sym e) ∙ el

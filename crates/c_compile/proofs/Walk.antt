@@ -9,7 +9,6 @@ use Rattle.c_types.specs.Types.{Ty}
 use Rattle.c_typed.specs.declared.tree.Stmt.{Stmt}
 use Rattle.c_typed.specs.Parts.{sequence}
 use Rattle.c_typed.specs.refinement.Views.{list_of, stmt_of}
-use Rattle.c_well_typed.specs.Statements.{count}
 use Rattle.c_code.specs.Statements.{Exits, group_from, groups, iterated, stmt}
 use Rattle.c_code.specs.Targets.{Target, waiting}
 use Rattle.c_compile.proofs.Items.{IsLeft, item_at, less_is_left}
@@ -26,10 +25,6 @@ without_block b body e = sym (ap (λ (k : Bool). if k then block None (body true
 
 pub with_block : (b : Bool) (body : Bool → Code) → b ≡ true → block None (body true) ≡ (if b then block None (body true) else body false)
 with_block b body e = sym (ap (λ (k : Bool). if k then block None (body true) else body false) e)
-
-pub count_is : (ss : List Stmt) → length ss ≡ count (sequence (list_of ss))
-count_is [] = refl
-count_is (s ∷ ss) = ap suc (count_is ss) ∙ rw add-one refl
 
 module _ (t : Target) (slots : List Ty) where
   pub group_is_added : (d : ℕ) (x : Exits) (s0 s1 s2 : State) (ss : List Stmt) (i k : ℕ) (s : Stmt) (whole : Code) → i < length ss → s ≡ get_or ss i s → k ≡ i + 1

@@ -8,6 +8,5 @@ pub mod LeafWalk
 pub mod Leaves
 pub mod Placed
 pub mod Sites
-pub mod Staged
 pub mod Steps
 pub mod Used

@@ -20,40 +20,41 @@ ghost use Rattle.ms_module.specs.declared.numeric.Width.TheVariants as widths;
 ghost use Rattle.ms_types.specs.declared.types.ValType.TheVariants as vals;
 
 use crate::adding::{add, add_five, add_three, add_two, begin, end, turn};
+use crate::body::Body;
 use crate::leaves::copy_leaves;
 use crate::operations::{eqz, i32_of, i64_of, load, op, rel, store};
 use crate::target::Target;
 use c_typed::{Place, Variable};
 use c_types::{CType, Scalar};
 use ms_handle::Kind;
-use ms_module::{BinOp, Builder, Instr, Numeric, Opening, RelOp, Segment, Width};
+use ms_module::{BinOp, Instr, Numeric, Opening, RelOp, Segment, Width};
 use ms_types::ValType;
 use std::alloc::AllocError;
 
 // ---- variables, literals and handles
 
 /// What a variable holds: its handle, if it is an object.
-pub fn variable(body: &mut Builder, t: &Target, v: Variable) -> Result<(), AllocError>
+pub fn variable(body: &mut Body, t: &Target, v: Variable) -> Result<(), AllocError>
     ensures { OnOk result (Adds body.old body.new (one (targets.get t.now.target v))) }
 {
     add(body, t.get(v)?)
 }
 
-pub fn variable_twice(body: &mut Builder, t: &Target, v: Variable) -> Result<(), AllocError>
+pub fn variable_twice(body: &mut Body, t: &Target, v: Variable) -> Result<(), AllocError>
     ensures { OnOk result (Adds body.old body.new (plain (targets.get t.now.target v ∷ targets.get t.now.target v ∷ []))) }
 {
     add_two(body, t.get(v)?, t.get(v)?)
 }
 
 /// A function's entry in the table.
-pub fn function(body: &mut Builder, t: &Target, n: u32) -> Result<(), AllocError>
+pub fn function(body: &mut Body, t: &Target, n: u32) -> Result<(), AllocError>
     ensures { OnOk result (Adds body.old body.new (one (operations.i32 (t.now.target.entry n)))) }
 {
     add(body, i32_of(t.entry(n)?))
 }
 
 /// The pointer to a literal: it is sealed here, since a pointer to it may be formed before its bytes are written.
-pub fn literal(body: &mut Builder, t: &Target, n: u32) -> Result<(), AllocError>
+pub fn literal(body: &mut Body, t: &Target, n: u32) -> Result<(), AllocError>
     ensures { OnOk result (Adds body.old body.new (plain (instrs.GlobalGet (t.now.target.globals + n) ∷ instrs.Segment segments.Seal ∷ []))) }
 {
     add_two(
@@ -64,7 +65,7 @@ pub fn literal(body: &mut Builder, t: &Target, n: u32) -> Result<(), AllocError>
 }
 
 /// Narrows a handle to so many bytes from so many on.
-pub fn slice(body: &mut Builder, from: u32, length: u32) -> Result<(), AllocError>
+pub fn slice(body: &mut Body, from: u32, length: u32) -> Result<(), AllocError>
     ensures { OnOk result (Adds body.old body.new (operations.slice from length)) }
 {
     add_three(
@@ -78,7 +79,7 @@ pub fn slice(body: &mut Builder, from: u32, length: u32) -> Result<(), AllocErro
 /// The handle of so many bytes of a variable from so many on.
 #[tactic(auto, using(crate::proofs::Steps::then))]
 pub fn slice_of(
-    body: &mut Builder,
+    body: &mut Body,
     t: &Target,
     v: Variable,
     from: u32,
@@ -94,7 +95,7 @@ pub fn slice_of(
 
 /// It is read.
 #[tactic(auto, using(crate::proofs::Plain::load_plain))]
-pub fn fetch(body: &mut Builder, s: Scalar) -> Result<(), AllocError>
+pub fn fetch(body: &mut Body, s: Scalar) -> Result<(), AllocError>
     ensures { OnOk result (Adds body.old body.new (one (operations.load s))) }
 {
     add(body, load(s))
@@ -102,7 +103,7 @@ pub fn fetch(body: &mut Builder, s: Scalar) -> Result<(), AllocError>
 
 /// The handle stays below it.
 #[tactic(auto, using(crate::proofs::Plain::load_plain))]
-pub fn fetch_above(body: &mut Builder, t: &Target, s: Scalar) -> Result<(), AllocError>
+pub fn fetch_above(body: &mut Body, t: &Target, s: Scalar) -> Result<(), AllocError>
     ensures { OnOk result (Adds body.old body.new (plain (instrs.LocalTee (targets.scratch_place t.now.target) ∷ instrs.LocalGet (targets.scratch_place t.now.target) ∷ operations.load s ∷ []))) }
 {
     let place = t.scratch_place()?;
@@ -116,7 +117,7 @@ pub fn fetch_above(body: &mut Builder, t: &Target, s: Scalar) -> Result<(), Allo
 
 /// The handle stays between it and it.
 #[tactic(auto, using(crate::proofs::Plain::load_plain))]
-pub fn fetch_around(body: &mut Builder, t: &Target, s: Scalar) -> Result<(), AllocError>
+pub fn fetch_around(body: &mut Body, t: &Target, s: Scalar) -> Result<(), AllocError>
     ensures { OnOk result (Adds body.old body.new (plain (instrs.LocalTee (targets.scratch_place t.now.target) ∷ operations.load s ∷ instrs.LocalTee (targets.scratch_of t.now.target s) ∷ instrs.LocalGet (targets.scratch_place t.now.target) ∷ instrs.LocalGet (targets.scratch_of t.now.target s) ∷ []))) }
 {
     let (place, value) = (t.scratch_place()?, t.scratch_of(s)?);
@@ -133,7 +134,7 @@ pub fn fetch_around(body: &mut Builder, t: &Target, s: Scalar) -> Result<(), All
 // ---- the value on the stack is written (6.5.16, 6.5.2.4, 6.5.3.1)
 
 /// It is set, and stays.
-pub fn tee(body: &mut Builder, t: &Target, v: Variable) -> Result<(), AllocError>
+pub fn tee(body: &mut Body, t: &Target, v: Variable) -> Result<(), AllocError>
     ensures { OnOk result (Adds body.old body.new (targets.tee t.now.target v)) }
 {
     match v {
@@ -148,7 +149,7 @@ pub fn tee(body: &mut Builder, t: &Target, v: Variable) -> Result<(), AllocError
 }
 
 /// It is set, and gone.
-fn set(body: &mut Builder, t: &Target, v: Variable) -> Result<(), AllocError>
+fn set(body: &mut Body, t: &Target, v: Variable) -> Result<(), AllocError>
     ensures { OnOk result (Adds body.old body.new (one (targets.set t.now.target v))) }
 {
     add(body, t.set(v)?)
@@ -156,7 +157,7 @@ fn set(body: &mut Builder, t: &Target, v: Variable) -> Result<(), AllocError>
 
 /// It is stored, and stays.
 #[tactic(auto, using(crate::proofs::Plain::store_plain))]
-fn store_over(body: &mut Builder, t: &Target, s: Scalar) -> Result<(), AllocError>
+fn store_over(body: &mut Body, t: &Target, s: Scalar) -> Result<(), AllocError>
     ensures { OnOk result (Adds body.old body.new (words.written t.now.target None s)) }
 {
     let x = t.scratch_of(s)?;
@@ -164,7 +165,7 @@ fn store_over(body: &mut Builder, t: &Target, s: Scalar) -> Result<(), AllocErro
 }
 
 /// It is written to a place, whose handle stands below it if it isn't a plain variable, and stays.
-fn write_over(body: &mut Builder, t: &Target, p: &Place, s: Scalar) -> Result<(), AllocError>
+fn write_over(body: &mut Body, t: &Target, p: &Place, s: Scalar) -> Result<(), AllocError>
     ensures { OnOk result (Adds body.old body.new (words.written t.now.target (targets.plain_in t.now.target (place_of p.now)) s)) }
 {
     match t.plain_in(p)? {
@@ -175,7 +176,7 @@ fn write_over(body: &mut Builder, t: &Target, p: &Place, s: Scalar) -> Result<()
 
 /// It is written there, and gone.
 #[tactic(auto, using(crate::proofs::Plain::store_plain))]
-pub fn write(body: &mut Builder, t: &Target, p: &Place, s: Scalar) -> Result<(), AllocError>
+pub fn write(body: &mut Body, t: &Target, p: &Place, s: Scalar) -> Result<(), AllocError>
     ensures { OnOk result (Adds body.old body.new (words.put t.now.target (targets.plain_in t.now.target (place_of p.now)) s)) }
 {
     match t.plain_in(p)? {
@@ -186,7 +187,7 @@ pub fn write(body: &mut Builder, t: &Target, p: &Place, s: Scalar) -> Result<(),
 
 /// It is written there, and stays where it is kept.
 pub fn write_kept(
-    body: &mut Builder,
+    body: &mut Body,
     t: &Target,
     kept: bool,
     p: &Place,
@@ -203,7 +204,7 @@ pub fn write_kept(
 
 /// A struct is copied from the second place on the stack to the first (6.5.16.1).
 #[tactic(auto, using(crate::proofs::Steps::then))]
-pub fn copy_struct(body: &mut Builder, t: &Target, n: u32) -> Result<(), AllocError>
+pub fn copy_struct(body: &mut Body, t: &Target, n: u32) -> Result<(), AllocError>
     ensures { OnOk result (Adds body.old body.new (plain (instrs.LocalSet (targets.scratch_handle t.now.target) ∷ instrs.LocalSet (targets.scratch_place t.now.target) ∷ []) ⨾ words.leaves_copied t.now.target (leaves t.now.target.structs n))) }
 {
     let (from, to) = (t.scratch_handle()?, t.scratch_place()?);
@@ -211,7 +212,7 @@ pub fn copy_struct(body: &mut Builder, t: &Target, n: u32) -> Result<(), AllocEr
     copy_leaves(body, t, n, from, to)
 }
 
-fn set_places(body: &mut Builder, t: &Target) -> Result<(), AllocError>
+fn set_places(body: &mut Body, t: &Target) -> Result<(), AllocError>
     ensures { OnOk result (Adds body.old body.new (plain (instrs.LocalSet (targets.scratch_handle t.now.target) ∷ instrs.LocalSet (targets.scratch_place t.now.target) ∷ []))) }
 {
     let (from, to) = (t.scratch_handle()?, t.scratch_place()?);
@@ -221,7 +222,7 @@ fn set_places(body: &mut Builder, t: &Target) -> Result<(), AllocError>
 // ---- memory (7.22.3)
 
 /// As many elements of this size as the number of bytes on the stack holds.
-fn new_elements(body: &mut Builder, size: u32) -> Result<(), AllocError>
+fn new_elements(body: &mut Body, size: u32) -> Result<(), AllocError>
     ensures { OnOk result (Adds body.old body.new (operations.new_heap size)) }
 {
     add_five(
@@ -235,7 +236,7 @@ fn new_elements(body: &mut Builder, size: u32) -> Result<(), AllocError>
 }
 
 /// As many elements of a type.
-pub fn new_heap(body: &mut Builder, t: &Target, u: &CType) -> Result<(), AllocError>
+pub fn new_heap(body: &mut Body, t: &Target, u: &CType) -> Result<(), AllocError>
     ensures { OnOk result (Adds body.old body.new (operations.new_heap (size t.now.target.structs (type_of u.now)))) }
 {
     let size = t.size(u)?;
@@ -243,7 +244,7 @@ pub fn new_heap(body: &mut Builder, t: &Target, u: &CType) -> Result<(), AllocEr
 }
 
 /// The same where the number of bytes is known.
-pub fn new_known(body: &mut Builder, t: &Target, u: &CType, bytes: u64) -> Result<(), AllocError>
+pub fn new_known(body: &mut Body, t: &Target, u: &CType, bytes: u64) -> Result<(), AllocError>
     ensures { (unused : Code) → OnOk result (Adds body.old body.new (words.allocated (size t.now.target.structs (type_of u.now)) (Some bytes) unused)) }
 {
     let size = u64::from(t.size(u)?);
@@ -262,7 +263,7 @@ pub fn new_known(body: &mut Builder, t: &Target, u: &CType, bytes: u64) -> Resul
 
 /// As many bytes as the product of two numbers; a null pointer where an i32 can't hold it.
 #[tactic(auto, using(crate::proofs::Steps::then))]
-pub fn new_product(body: &mut Builder, t: &Target, u: &CType) -> Result<(), AllocError>
+pub fn new_product(body: &mut Body, t: &Target, u: &CType) -> Result<(), AllocError>
     ensures { OnOk result (Adds body.old body.new (plain (instrs.Numeric numerics.ExtendU ∷ operations.op widths.W64 bins.Mul ∷ instrs.LocalTee (targets.scratch_i64 t.now.target) ∷ operations.i64 4294967295 ∷ operations.rel widths.W64 rels.GtU ∷ []) ⨾ choice (Some vals.Handle) (one (instrs.Segment segments.Null)) (plain (instrs.LocalGet (targets.scratch_i64 t.now.target) ∷ instrs.Numeric numerics.Wrap ∷ []) ⨾ operations.new_heap (size t.now.target.structs (type_of u.now))))) }
 {
     multiply(body, t)?;
@@ -270,7 +271,7 @@ pub fn new_product(body: &mut Builder, t: &Target, u: &CType) -> Result<(), Allo
 }
 
 /// The product in 64 bits, and whether it is past 32.
-fn multiply(body: &mut Builder, t: &Target) -> Result<(), AllocError>
+fn multiply(body: &mut Body, t: &Target) -> Result<(), AllocError>
     ensures { OnOk result (Adds body.old body.new (plain (instrs.Numeric numerics.ExtendU ∷ operations.op widths.W64 bins.Mul ∷ instrs.LocalTee (targets.scratch_i64 t.now.target) ∷ operations.i64 4294967295 ∷ operations.rel widths.W64 rels.GtU ∷ []))) }
 {
     let product = t.scratch_i64()?;
@@ -285,7 +286,7 @@ fn multiply(body: &mut Builder, t: &Target) -> Result<(), AllocError>
 }
 
 #[tactic(auto, using(crate::proofs::Steps::may_turn, crate::proofs::Steps::second_may_end))]
-fn new_if_small(body: &mut Builder, t: &Target, u: &CType) -> Result<(), AllocError>
+fn new_if_small(body: &mut Body, t: &Target, u: &CType) -> Result<(), AllocError>
     ensures { OnOk result (Adds body.old body.new (choice (Some vals.Handle) (one (instrs.Segment segments.Null)) (plain (instrs.LocalGet (targets.scratch_i64 t.now.target) ∷ instrs.Numeric numerics.Wrap ∷ []) ⨾ operations.new_heap (size t.now.target.structs (type_of u.now))))) }
 {
     begin(body, Opening::If, Some(ValType::Handle))?;
@@ -296,14 +297,14 @@ fn new_if_small(body: &mut Builder, t: &Target, u: &CType) -> Result<(), AllocEr
 }
 
 #[tactic(auto, using(crate::proofs::Steps::then))]
-fn new_small(body: &mut Builder, t: &Target, u: &CType) -> Result<(), AllocError>
+fn new_small(body: &mut Body, t: &Target, u: &CType) -> Result<(), AllocError>
     ensures { OnOk result (Adds body.old body.new (plain (instrs.LocalGet (targets.scratch_i64 t.now.target) ∷ instrs.Numeric numerics.Wrap ∷ []) ⨾ operations.new_heap (size t.now.target.structs (type_of u.now)))) }
 {
     small_product(body, t)?;
     new_heap(body, t, u)
 }
 
-fn small_product(body: &mut Builder, t: &Target) -> Result<(), AllocError>
+fn small_product(body: &mut Body, t: &Target) -> Result<(), AllocError>
     ensures { OnOk result (Adds body.old body.new (plain (instrs.LocalGet (targets.scratch_i64 t.now.target) ∷ instrs.Numeric numerics.Wrap ∷ []))) }
 {
     let product = t.scratch_i64()?;
@@ -316,14 +317,14 @@ fn small_product(body: &mut Builder, t: &Target) -> Result<(), AllocError>
 
 /// What the handle on the stack leads to is freed; a null pointer is passed over (7.22.3.3).
 #[tactic(auto, using(crate::proofs::Steps::then))]
-pub fn free_heap(body: &mut Builder, t: &Target) -> Result<(), AllocError>
+pub fn free_heap(body: &mut Body, t: &Target) -> Result<(), AllocError>
     ensures { OnOk result (Adds body.old body.new (plain (instrs.LocalTee (targets.scratch_handle t.now.target) ∷ instrs.Segment segments.IsNull ∷ operations.eqz ∷ []) ⨾ choice None (plain (instrs.LocalGet (targets.scratch_handle t.now.target) ∷ instrs.Segment (segments.Free kinds.Heap) ∷ [])) no_code)) }
 {
     keep_unless_null(body, t)?;
     free_kept(body, t)
 }
 
-fn keep_unless_null(body: &mut Builder, t: &Target) -> Result<(), AllocError>
+fn keep_unless_null(body: &mut Body, t: &Target) -> Result<(), AllocError>
     ensures { OnOk result (Adds body.old body.new (plain (instrs.LocalTee (targets.scratch_handle t.now.target) ∷ instrs.Segment segments.IsNull ∷ operations.eqz ∷ []))) }
 {
     let handle = t.scratch_handle()?;
@@ -336,7 +337,7 @@ fn keep_unless_null(body: &mut Builder, t: &Target) -> Result<(), AllocError>
 }
 
 #[tactic(auto, using(crate::proofs::Steps::may_end))]
-fn free_kept(body: &mut Builder, t: &Target) -> Result<(), AllocError>
+fn free_kept(body: &mut Body, t: &Target) -> Result<(), AllocError>
     ensures { OnOk result (Adds body.old body.new (choice None (plain (instrs.LocalGet (targets.scratch_handle t.now.target) ∷ instrs.Segment (segments.Free kinds.Heap) ∷ [])) no_code)) }
 {
     begin(body, Opening::If, None)?;
@@ -344,7 +345,7 @@ fn free_kept(body: &mut Builder, t: &Target) -> Result<(), AllocError>
     end(body)
 }
 
-fn free_handle(body: &mut Builder, t: &Target) -> Result<(), AllocError>
+fn free_handle(body: &mut Body, t: &Target) -> Result<(), AllocError>
     ensures { OnOk result (Adds body.old body.new (plain (instrs.LocalGet (targets.scratch_handle t.now.target) ∷ instrs.Segment (segments.Free kinds.Heap) ∷ []))) }
 {
     let handle = t.scratch_handle()?;

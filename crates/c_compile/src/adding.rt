@@ -7,13 +7,14 @@ ghost use Rattle.ms_module.specs.Building.{may_else};
 ghost use Rattle.ms_module.specs.Numbered.{IsPlain};
 ghost use Rattle.c_compile.specs.refinement.Steps.{Begins, Ends, Turns};
 
-use ms_module::{Builder, Instr, Opening};
+use crate::body::Body;
+use ms_module::{Instr, Opening};
 use ms_types::ValType;
 use std::alloc::AllocError;
 
 /// An instruction that is no block.
 #[tactic(auto, using(crate::proofs::Steps::added))]
-pub fn add(body: &mut Builder, i: Instr) -> Result<(), AllocError>
+pub fn add(body: &mut Body, i: Instr) -> Result<(), AllocError>
     requires { IsPlain i }
     ensures { OnOk result (Adds body.old body.new (one i)) }
 {
@@ -22,7 +23,7 @@ pub fn add(body: &mut Builder, i: Instr) -> Result<(), AllocError>
 
 /// Two of them.
 #[tactic(auto, using(crate::proofs::Steps::then_plain))]
-pub fn add_two(body: &mut Builder, i: Instr, j: Instr) -> Result<(), AllocError>
+pub fn add_two(body: &mut Body, i: Instr, j: Instr) -> Result<(), AllocError>
     requires { IsPlain i × IsPlain j }
     ensures { OnOk result (Adds body.old body.new (plain (i ∷ j ∷ []))) }
 {
@@ -32,7 +33,7 @@ pub fn add_two(body: &mut Builder, i: Instr, j: Instr) -> Result<(), AllocError>
 
 /// Three of them.
 #[tactic(auto, using(crate::proofs::Steps::then_plain))]
-pub fn add_three(body: &mut Builder, i: Instr, j: Instr, k: Instr) -> Result<(), AllocError>
+pub fn add_three(body: &mut Body, i: Instr, j: Instr, k: Instr) -> Result<(), AllocError>
     requires { IsPlain i × IsPlain j × IsPlain k }
     ensures { OnOk result (Adds body.old body.new (plain (i ∷ j ∷ k ∷ []))) }
 {
@@ -42,13 +43,7 @@ pub fn add_three(body: &mut Builder, i: Instr, j: Instr, k: Instr) -> Result<(),
 
 /// Four of them.
 #[tactic(auto, using(crate::proofs::Steps::then_plain))]
-pub fn add_four(
-    body: &mut Builder,
-    i: Instr,
-    j: Instr,
-    k: Instr,
-    l: Instr,
-) -> Result<(), AllocError>
+pub fn add_four(body: &mut Body, i: Instr, j: Instr, k: Instr, l: Instr) -> Result<(), AllocError>
     requires { IsPlain i × IsPlain j × IsPlain k × IsPlain l }
     ensures { OnOk result (Adds body.old body.new (plain (i ∷ j ∷ k ∷ l ∷ []))) }
 {
@@ -59,7 +54,7 @@ pub fn add_four(
 /// Five of them.
 #[tactic(auto, using(crate::proofs::Steps::then_plain))]
 pub fn add_five(
-    body: &mut Builder,
+    body: &mut Body,
     i: Instr,
     j: Instr,
     k: Instr,
@@ -75,7 +70,7 @@ pub fn add_five(
 
 /// Begins a block.
 #[tactic(auto, using(crate::proofs::Steps::begins))]
-pub fn begin(body: &mut Builder, opening: Opening, ty: Option<ValType>) -> Result<(), AllocError>
+pub fn begin(body: &mut Body, opening: Opening, ty: Option<ValType>) -> Result<(), AllocError>
     ensures { OnOk result (Begins body.old body.new opening ty) }
 {
     body.open(opening, ty)
@@ -83,7 +78,7 @@ pub fn begin(body: &mut Builder, opening: Opening, ty: Option<ValType>) -> Resul
 
 /// Begins its else arm.
 #[tactic(auto, using(crate::proofs::Steps::turns))]
-pub fn turn(body: &mut Builder)
+pub fn turn(body: &mut Body)
     requires { may_else body.old.blocks ≡ true }
     ensures { Turns body.old body.new }
 {
@@ -92,7 +87,7 @@ pub fn turn(body: &mut Builder)
 
 /// Ends it.
 #[tactic(auto, using(crate::proofs::Steps::ends))]
-pub fn end(body: &mut Builder) -> Result<(), AllocError>
+pub fn end(body: &mut Body) -> Result<(), AllocError>
     requires { 0 < length body.old.blocks }
     ensures { OnOk result (Ends body.old body.new) }
 {

@@ -8,14 +8,15 @@ ghost use Rattle.c_code.specs.Operations as words;
 ghost use Rattle.ms_emit.specs.refinement.Parts.{Adds};
 
 use crate::adding::{add, add_four, add_two};
+use crate::body::Body;
 use crate::operations::{eqz, i32_of, op, rel, width_of, zero_of_width};
 use c_types::{IntType, Scalar};
-use ms_module::{BinOp, Builder, Instr, Numeric, RelOp, Segment, Width};
+use ms_module::{BinOp, Instr, Numeric, RelOp, Segment, Width};
 use std::alloc::AllocError;
 
 /// From the first type to the second.
 #[tactic(auto, using(crate::proofs::Steps::then, crate::proofs::Steps::nothing_added))]
-pub fn convert(body: &mut Builder, u: IntType, v: IntType) -> Result<(), AllocError>
+pub fn convert(body: &mut Body, u: IntType, v: IntType) -> Result<(), AllocError>
     ensures { OnOk result (Adds body.old body.new (words.convert u v)) }
 {
     match (width_of(u), width_of(v)) {
@@ -30,7 +31,7 @@ pub fn convert(body: &mut Builder, u: IntType, v: IntType) -> Result<(), AllocEr
 }
 
 /// An i32 as an i64.
-fn extend(body: &mut Builder, is_signed: bool) -> Result<(), AllocError>
+fn extend(body: &mut Body, is_signed: bool) -> Result<(), AllocError>
     ensures { OnOk result (Adds body.old body.new (one (instrs.Numeric (if is_signed then numerics.ExtendS else numerics.ExtendU)))) }
 {
     if is_signed {
@@ -41,7 +42,7 @@ fn extend(body: &mut Builder, is_signed: bool) -> Result<(), AllocError>
 }
 
 /// Narrows an i32 to a type.
-fn to_type(body: &mut Builder, t: IntType) -> Result<(), AllocError>
+fn to_type(body: &mut Body, t: IntType) -> Result<(), AllocError>
     ensures { OnOk result (Adds body.old body.new (words.to_type t)) }
 {
     let bits = u32::from(t.bits());
@@ -53,7 +54,7 @@ fn to_type(body: &mut Builder, t: IntType) -> Result<(), AllocError>
 }
 
 /// The lowest bits of an i32, read as a number of a narrower type.
-fn narrow(body: &mut Builder, bits: u32, is_signed: bool) -> Result<(), AllocError>
+fn narrow(body: &mut Body, bits: u32, is_signed: bool) -> Result<(), AllocError>
     requires { bits < 32 }
     ensures { OnOk result (Adds body.old body.new (words.narrow bits is_signed)) }
 {
@@ -72,7 +73,7 @@ fn narrow(body: &mut Builder, bits: u32, is_signed: bool) -> Result<(), AllocErr
 
 /// 1 where the scalar on the stack is neither zero nor null.
 #[tactic(auto, using(crate::proofs::Plain::constant_plain))]
-pub fn truth(body: &mut Builder, s: Scalar) -> Result<(), AllocError>
+pub fn truth(body: &mut Body, s: Scalar) -> Result<(), AllocError>
     ensures { OnOk result (Adds body.old body.new (words.truth s)) }
 {
     match s {

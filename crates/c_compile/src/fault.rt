@@ -9,10 +9,6 @@ use thiserror::Error;
 /// What of a unit is past a limit of the compiler, in the order in which they are looked at.
 #[derive(Clone, Copy, Debug, PartialEq, Eq, Error)]
 pub enum Limit {
-    /// It has an object, a pointer, a variable at file scope, a string, or a function that is a value, of which the laws on the
-    /// meaning of the code don't speak yet.
-    #[error("objects and pointers aren't compiled yet")]
-    Stage,
     /// A function has more than 10,000 parameters and variables.
     #[error("a function has too many variables")]
     Locals,

@@ -25,6 +25,7 @@ ghost use Rattle.c_code.specs.Uses.{waits_stmt};
 ghost use Rattle.c_compile.specs.refinement.Sites.{AreFlags, AreTables};
 
 use crate::adding::{add, add_three, add_two};
+use crate::body::Body;
 use crate::leaves::sum;
 use crate::operations::{store, val_type, zero_of};
 use crate::statements::{Exits, free_last, make, put_bytes, stmt};
@@ -34,7 +35,7 @@ use crate::waits::{waits_made, waits_stmt};
 use c_typed::{Function, Made, Stmt, Variable};
 use c_types::CType;
 use c_well_typed::Typed;
-use ms_module::{Builder, Code, Func, Instr, Locals, Segment};
+use ms_module::{Code, Func, Instr, Locals, Segment};
 use ms_types::ValType;
 use std::alloc::{AllocError, Global};
 
@@ -48,6 +49,7 @@ pub fn func<'u>(
     f: &'u Function,
     flags: &'u [bool],
     s: &'u Stmt,
+    room: &mut u32,
 ) -> Result<Func, AllocError>
     requires tables { AreTables (typed_of unit.now) tables.now }
     requires flags { flags.now ≡ slots_from (stmt_of s.now) 0 (function_of f.now).slots }
@@ -64,7 +66,7 @@ pub fn func<'u>(
     let target = Target::of_body(
         alloc, unit, tables, &f.slots, s, flags, globals, first, scratch,
     );
-    func_at(alloc, &target, first, number, f, s)
+    func_at(alloc, &target, first, number, f, s, room)
 }
 
 /// A function whose first slot has this local.
@@ -75,6 +77,7 @@ fn func_at(
     number: u32,
     f: &Function,
     s: &Stmt,
+    room: &mut u32,
 ) -> Result<Func, AllocError>
     requires first { first ≡ t.now.target.first }
     requires slots { t.now.slots ≡ (function_of f.now).slots }
@@ -86,7 +89,7 @@ fn func_at(
     Ok(Func {
         sig: sum(3, number)?,
         locals: locals(alloc, t, first, params.len(), &f.slots, waits)?,
-        body: body(alloc, t, first, f, params, s)?,
+        body: body(alloc, t, first, f, params, s, room)?,
     })
 }
 
@@ -231,6 +234,7 @@ fn body(
     f: &Function,
     params: &[CType],
     s: &Stmt,
+    room: &mut u32,
 ) -> Result<Code, AllocError>
     requires first { first ≡ t.now.target.first }
     requires slots { t.now.slots ≡ (function_of f.now).slots }
@@ -238,7 +242,7 @@ fn body(
     ensures { IfOk result (λ code. code ≡ words.body t.now.target (function_of f.now) (stmt_of s.now)) }
 {
     let mut objects = param_objects(alloc, t, params.len())?;
-    let mut body = Builder::new(alloc)?;
+    let mut body = Body::new(alloc, *room)?;
     add_body(
         &mut body,
         t,
@@ -248,11 +252,12 @@ fn body(
         s,
         result_in(&f.ty),
     )?;
+    *room = body.room();
     finished(body)
 }
 
 /// A body whose blocks have all ended.
-fn finished(body: Builder) -> Result<Code, AllocError>
+fn finished(body: Body) -> Result<Code, AllocError>
     ensures { IfOk result (λ code. code ≡ body.seqs) }
 {
     if body.depth() != 0 {
@@ -287,7 +292,7 @@ fn add_object(objects: &mut Vec<Variable>, t: &Target, slot: u32) -> Result<(), 
 
 /// Parameters, the statement, and the result.
 fn add_body(
-    body: &mut Builder,
+    body: &mut Body,
     t: &Target,
     first: u32,
     params: &[CType],
@@ -306,7 +311,7 @@ fn add_body(
 
 /// The statement of a body, in which these parameters are objects.
 fn add_stmt(
-    body: &mut Builder,
+    body: &mut Body,
     t: &Target,
     objects: &mut Vec<Variable>,
     s: &Stmt,
@@ -318,14 +323,14 @@ fn add_stmt(
 }
 
 /// Frees objects, the last one first.
-fn free_all(body: &mut Builder, t: &Target, objects: &[Variable]) -> Result<(), AllocError>
+fn free_all(body: &mut Body, t: &Target, objects: &[Variable]) -> Result<(), AllocError>
     ensures { OnOk result (Adds body.old body.new (statements.freed t.now.target (reverse objects.now))) }
 {
     free_last(body, t, objects, objects.len())
 }
 
 /// A result that is missing is 0.
-fn add_result(body: &mut Builder, _t: &Target, result_type: &CType) -> Result<(), AllocError>
+fn add_result(body: &mut Body, _t: &Target, result_type: &CType) -> Result<(), AllocError>
     ensures { OnOk result (Adds body.old body.new (words.result _t.now.target (scalar_of (type_of result_type.now)))) }
 {
     match result_type.scalar() {
@@ -337,12 +342,7 @@ fn add_result(body: &mut Builder, _t: &Target, result_type: &CType) -> Result<()
 // ---- parameters
 
 /// Copies each parameter to its slot, where it has one of its own.
-fn add_params(
-    body: &mut Builder,
-    t: &Target,
-    first: u32,
-    params: &[CType],
-) -> Result<(), AllocError>
+fn add_params(body: &mut Body, t: &Target, first: u32, params: &[CType]) -> Result<(), AllocError>
     requires { first ≡ t.now.target.first }
     ensures { OnOk result (Adds body.old body.new (words.params t.now.target (map type_of params.now))) }
 {
@@ -352,7 +352,7 @@ fn add_params(
     copy_params(body, t, params)
 }
 
-fn copy_params(body: &mut Builder, t: &Target, params: &[CType]) -> Result<(), AllocError>
+fn copy_params(body: &mut Body, t: &Target, params: &[CType]) -> Result<(), AllocError>
     ensures { OnOk result (Adds body.old body.new (words.params_from t.now.target 0 (map type_of params.now))) }
 {
     let mut number = 0u32;
@@ -363,7 +363,7 @@ fn copy_params(body: &mut Builder, t: &Target, params: &[CType]) -> Result<(), A
 }
 
 /// One parameter; the number of the next one.
-fn copy_param(body: &mut Builder, t: &Target, n: u32, ty: &CType) -> Result<u32, AllocError>
+fn copy_param(body: &mut Body, t: &Target, n: u32, ty: &CType) -> Result<u32, AllocError>
     ensures { (rest : List Ty) (final : State) → IfOk result (λ k. Adds body.new final (words.params_from t.now.target k rest) → Adds body.old final (words.params_from t.now.target n (type_of ty.now ∷ rest))) }
 {
     add_param(body, t, n, ty)?;
@@ -371,7 +371,7 @@ fn copy_param(body: &mut Builder, t: &Target, n: u32, ty: &CType) -> Result<u32,
 }
 
 #[tactic(auto, using(crate::proofs::Steps::then))]
-fn add_param(body: &mut Builder, t: &Target, n: u32, ty: &CType) -> Result<(), AllocError>
+fn add_param(body: &mut Body, t: &Target, n: u32, ty: &CType) -> Result<(), AllocError>
     ensures { OnOk result (Adds body.old body.new (words.param t.now.target (t.now.target.is_object (variables.Local n)) n (type_of ty.now))) }
 {
     let v = Variable::Local(n);
@@ -394,17 +394,18 @@ pub fn start<'u>(
     unit: &'u Typed,
     tables: &'u Tables,
     globals: &'u [bool],
+    room: &mut u32,
 ) -> Result<Func, AllocError>
     requires tables { AreTables (typed_of unit.now) tables.now }
     requires globals { globals.now ≡ (unit_flags (typed_of unit.now)).globals }
     ensures { IfOk result (λ g. g ≡ start_func (typed_of unit.now)) }
 {
     let target = Target::at_start(alloc, unit, tables, globals);
-    start_at(alloc, &target, &unit.unit().made)
+    start_at(alloc, &target, &unit.unit().made, room)
 }
 
 /// The start function, in which no slot is declared.
-fn start_at(alloc: Global, t: &Target, made: &[Made]) -> Result<Func, AllocError>
+fn start_at(alloc: Global, t: &Target, made: &[Made], room: &mut u32) -> Result<Func, AllocError>
     requires first { t.now.target.first ≡ 0 }
     requires slots { t.now.slots ≡ [] }
     ensures { (u : tree.Typed) → IfOk result (λ g. g ≡ record { sig = 2; locals = words.locals t.now.target 0 [] (modules.waits_made u (map made_of made.now)); body = words.start t.now.target t.now.globals (map made_of made.now) }) }
@@ -413,12 +414,12 @@ fn start_at(alloc: Global, t: &Target, made: &[Made]) -> Result<Func, AllocError
     Ok(Func {
         sig: 2,
         locals: locals(alloc, t, 0, 0, &[], waits)?,
-        body: start_body(alloc, t, made)?,
+        body: start_body(alloc, t, made, room)?,
     })
 }
 
 #[tactic(auto, using(crate::proofs::Steps::then))]
-fn add_start(body: &mut Builder, t: &Target, made: &[Made]) -> Result<(), AllocError>
+fn add_start(body: &mut Body, t: &Target, made: &[Made]) -> Result<(), AllocError>
     requires { t.now.slots ≡ [] }
     ensures { OnOk result (Adds body.old body.new (words.makes t.now.target t.now.globals 0 (map made_of made.now) ⨾ words.gives t.now.target 0 (map made_of made.now))) }
 {
@@ -426,16 +427,17 @@ fn add_start(body: &mut Builder, t: &Target, made: &[Made]) -> Result<(), AllocE
     give_all(body, t, made)
 }
 
-fn start_body(alloc: Global, t: &Target, made: &[Made]) -> Result<Code, AllocError>
+fn start_body(alloc: Global, t: &Target, made: &[Made], room: &mut u32) -> Result<Code, AllocError>
     requires { t.now.slots ≡ [] }
     ensures { IfOk result (λ code. code ≡ words.start t.now.target t.now.globals (map made_of made.now)) }
 {
-    let mut body = Builder::new(alloc)?;
+    let mut body = Body::new(alloc, *room)?;
     add_start(&mut body, t, made)?;
+    *room = body.room();
     finished(body)
 }
 
-fn make_all(body: &mut Builder, t: &Target, made: &[Made]) -> Result<(), AllocError>
+fn make_all(body: &mut Body, t: &Target, made: &[Made]) -> Result<(), AllocError>
     ensures { OnOk result (Adds body.old body.new (words.makes t.now.target t.now.globals 0 (map made_of made.now))) }
 {
     let mut literals = 0u32;
@@ -446,7 +448,7 @@ fn make_all(body: &mut Builder, t: &Target, made: &[Made]) -> Result<(), AllocEr
 }
 
 /// One object, behind so many literals; how many literals there are then.
-fn make_one(body: &mut Builder, t: &Target, literals: u32, m: &Made) -> Result<u32, AllocError>
+fn make_one(body: &mut Body, t: &Target, literals: u32, m: &Made) -> Result<u32, AllocError>
     ensures { (rest : List tree.Made) (final : State) → IfOk result (λ k. Adds body.new final (words.makes t.now.target t.now.globals k rest) → Adds body.old final (words.makes t.now.target t.now.globals literals (made_of m.now ∷ rest))) }
 {
     match m {
@@ -462,7 +464,7 @@ fn make_one(body: &mut Builder, t: &Target, literals: u32, m: &Made) -> Result<u
 }
 
 /// The object of a variable that is one.
-fn make_global(body: &mut Builder, t: &Target, n: u32) -> Result<(), AllocError>
+fn make_global(body: &mut Body, t: &Target, n: u32) -> Result<(), AllocError>
     ensures { OnOk result (Adds body.old body.new (if t.now.target.is_object (variables.Global n) then statements.made t.now.target (variables.Global n) (layout.size t.now.target.structs (get_or t.now.globals n void)) else no_code)) }
 {
     let v = Variable::Global(n);
@@ -473,7 +475,7 @@ fn make_global(body: &mut Builder, t: &Target, n: u32) -> Result<(), AllocError>
 }
 
 /// The object of a literal of this number.
-fn make_literal(body: &mut Builder, t: &Target, number: u32, bytes: &[u8]) -> Result<(), AllocError>
+fn make_literal(body: &mut Body, t: &Target, number: u32, bytes: &[u8]) -> Result<(), AllocError>
     ensures { OnOk result (Adds body.old body.new (statements.made t.now.target (variables.Global (t.now.target.globals + number)) (layout.size t.now.target.structs (string bytes.now)))) }
 {
     let v = Variable::Global(t.literal(number)?);
@@ -481,7 +483,7 @@ fn make_literal(body: &mut Builder, t: &Target, number: u32, bytes: &[u8]) -> Re
     make(body, t, v, size)
 }
 
-fn give_all(body: &mut Builder, t: &Target, made: &[Made]) -> Result<(), AllocError>
+fn give_all(body: &mut Body, t: &Target, made: &[Made]) -> Result<(), AllocError>
     requires { t.now.slots ≡ [] }
     ensures { OnOk result (Adds body.old body.new (words.gives t.now.target 0 (map made_of made.now))) }
 {
@@ -493,7 +495,7 @@ fn give_all(body: &mut Builder, t: &Target, made: &[Made]) -> Result<(), AllocEr
 }
 
 /// What one object is given, behind so many literals; how many literals there are then.
-fn give_one(body: &mut Builder, t: &Target, literals: u32, m: &Made) -> Result<u32, AllocError>
+fn give_one(body: &mut Body, t: &Target, literals: u32, m: &Made) -> Result<u32, AllocError>
     requires { t.now.slots ≡ [] }
     ensures { (rest : List tree.Made) (final : State) → IfOk result (λ k. Adds body.new final (words.gives t.now.target k rest) → Adds body.old final (words.gives t.now.target literals (made_of m.now ∷ rest))) }
 {
@@ -513,7 +515,7 @@ fn give_one(body: &mut Builder, t: &Target, literals: u32, m: &Made) -> Result<u
 
 /// A literal's bytes, into the object of this global.
 #[tactic(auto, using(crate::proofs::Steps::then))]
-fn fill_literal(body: &mut Builder, t: &Target, n: u32, bytes: &[u8]) -> Result<(), AllocError>
+fn fill_literal(body: &mut Body, t: &Target, n: u32, bytes: &[u8]) -> Result<(), AllocError>
     ensures { OnOk result (Adds body.old body.new (statements.filled t.now.target (one (targets.get t.now.target (variables.Global n))) bytes.now)) }
 {
     add(body, t.get(Variable::Global(n))?)?;
@@ -521,7 +523,7 @@ fn fill_literal(body: &mut Builder, t: &Target, n: u32, bytes: &[u8]) -> Result<
 }
 
 /// The handle of this global no longer writes.
-fn seal_literal(body: &mut Builder, t: &Target, n: u32) -> Result<(), AllocError>
+fn seal_literal(body: &mut Body, t: &Target, n: u32) -> Result<(), AllocError>
     ensures { OnOk result (Adds body.old body.new (plain (targets.get t.now.target (variables.Global n) ∷ instructions.Segment segment.Seal ∷ targets.set t.now.target (variables.Global n) ∷ []))) }
 {
     let v = Variable::Global(n);
@@ -529,7 +531,7 @@ fn seal_literal(body: &mut Builder, t: &Target, n: u32) -> Result<(), AllocError
 }
 
 /// The values of a variable, in order.
-fn give_values(body: &mut Builder, t: &Target, ss: &[Stmt]) -> Result<(), AllocError>
+fn give_values(body: &mut Body, t: &Target, ss: &[Stmt]) -> Result<(), AllocError>
     requires { t.now.slots ≡ [] }
     ensures { OnOk result (Adds body.old body.new (words.values t.now.target (list_of ss.now))) }
 {
@@ -540,7 +542,7 @@ fn give_values(body: &mut Builder, t: &Target, ss: &[Stmt]) -> Result<(), AllocE
 }
 
 /// One value.
-fn give_value(body: &mut Builder, t: &Target, s: &Stmt) -> Result<(), AllocError>
+fn give_value(body: &mut Body, t: &Target, s: &Stmt) -> Result<(), AllocError>
     requires { t.now.slots ≡ [] }
     ensures { (rest : List tree.Stmt) (final : State) → OnOk result (Adds body.new final (words.values t.now.target rest) → Adds body.old final (words.values t.now.target (stmt_of s.now ∷ rest))) }
 {

@@ -13,10 +13,11 @@ ghost use Rattle.ms_emit.specs.Codes.{◌⨾◌};
 ghost use Rattle.ms_emit.specs.refinement.Parts.{Adds};
 
 use crate::adding::{add, add_three, add_two};
+use crate::body::Body;
 use crate::operations::{i32_of, i64_of, load, store};
 use crate::target::{Target, sized};
 use c_types::{CType, Scalar, Structs, offset, size};
-use ms_module::{Builder, Instr, Segment};
+use ms_module::{Instr, Segment};
 use std::alloc::{AllocError, Global};
 
 /// The most leaves of a struct that is copied.
@@ -284,7 +285,7 @@ fn product(a: u32, b: u32) -> Result<u32, AllocError>
 
 /// Copies each leaf of a struct from one handle to another, both in locals.
 pub fn copy_leaves(
-    body: &mut Builder,
+    body: &mut Body,
     t: &Target,
     number: u32,
     from: u32,
@@ -300,7 +301,7 @@ pub fn copy_leaves(
     copy_all(body, &leaves, from, to)
 }
 
-fn copy_all(body: &mut Builder, leaves: &[Leaf], from: u32, to: u32) -> Result<(), AllocError>
+fn copy_all(body: &mut Body, leaves: &[Leaf], from: u32, to: u32) -> Result<(), AllocError>
     ensures { OnOk result (Adds body.old body.new (copies_of leaves.now from to)) }
 {
     for leaf in leaves {
@@ -310,7 +311,7 @@ fn copy_all(body: &mut Builder, leaves: &[Leaf], from: u32, to: u32) -> Result<(
 }
 
 #[tactic(auto, using(crate::proofs::Steps::then))]
-fn copy_leaf(body: &mut Builder, leaf: Leaf, from: u32, to: u32) -> Result<(), AllocError>
+fn copy_leaf(body: &mut Body, leaf: Leaf, from: u32, to: u32) -> Result<(), AllocError>
     ensures { OnOk result (Adds body.old body.new (handle_of leaf to ⨾ moved leaf from)) }
 {
     leaf_handle(body, leaf, to)?;
@@ -319,7 +320,7 @@ fn copy_leaf(body: &mut Builder, leaf: Leaf, from: u32, to: u32) -> Result<(), A
 
 /// Copies a leaf to the handle on the stack.
 #[tactic(auto, using(crate::proofs::Steps::then))]
-fn move_leaf(body: &mut Builder, leaf: Leaf, from: u32) -> Result<(), AllocError>
+fn move_leaf(body: &mut Body, leaf: Leaf, from: u32) -> Result<(), AllocError>
     ensures { OnOk result (Adds body.old body.new (moved leaf from)) }
 {
     leaf_handle(body, leaf, from)?;
@@ -328,7 +329,7 @@ fn move_leaf(body: &mut Builder, leaf: Leaf, from: u32) -> Result<(), AllocError
 
 /// The handle of a leaf.
 #[tactic(auto, using(crate::proofs::Steps::then))]
-fn leaf_handle(body: &mut Builder, leaf: Leaf, handle: u32) -> Result<(), AllocError>
+fn leaf_handle(body: &mut Body, leaf: Leaf, handle: u32) -> Result<(), AllocError>
     ensures { OnOk result (Adds body.old body.new (handle_of leaf handle)) }
 {
     add(body, Instr::LocalGet(handle))?;
@@ -337,7 +338,7 @@ fn leaf_handle(body: &mut Builder, leaf: Leaf, handle: u32) -> Result<(), AllocE
 
 /// From the handle of the struct to that of a leaf.
 #[tactic(auto, using(crate::proofs::Steps::then))]
-fn narrow_to_leaf(body: &mut Builder, leaf: Leaf) -> Result<(), AllocError>
+fn narrow_to_leaf(body: &mut Body, leaf: Leaf) -> Result<(), AllocError>
     ensures { OnOk result (Adds body.old body.new (narrowed leaf)) }
 {
     add_three(

@@ -7,6 +7,7 @@
 
 mod accesses;
 mod adding;
+mod body;
 mod conversions;
 mod fault;
 mod functions;
@@ -15,7 +16,6 @@ mod leaves;
 mod operations;
 mod operators;
 mod signatures;
-mod stage;
 mod statements;
 mod tables;
 mod target;

@@ -25,6 +25,7 @@ ghost use Rattle.c_code.specs.Targets.{Target as Site, scratch_handle, scratch_o
 ghost use Rattle.c_compile.specs.refinement.Exits.{exits_of, leaving_of};
 
 use crate::adding::{add, add_three, add_two, begin, end, turn};
+use crate::body::Body;
 use crate::leaves::sum;
 use crate::operations::{i32_of, i64_of, number, ones, rel, width_of, zero_of};
 use crate::target::Target;
@@ -32,7 +33,7 @@ use crate::values::{decayed, tee, thrown, value};
 use c_typed::{Case, Expr, Place, Stmt, Variable};
 use c_types::{CType, IntType};
 use ms_handle::Kind;
-use ms_module::{Builder, Instr, Opening, RelOp, Segment, StoreOp, Width};
+use ms_module::{Instr, Opening, RelOp, Segment, StoreOp, Width};
 use std::alloc::AllocError;
 
 /// Where a statement stands (C11, 6.8.6): how many of the objects of the open blocks lie inside what `break` leaves and inside the
@@ -117,7 +118,7 @@ impl Exits {
 /// Adds the code of a statement. `objects` are those of the open blocks, the innermost last, which stay as they were.
 #[cycle(statements)]
 pub fn stmt(
-    body: &mut Builder,
+    body: &mut Body,
     t: &Target,
     objects: &mut Vec<Variable>,
     d: u32,
@@ -155,7 +156,7 @@ pub fn stmt(
 /// A statement within a block of the machine.
 #[cycle(statements)]
 fn arm(
-    body: &mut Builder,
+    body: &mut Body,
     t: &Target,
     objects: &mut Vec<Variable>,
     d: u32,
@@ -171,7 +172,7 @@ fn arm(
 /// One statement behind another.
 #[cycle(statements)]
 fn stmts(
-    body: &mut Builder,
+    body: &mut Body,
     t: &Target,
     objects: &mut Vec<Variable>,
     d: u32,
@@ -190,7 +191,7 @@ fn stmts(
 /// A block (6.8.2): its objects last as long as it does.
 #[cycle(statements)]
 fn scope(
-    body: &mut Builder,
+    body: &mut Body,
     t: &Target,
     objects: &mut Vec<Variable>,
     d: u32,
@@ -212,7 +213,7 @@ fn scope(
 #[cycle(statements)]
 #[tactic(auto, using(crate::proofs::Steps::may_end))]
 fn test_first(
-    body: &mut Builder,
+    body: &mut Body,
     t: &Target,
     objects: &mut Vec<Variable>,
     d: u32,
@@ -233,7 +234,7 @@ fn test_first(
 #[cycle(statements)]
 #[tactic(auto, using(crate::proofs::Steps::may_end))]
 fn test_last(
-    body: &mut Builder,
+    body: &mut Body,
     t: &Target,
     objects: &mut Vec<Variable>,
     d: u32,
@@ -252,7 +253,7 @@ fn test_last(
 #[cycle(statements)]
 #[tactic(auto, using(crate::proofs::Steps::may_end))]
 fn iterated(
-    body: &mut Builder,
+    body: &mut Body,
     t: &Target,
     objects: &mut Vec<Variable>,
     d: u32,
@@ -273,7 +274,7 @@ fn iterated(
 #[cycle(statements)]
 #[tactic(auto, using(crate::proofs::Steps::may_end))]
 fn iteration(
-    body: &mut Builder,
+    body: &mut Body,
     t: &Target,
     objects: &mut Vec<Variable>,
     d: u32,
@@ -293,7 +294,7 @@ fn iteration(
 /// What stands behind the body of a loop: what is evaluated after each iteration, and the test.
 #[tactic(auto, using(crate::proofs::Steps::then))]
 fn go_round(
-    body: &mut Builder,
+    body: &mut Body,
     t: &Target,
     d: u32,
     after: &Option<Expr>,
@@ -308,7 +309,7 @@ fn go_round(
 
 /// What is evaluated after each iteration.
 #[tactic(auto, using(crate::proofs::Steps::nothing_added))]
-fn evaluate(body: &mut Builder, t: &Target, d: u32, after: &Option<Expr>) -> Result<(), AllocError>
+fn evaluate(body: &mut Body, t: &Target, d: u32, after: &Option<Expr>) -> Result<(), AllocError>
     ensures { OnOk result (Adds body.old body.new (step t.now.target d (step_of after.now))) }
 {
     match after {
@@ -349,7 +350,7 @@ fn any_continues(ss: &[Stmt]) -> bool
 /// `return` with a value.
 #[tactic(auto, using(crate::proofs::Steps::then))]
 fn return_value(
-    body: &mut Builder,
+    body: &mut Body,
     t: &Target,
     objects: &[Variable],
     d: u32,
@@ -363,7 +364,7 @@ fn return_value(
 
 /// `return`: all objects are freed.
 #[tactic(auto, using(crate::proofs::Steps::then))]
-fn return_nothing(body: &mut Builder, t: &Target, objects: &[Variable]) -> Result<(), AllocError>
+fn return_nothing(body: &mut Body, t: &Target, objects: &[Variable]) -> Result<(), AllocError>
     ensures { OnOk result (Adds body.old body.new (words.freed t.now.target (reverse objects.now) ⨾ one Return)) }
 {
     free_all(body, t, objects)?;
@@ -371,7 +372,7 @@ fn return_nothing(body: &mut Builder, t: &Target, objects: &[Variable]) -> Resul
 }
 
 /// Frees all objects, the last one first.
-fn free_all(body: &mut Builder, t: &Target, objects: &[Variable]) -> Result<(), AllocError>
+fn free_all(body: &mut Body, t: &Target, objects: &[Variable]) -> Result<(), AllocError>
     ensures { OnOk result (Adds body.old body.new (words.freed t.now.target (reverse objects.now))) }
 {
     free_last(body, t, objects, objects.len())
@@ -380,7 +381,7 @@ fn free_all(body: &mut Builder, t: &Target, objects: &[Variable]) -> Result<(), 
 /// `break`.
 #[tactic(auto, using(crate::proofs::Steps::then))]
 fn break_out(
-    body: &mut Builder,
+    body: &mut Body,
     t: &Target,
     objects: &[Variable],
     exits: Exits,
@@ -394,7 +395,7 @@ fn break_out(
 
 /// A switch that waits in this local goes on with no group.
 #[tactic(auto, using(crate::proofs::Steps::nothing_added))]
-fn pass_groups(body: &mut Builder, leaving: Option<u32>) -> Result<(), AllocError>
+fn pass_groups(body: &mut Body, leaving: Option<u32>) -> Result<(), AllocError>
     ensures { OnOk result (Adds body.old body.new (leaving_of leaving)) }
 {
     match leaving {
@@ -405,12 +406,7 @@ fn pass_groups(body: &mut Builder, leaving: Option<u32>) -> Result<(), AllocErro
 
 /// `continue`.
 #[tactic(auto, using(crate::proofs::Steps::then))]
-fn go_on(
-    body: &mut Builder,
-    t: &Target,
-    objects: &[Variable],
-    exits: Exits,
-) -> Result<(), AllocError>
+fn go_on(body: &mut Body, t: &Target, objects: &[Variable], exits: Exits) -> Result<(), AllocError>
     ensures { OnOk result (Adds body.old body.new (words.freed t.now.target (take exits.left_by_continue (reverse objects.now)) ⨾ one (Br exits.continue_label))) }
 {
     free_last(body, t, objects, exits.left_by_continue as usize)?;
@@ -422,7 +418,7 @@ fn go_on(
 /// A switch: its groups are carried out from that one on which its operand leads to.
 #[cycle(statements)]
 fn switch(
-    body: &mut Builder,
+    body: &mut Body,
     t: &Target,
     objects: &mut Vec<Variable>,
     d: u32,
@@ -446,7 +442,7 @@ fn switch(
 /// The groups of a switch.
 #[cycle(statements)]
 fn grouped(
-    body: &mut Builder,
+    body: &mut Body,
     t: &Target,
     objects: &mut Vec<Variable>,
     d: u32,
@@ -468,7 +464,7 @@ fn grouped(
 #[cycle(statements)]
 #[tactic(auto, using(crate::proofs::Steps::may_end))]
 fn group(
-    body: &mut Builder,
+    body: &mut Body,
     t: &Target,
     objects: &mut Vec<Variable>,
     d: u32,
@@ -487,7 +483,7 @@ fn group(
 }
 
 /// Whether the switch goes on with a group or with one before it.
-fn test_group(body: &mut Builder, t: &Target, d: u32, number: u32) -> Result<(), AllocError>
+fn test_group(body: &mut Body, t: &Target, d: u32, number: u32) -> Result<(), AllocError>
     ensures { OnOk result (Adds body.old body.new (plain (LocalGet (waiting t.now.target d) ∷ i32 number ∷ compared W32 LeU ∷ []))) }
 {
     add_three(
@@ -500,7 +496,7 @@ fn test_group(body: &mut Builder, t: &Target, d: u32, number: u32) -> Result<(),
 
 /// The number of the group with which a switch goes on, into the local that waits.
 fn select(
-    body: &mut Builder,
+    body: &mut Body,
     t: &Target,
     d: u32,
     u: IntType,
@@ -519,7 +515,7 @@ fn select(
 
 /// The same, by the local of the operand and the one that waits.
 fn select_into(
-    body: &mut Builder,
+    body: &mut Body,
     t: &Target,
     d: u32,
     u: IntType,
@@ -539,7 +535,7 @@ fn select_into(
 
 /// The operand into its local, and the number of the group that is chosen where no label is equal.
 fn choose_default(
-    body: &mut Builder,
+    body: &mut Body,
     operand: u32,
     cases: &[Case],
     groups: u32,
@@ -566,7 +562,7 @@ fn default_group(cases: &[Case], groups: u32) -> u32
 }
 
 /// The number of the group on the operands, unless a label is equal: then that of the label.
-fn choose(body: &mut Builder, u: IntType, operand: u32, cases: &[Case]) -> Result<(), AllocError>
+fn choose(body: &mut Body, u: IntType, operand: u32, cases: &[Case]) -> Result<(), AllocError>
     ensures { (site : Site) → OnOk result (Adds body.old body.new (words.chosen site u operand cases.now)) }
 {
     for case in cases {
@@ -577,7 +573,7 @@ fn choose(body: &mut Builder, u: IntType, operand: u32, cases: &[Case]) -> Resul
 
 /// The group of this label, where it is equal.
 #[tactic(auto, using(crate::proofs::Steps::nothing_added, crate::proofs::Steps::then_plain, crate::proofs::Items::constant_is_plain))]
-fn choose_case(body: &mut Builder, u: IntType, operand: u32, case: Case) -> Result<(), AllocError>
+fn choose_case(body: &mut Body, u: IntType, operand: u32, case: Case) -> Result<(), AllocError>
     ensures { OnOk result (MatchOption case.label (Adds body.old body.new no_code) (λ n. Adds body.old body.new (plain (i32 case.group ∷ LocalGet operand ∷ constant (width u) (value_of u n) ∷ compared (width u) Ne ∷ Select ∷ [])))) }
 {
     let Some(label) = case.label else {
@@ -597,7 +593,7 @@ fn choose_case(body: &mut Builder, u: IntType, operand: u32, case: Case) -> Resu
 
 /// Begins the variables of a block, and says how many of them are objects, which go behind `objects`, the first one last.
 fn enter(
-    body: &mut Builder,
+    body: &mut Body,
     t: &Target,
     objects: &mut Vec<Variable>,
     slots: &[u32],
@@ -634,7 +630,7 @@ fn push_object(t: &Target, objects: &mut Vec<Variable>, slot: u32) -> Result<(),
 }
 
 /// Begins the variables of a block.
-fn enter_slots(body: &mut Builder, t: &Target, slots: &[u32]) -> Result<(), AllocError>
+fn enter_slots(body: &mut Body, t: &Target, slots: &[u32]) -> Result<(), AllocError>
     ensures { OnOk result (Adds body.old body.new (words.enters t.now.target t.now.slots slots.now)) }
 {
     for slot in slots {
@@ -644,7 +640,7 @@ fn enter_slots(body: &mut Builder, t: &Target, slots: &[u32]) -> Result<(), Allo
 }
 
 /// Begins a variable: as a new object, or with 0.
-fn enter_slot(body: &mut Builder, t: &Target, slot: u32) -> Result<(), AllocError>
+fn enter_slot(body: &mut Body, t: &Target, slot: u32) -> Result<(), AllocError>
     ensures { OnOk result (Adds body.old body.new (words.entered t.now.target (t.now.target.is_object (Local slot)) (Local slot) (get_or t.now.slots slot void))) }
 {
     let v = Variable::Local(slot);
@@ -657,7 +653,7 @@ fn enter_slot(body: &mut Builder, t: &Target, slot: u32) -> Result<(), AllocErro
 
 /// A variable that is no object, and has a scalar's type, begins with 0.
 #[tactic(auto, using(crate::proofs::Steps::nothing_added, crate::proofs::Items::zero_is_plain))]
-fn zero(body: &mut Builder, t: &Target, v: Variable, ty: &CType) -> Result<(), AllocError>
+fn zero(body: &mut Body, t: &Target, v: Variable, ty: &CType) -> Result<(), AllocError>
     ensures { OnOk result (Adds body.old body.new (words.zeroed t.now.target v (scalar_of (type_of ty.now)))) }
 {
     match ty.scalar() {
@@ -668,7 +664,7 @@ fn zero(body: &mut Builder, t: &Target, v: Variable, ty: &CType) -> Result<(), A
 
 /// An object of so many bytes; one that is refused ends the program.
 #[tactic(auto, using(crate::proofs::Steps::then))]
-pub fn make(body: &mut Builder, t: &Target, v: Variable, size: u32) -> Result<(), AllocError>
+pub fn make(body: &mut Body, t: &Target, v: Variable, size: u32) -> Result<(), AllocError>
     ensures { OnOk result (Adds body.old body.new (words.made t.now.target v size)) }
 {
     new_frame(body, size)?;
@@ -678,7 +674,7 @@ pub fn make(body: &mut Builder, t: &Target, v: Variable, size: u32) -> Result<()
 }
 
 /// An object of so many bytes.
-fn new_frame(body: &mut Builder, size: u32) -> Result<(), AllocError>
+fn new_frame(body: &mut Body, size: u32) -> Result<(), AllocError>
     ensures { OnOk result (Adds body.old body.new (new_frame size)) }
 {
     add_two(
@@ -690,7 +686,7 @@ fn new_frame(body: &mut Builder, size: u32) -> Result<(), AllocError>
 
 /// Ends the program where a condition holds.
 #[tactic(auto, using(crate::proofs::Steps::may_end, crate::proofs::Steps::then_only))]
-fn stop_if(body: &mut Builder) -> Result<(), AllocError>
+fn stop_if(body: &mut Body) -> Result<(), AllocError>
     ensures { OnOk result (Adds body.old body.new (choice None (one Unreachable) no_code)) }
 {
     begin(body, Opening::If, None)?;
@@ -700,7 +696,7 @@ fn stop_if(body: &mut Builder) -> Result<(), AllocError>
 
 /// Frees the last objects, so many, the last one first.
 pub fn free_last(
-    body: &mut Builder,
+    body: &mut Body,
     t: &Target,
     objects: &[Variable],
     count: usize,
@@ -714,7 +710,7 @@ pub fn free_last(
 }
 
 /// Frees an object.
-fn free(body: &mut Builder, t: &Target, v: Variable) -> Result<(), AllocError>
+fn free(body: &mut Body, t: &Target, v: Variable) -> Result<(), AllocError>
     ensures { OnOk result (Adds body.old body.new (plain (targets.get t.now.target v ∷ SegmentOf (Free Frame) ∷ []))) }
 {
     add_two(body, t.get(v)?, Instr::Segment(Segment::Free(Kind::Frame)))
@@ -722,7 +718,7 @@ fn free(body: &mut Builder, t: &Target, v: Variable) -> Result<(), AllocError>
 
 /// Frees the last objects, so many, and takes them off.
 fn leave(
-    body: &mut Builder,
+    body: &mut Body,
     t: &Target,
     objects: &mut Vec<Variable>,
     count: u32,
@@ -740,7 +736,7 @@ fn leave(
 /// A string's bytes into the array of a place.
 #[tactic(auto, using(crate::proofs::Steps::then))]
 fn fill(
-    body: &mut Builder,
+    body: &mut Body,
     t: &Target,
     d: u32,
     p: &Place,
@@ -755,7 +751,7 @@ fn fill(
 
 /// A string's bytes into the array of the handle on the stack.
 #[tactic(auto, using(crate::proofs::Steps::then))]
-pub fn put_bytes(body: &mut Builder, t: &Target, bytes: &[u8]) -> Result<(), AllocError>
+pub fn put_bytes(body: &mut Body, t: &Target, bytes: &[u8]) -> Result<(), AllocError>
     ensures { OnOk result (Adds body.old body.new (one (LocalSet (scratch_handle t.now.target)) ⨾ words.bytes_put t.now.target 0 bytes.now)) }
 {
     let handle = t.scratch_handle()?;
@@ -764,7 +760,7 @@ pub fn put_bytes(body: &mut Builder, t: &Target, bytes: &[u8]) -> Result<(), All
 }
 
 /// A string's bytes into the array of a handle in a local.
-fn put_each(body: &mut Builder, handle: u32, bytes: &[u8]) -> Result<(), AllocError>
+fn put_each(body: &mut Body, handle: u32, bytes: &[u8]) -> Result<(), AllocError>
     ensures { (site : Site) → handle ≡ scratch_handle site → OnOk result (Adds body.old body.new (words.bytes_put site 0 bytes.now)) }
 {
     let mut i = 0u64;
@@ -777,7 +773,7 @@ fn put_each(body: &mut Builder, handle: u32, bytes: &[u8]) -> Result<(), AllocEr
 
 /// The i-th byte.
 #[tactic(auto, using(crate::proofs::Steps::then_plain))]
-fn put_byte(body: &mut Builder, handle: u32, i: u64, byte: u8) -> Result<(), AllocError>
+fn put_byte(body: &mut Body, handle: u32, i: u64, byte: u8) -> Result<(), AllocError>
     ensures { OnOk result (Adds body.old body.new (plain (LocalGet handle ∷ i64 i ∷ SegmentOf (Add 1) ∷ i32 byte ∷ SegmentOf (Store I32Store8) ∷ []))) }
 {
     add(body, Instr::LocalGet(handle))?;

@@ -9,7 +9,6 @@ ghost use Rattle.c_typed.specs.declared.ops.Variable.TheVariants as variables;
 ghost use Rattle.c_well_typed.specs.Units.{literals_in};
 ghost use Rattle.c_code.specs.Functions.{held_as, listed, signature};
 ghost use Rattle.c_code.specs.Limits as bounds;
-ghost use Rattle.c_code.specs.Limits.{refusal_of};
 ghost use Rattle.c_code.specs.Modules as words;
 ghost use Rattle.c_place.specs.refinement.Flags.{flags};
 ghost use Rattle.c_compile.specs.Refusals.{IsRefused, limit as word_of};
@@ -18,11 +17,11 @@ ghost use Rattle.c_compile.specs.refinement.Used.{AreUses};
 ghost use Rattle.ms_module.specs.Numbered.{IsPlain};
 ghost use Rattle.ms_module.specs.declared.module.ImportDesc.TheVariants as descs;
 
+use crate::body::MOST_INSTRUCTIONS;
 use crate::fault::{CFault, Limit};
 use crate::functions::{func, held_as, start};
 use crate::leaves::sum;
 use crate::signatures::signature;
-use crate::stage::is_in_stage;
 use crate::tables::{Tables, number as count_of, tables_of};
 use crate::uses::{Uses, uses_of};
 use c_place::{Objects, find_objects};
@@ -42,17 +41,15 @@ const MOST_SLOTS: usize = 10_000;
 /// The most functions that are values.
 const MOST_NAMED: usize = 65_535;
 
-/// The module of a unit. `Err`: the first limit that the unit passes, which is tested before any code is made, or want of memory.
+/// The module of a unit. `Err`: the first limit that the unit passes, which is tested before any code is made, or want of memory, which
+/// a module of more than 2^25 instructions is.
 pub fn compile(alloc: Global, typed: &Typed) -> Result<Module, CFault>
     ensures module { IfOk result (λ m. m ≡ words.compiled (typed_of typed.now)) }
-    ensures within { IfOk result (λ m. refusal_of (typed_of typed.now) ≡ None) }
+    ensures within { IfOk result (λ m. bounds.limit_of (typed_of typed.now) ≡ None) }
     ensures refused { IfErr result (λ fault. IsRefused (typed_of typed.now) fault) }
 {
     let objects = find_objects(alloc, typed)?;
     let unit = typed.unit();
-    if !is_in_stage(unit, &objects) {
-        return Err(CFault::Limit(Limit::Stage));
-    }
     let uses = uses_of(alloc, unit)?;
     if let Some(limit) = limit_of(unit, &uses) {
         return Err(CFault::Limit(limit));
@@ -428,9 +425,10 @@ fn funcs(
     requires globals { objects.now.globals.items ≡ (flags (typed_of typed.now)).globals }
     ensures { IfOk result (λ funcs. funcs ≡ (words.compiled (typed_of typed.now)).funcs) }
 {
+    let mut room = MOST_INSTRUCTIONS;
     let mut funcs = Vector::new(alloc);
-    add_funcs(alloc, &mut funcs, typed, tables, objects)?;
-    funcs.push(start(alloc, typed, tables, &objects.globals)?)?;
+    add_funcs(alloc, &mut funcs, typed, tables, objects, &mut room)?;
+    funcs.push(start(alloc, typed, tables, &objects.globals, &mut room)?)?;
     Ok(funcs)
 }
 
@@ -441,6 +439,7 @@ fn add_funcs(
     typed: &Typed,
     tables: &Tables,
     objects: &Objects,
+    room: &mut u32,
 ) -> Result<(), AllocError>
     requires tables { AreTables (typed_of typed.now) tables.now }
     requires functions { objects.now.functions.items ≡ (flags (typed_of typed.now)).functions }
@@ -448,7 +447,7 @@ fn add_funcs(
     ensures { OnOk result (funcs.new ≡ funcs.old ++ words.funcs_from (typed_of typed.now) 0 (typed_of typed.now).functions) }
 {
     for n in 0..count_of(typed.unit().functions.len())? {
-        add_func(alloc, funcs, typed, tables, objects, n)?;
+        add_func(alloc, funcs, typed, tables, objects, n, room)?;
     }
     Ok(())
 }
@@ -461,6 +460,7 @@ fn add_func(
     tables: &Tables,
     objects: &Objects,
     number: u32,
+    room: &mut u32,
 ) -> Result<(), AllocError>
     requires tables { AreTables (typed_of typed.now) tables.now }
     requires functions { objects.now.functions.items ≡ (flags (typed_of typed.now)).functions }
@@ -481,6 +481,7 @@ fn add_func(
         f,
         flags,
         body,
+        room,
     )?)?;
     Ok(())
 }

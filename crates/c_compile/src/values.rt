@@ -36,7 +36,7 @@ use crate::operators::{
 use crate::target::Target;
 use c_typed::{BinaryOp, Expr, Place, RelOp as Relation, UnaryOp};
 use c_types::{CType, IntType, Scalar};
-use ms_module::{Builder, Instr, Numeric, Opening, Segment};
+use ms_module::{Instr, Numeric, Opening, Segment};
 use ms_types::ValType;
 use std::alloc::AllocError;
 
@@ -44,7 +44,7 @@ use std::alloc::AllocError;
 
 /// The handle of a place.
 #[cycle(values)]
-pub fn place(body: &mut Builder, t: &Target, d: u32, p: &Place) -> Result<(), AllocError>
+pub fn place(body: &mut Body, t: &Target, d: u32, p: &Place) -> Result<(), AllocError>
     ensures { OnOk result (Adds body.old body.new (words.place t.now.target d (place_of p.now))) }
 {
     match p {
@@ -55,14 +55,7 @@ pub fn place(body: &mut Builder, t: &Target, d: u32, p: &Place) -> Result<(), Al
 }
 
 #[cycle(values)]
-fn member(
-    body: &mut Builder,
-    t: &Target,
-    d: u32,
-    p: &Place,
-    n: u32,
-    m: u32,
-) -> Result<(), AllocError>
+fn member(body: &mut Body, t: &Target, d: u32, p: &Place, n: u32, m: u32) -> Result<(), AllocError>
     ensures { OnOk result (Adds body.old body.new (words.place t.now.target d (tree.member (place_of p.now) n m))) }
 {
     let (from, length) = t.member(n, m)?;
@@ -72,7 +65,7 @@ fn member(
 /// The handle of so many bytes of a place from so many on: a member of a member is one slice.
 #[cycle(values)]
 fn part(
-    body: &mut Builder,
+    body: &mut Body,
     t: &Target,
     d: u32,
     p: &Place,
@@ -91,7 +84,7 @@ fn part(
 #[cycle(values)]
 #[tactic(auto, using(crate::proofs::Steps::then))]
 fn part_behind(
-    body: &mut Builder,
+    body: &mut Body,
     t: &Target,
     d: u32,
     e: &Expr,
@@ -106,7 +99,7 @@ fn part_behind(
 
 #[cycle(values)]
 fn part_of_member(
-    body: &mut Builder,
+    body: &mut Body,
     t: &Target,
     d: u32,
     p: &Place,
@@ -124,7 +117,7 @@ fn part_of_member(
 
 /// What a place of a scalar holds (6.3.2.1, paragraph 2).
 #[cycle(values)]
-fn read(body: &mut Builder, t: &Target, d: u32, s: Scalar, p: &Place) -> Result<(), AllocError>
+fn read(body: &mut Body, t: &Target, d: u32, s: Scalar, p: &Place) -> Result<(), AllocError>
     ensures { OnOk result (Adds body.old body.new (words.expr t.now.target true d (tree.read s (place_of p.now)))) }
 {
     match t.plain_in(p)? {
@@ -135,13 +128,7 @@ fn read(body: &mut Builder, t: &Target, d: u32, s: Scalar, p: &Place) -> Result<
 
 #[cycle(values)]
 #[tactic(auto, using(crate::proofs::Steps::then))]
-fn read_object(
-    body: &mut Builder,
-    t: &Target,
-    d: u32,
-    s: Scalar,
-    p: &Place,
-) -> Result<(), AllocError>
+fn read_object(body: &mut Body, t: &Target, d: u32, s: Scalar, p: &Place) -> Result<(), AllocError>
     ensures { OnOk result (Adds body.old body.new (words.place t.now.target d (place_of p.now) ⨾ one (operations.load s))) }
 {
     place(body, t, d, p)?;
@@ -151,7 +138,7 @@ fn read_object(
 /// An array's place as the pointer to its first element.
 #[cycle(values)]
 fn decay(
-    body: &mut Builder,
+    body: &mut Body,
     t: &Target,
     d: u32,
     u: &CType,
@@ -167,7 +154,7 @@ fn decay(
 /// The same of so many bytes: behind a pointer it is narrowed to the array.
 #[cycle(values)]
 pub fn decayed(
-    body: &mut Builder,
+    body: &mut Body,
     t: &Target,
     d: u32,
     length: u32,
@@ -184,13 +171,7 @@ pub fn decayed(
 
 #[cycle(values)]
 #[tactic(auto, using(crate::proofs::Steps::then))]
-fn narrowed(
-    body: &mut Builder,
-    t: &Target,
-    d: u32,
-    length: u32,
-    p: &Place,
-) -> Result<(), AllocError>
+fn narrowed(body: &mut Body, t: &Target, d: u32, length: u32, p: &Place) -> Result<(), AllocError>
     ensures { OnOk result (Adds body.old body.new (words.place t.now.target d (place_of p.now) ⨾ operations.slice 0 length)) }
 {
     place(body, t, d, p)?;
@@ -202,7 +183,7 @@ fn narrowed(
 /// The value of an expression, if it has one.
 #[cycle(values)]
 #[tactic(auto, using(crate::proofs::Plain::constant_plain))]
-pub fn value(body: &mut Builder, t: &Target, d: u32, e: &Expr) -> Result<(), AllocError>
+pub fn value(body: &mut Body, t: &Target, d: u32, e: &Expr) -> Result<(), AllocError>
     ensures { OnOk result (Adds body.old body.new (words.expr t.now.target true d (expr_of e.now))) }
 {
     match e {
@@ -257,7 +238,7 @@ pub fn value(body: &mut Builder, t: &Target, d: u32, e: &Expr) -> Result<(), All
 
 /// What is evaluated for its effect: its value, if it has one, is gone.
 #[cycle(values)]
-pub fn thrown(body: &mut Builder, t: &Target, d: u32, e: &Expr) -> Result<(), AllocError>
+pub fn thrown(body: &mut Body, t: &Target, d: u32, e: &Expr) -> Result<(), AllocError>
     ensures { OnOk result (Adds body.old body.new (words.expr t.now.target false d (expr_of e.now))) }
 {
     match e {
@@ -301,13 +282,7 @@ pub fn thrown(body: &mut Builder, t: &Target, d: u32, e: &Expr) -> Result<(), Al
 
 /// The same of an expression whose value is kept otherwise, if it has one.
 #[cycle(values)]
-fn left(
-    body: &mut Builder,
-    t: &Target,
-    d: u32,
-    s: Option<Scalar>,
-    e: &Expr,
-) -> Result<(), AllocError>
+fn left(body: &mut Body, t: &Target, d: u32, s: Option<Scalar>, e: &Expr) -> Result<(), AllocError>
     ensures { OnOk result (Adds body.old body.new (words.left false s (words.expr t.now.target true d (expr_of e.now)))) }
 {
     match s {
@@ -318,7 +293,7 @@ fn left(
 
 #[cycle(values)]
 #[tactic(auto, using(crate::proofs::Steps::then))]
-fn dropped(body: &mut Builder, t: &Target, d: u32, e: &Expr) -> Result<(), AllocError>
+fn dropped(body: &mut Body, t: &Target, d: u32, e: &Expr) -> Result<(), AllocError>
     ensures { OnOk result (Adds body.old body.new (words.expr t.now.target true d (expr_of e.now) ⨾ one instrs.Drop)) }
 {
     value(body, t, d, e)?;
@@ -331,7 +306,7 @@ fn dropped(body: &mut Builder, t: &Target, d: u32, e: &Expr) -> Result<(), Alloc
 #[cycle(values)]
 #[tactic(auto, using(crate::proofs::Plain::constant_plain))]
 fn converted(
-    body: &mut Builder,
+    body: &mut Body,
     t: &Target,
     d: u32,
     u: IntType,
@@ -351,7 +326,7 @@ fn converted(
 #[cycle(values)]
 #[tactic(auto, using(crate::proofs::Steps::then))]
 fn value_converted(
-    body: &mut Builder,
+    body: &mut Body,
     t: &Target,
     d: u32,
     u: IntType,
@@ -367,7 +342,7 @@ fn value_converted(
 /// Whether a scalar is neither zero nor null.
 #[cycle(values)]
 #[tactic(auto, using(crate::proofs::Steps::then))]
-fn true_of(body: &mut Builder, t: &Target, d: u32, s: Scalar, a: &Expr) -> Result<(), AllocError>
+fn true_of(body: &mut Body, t: &Target, d: u32, s: Scalar, a: &Expr) -> Result<(), AllocError>
     ensures { OnOk result (Adds body.old body.new (words.expr t.now.target true d (tree.truth s (expr_of a.now)))) }
 {
     value(body, t, d, a)?;
@@ -376,7 +351,7 @@ fn true_of(body: &mut Builder, t: &Target, d: u32, s: Scalar, a: &Expr) -> Resul
 
 /// A condition as 0 or 1.
 #[cycle(values)]
-fn as_bit(body: &mut Builder, t: &Target, d: u32, a: &Expr) -> Result<(), AllocError>
+fn as_bit(body: &mut Body, t: &Target, d: u32, a: &Expr) -> Result<(), AllocError>
     ensures { OnOk result (Adds body.old body.new (words.as_bit (words.is_bit (expr_of a.now)) (words.expr t.now.target true d (expr_of a.now)))) }
 {
     match known_of(a) {
@@ -389,7 +364,7 @@ fn as_bit(body: &mut Builder, t: &Target, d: u32, a: &Expr) -> Result<(), AllocE
 
 #[cycle(values)]
 #[tactic(auto, using(crate::proofs::Steps::then))]
-fn not(body: &mut Builder, t: &Target, d: u32, a: &Expr) -> Result<(), AllocError>
+fn not(body: &mut Body, t: &Target, d: u32, a: &Expr) -> Result<(), AllocError>
     ensures { OnOk result (Adds body.old body.new (words.expr t.now.target true d (tree.not (expr_of a.now)))) }
 {
     value(body, t, d, a)?;
@@ -398,7 +373,7 @@ fn not(body: &mut Builder, t: &Target, d: u32, a: &Expr) -> Result<(), AllocErro
 
 #[cycle(values)]
 fn unary(
-    body: &mut Builder,
+    body: &mut Body,
     t: &Target,
     d: u32,
     o: UnaryOp,
@@ -415,7 +390,7 @@ fn unary(
 
 #[cycle(values)]
 #[tactic(auto, using(crate::proofs::Steps::then_two))]
-fn negated(body: &mut Builder, t: &Target, d: u32, u: IntType, a: &Expr) -> Result<(), AllocError>
+fn negated(body: &mut Body, t: &Target, d: u32, u: IntType, a: &Expr) -> Result<(), AllocError>
     ensures { OnOk result (Adds body.old body.new (words.expr t.now.target true d (tree.unary unaries.Negate u (expr_of a.now)))) }
 {
     zero(body, u)?;
@@ -425,13 +400,7 @@ fn negated(body: &mut Builder, t: &Target, d: u32, u: IntType, a: &Expr) -> Resu
 
 #[cycle(values)]
 #[tactic(auto, using(crate::proofs::Steps::then))]
-fn complemented(
-    body: &mut Builder,
-    t: &Target,
-    d: u32,
-    u: IntType,
-    a: &Expr,
-) -> Result<(), AllocError>
+fn complemented(body: &mut Body, t: &Target, d: u32, u: IntType, a: &Expr) -> Result<(), AllocError>
     ensures { OnOk result (Adds body.old body.new (words.expr t.now.target true d (tree.unary unaries.Complement u (expr_of a.now)))) }
 {
     value(body, t, d, a)?;
@@ -443,7 +412,7 @@ fn complemented(
 #[cycle(values)]
 #[tactic(auto, using(crate::proofs::Steps::then_two))]
 fn binary(
-    body: &mut Builder,
+    body: &mut Body,
     t: &Target,
     d: u32,
     o: BinaryOp,
@@ -461,7 +430,7 @@ fn binary(
 #[cycle(values)]
 #[tactic(auto, using(crate::proofs::Steps::then_two))]
 fn compared(
-    body: &mut Builder,
+    body: &mut Body,
     t: &Target,
     d: u32,
     r: Relation,
@@ -481,7 +450,7 @@ fn compared(
 #[cycle(values)]
 #[tactic(auto, using(crate::proofs::Steps::then_two))]
 fn functions_compared(
-    body: &mut Builder,
+    body: &mut Body,
     t: &Target,
     d: u32,
     same: bool,
@@ -497,7 +466,7 @@ fn functions_compared(
 
 #[cycle(values)]
 fn pointers_compared(
-    body: &mut Builder,
+    body: &mut Body,
     t: &Target,
     d: u32,
     r: Relation,
@@ -518,13 +487,7 @@ fn pointers_compared(
 
 #[cycle(values)]
 #[tactic(auto, using(crate::proofs::Steps::then))]
-fn pointers_equal(
-    body: &mut Builder,
-    t: &Target,
-    d: u32,
-    a: &Expr,
-    b: &Expr,
-) -> Result<(), AllocError>
+fn pointers_equal(body: &mut Body, t: &Target, d: u32, a: &Expr, b: &Expr) -> Result<(), AllocError>
     ensures { OnOk result (Adds body.old body.new (words.expr t.now.target true d (tree.compare_pointers relations.Equal (expr_of a.now) (expr_of b.now)))) }
 {
     value(body, t, d, a)?;
@@ -538,7 +501,7 @@ fn pointers_equal(
 
 #[cycle(values)]
 #[tactic(auto, using(crate::proofs::Steps::then))]
-fn equal_to(body: &mut Builder, t: &Target, d: u32, b: &Expr) -> Result<(), AllocError>
+fn equal_to(body: &mut Body, t: &Target, d: u32, b: &Expr) -> Result<(), AllocError>
     ensures { OnOk result (Adds body.old body.new (words.expr t.now.target true d (expr_of b.now) ⨾ one (instrs.Segment segments.Eq))) }
 {
     value(body, t, d, b)?;
@@ -548,7 +511,7 @@ fn equal_to(body: &mut Builder, t: &Target, d: u32, b: &Expr) -> Result<(), Allo
 #[cycle(values)]
 #[tactic(auto, using(crate::proofs::Steps::then))]
 fn pointers_differ(
-    body: &mut Builder,
+    body: &mut Body,
     t: &Target,
     d: u32,
     a: &Expr,
@@ -567,7 +530,7 @@ fn pointers_differ(
 
 #[cycle(values)]
 #[tactic(auto, using(crate::proofs::Steps::then))]
-fn unlike(body: &mut Builder, t: &Target, d: u32, b: &Expr) -> Result<(), AllocError>
+fn unlike(body: &mut Body, t: &Target, d: u32, b: &Expr) -> Result<(), AllocError>
     ensures { OnOk result (Adds body.old body.new (words.expr t.now.target true d (expr_of b.now) ⨾ plain (instrs.Segment segments.Eq ∷ operations.eqz ∷ []))) }
 {
     value(body, t, d, b)?;
@@ -577,7 +540,7 @@ fn unlike(body: &mut Builder, t: &Target, d: u32, b: &Expr) -> Result<(), AllocE
 #[cycle(values)]
 #[tactic(auto, using(crate::proofs::Steps::then_two))]
 fn pointers_ordered(
-    body: &mut Builder,
+    body: &mut Body,
     t: &Target,
     d: u32,
     r: Relation,
@@ -595,7 +558,7 @@ fn pointers_ordered(
 #[cycle(values)]
 #[tactic(auto, using(crate::proofs::Steps::then_two))]
 fn difference(
-    body: &mut Builder,
+    body: &mut Body,
     t: &Target,
     d: u32,
     u: &CType,
@@ -613,7 +576,7 @@ fn difference(
 #[cycle(values)]
 #[tactic(auto, using(crate::proofs::Steps::then))]
 fn moved(
-    body: &mut Builder,
+    body: &mut Body,
     t: &Target,
     d: u32,
     u: &CType,
@@ -630,7 +593,7 @@ fn moved(
 /// The handle on the stack goes on by so many elements of a type, or back.
 #[cycle(values)]
 fn step(
-    body: &mut Builder,
+    body: &mut Body,
     t: &Target,
     d: u32,
     u: &CType,
@@ -648,7 +611,7 @@ fn step(
 
 #[cycle(values)]
 #[tactic(auto, using(crate::proofs::Steps::then))]
-fn on_by(body: &mut Builder, t: &Target, d: u32, u: &CType, b: &Expr) -> Result<(), AllocError>
+fn on_by(body: &mut Body, t: &Target, d: u32, u: &CType, b: &Expr) -> Result<(), AllocError>
     ensures { OnOk result (Adds body.old body.new (words.moved (size t.now.target.structs (type_of u.now)) false (words.expr t.now.target true d (expr_of b.now)))) }
 {
     value(body, t, d, b)?;
@@ -657,7 +620,7 @@ fn on_by(body: &mut Builder, t: &Target, d: u32, u: &CType, b: &Expr) -> Result<
 
 #[cycle(values)]
 #[tactic(auto, using(crate::proofs::Steps::then_two))]
-fn back_by(body: &mut Builder, t: &Target, d: u32, u: &CType, b: &Expr) -> Result<(), AllocError>
+fn back_by(body: &mut Body, t: &Target, d: u32, u: &CType, b: &Expr) -> Result<(), AllocError>
     ensures { OnOk result (Adds body.old body.new (words.moved (size t.now.target.structs (type_of u.now)) true (words.expr t.now.target true d (expr_of b.now)))) }
 {
     zero(body, IntType::LongLong)?;
@@ -669,7 +632,7 @@ fn back_by(body: &mut Builder, t: &Target, d: u32, u: &CType, b: &Expr) -> Resul
 #[cycle(values)]
 #[tactic(auto, using(crate::proofs::Steps::then_two))]
 fn moved_by(
-    body: &mut Builder,
+    body: &mut Body,
     t: &Target,
     d: u32,
     u: &CType,
@@ -687,7 +650,7 @@ fn moved_by(
 
 #[cycle(values)]
 #[tactic(auto, using(crate::proofs::Steps::may_turn, crate::proofs::Steps::second_may_end))]
-fn and(body: &mut Builder, t: &Target, d: u32, a: &Expr, b: &Expr) -> Result<(), AllocError>
+fn and(body: &mut Body, t: &Target, d: u32, a: &Expr, b: &Expr) -> Result<(), AllocError>
     ensures { OnOk result (Adds body.old body.new (words.expr t.now.target true d (tree.and (expr_of a.now) (expr_of b.now)))) }
 {
     value(body, t, d, a)?;
@@ -700,7 +663,7 @@ fn and(body: &mut Builder, t: &Target, d: u32, a: &Expr, b: &Expr) -> Result<(),
 
 #[cycle(values)]
 #[tactic(auto, using(crate::proofs::Steps::may_turn, crate::proofs::Steps::second_may_end))]
-fn or(body: &mut Builder, t: &Target, d: u32, a: &Expr, b: &Expr) -> Result<(), AllocError>
+fn or(body: &mut Body, t: &Target, d: u32, a: &Expr, b: &Expr) -> Result<(), AllocError>
     ensures { OnOk result (Adds body.old body.new (words.expr t.now.target true d (tree.or (expr_of a.now) (expr_of b.now)))) }
 {
     value(body, t, d, a)?;
@@ -714,7 +677,7 @@ fn or(body: &mut Builder, t: &Target, d: u32, a: &Expr, b: &Expr) -> Result<(), 
 #[cycle(values)]
 #[tactic(auto, using(crate::proofs::Steps::may_turn, crate::proofs::Steps::second_may_end))]
 fn choose(
-    body: &mut Builder,
+    body: &mut Body,
     t: &Target,
     d: u32,
     s: Option<Scalar>,
@@ -735,7 +698,7 @@ fn choose(
 #[cycle(values)]
 #[tactic(auto, using(crate::proofs::Steps::then))]
 fn comma(
-    body: &mut Builder,
+    body: &mut Body,
     t: &Target,
     kept: bool,
     d: u32,
@@ -757,7 +720,7 @@ fn comma(
 #[cycle(values)]
 #[tactic(auto, using(crate::proofs::Steps::then_two))]
 fn assign(
-    body: &mut Builder,
+    body: &mut Body,
     t: &Target,
     kept: bool,
     d: u32,
@@ -775,7 +738,7 @@ fn assign(
 /// The place, if it isn't a plain variable.
 #[cycle(values)]
 #[tactic(auto, using(crate::proofs::Steps::nothing_added))]
-fn begin_write(body: &mut Builder, t: &Target, d: u32, p: &Place) -> Result<(), AllocError>
+fn begin_write(body: &mut Body, t: &Target, d: u32, p: &Place) -> Result<(), AllocError>
     ensures { OnOk result (Adds body.old body.new (words.begun t.now.target (targets.plain_in t.now.target (place_of p.now)) (words.place t.now.target d (place_of p.now)))) }
 {
     match t.plain_in(p)? {
@@ -787,7 +750,7 @@ fn begin_write(body: &mut Builder, t: &Target, d: u32, p: &Place) -> Result<(), 
 /// The place, if it isn't a plain variable, and its old value.
 #[cycle(values)]
 fn begin_with_old(
-    body: &mut Builder,
+    body: &mut Body,
     t: &Target,
     d: u32,
     p: &Place,
@@ -804,7 +767,7 @@ fn begin_with_old(
 #[cycle(values)]
 #[tactic(auto, using(crate::proofs::Steps::then))]
 fn object_with_old(
-    body: &mut Builder,
+    body: &mut Body,
     t: &Target,
     d: u32,
     p: &Place,
@@ -819,7 +782,7 @@ fn object_with_old(
 /// The old value, the place, if it isn't a plain variable, and the old value.
 #[cycle(values)]
 fn begin_over_old(
-    body: &mut Builder,
+    body: &mut Body,
     t: &Target,
     d: u32,
     p: &Place,
@@ -836,7 +799,7 @@ fn begin_over_old(
 #[cycle(values)]
 #[tactic(auto, using(crate::proofs::Steps::then))]
 fn object_over_old(
-    body: &mut Builder,
+    body: &mut Body,
     t: &Target,
     d: u32,
     p: &Place,
@@ -851,7 +814,7 @@ fn object_over_old(
 /// `op=`, `++` and `--` on an integer, of which the old value or the new one stays.
 #[cycle(values)]
 fn update(
-    body: &mut Builder,
+    body: &mut Body,
     t: &Target,
     d: u32,
     old: bool,
@@ -873,7 +836,7 @@ fn update(
 #[cycle(values)]
 #[tactic(auto, using(crate::proofs::Steps::then_two))]
 fn update_to_new(
-    body: &mut Builder,
+    body: &mut Body,
     t: &Target,
     kept: bool,
     d: u32,
@@ -893,7 +856,7 @@ fn update_to_new(
 #[cycle(values)]
 #[tactic(auto, using(crate::proofs::Steps::then_two))]
 fn update_over_old(
-    body: &mut Builder,
+    body: &mut Body,
     t: &Target,
     d: u32,
     u: IntType,
@@ -913,7 +876,7 @@ fn update_over_old(
 #[cycle(values)]
 #[tactic(auto, using(crate::proofs::Steps::then_three))]
 fn change(
-    body: &mut Builder,
+    body: &mut Body,
     t: &Target,
     d: u32,
     u: IntType,
@@ -932,7 +895,7 @@ fn change(
 /// The same on a pointer.
 #[cycle(values)]
 fn advance(
-    body: &mut Builder,
+    body: &mut Body,
     t: &Target,
     d: u32,
     old: bool,
@@ -953,7 +916,7 @@ fn advance(
 #[cycle(values)]
 #[tactic(auto, using(crate::proofs::Steps::then_two))]
 fn advance_to_new(
-    body: &mut Builder,
+    body: &mut Body,
     t: &Target,
     kept: bool,
     d: u32,
@@ -972,7 +935,7 @@ fn advance_to_new(
 #[cycle(values)]
 #[tactic(auto, using(crate::proofs::Steps::then_two))]
 fn advance_over_old(
-    body: &mut Builder,
+    body: &mut Body,
     t: &Target,
     d: u32,
     u: &CType,
@@ -990,14 +953,7 @@ fn advance_over_old(
 /// A struct, from the second place to the first (6.5.16.1).
 #[cycle(values)]
 #[tactic(auto, using(crate::proofs::Steps::then_two))]
-fn copy(
-    body: &mut Builder,
-    t: &Target,
-    d: u32,
-    n: u32,
-    p: &Place,
-    q: &Place,
-) -> Result<(), AllocError>
+fn copy(body: &mut Body, t: &Target, d: u32, n: u32, p: &Place, q: &Place) -> Result<(), AllocError>
     ensures { OnOk result (Adds body.old body.new (words.expr t.now.target true d (tree.copy n (place_of p.now) (place_of q.now)))) }
 {
     place(body, t, d, p)?;
@@ -1008,7 +964,7 @@ fn copy(
 /// A struct's place, of which nothing is read.
 #[cycle(values)]
 #[tactic(auto, using(crate::proofs::Steps::then))]
-fn visit(body: &mut Builder, t: &Target, d: u32, p: &Place) -> Result<(), AllocError>
+fn visit(body: &mut Body, t: &Target, d: u32, p: &Place) -> Result<(), AllocError>
     ensures { OnOk result (Adds body.old body.new (words.expr t.now.target true d (tree.visit (place_of p.now)))) }
 {
     place(body, t, d, p)?;
@@ -1019,7 +975,7 @@ fn visit(body: &mut Builder, t: &Target, d: u32, p: &Place) -> Result<(), AllocE
 
 #[cycle(values)]
 #[tactic(auto, using(crate::proofs::Steps::then))]
-fn call(body: &mut Builder, t: &Target, d: u32, n: u32, es: &[Expr]) -> Result<(), AllocError>
+fn call(body: &mut Body, t: &Target, d: u32, n: u32, es: &[Expr]) -> Result<(), AllocError>
     ensures { OnOk result (Adds body.old body.new (words.exprs t.now.target d (exprs_in es.now) ⨾ one (instrs.Call (t.now.target.index n)))) }
 {
     arguments(body, t, d, es)?;
@@ -1030,7 +986,7 @@ fn call(body: &mut Builder, t: &Target, d: u32, n: u32, es: &[Expr]) -> Result<(
 #[cycle(values)]
 #[tactic(auto, using(crate::proofs::Steps::then_three))]
 fn call_through(
-    body: &mut Builder,
+    body: &mut Body,
     t: &Target,
     d: u32,
     u: &CType,
@@ -1046,7 +1002,7 @@ fn call_through(
 }
 
 #[cycle(values)]
-fn deeper_arguments(body: &mut Builder, t: &Target, d: u32, es: &[Expr]) -> Result<(), AllocError>
+fn deeper_arguments(body: &mut Body, t: &Target, d: u32, es: &[Expr]) -> Result<(), AllocError>
     ensures { OnOk result (Adds body.old body.new (words.exprs t.now.target (suc d) (exprs_in es.now))) }
 {
     let deeper = sum(d, 1)?;
@@ -1055,7 +1011,7 @@ fn deeper_arguments(body: &mut Builder, t: &Target, d: u32, es: &[Expr]) -> Resu
 
 /// The arguments, from left to right.
 #[cycle(values)]
-fn arguments(body: &mut Builder, t: &Target, d: u32, es: &[Expr]) -> Result<(), AllocError>
+fn arguments(body: &mut Body, t: &Target, d: u32, es: &[Expr]) -> Result<(), AllocError>
     ensures { OnOk result (Adds body.old body.new (words.exprs t.now.target d (exprs_in es.now))) }
 {
     for e in es {
@@ -1066,7 +1022,7 @@ fn arguments(body: &mut Builder, t: &Target, d: u32, es: &[Expr]) -> Result<(), 
 
 #[cycle(values)]
 #[tactic(auto, using(crate::proofs::Steps::then))]
-fn putchar(body: &mut Builder, t: &Target, d: u32, a: &Expr) -> Result<(), AllocError>
+fn putchar(body: &mut Body, t: &Target, d: u32, a: &Expr) -> Result<(), AllocError>
     ensures { OnOk result (Adds body.old body.new (words.expr t.now.target true d (tree.putchar (expr_of a.now)))) }
 {
     value(body, t, d, a)?;
@@ -1077,7 +1033,7 @@ fn putchar(body: &mut Builder, t: &Target, d: u32, a: &Expr) -> Result<(), Alloc
 
 /// So many bytes as elements of a type.
 #[cycle(values)]
-fn malloc(body: &mut Builder, t: &Target, d: u32, u: &CType, e: &Expr) -> Result<(), AllocError>
+fn malloc(body: &mut Body, t: &Target, d: u32, u: &CType, e: &Expr) -> Result<(), AllocError>
     ensures { OnOk result (Adds body.old body.new (words.expr t.now.target true d (tree.malloc (type_of u.now) (expr_of e.now)))) }
 {
     match known_of(e) {
@@ -1089,7 +1045,7 @@ fn malloc(body: &mut Builder, t: &Target, d: u32, u: &CType, e: &Expr) -> Result
 
 #[cycle(values)]
 #[tactic(auto, using(crate::proofs::Steps::then))]
-fn allocated(body: &mut Builder, t: &Target, d: u32, u: &CType, e: &Expr) -> Result<(), AllocError>
+fn allocated(body: &mut Body, t: &Target, d: u32, u: &CType, e: &Expr) -> Result<(), AllocError>
     ensures { OnOk result (Adds body.old body.new (words.expr t.now.target true d (expr_of e.now) ⨾ operations.new_heap (size t.now.target.structs (type_of u.now)))) }
 {
     value(body, t, d, e)?;
@@ -1099,7 +1055,7 @@ fn allocated(body: &mut Builder, t: &Target, d: u32, u: &CType, e: &Expr) -> Res
 #[cycle(values)]
 #[tactic(auto, using(crate::proofs::Steps::then_three))]
 fn calloc(
-    body: &mut Builder,
+    body: &mut Body,
     t: &Target,
     d: u32,
     u: &CType,
@@ -1116,7 +1072,7 @@ fn calloc(
 
 #[cycle(values)]
 #[tactic(auto, using(crate::proofs::Steps::then))]
-fn free(body: &mut Builder, t: &Target, d: u32, e: &Expr) -> Result<(), AllocError>
+fn free(body: &mut Body, t: &Target, d: u32, e: &Expr) -> Result<(), AllocError>
     ensures { OnOk result (Adds body.old body.new (words.expr t.now.target true d (tree.free (expr_of e.now)))) }
 {
     value(body, t, d, e)?;

@@ -1,11 +1,14 @@
--- Typed expressions in a vector, as arguments.
-use Rattle.std.proofs.Common.{◌≡◌, ◌∙◌, Vec, Box, Global, refl, ap}
+-- Typed expressions in a vector, as arguments, and statements in one, as groups.
+use Rattle.std.proofs.Common.{◌≡◌, ◌∙◌, suc, List, [], ◌∷◌, length, add-one, Vec, Box, Global, refl, ap}
 use mathlib.Core.Former.{Count}
 use Rattle.c_types.specs.Types.{type_of}
 use Rattle.c_typed.specs.declared.tree.Expr.{Expr, Row_of-Expr, end_of-Expr, more_of-Expr, items-the_row-Expr, items_hidden-the_row-Expr-0}
 use Rattle.c_typed.specs.declared.tree.Expr.TheVariants as code
+use Rattle.c_typed.specs.declared.tree.Stmt.{Stmt}
+use Rattle.c_typed.specs.Parts.{sequence}
 use Rattle.c_typed.specs.Tree as to
-use Rattle.c_typed.specs.refinement.Views.{expr_of, exprs_of}
+use Rattle.c_typed.specs.refinement.Views.{expr_of, exprs_of, list_of}
+use Rattle.c_well_typed.specs.Statements.{count}
 use Rattle.c_place.specs.refinement.Lists.{exprs_in}
 
 row_is : (n : _) (row : Row_of-Expr n) → exprs_of row ≡ exprs_in (items-the_row-Expr n row)
@@ -26,3 +29,7 @@ pub call_through_is : (t : _) (s : _) (e : Box Expr Global) (es : Vec Expr Globa
 call_through_is t s e es =
     let row = row_of (code.CallThrough t s e es) in
     ap (λ xs. to.call_through (type_of t) s (expr_of e.value) xs) (row_is row.0 row.1 ∙ ap exprs_in (items_hidden-the_row-Expr-0 es))
+
+pub count_is : (ss : List Stmt) → length ss ≡ count (sequence (list_of ss))
+count_is [] = refl
+count_is (s ∷ ss) = ap suc (count_is ss) ∙ rw add-one refl

@@ -38,7 +38,7 @@ use Rattle.c_code.specs.Functions as code
 use Rattle.c_code.specs.Functions.{body, held_as, locals, params_from, params_in, result, result_in, scratch_locals, slots_from}
 use Rattle.c_code.specs.Modules.{index_of, named, rank_in, target_of}
 use Rattle.c_code.specs.Operations.{val_of}
-use Rattle.c_code.specs.Stage.{are_data, are_slots, in_stmt, is_data}
+use Rattle.c_stage.specs.Stage.{are_data, are_slots, in_stmt, is_data}
 use Rattle.c_code.specs.Statements as scheme
 use Rattle.c_code.specs.Statements.{at_body, freed, objects_in}
 use Rattle.c_code.specs.Targets.{Target}

@@ -28,7 +28,7 @@ use Rattle.c_well_typed.specs.Units.{HaveNames, IsFunction, IsWellTyped, list_of
 use Rattle.c_meaning.specs.Units.{main_number}
 use Rattle.c_code.specs.Functions.{held_as, params_in, start}
 use Rattle.c_code.specs.Modules.{compiled, defined, export_of, exports_of, funcs_from, function_at, imported, index_of, is_defined, is_defined_at, is_exported, start_func, start_target}
-use Rattle.c_code.specs.Stage.{in_stage}
+use Rattle.c_stage.specs.Stage.{in_stage}
 use Rattle.c_runs.specs.Correct.{Behaves, MeansRun}
 use Rattle.c_runs.specs.Crews.{crew_of_one}
 use Rattle.c_runs.specs.Placed.{IsFunctionAt, IsPlaced}

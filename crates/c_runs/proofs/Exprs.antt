@@ -33,7 +33,7 @@ use Rattle.ms_emit.specs.Codes.{Code, one, ◌⨾◌, choice}
 use Rattle.c_code.specs.Expressions as code
 use Rattle.c_code.specs.Expressions.{as_bit, begun, converted, ended, fetched, int, is_bit, is_null, left, number_in, of_type, updated}
 use Rattle.c_code.specs.Operations.{constant, convert, eqz, i32, operated, truth, val_option, width_of}
-use Rattle.c_code.specs.Stage.{in_expr, in_exprs, in_place}
+use Rattle.c_stage.specs.Stage.{in_expr, in_exprs, in_place}
 use Rattle.c_code.specs.Targets.{get, plain_in}
 use Rattle.c_code.specs.Uses as uses
 use Rattle.c_code.specs.Uses.{calls}

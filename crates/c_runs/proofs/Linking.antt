@@ -25,7 +25,7 @@ use Rattle.c_code.specs.Functions.{body, locals, params_in, signature}
 use Rattle.c_code.specs.Limits as limits
 use Rattle.c_code.specs.Limits.{first_true, has_many_slots, is_long_copy, limit_of, most_named}
 use Rattle.c_code.specs.Modules.{compiled, defined, func_of, funcs_from, import_from_c, imported, index_of, is_defined, is_defined_at, named, rank_in, sigs_through, start_func, target_of}
-use Rattle.c_code.specs.Stage.{in_stage}
+use Rattle.c_stage.specs.Stage.{in_stage}
 use Rattle.c_code.specs.Uses.{uses, waits_stmt}
 use Rattle.c_runs.specs.Correct.{Behaves}
 use Rattle.c_runs.specs.Placed.{IsFunctionAt, IsPlaced}

@@ -20,7 +20,7 @@ use Rattle.ms_emit.specs.Codes.{total}
 use Rattle.c_code.specs.Functions.{body, held_as, listed, locals, params_in, result_in}
 use Rattle.c_code.specs.Modules.{index_of, is_call_of, is_defined, is_defined_at, target_of}
 use Rattle.c_code.specs.Operations.{val_of}
-use Rattle.c_code.specs.Stage.{are_data, are_slots, count_in, in_body, in_functions, in_stage, in_stmt, is_empty, is_integer_or_void, is_plain_function, parameters}
+use Rattle.c_stage.specs.Stage.{are_data, are_slots, count_in, in_body, in_functions, in_stage, in_stmt, is_empty, is_integer_or_void, is_plain_function, parameters}
 use Rattle.c_code.specs.Uses as uses
 use Rattle.c_code.specs.Uses.{waits_stmt}
 use Rattle.c_runs.specs.Placed.{IsPlaced, instructions_in, longest_in, longest_of}

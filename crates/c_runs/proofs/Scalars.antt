@@ -31,7 +31,7 @@ use Rattle.c_meaning.specs.World.{Does, ◌>>=◌, pure}
 use Rattle.ms_emit.specs.Codes.{Code, one, ◌⨾◌}
 use Rattle.c_code.specs.Functions.{held_as, val_or_handle}
 use Rattle.c_code.specs.Operations.{eqz, integer_type, truth, val_type, width_of}
-use Rattle.c_code.specs.Stage.{is_data}
+use Rattle.c_stage.specs.Stage.{is_data}
 use Rattle.c_numbers.specs.Operands.{IsIn, carried, operand, word}
 use Rattle.ms_relate.specs.refinement.Homes as homes
 use Rattle.ms_relate.specs.refinement.Homes.{Home, IsScalar, handle, handle_in, handle_to, is_null, span_of}

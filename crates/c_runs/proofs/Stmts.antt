@@ -33,7 +33,7 @@ use Rattle.c_meaning.specs.Statements.{Flow, next, broken, continued, returned, 
 use Rattle.ms_emit.specs.Codes.{Code, one, no_code, ◌⨾◌, block, choice, size_of}
 use Rattle.c_code.specs.Expressions as code
 use Rattle.c_code.specs.Operations.{constant, width_of}
-use Rattle.c_code.specs.Stage.{in_expr, in_step, in_stmt, in_stmts}
+use Rattle.c_stage.specs.Stage.{in_expr, in_step, in_stmt, in_stmts}
 use Rattle.c_code.specs.Statements as scheme
 use Rattle.c_code.specs.Statements.{Exits, any_continues, continues, entered, enters, freed, iterated, objects_in, with_objects, within}
 use Rattle.c_code.specs.Targets.{Target, set, waiting}

@@ -23,7 +23,7 @@ use Rattle.c_meaning.specs.World as world
 use Rattle.c_meaning.specs.World.{End, World, Result, gives, ends, Does, after, ◌>>=◌, ◌>>◌, pure}
 use Rattle.ms_emit.specs.Codes.{Coded, size_of}
 use Rattle.c_code.specs.Modules.{index_of, is_defined, is_defined_at}
-use Rattle.c_code.specs.Stage.{are_data, in_stage}
+use Rattle.c_stage.specs.Stage.{are_data, in_stage}
 use Rattle.c_runs.specs.Correct.{Behaves, IsPrefix, Reports, main_result, meant, result_in, run_at}
 use Rattle.c_runs.specs.Crews.{Same, crew_end}
 use Rattle.c_runs.specs.Ends.{stop_of}

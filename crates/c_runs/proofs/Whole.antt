@@ -21,7 +21,7 @@ use Rattle.c_typed.specs.Tree.{Place, of, Expr, Exprs, none, more}
 use Rattle.ms_emit.specs.Codes.{Code, plain, one, no_code, ◌⨾◌, choice}
 use Rattle.c_code.specs.Expressions.{as_bit, begun, begun_with_old, begun_over_old, converted, ended, expr, exprs, fetched, int, is_bit, is_null, left, number_in, place, pointers_compared, put, updated}
 use Rattle.c_code.specs.Operations.{by_width, convert, i32, narrow, to_type, truth, val_option, width_of}
-use Rattle.c_code.specs.Stage.{in_expr, in_exprs, in_place, is_value}
+use Rattle.c_stage.specs.Stage.{in_expr, in_exprs, in_place, is_value}
 use Rattle.c_code.specs.Targets.{Target, plain_in, tee}
 
 -- both of two

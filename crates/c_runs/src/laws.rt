@@ -13,7 +13,7 @@ ghost use Rattle.c_well_typed.specs.Units.{IsWellTyped};
 ghost use Rattle.c_meaning.specs.Units.{main_number};
 ghost use Rattle.c_code.specs.Limits.{limit_of};
 ghost use Rattle.c_code.specs.Modules.{compiled, imported, index_of};
-ghost use Rattle.c_code.specs.Stage.{in_stage};
+ghost use Rattle.c_stage.specs.Stage.{in_stage};
 ghost use Rattle.c_runs.specs.Correct.{Behaves, MeansRun};
 ghost use Rattle.c_runs.specs.Crews.{Extends, Same, crew_of_one};
 ghost use Rattle.c_runs.specs.Placed.{IsPlaced};

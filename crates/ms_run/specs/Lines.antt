@@ -117,7 +117,6 @@ typing_words (checking.NoTyping at) = codes "c type " ++ decimal at
 typing_words checking.Memory = []
 
 abbrev pub climit_words : CLimit → List ℕ
-climit_words limits.Stage = codes "c limit stage"
 climit_words limits.Locals = codes "c limit locals"
 climit_words limits.Copy = codes "c limit copy"
 climit_words limits.Functions = codes "c limit functions"
@@ -126,6 +125,7 @@ abbrev pub source_fault_words : SourceFault → List ℕ
 source_fault_words (source.Lex fault) = token_words fault
 source_fault_words (source.Parse fault) = parsing_words fault
 source_fault_words (source.Check fault) = typing_words fault
+source_fault_words source.Stage = codes "c limit stage"
 source_fault_words (source.Limit limit) = climit_words limit
 source_fault_words source.Memory = []
 

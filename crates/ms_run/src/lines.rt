@@ -147,7 +147,6 @@ fn climit_words(alloc: Global, limit: Limit) -> Result<String, AllocError>
     ensures { IfOk result (λ t. string_bytes t ≡ climit_words limit) }
 {
     match limit {
-        Limit::Stage => format!(in alloc; "c limit stage"),
         Limit::Locals => format!(in alloc; "c limit locals"),
         Limit::Copy => format!(in alloc; "c limit copy"),
         Limit::Functions => format!(in alloc; "c limit functions"),
@@ -162,6 +161,7 @@ fn source_fault_words(alloc: Global, fault: SourceFault) -> Result<String, Alloc
         SourceFault::Lex(fault) => token_words(alloc, fault),
         SourceFault::Parse(fault) => parsing_words(alloc, fault),
         SourceFault::Check(fault) => typing_words(alloc, fault),
+        SourceFault::Stage => format!(in alloc; "c limit stage"),
         SourceFault::Limit(limit) => climit_words(alloc, limit),
         SourceFault::Memory => Err(AllocError),
     }

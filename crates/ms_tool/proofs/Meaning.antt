@@ -3,9 +3,8 @@ use Rattle.std.proofs.Common.{◌≡◌, ◌∙◌, ℕ, List, [], ◌∷◌, re
 use Rattle.std.specs.Prelude.{Option, Some, None, Result, Ok, Err, codes, map, false, not, true}
 use Rattle.ms_run.specs.Source.{IsModule, IsUnit}
 use Rattle.c_check.proofs.WellTyped.{typing_well}
-use Rattle.c_code.specs.Limits.{first_true, limit_of, refusal_of, stage}
 use Rattle.c_code.specs.Modules.{compiled}
-use Rattle.c_code.specs.Stage.{in_stage}
+use Rattle.c_stage.specs.Stage.{in_stage}
 use Rattle.c_runs.proofs.Executing.{executed_behaves}
 use Rattle.c_runs.specs.Correct.{MeansRun}
 use Rattle.c_typed.specs.Tree.{Typed}
@@ -28,13 +27,6 @@ use Rattle.ms_run.specs.declared.status.Status.{Status}
 use Rattle.ms_task.specs.Thread.{Thread}
 use Rattle.ms_tasks.specs.Tasks.{crew_of, threads_from}
 use Rattle.ms_tool.specs.Meaning.{RanAsMeant}
-
--- a unit that isn't refused is of the stage
-is_staged : (u : Typed) → refusal_of u ≡ None → in_stage u ≡ true
-is_staged u e = by (in_stage u) refl where
-  by : (b : _) → in_stage u ≡ b → in_stage u ≡ true
-  by true is = is
-  by false is = absurd (let f = ap (λ b. first_true (not b) stage (limit_of u)) (sym is) ∙ e in cc)
 
 module _ (u : Typed) (budget memory : ℕ) (given : Input) (bytes : AreBytes given)
     (well : IsWellTyped u) (staged : in_stage u ≡ true) where
@@ -95,5 +87,5 @@ ran_as_meant s r f name budget memory status form ran =
           ∙ ap (λ (es : List ℕ). execution job.modules ((0, codes "main") ∷ []) es memory ran.given) (sym (the_entries (Holds s.old) name budget memory job.entries job.scheduled))
           ∙ job.ran in
           of_execution u budget memory ran.given bytes
-          (typing_well module'.is_unit.externals u module'.is_unit.typed) (is_staged u module'.within) ran.run same;
+          (typing_well module'.is_unit.externals u module'.is_unit.typed) module'.staged ran.run same;
     }

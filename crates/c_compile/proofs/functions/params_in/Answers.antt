@@ -3,7 +3,7 @@ use Rattle.c_types.specs.Types.{type_of}
 use Rattle.c_types.specs.declared.types.CType.{CType}
 use Rattle.c_types.specs.declared.types.Signature.{Signature}
 use Rattle.c_code.specs.Functions.{params_in}
-use Rattle.c_compile.proofs.ParameterTypes.{params_are}
+use Rattle.c_code.proofs.ParameterTypes.{params_are}
 use Rattle.c_compile.proofs.functions.params_in.Goals as goal
 
 pub returns-in-Function : goal.returns-in-Function

@@ -20,7 +20,8 @@ use Rattle.c_compile.specs.refinement.Exits.{exits_of}
 use Rattle.c_compile.proofs.Blocks.{are_in_front}
 use Rattle.c_compile.proofs.Items.{item_is_added, items_are_added}
 use Rattle.c_compile.proofs.Steps.{then as behind, then_block, then_choice, then_only, then_repeat}
-use Rattle.c_compile.proofs.Walk.{count_is, group_is_added, iterated_is, with_block, without_block}
+use Rattle.c_place.proofs.Lists.{count_is}
+use Rattle.c_compile.proofs.Walk.{group_is_added, iterated_is, with_block, without_block}
 use Rattle.c_compile.proofs.statements.+statements.Goals as goal
 
 pub arm-returns-clause-code : goal.arm-returns-clause-code

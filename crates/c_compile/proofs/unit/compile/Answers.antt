@@ -8,7 +8,7 @@ use Rattle.c_compile.proofs.unit.compile.Goals as goal
 
 pub returns-in-Some-clause-refused : goal.returns-in-Some-clause-refused
 returns-in-Some-clause-refused c =
-    refused_by c.unit-unit.result.now c.args.typed.now c.is_in_stage.result (Some (limit c.in-Some.limit)) c.unit-unit.ensures.same c.is_in_stage.ensures c.if-not-is_in_stage.false
+    refused_by c.unit-unit.result.now c.args.typed.now (Some (limit c.in-Some.limit)) c.unit-unit.ensures.same
     c.in-Some.ensures
 
 pub module-requires-clause-uses : goal.module-requires-clause-uses
@@ -16,5 +16,5 @@ module-requires-clause-uses c = subst (λ (x : TypedUnit). AreUses (typed_of x) 
 
 pub returns-clause-within : goal.returns-clause-within
 returns-clause-within c =
-    refused_by c.unit-unit.result.now c.args.typed.now c.is_in_stage.result None c.unit-unit.ensures.same c.is_in_stage.ensures c.if-not-is_in_stage.false
+    refused_by c.unit-unit.result.now c.args.typed.now None c.unit-unit.ensures.same
     c.in_default.ensures

@@ -1,8 +1,8 @@
 use Rattle.std.proofs.Common.{◌∙◌, ap, sym}
-use Rattle.c_code.specs.Stage.{in_exprs}
+use Rattle.c_stage.specs.Stage.{in_exprs}
 use Rattle.c_place.specs.refinement.Lists.{exprs_in}
-use Rattle.c_compile.proofs.Staging.{call_in}
-use Rattle.c_compile.proofs.stage.+staged.Goals as goal
+use Rattle.c_stage.proofs.Staging.{call_in}
+use Rattle.c_stage.proofs.nodes.+staged.Goals as goal
 
 pub in_expr-returns-in-Call : goal.in_expr-returns-in-Call
 in_expr-returns-in-Call t c =

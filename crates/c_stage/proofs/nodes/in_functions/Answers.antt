@@ -1,5 +1,5 @@
-use Rattle.c_compile.proofs.Staging.{flags_at}
-use Rattle.c_compile.proofs.stage.in_functions.Goals as goal
+use Rattle.c_stage.proofs.Staging.{flags_at}
+use Rattle.c_stage.proofs.nodes.in_functions.Goals as goal
 
 pub in_function-requires : goal.in_function-requires
 in_function-requires c =

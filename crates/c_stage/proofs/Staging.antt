@@ -17,13 +17,13 @@ use Rattle.c_typed.specs.refinement.Views.{body_of, expr_of, function_of, list_o
 use Rattle.c_typed.proofs.Sequences.{scope_is, switch_is}
 use Rattle.c_well_typed.specs.Units.{list_of as tys_in}
 use Rattle.c_code.specs.Functions.{params_in, result_in}
-use Rattle.c_code.specs.Stage.{are_data, are_slots, count_in, in_body, in_expr, in_exprs, in_stmt, in_stmts, is_data, is_integer_or_void, is_plain_function, parameters}
+use Rattle.c_stage.specs.Stage.{are_data, are_slots, count_in, in_body, in_expr, in_exprs, in_stmt, in_stmts, is_data, is_integer_or_void, is_plain_function, parameters}
 use Rattle.c_place.specs.refinement.Flags.{of_body, of_function, slots_from}
 use Rattle.c_place.specs.refinement.Lists.{exprs_in}
 use Rattle.c_place.proofs.Lists.{call_is}
-use Rattle.c_compile.specs.refinement.Staged.{are_unset, is_apart}
-use Rattle.c_compile.proofs.ParameterTypes.{params_are}
-use Rattle.c_compile.proofs.Walk.{count_is}
+use Rattle.c_stage.specs.refinement.Staged.{are_unset, is_apart}
+use Rattle.c_code.proofs.ParameterTypes.{params_are}
+use Rattle.c_place.proofs.Lists.{count_is}
 
 -- where the first of two tests holds, the second one decides
 pub second : (a b whole r : Bool) → whole ≡ (a && b) → a ≡ true → r ≡ b → r ≡ whole

@@ -1,9 +1,9 @@
 use Rattle.std.proofs.Common.{◌∙◌, ap, length, sym}
 use Rattle.c_types.specs.Types.{type_of}
 use Rattle.c_types.specs.declared.types.Signature.{Signature}
-use Rattle.c_code.specs.Stage.{parameters}
-use Rattle.c_compile.proofs.Staging.{arity_is}
-use Rattle.c_compile.proofs.stage.parameters.Goals as goal
+use Rattle.c_stage.specs.Stage.{parameters}
+use Rattle.c_stage.proofs.Staging.{arity_is}
+use Rattle.c_stage.proofs.nodes.parameters.Goals as goal
 
 pub returns-in-Function : goal.returns-in-Function
 returns-in-Function c =

@@ -2,9 +2,9 @@ use Rattle.std.proofs.Common.{◌∙◌, ◌&&◌, ap, map, sym}
 use Rattle.std.specs.List.{list_all}
 use Rattle.c_types.specs.Types.{type_of}
 use Rattle.c_types.specs.declared.types.Signature.{Signature}
-use Rattle.c_code.specs.Stage.{is_data, is_integer_or_void, is_plain_function}
-use Rattle.c_compile.proofs.Staging.{function_is}
-use Rattle.c_compile.proofs.stage.is_plain_function.Goals as goal
+use Rattle.c_stage.specs.Stage.{is_data, is_integer_or_void, is_plain_function}
+use Rattle.c_stage.proofs.Staging.{function_is}
+use Rattle.c_stage.proofs.nodes.is_plain_function.Goals as goal
 
 pub returns-in-Function : goal.returns-in-Function
 returns-in-Function c =

@@ -1,10 +1,10 @@
 use Rattle.std.proofs.Common.{◌∙◌, ◌&&◌, ℕ, ap, map, sym}
 use Rattle.std.specs.List.{list_all}
 use Rattle.c_types.specs.Types.{type_of}
-use Rattle.c_code.specs.Stage.{is_data}
-use Rattle.c_compile.specs.refinement.Staged.{are_unset}
-use Rattle.c_compile.proofs.Staging.{body_in, first, second}
-use Rattle.c_compile.proofs.stage.in_body.Goals as goal
+use Rattle.c_stage.specs.Stage.{is_data}
+use Rattle.c_stage.specs.refinement.Staged.{are_unset}
+use Rattle.c_stage.proofs.Staging.{body_in, first, second}
+use Rattle.c_stage.proofs.nodes.in_body.Goals as goal
 
 pub returns-then-are_slots : goal.returns-then-are_slots
 returns-then-are_slots c =

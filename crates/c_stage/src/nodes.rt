@@ -1,30 +1,35 @@
 //! The units of which it is shown that their code does what they mean.
 
-ghost use Rattle.std.specs.Prelude.{◌≡◌, ◌&&◌, length, map, nat_lt, not};
+ghost use Rattle.std.specs.Prelude.{◌≡◌, ◌&&◌, length, map, nat_lt, not, IfOk};
 ghost use Rattle.std.specs.List.{list_all};
 ghost use Rattle.c_types.specs.Types.{type_of};
 ghost use Rattle.c_typed.specs.Parts.{sequence};
 ghost use Rattle.c_typed.specs.refinement.Views.{body_of, expr_of, function_of, list_of, place_of, sized_of, step_of, stmt_of, typed_of};
-ghost use Rattle.c_code.specs.Stage as words;
+ghost use Rattle.c_stage.specs.Stage as words;
 ghost use Rattle.c_well_typed.specs.Statements.{count};
 ghost use Rattle.c_place.specs.refinement.Flags.{flags, of_function};
 ghost use Rattle.c_place.specs.refinement.Lists.{exprs_in};
-ghost use Rattle.c_compile.specs.refinement.Staged as staged;
+ghost use Rattle.c_stage.specs.refinement.Staged as staged;
 
-use c_place::Objects;
-use c_typed::{Expr, Function, Place, RelOp, Sized, Stmt, TypedUnit, Variable};
+use c_place::find_objects;
+use c_typed::{Expr, Function, Place, RelOp, Sized, Stmt, Variable};
 use c_types::{CType, Scalar, Signature};
+use c_well_typed::Typed;
 use ms_types::Vector;
+use std::alloc::{AllocError, Global};
 
-/// Whether a unit, whose variables have these flags, is one of integers and pointers to objects, variables of such types, of which
-/// parameters are no objects, control, and calls of functions by their names.
-pub fn is_in_stage(unit: &TypedUnit, objects: &Objects) -> bool
-    requires { objects.now.functions.items ≡ (flags (typed_of unit.now)).functions }
-    ensures { result ≡ words.in_stage (typed_of unit.now) }
+/// Whether a unit is one of integers and pointers to objects, variables of such types, of which parameters are no objects, control, and
+/// calls of functions by their names.
+pub fn is_in_stage(alloc: Global, typed: &Typed) -> Result<bool, AllocError>
+    ensures { IfOk result (λ b. b ≡ words.in_stage (typed_of typed.now)) }
 {
-    unit.made.is_empty()
-        && unit.globals.is_empty()
-        && in_functions(&unit.functions, &objects.functions)
+    let objects = find_objects(alloc, typed)?;
+    let unit = typed.unit();
+    Ok(
+        unit.made.is_empty()
+            && unit.globals.is_empty()
+            && in_functions(&unit.functions, &objects.functions),
+    )
 }
 
 /// Whether it is an integer, or a pointer that leads to no function.

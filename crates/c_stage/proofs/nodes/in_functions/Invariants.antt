@@ -1,8 +1,8 @@
 use Rattle.std.proofs.Common.{◌≡◌, drop, map}
 use Rattle.c_typed.specs.refinement.Views.{function_of}
-use Rattle.c_code.specs.Stage.{in_functions}
+use Rattle.c_stage.specs.Stage.{in_functions}
 use Rattle.c_place.specs.refinement.Flags.{of_function}
-use Rattle.c_compile.proofs.stage.in_functions.Given as goal
+use Rattle.c_stage.proofs.nodes.in_functions.Given as goal
 
 abbrev pub invariant-loop-i : goal.invariant-loop-i
 invariant-loop-i l =
