@@ -1,5 +1,5 @@
 -- Calls of defined functions do what is meant, by induction on the bound that stands above the fuel.
-use Rattle.std.proofs.Common.{◌≡◌, ℕ, zero, suc, ◌+◌, ◌<◌, ◌≤◌, List, [], ◌∷◌, ◌++◌, length, length-append, map, drop, Bool, true, false, Option, Some, None, refl, sym, ap, ◌∙◌, arith, subst, append_assoc, T, eqb→eq}
+use Rattle.std.proofs.Common.{◌≡◌, ◌≢◌, ℕ, zero, suc, ◌+◌, ◌<◌, ◌≤◌, List, [], ◌∷◌, ◌++◌, length, length-append, map, drop, Bool, true, false, Option, Some, None, refl, sym, ap, ◌∙◌, arith, subst, append_assoc, T, eqb→eq}
 use Rattle.std.specs.Prelude.{replicate, slice_get, not, ◌==◌, ◌||◌, ◌&&◌, nat_lt, if◌then◌else◌}
 use Rattle.std.specs.List.{list_any}
 use Rattle.std.proofs.lemmas.Bool.{lt-ltb, ltb-true, ltb-false}
@@ -19,6 +19,7 @@ use Rattle.ms_module.specs.declared.instr.Instr.TheVariants.{Call}
 use Rattle.ms_task.specs.Control.{call_on, deepest, exit_ended}
 use Rattle.ms_task.specs.declared.func.FuncInst.{FuncInst}
 use Rattle.ms_task.specs.Thread.{Activation, Do, Frame, Item, Thread, thread, depth_of, result_of, sequence}
+use Rattle.c_types.specs.Layout.{IsLaidOut, Layout, layout_at}
 use Rattle.c_types.specs.Types.{Ty, function, Tys, no_types, types, scalar_of}
 use Rattle.c_typed.specs.declared.ops.Variable.{Variable}
 use Rattle.c_typed.specs.declared.ops.Variable.TheVariants.{Local}
@@ -218,6 +219,8 @@ pub record Compiled (S : Site) (unit : Typed) (f : ℕ) (t : Ty) (ps : Tys) : Ty
   pub slots_are : AreSlots stmt_is (length (list_of ps)) 0 function_is.slots
   pub ready : IsReady (target_of unit function_is stmt_is).is_object unit (in_stmt stmt_is) (uses.in_stmt stmt_is) (in_stmt_of stmt_is)
   pub result : IsResult t
+  pub laid_out : IsLaidOut unit.structs
+  pub has_members : (n : ℕ) (l : Layout) → layout_at unit.structs n ≡ Some l → l.members ≢ []
 
 get_within : (xs : List FuncInst) (i : ℕ) (x : FuncInst) → slice_get xs i ≡ Some x → i < length xs
 get_within [] i x e = absurd cc
@@ -285,6 +288,8 @@ module _ (S : Site) (L : Linked S) (unit : Typed) (i f d : ℕ) (t : Ty) (ps : T
     places = λ n. rank_in (named unit) n;
     target = tg;
     structs_are = refl;
+    laid_out = p.laid_out;
+    has_members = p.has_members;
     args = [];
     first_is = first_is;
     calls = calls_at unit i;
@@ -415,7 +420,7 @@ module _ (S : Site) (L : Linked S) (unit : Typed) (i f d : ℕ) (t : Ty) (ps : T
     code_is : body tg p.function_is p.stmt_is ≡ inner D
     code_is =
         let coded : (us : List Ty) → Ty → Coded = λ us r. let vs = objects_in tg slots (numbers (length us)) in (code.params tg us ⨾ scheme.stmt tg slots 0 (at_body vs) p.stmt_is ⨾ freed tg vs ⨾ result tg (scalar_of r)) 1 in
-        let none = no_objects E L home K refl callees ints slots_data (slot_there slots) (omega arith) (numbers k) (plain_numbers k (omega arith)) in
+        let none = no_objects E L home K refl callees ints slots_data refl (slot_there slots) (omega arith) (numbers k) (plain_numbers k (omega arith)) in
         ap (λ (ty : Ty). inner (coded (params_in ty) (result_in ty))) p.typed
         ∙ ap (λ (n : ℕ). let vs = objects_in tg slots (numbers k) in inner (((if n == 0 then no_code else params_from tg 0 (list_of ps)) ⨾ scheme.stmt tg slots 0 (at_body vs) p.stmt_is ⨾ freed tg vs ⨾ R) 1)) first_is
         ∙ ap (λ (vs : List Variable). inner ((no_code ⨾ scheme.stmt tg slots 0 (at_body vs) p.stmt_is ⨾ freed tg vs ⨾ R) 1)) none
@@ -459,8 +464,8 @@ module _ (S : Site) (L : Linked S) (unit : Typed) (i f d : ℕ) (t : Ty) (ps : T
 
     flow_runs : (hs : List Home) (us : List Value) → AreOf E ps hs us → FlowRuns Ep at_top 0 0 B same (flow >>= (λ g. leaves us >> pure g))
     flow_runs hs us ok =
-        left_runs E L home K refl callees ints slots_data (slot_there slots) (omega arith) (numbers k) at_top 0 0 B flow (numbers_from 0 us) (plain_from us 0 (few hs us ok))
-        (stmt_runs E L home K refl callees ints slots_data (slot_there slots) (omega arith) (numbers k) 0 None (at_body []) no_jumps no_off p.stmt_is (out_none E (numbers k)) (omega arith) p.ready p.well)
+        left_runs E L home K refl callees ints slots_data refl (slot_there slots) (omega arith) (numbers k) at_top 0 0 B flow (numbers_from 0 us) (plain_from us 0 (few hs us ok))
+        (stmt_runs E L home K refl callees ints slots_data refl (slot_there slots) (omega arith) (numbers k) 0 None (at_body []) no_jumps no_off p.stmt_is (out_none E (numbers k)) (omega arith) p.ready p.well)
 
     -- the value, and what it leaves
     abbrev pub Left : Now → Value → World → Mem → Type 0

@@ -10,7 +10,7 @@ use Rattle.c_types.specs.declared.integers.IntType.{IntType}
 use Rattle.c_types.specs.declared.integers.IntType.TheVariants.{Char, SignedChar, UnsignedChar, Short, UnsignedShort, Int, UnsignedInt, Long, UnsignedLong, LongLong, UnsignedLongLong}
 use Rattle.c_types.specs.declared.types.Scalar.{Scalar}
 use Rattle.c_types.specs.declared.types.Scalar.TheVariants as scalars
-use Rattle.c_types.specs.Layout.{most_bytes}
+use Rattle.c_types.specs.Layout.{IsSmall, Table, most_bytes}
 use Rattle.c_types.specs.Types.{Ty, is_function, void, integer, pointer, struct, array, function, Tys, no_types, scalar_of}
 use Rattle.c_types.specs.Types as ty
 use Rattle.c_typed.specs.declared.ops.BinaryOp.{BinaryOp}
@@ -42,12 +42,12 @@ use Rattle.c_runs.specs.Words.{pushed}
 use Rattle.ms_relate.specs.refinement.Homes.{Home, IsScalar}
 use Rattle.ms_relate.proofs.Growing.{Extends}
 use Rattle.c_runs.proofs.Values.{IsOf, pushed_is, value_still, word_of, word_still}
-use Rattle.c_runs.proofs.Related.{AreOf, Env, IsValue, piled, pushes}
+use Rattle.c_runs.proofs.Related.{AreOf, Env, IsSlot, IsValue, piled, pushes}
 use Rattle.c_runs.proofs.Ops.{AllGiven, OpIn, op_any, op_assoc, op_given, op_look, op_look_in, op_none_in, op_over_in, op_then_in, same}
 use Rattle.c_runs.proofs.Nodes.{Carries, Leaves, assign_runs, chosen_runs, constant_runs, fetch_runs, behind_place, gone, left_runs, remains}
 use Rattle.c_runs.proofs.Operations.{AtHome, Linked, abort_runs, binary_runs, compare_runs, complement_runs, convert_runs, getchar_runs, narrow_truth_runs, negate_runs, not_runs, putchar_runs, truth_in, truth_runs, update_runs}
 use Rattle.c_runs.proofs.Cells.{Leads, address_runs, assign_there, deref_leads, read_there, variable_leads}
-use Rattle.c_runs.proofs.Scalars.{IsData, data_scalar, data_value, null_runs, pointer_type, scalar_type, truth_pointer}
+use Rattle.c_runs.proofs.Scalars.{IsData, data_scalar, data_value, null_runs, pointer_type, scalar_type, small_slot, truth_pointer}
 use Rattle.c_runs.proofs.Equal.{equal_runs, unequal_runs}
 use Rattle.c_runs.proofs.Updates.{update_there}
 use Rattle.c_runs.proofs.Ready.{IsCallable, IsReady, addressed, called, either, in_expr_of, in_exprs_of, in_place_of, parts, taken}
@@ -192,7 +192,11 @@ module _ (E : Env) (L : Linked E.site) (home : AtHome E) (k : well.Context) (slo
   left_int kept c t u x e h = as_type kept (left kept (of_type u) c) t u x e (left_runs E kept (of_type u) (integer u) c x refl h)
 
   module _ (calls_run : CallsRun) (scalars_are : (f : ℕ) (t : Ty) (ps : Tys) → slice_get k.functions f ≡ Some (function t ps) → AreScalars ps)
-      (slots_data : (x : ℕ) (t : Ty) → slice_get k.slots x ≡ Some t → IsData t) (visible_are : k.visible ≡ E.visible) where
+      (slots_data : (x : ℕ) (t : Ty) → slice_get k.slots x ≡ Some t → IsData t) (visible_are : k.visible ≡ E.visible) (structs_same : k.structs ≡ E.unit.structs) where
+    -- a type with a size
+    sized : (t : Ty) → IsSmall k.structs t → IsSlot E.unit.structs t
+    sized t h = small_slot E.unit.structs E.laid_out E.has_members t (subst (λ (table : Table). IsSmall table t) structs_same h)
+
     slot_scalar : (x : ℕ) (t : Ty) → slice_get k.slots x ≡ Some t → IsScalar t
     slot_scalar x t e = data_scalar t (slots_data x t e)
 

@@ -1,5 +1,5 @@
 -- What a call needs of each function, from what a store has of the unit.
-use Rattle.std.proofs.Common.{◌≡◌, ℕ, zero, suc, ◌+◌, ◌≤◌, List, [], ◌∷◌, length, map, max, Bool, true, false, is_some, Option, Some, None, refl, sym, ap, ◌∙◌, arith, subst}
+use Rattle.std.proofs.Common.{◌≡◌, ◌≢◌, ℕ, zero, suc, ◌+◌, ◌<◌, ◌≤◌, List, [], ◌∷◌, length, map, max, Bool, true, false, is_some, Option, Some, None, refl, sym, ap, ◌∙◌, arith, subst}
 use Rattle.std.specs.Prelude.{get_or, not, slice_get, ◌&&◌}
 use Rattle.std.specs.List.{All, list_any}
 use Rattle.std.proofs.lemmas.Option.{slice_get_within}
@@ -127,6 +127,10 @@ first_listed : (o : Option ValType) → slice_get (listed o) 0 ≡ o
 first_listed None = refl
 first_listed (Some v) = refl
 
+not_empty : (ts : List Ty) → 0 < length ts → ts ≢ []
+not_empty [] lt e = absurd (omega (arith, lt))
+not_empty (t ∷ ts) lt e = absurd cc
+
 result_kind : (t : Ty) → is_integer_or_void t ≡ true → IsResult t
 result_kind void e = is_void refl
 result_kind (integer u) e = Rattle.c_runs.proofs.Bodies.is_integer u refl
@@ -206,4 +210,6 @@ module _ (u : Typed) (s : Store) (well : IsWellTyped u) (staged : in_stage u ≡
           slots_are = slots_of b.0 (length (list_of ps)) 0 f.slots (ap (λ (k : ℕ). are_slots b.0 k 0 f.slots) (sym (counted ps) ∙ ap parameters (sym ty_is)) ∙ st.0);
           ready = record { in_stage = st.1; callable = callable b.0 b.1; objects = λ x e. right_of (is_whole (get_or f.slots x void)) (in_stmt_of b.0 x) e };
           result = result_kind t plain_here.0;
+          laid_out = well.laid_out;
+          has_members = λ n l e. not_empty l.members (well.structs n l e).0;
         }

@@ -1,12 +1,12 @@
 -- Variables and locals; and what is known of a function that is carried out.
 use Rattle.ms_machine.specs.Running.{AreBytes}
-use Rattle.std.proofs.Common.{◌≡◌, ℕ, zero, suc, ◌+◌, ◌^◌, ◌<◌, ◌≤◌, List, [], ◌∷◌, ◌++◌, length, true, false, Some, refl, sym, ap, ◌∙◌, arith, subst}
+use Rattle.std.proofs.Common.{◌≡◌, ◌≢◌, ℕ, zero, suc, ◌+◌, ◌^◌, ◌<◌, ◌≤◌, List, [], ◌∷◌, ◌++◌, length, true, false, Some, refl, sym, ap, ◌∙◌, arith, subst}
 use Rattle.std.specs.Prelude.{slice_get, slice_set}
 use Rattle.ms_linear.specs.declared.value.Value.{Value as Word}
 use Rattle.ms_module.specs.declared.instr.Instr.{Instr}
 use Rattle.ms_task.specs.declared.func.FuncInst.{FuncInst}
 use Rattle.ms_task.specs.Thread.{Do, Frame, Item, dos, depth_of, sequence}
-use Rattle.c_types.specs.Layout.{Table, size as type_size}
+use Rattle.c_types.specs.Layout.{IsLaidOut, Layout, Table, layout_at, size as type_size}
 use Rattle.c_types.specs.Types.{Ty, Tys, no_types, types, is_function}
 use Rattle.c_typed.specs.declared.ops.Variable.TheVariants.{Local}
 use Rattle.c_typed.specs.Tree.{Typed}
@@ -42,6 +42,9 @@ pub record Env : Type 0 where
   pub places : ℕ → ℕ
   pub target : Target
   pub structs_are : target.structs ≡ unit.structs
+  -- structs are laid out, each with a member
+  pub laid_out : IsLaidOut unit.structs
+  pub has_members : (n : ℕ) (l : Layout) → layout_at unit.structs n ≡ Some l → l.members ≢ []
   -- the locals in front of the slots
   pub args : List Word
   pub first_is : target.first ≡ length args

@@ -1,5 +1,5 @@
 -- Types of variables, integer types and those of pointers that lead to no function, and what a variable of one begins with: zero, or null.
-use Rattle.std.proofs.Common.{◌≡◌, ℕ, ◌/◌, ◌^◌, ◌<◌, List, [], ◌∷◌, Bool, true, false, Option, Some, None, refl, sym, ap, ◌∙◌, arith, subst}
+use Rattle.std.proofs.Common.{◌≡◌, ◌≢◌, ℕ, ◌/◌, ◌^◌, ◌<◌, List, [], ◌∷◌, Bool, true, false, Option, Some, None, refl, sym, ap, ◌∙◌, arith, subst}
 use Rattle.std.specs.Prelude.{ℤ, pos, not, cond, slice_get, if◌then◌else◌}
 use Rattle.ms_num.specs.Integers.{truth as bit}
 use Rattle.ms_operate.specs.Outcomes as operate
@@ -16,7 +16,7 @@ use Rattle.ms_module.specs.declared.numeric.Width.{Width}
 use Rattle.ms_module.specs.declared.numeric.Width.TheVariants.{W32, W64}
 use Rattle.ms_task.specs.Thread.{thread}
 use Rattle.c_types.specs.Integers.{bits}
-use Rattle.c_types.specs.Layout.{Table}
+use Rattle.c_types.specs.Layout.{HasSize, IsLaidOut, IsSmall, Layout, Table, layout_at}
 use Rattle.c_types.specs.declared.integers.IntType.{IntType}
 use Rattle.c_types.specs.declared.integers.IntType.TheVariants.{Char, SignedChar, UnsignedChar, Short, UnsignedShort, Int, UnsignedInt, Long, UnsignedLong, LongLong, UnsignedLongLong}
 use Rattle.c_types.specs.declared.types.Scalar.{Scalar}
@@ -36,6 +36,7 @@ use Rattle.c_numbers.specs.Operands.{IsIn, carried, operand, word}
 use Rattle.ms_relate.specs.refinement.Homes as homes
 use Rattle.ms_relate.specs.refinement.Homes.{Home, IsScalar, handle, handle_in, handle_to, is_null, span_of}
 use Rattle.ms_relate.proofs.Acts.{act_gives}
+use Rattle.ms_relate.proofs.Shapes.{shape_good}
 use Rattle.c_runs.proofs.Goes as goes
 use Rattle.c_runs.proofs.Goes.{Goes, one_here}
 use Rattle.c_runs.proofs.Values.{IsOf, IsValueOf, word_of}
@@ -130,6 +131,21 @@ data_slot table void d = absurd d
 data_slot table (struct n) d = absurd d
 data_slot table (array t n) d = absurd d
 data_slot table (function r ps) d = absurd d
+
+-- ---- any type of an object
+
+no_function_type : (table : Table) (t : Ty) → HasSize table t → is_function t ≡ false
+no_function_type table void h = absurd h
+no_function_type table (integer u) h = refl
+no_function_type table (struct n) h = refl
+no_function_type table (pointer t) h = refl
+no_function_type table (array t n) h = refl
+no_function_type table (function r ps) h = absurd h
+
+pub small_slot : (table : Table) → IsLaidOut table → ((n : ℕ) (l : Layout) → layout_at table n ≡ Some l → l.members ≢ []) → (t : Ty) → IsSmall table t → IsSlot table t
+small_slot table laid some t h =
+    let g = shape_good table laid some t h.0 in
+    record { is_data = no_function_type table t h.0; fits = g.fits; sized = g.sized; small = let e = g.sized in let le = h.1 in omega (arith, e, le) }
 
 -- ---- zeros
 

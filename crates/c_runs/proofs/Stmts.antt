@@ -173,7 +173,7 @@ ArePlain E (x ∷ xs) = IsPlain E x × ArePlain E xs
 
 module _ (E0 : Env) (L : Linked E0.site) (home : AtHome E0) (k : well.Context) (slots_are : k.slots ≡ E0.slots) (calls_run : CallsRun (seeing [] E0) L home k slots_are)
     (scalars_are : (f : ℕ) (t : Ty) (ps : Tys) → slice_get k.functions f ≡ Some (function t ps) → AreScalars (seeing [] E0) L home k slots_are ps)
-    (slots_data : (x : ℕ) (t : Ty) → slice_get k.slots x ≡ Some t → IsData t)
+    (slots_data : (x : ℕ) (t : Ty) → slice_get k.slots x ≡ Some t → IsData t) (structs_same : k.structs ≡ E0.unit.structs)
     (slot_at : (x : ℕ) → x < length k.slots → (t : Ty) × (slice_get k.slots x ≡ Some t)) (wide : E0.bound ≤ E0.turn_bound) where
   -- with these variables visible
   abbrev in_blocks : List ℕ → well.Context
@@ -193,7 +193,7 @@ module _ (E0 : Env) (L : Linked E0.site) (home : AtHome E0) (k : well.Context) (
       calls_run f t ps e b hs us ok n has now (record { below = le.below; grown = le.grown; seen = sees_none now.visible }) vs r dep w m kp
 
   run_expr : (v : List ℕ) (kept : Bool) (d : ℕ) (e : Expr) (t : Ty) → IsReady E0.target.is_object E0.unit (in_expr e) (uses.in_expr e) (in_expr_of e) → HasType (in_blocks v) e t → OpIn (at v) [] (code.expr E0.target kept d e) same (remains (at v) kept t) (IsValue (at v) t) (value e)
-  run_expr v = expr_runs (at v) L home (in_blocks v) slots_are (calls_at v) scalars_are slots_data refl
+  run_expr v = expr_runs (at v) L home (in_blocks v) slots_are (calls_at v) scalars_are slots_data refl structs_same
 
   -- ---- blocks
 
