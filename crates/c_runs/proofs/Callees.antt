@@ -69,7 +69,7 @@ use Rattle.c_runs.proofs.Whole.{both}
 
 -- ---- slots that are integers, and no objects
 
-slot_there : (ts : List Ty) (x : ℕ) → x < length ts → (t : Ty) × (slice_get ts x ≡ Some t)
+pub slot_there : (ts : List Ty) (x : ℕ) → x < length ts → (t : Ty) × (slice_get ts x ≡ Some t)
 slot_there [] x lt = absurd (omega (arith, lt))
 slot_there (t ∷ ts) zero lt = (t, refl)
 slot_there (t ∷ ts) (suc x) lt = slot_there ts x (omega (arith, lt))
@@ -92,45 +92,40 @@ seen_append (y ∷ ys) k x e un = by (y == x) e un (seen_append ys k x) where
   by true f g h = absurd cc
   by false f g h = h f g
 
-seen_number : (k x : ℕ) → is_visible (numbers k) x ≡ true → x < k
+pub seen_number : (k x : ℕ) → is_visible (numbers k) x ≡ true → x < k
 seen_number zero x e = absurd cc
 seen_number (suc k) x e = by (is_visible (numbers k) x) refl (seen_number k x) where
   by : (b : Bool) → is_visible (numbers k) x ≡ b → (is_visible (numbers k) x ≡ true → x < k) → x < suc k
   by true q h = let lt = h q in omega (arith, lt)
   by false q h = let z = seen_append (numbers k) k x e q in omega (arith, z)
 
-not_both : (b c : Bool) → not (b && c) ≡ true → b ≡ true → c ≡ false
-not_both true true e f = absurd cc
-not_both true false e f = refl
-not_both false c e f = absurd cc
-
 module _ (s : Stmt) (k : ℕ) where
-  -- of such a type, and no object among the first k
-  abbrev pub IsSlot : ℕ → Ty → Type 0
-  IsSlot n t = IsData t × (n < k → is_object s n t ≡ false)
+  -- no object, where it is among the first k
+  abbrev pub IsFlat : ℕ → Ty → Type 0
+  IsFlat n t = n < k → is_object s n t ≡ false
 
-  abbrev pub AreSlots : ℕ → List Ty → Type 0
-  AreSlots n [] = Unit {0}
-  AreSlots n (t ∷ ts) = IsSlot n t × AreSlots (suc n) ts
+  abbrev pub AreFlat : ℕ → List Ty → Type 0
+  AreFlat n [] = Unit {0}
+  AreFlat n (t ∷ ts) = IsFlat n t × AreFlat (suc n) ts
 
-  pub slots_of : (n : ℕ) (ts : List Ty) → are_slots s k n ts ≡ true → AreSlots n ts
-  slots_of n [] e = tt
-  slots_of n (t ∷ ts) e =
-      let q = both (is_data t) (not (nat_lt n k && is_object s n t) && are_slots s k (suc n) ts) e in
-      let r = both (not (nat_lt n k && is_object s n t)) (are_slots s k (suc n) ts) q.1 in
-      ((data_type t q.0, λ lt. not_both (nat_lt n k) (is_object s n t) r.0 (lt-ltb n k lt)), slots_of (suc n) ts r.1)
+  pub flat_of : (n : ℕ) (ts : List Ty) → ((x : ℕ) (t : Ty) → slice_get ts x ≡ Some t → n + x < k → is_object s (n + x) t ≡ false) → AreFlat n ts
+  flat_of n [] h = tt
+  flat_of n (t ∷ ts) h =
+      let z : n + 0 ≡ n = omega arith in
+      ((λ lt. subst (λ (m : ℕ). is_object s m t ≡ false) z (h 0 t refl (omega (arith, lt)))),
+      flat_of (suc n) ts (λ x u e lt. let q : n + suc x ≡ suc n + x = omega arith in subst (λ (m : ℕ). is_object s m u ≡ false) q (h (suc x) u e (omega (arith, lt)))))
 
-  pub slot_is : (n : ℕ) (ts : List Ty) → AreSlots n ts → (x : ℕ) (t : Ty) → slice_get ts x ≡ Some t → IsSlot (n + x) t
-  slot_is n [] a x t e = absurd cc
-  slot_is n (q ∷ ts) a zero t e = let z : n ≡ n + 0 = omega arith in subst (λ (k : ℕ). IsSlot k t) z (subst (λ (p : Ty). IsSlot n p) (some_is q t e) a.0)
-  slot_is n (q ∷ ts) a (suc x) t e = let z : suc n + x ≡ n + suc x = omega arith in subst (λ (k : ℕ). IsSlot k t) z (slot_is (suc n) ts a.1 x t e)
+  pub flat_is : (n : ℕ) (ts : List Ty) → AreFlat n ts → (x : ℕ) (t : Ty) → slice_get ts x ≡ Some t → IsFlat (n + x) t
+  flat_is n [] a x t e = absurd cc
+  flat_is n (q ∷ ts) a zero t e = let z : n ≡ n + 0 = omega arith in subst (λ (k : ℕ). IsFlat k t) z (subst (λ (p : Ty). IsFlat n p) (some_is q t e) a.0)
+  flat_is n (q ∷ ts) a (suc x) t e = let z : suc n + x ≡ n + suc x = omega arith in subst (λ (k : ℕ). IsFlat k t) z (flat_is (suc n) ts a.1 x t e)
 
   -- the parameters are no objects
-  pub kinds_flat : (n : ℕ) (ps : Tys) (ts : List Ty) → n + length (list_of ps) ≤ k → AreSlots n (list_of ps ++ ts) → meaning.slots_from s n (list_of ps ++ ts) ≡ flat (list_of ps) ++ meaning.slots_from s (n + length (list_of ps)) ts
+  pub kinds_flat : (n : ℕ) (ps : Tys) (ts : List Ty) → n + length (list_of ps) ≤ k → AreFlat n (list_of ps ++ ts) → meaning.slots_from s n (list_of ps ++ ts) ≡ flat (list_of ps) ++ meaning.slots_from s (n + length (list_of ps)) ts
   kinds_flat n no_types ts le a = let z : n ≡ n + 0 = omega arith in ap (λ (m : ℕ). meaning.slots_from s m ts) z
   kinds_flat n (types t ps) ts le a =
       let z : suc n + length (list_of ps) ≡ n + suc (length (list_of ps)) = omega arith in
-      ap (λ (b : Bool). (t, b) ∷ meaning.slots_from s (suc n) (list_of ps ++ ts)) (a.0.1 (omega (arith, le)))
+      ap (λ (b : Bool). (t, b) ∷ meaning.slots_from s (suc n) (list_of ps ++ ts)) (a.0 (omega (arith, le)))
       ∙ ap (λ (l : List Slot). (t, false) ∷ l) (kinds_flat (suc n) ps ts (omega (arith, le)) a.1 ∙ ap (λ (m : ℕ). flat (list_of ps) ++ meaning.slots_from s m ts) z)
 
   pub kind_is : (n : ℕ) (ts : List Ty) (x : ℕ) (t : Ty) → slice_get ts x ≡ Some t → slice_get (meaning.slots_from s n ts) x ≡ Some (t, is_object s (n + x) t)
@@ -147,9 +142,24 @@ module _ (s : Stmt) (k : ℕ) where
   as_many n [] = refl
   as_many n (t ∷ ts) = ap suc (as_many (suc n) ts)
 
+-- ---- the types of slots
+
+abbrev pub AreSlots : List Ty → Type 0
+AreSlots [] = Unit {0}
+AreSlots (t ∷ ts) = IsData t × AreSlots ts
+
+pub slots_of : (ts : List Ty) → are_slots ts ≡ true → AreSlots ts
+slots_of [] e = tt
+slots_of (t ∷ ts) e = let q = both (is_data t) (are_slots ts) e in (data_type t q.0, slots_of ts q.1)
+
+pub slot_is : (ts : List Ty) → AreSlots ts → (x : ℕ) (t : Ty) → slice_get ts x ≡ Some t → IsData t
+slot_is [] a x t e = absurd cc
+slot_is (q ∷ ts) a zero t e = subst IsData (some_is q t e) a.0
+slot_is (q ∷ ts) a (suc x) t e = slot_is ts a.1 x t e
+
 -- ---- the locals that are declared are the slots behind the parameters, and hold zeros, or no handle yet
 
-map_append : {A C : Type 0} (f : A → C) (xs ys : List A) → map f (xs ++ ys) ≡ map f xs ++ map f ys
+pub map_append : {A C : Type 0} (f : A → C) (xs ys : List A) → map f (xs ++ ys) ≡ map f xs ++ map f ys
 map_append f [] ys = refl
 map_append f (x ∷ xs) ys = ap (λ (l : List _). f x ∷ l) (map_append f xs ys)
 
@@ -165,7 +175,7 @@ module _ (tg : Target) (body : Stmt) where
     first_word t true u = refl
     first_word t false u = zero_word places t u hs
 
-    words_of : (n : ℕ) (ts : List Ty) → AreLocals n ts → map default_of (slots_from tg n ts) ≡ words places (meaning.slots_from body n ts) hs (firsts ts)
+    pub words_of : (n : ℕ) (ts : List Ty) → AreLocals n ts → map default_of (slots_from tg n ts) ≡ words places (meaning.slots_from body n ts) hs (firsts ts)
     words_of n [] h = refl
     words_of n (t ∷ ts) h =
         let q = h 0 t refl in
@@ -188,7 +198,7 @@ module _ (E : Env) (hs : List Home) (body : Stmt) where
   first_held t true u = tt
   first_held t false u = zero_held E.unit.structs E.places t u hs
 
-  firsts_held : (n : ℕ) (ts : List Ty) → AreData ts → AreHeld E.unit.structs E.places (meaning.slots_from body n ts) hs (firsts ts)
+  pub firsts_held : (n : ℕ) (ts : List Ty) → AreData ts → AreHeld E.unit.structs E.places (meaning.slots_from body n ts) hs (firsts ts)
   firsts_held n [] h = tt
   firsts_held n (t ∷ ts) h = (first_held t (is_object body n t) (h 0 t refl), firsts_held (suc n) ts (λ x s e. h (suc x) s e))
 
@@ -216,11 +226,14 @@ pub record Compiled (S : Site) (unit : Typed) (f : ℕ) (t : Ty) (ps : Tys) : Ty
   pub others : List Ty
   pub begins : function_is.slots ≡ list_of ps ++ others
   pub well : IsStatement (context_of unit function_is.slots (length (list_of ps))) t no_jumps stmt_is
-  pub slots_are : AreSlots stmt_is (length (list_of ps)) 0 function_is.slots
+  pub slots_are : AreSlots function_is.slots
   pub ready : IsReady (target_of unit function_is stmt_is).is_object unit (in_stmt stmt_is) (uses.in_stmt stmt_is) (in_stmt_of stmt_is)
   pub result : IsResult t
   pub laid_out : IsLaidOut unit.structs
   pub has_members : (n : ℕ) (l : Layout) → layout_at unit.structs n ≡ Some l → l.members ≢ []
+  -- what stands in front of the slots: the arguments, where they are copied
+  pub args : List Word
+  pub first_is : (target_of unit function_is stmt_is).first ≡ length args
 
 get_within : (xs : List FuncInst) (i : ℕ) (x : FuncInst) → slice_get xs i ≡ Some x → i < length xs
 get_within [] i x e = absurd cc
@@ -239,32 +252,17 @@ module _ (S : Site) (L : Linked S) (unit : Typed) (i f d : ℕ) (t : Ty) (ps : T
   abbrev pub tg : Target
   tg = target_of unit p.function_is p.stmt_is
 
-  slot_of : (x : ℕ) (s : Ty) → slice_get slots x ≡ Some s → IsSlot p.stmt_is k x s
-  slot_of x s e = let z : 0 + x ≡ x = omega arith in subst (λ (n : ℕ). IsSlot p.stmt_is k n s) z (slot_is p.stmt_is k 0 slots p.slots_are x s e)
+  slot_of : (x : ℕ) (s : Ty) → slice_get slots x ≡ Some s → IsData s
+  slot_of = slot_is slots p.slots_are
 
-  object_is : (x : ℕ) (s : Ty) → slice_get slots x ≡ Some s → tg.is_object (Local x) ≡ is_object p.stmt_is x s
+  pub object_is : (x : ℕ) (s : Ty) → slice_get slots x ≡ Some s → tg.is_object (Local x) ≡ is_object p.stmt_is x s
   object_is x s e = ap (λ (q : Ty). is_object p.stmt_is x q) (get_is slots x s e)
 
-  -- parameters are no objects
-  plain_slots : (x : ℕ) (s : Ty) → slice_get slots x ≡ Some s → x < k → tg.is_object (Local x) ≡ false
-  plain_slots x s e lt = object_is x s e ∙ (slot_of x s e).1 lt
-
-  long : k ≤ length slots
+  pub long : k ≤ length slots
   long = let a = ap length p.begins in let b = length-append (list_of ps) p.others in omega (arith, a, b)
 
-  none_in : (n : ℕ) → n ≤ k → list_any (λ (x : ℕ). tg.is_object (Local x)) (numbers n) ≡ false
-  none_in zero le = refl
-  none_in (suc n) le =
-      let l = long in
-      let s = slot_there slots n (omega (arith, le, l)) in none_append (λ (x : ℕ). tg.is_object (Local x)) (numbers n) n (none_in n (omega (arith, le))) (plain_slots n s.0 s.1 (omega (arith, le)))
-
-  pub first_is : tg.first ≡ 0
-  first_is =
-      let few : length (params_in p.function_is.ty) ≡ k = ap (λ (ty : Ty). length (params_in ty)) p.typed in
-      ap (λ (b : Bool). if b then length (params_in p.function_is.ty) else 0) (none_in (length (params_in p.function_is.ty)) (omega (arith, few)))
-
-  pub scratch_is : tg.scratch ≡ 0 + length slots
-  scratch_is = let e = first_is in omega (arith, e)
+  scratch_is : tg.scratch ≡ length p.args + length slots
+  scratch_is = let e = p.first_is in omega (arith, e)
 
   abbrev pub kinds : List Slot
   kinds = meaning.slots_from p.stmt_is 0 slots
@@ -274,12 +272,7 @@ module _ (S : Site) (L : Linked S) (unit : Typed) (i f d : ℕ) (t : Ty) (ps : T
       let z : 0 + x ≡ x = omega arith in kind_is p.stmt_is k 0 slots x s e ∙ ap (λ (n : ℕ). Some (s, is_object p.stmt_is n s)) z ∙ ap (λ (b : Bool). Some (s, b)) (sym (object_is x s e))
 
   pub objects_at : (x : ℕ) (s : Ty) → slice_get kinds x ≡ Some (s, true) → related.IsSlot unit.structs s
-  objects_at x s e = let u = (slot_of x s (slot_back p.stmt_is k 0 slots x s true e)).0 in data_slot unit.structs s u
-
-  pub no_object : (x : ℕ) (s : Ty) → x < k → slice_get kinds x ≡ Some (s, true) → ⊥
-  no_object x s lt e =
-      let at = slot_back p.stmt_is k 0 slots x s true e in
-      let f : false ≡ true = sym (plain_slots x s at lt) ∙ ap (λ (j : Slot). j.1) (some_is (s, tg.is_object (Local x)) (s, true) (sym (kinds_at x s at) ∙ e)) in absurd cc
+  objects_at x s e = let u = slot_of x s (slot_back p.stmt_is k 0 slots x s true e) in data_slot unit.structs s u
 
   abbrev pub E : Env
   E = record {
@@ -290,8 +283,8 @@ module _ (S : Site) (L : Linked S) (unit : Typed) (i f d : ℕ) (t : Ty) (ps : T
     structs_are = refl;
     laid_out = p.laid_out;
     has_members = p.has_members;
-    args = [];
-    first_is = first_is;
+    args = p.args;
+    first_is = p.first_is;
     calls = calls_at unit i;
     bound = i;
     turn_bound = suc i;
@@ -323,7 +316,7 @@ module _ (S : Site) (L : Linked S) (unit : Typed) (i f d : ℕ) (t : Ty) (ps : T
   abbrev pub temps : List Word
   temps = map default_of (scratch_locals tg (waits_stmt p.stmt_is))
 
-  length_temps : length temps ≡ 4 + waits_stmt p.stmt_is
+  pub length_temps : length temps ≡ 4 + waits_stmt p.stmt_is
   length_temps =
       let a = length-map (replicate (waits_stmt p.stmt_is) I32) default_of in
       let b = length-replicate (waits_stmt p.stmt_is) I32 in
@@ -332,280 +325,189 @@ module _ (S : Site) (L : Linked S) (unit : Typed) (i f d : ℕ) (t : Ty) (ps : T
   abbrev pub start_now : (below : ℕ) → List Home → List Object → Now
   start_now below hs os = record { below = below; waits = 0; temps = temps; homes = hs; objects = os; visible = numbers k }
 
-  in_front : (x : ℕ) (s : Ty) → slice_get (list_of ps ++ p.others) x ≡ Some s → slice_get slots x ≡ Some s
+  pub in_front : (x : ℕ) (s : Ty) → slice_get (list_of ps ++ p.others) x ≡ Some s → slice_get slots x ≡ Some s
   in_front x s e = ap (λ (ts : List Ty). slice_get ts x) p.begins ∙ e
 
-  abbrev other_kinds : List Slot
-  other_kinds = meaning.slots_from p.stmt_is (0 + k) p.others
+  pub slots_data : (x : ℕ) (s : Ty) → slice_get K.slots x ≡ Some s → IsData s
+  slots_data = slot_of
 
-  declared_are : (hs : List Home) → map default_of p.inst.locals ≡ words E.places other_kinds hs (firsts p.others) ++ temps
-  declared_are hs =
-      ap (map default_of) p.locals_are
-      ∙ ap (λ (n : ℕ). map default_of ((if n == 0 then drop k (slots_from tg 0 slots) else slots_from tg 0 slots) ++ scratch_locals tg (waits_stmt p.stmt_is))) first_is
-      ∙ map_append default_of (drop k (slots_from tg 0 slots)) (scratch_locals tg (waits_stmt p.stmt_is))
-      ∙ ap (λ (ts : List Ty). map default_of (drop k (slots_from tg 0 ts)) ++ temps) p.begins
-      ∙ ap (λ (l : List Word). l ++ temps)
-      (first_words tg p.stmt_is E.places hs 0 ps p.others (λ x s e. let z : x ≡ 0 + x = omega arith in ((slot_of x s (in_front x s e)).0, subst (λ (n : ℕ). tg.is_object (Local n) ≡ is_object p.stmt_is n s) z (object_is x s (in_front x s e)))))
+  pub locals_as : (x : ℕ) (s : Ty) → slice_get slots x ≡ Some s → IsData s × (tg.is_object (Local (0 + x)) ≡ is_object p.stmt_is (0 + x) s)
+  locals_as x s e = let z : x ≡ 0 + x = omega arith in (slot_of x s e, subst (λ (n : ℕ). tg.is_object (Local n) ≡ is_object p.stmt_is n s) z (object_is x s e))
 
-  module _ (hs : List Home) (us : List Value) (ok : AreOf E ps hs us) where
-    abbrev pub begun : World → World
-    begun w = record w { locals = first_locals p.function_is us; depth = suc w.depth }
+  -- ---- the code, and what it does
 
-    split_is : kinds ≡ flat (list_of ps) ++ other_kinds
-    split_is = ap (meaning.slots_from p.stmt_is 0) p.begins ∙ kinds_flat p.stmt_is k 0 ps p.others (omega arith) (subst (AreSlots p.stmt_is k 0) p.begins p.slots_are)
-
-    others_is : drop (length us) slots ≡ p.others
-    others_is = ap (drop (length us)) p.begins ∙ others_are E hs ps us p.others ok
-
-    held_are : AreHeld E.unit.structs E.places kinds hs (first_locals p.function_is us)
-    held_are =
-        subst (λ (ks : List Slot). AreHeld E.unit.structs E.places ks hs (first_locals p.function_is us)) (sym split_is)
-        (subst (λ (ts : List Ty). AreHeld E.unit.structs E.places (flat (list_of ps) ++ other_kinds) hs (map plain us ++ firsts ts)) (sym others_is)
-        (args_held E hs ps us other_kinds (firsts p.others) ok (others_held E hs p.stmt_is (0 + k) ps p.others (λ x s e. (slot_of x s (in_front x s e)).0))))
-
-    locals_are : arg_words E hs ps us ++ map default_of p.inst.locals ≡ words E.places kinds hs (first_locals p.function_is us) ++ temps
-    locals_are =
-        ap (λ (l : List Word). arg_words E hs ps us ++ l) (declared_are hs) ∙ sym (append_assoc (arg_words E hs ps us) (words E.places other_kinds hs (firsts p.others)) temps)
-        ∙ ap (λ (l : List Word). l ++ temps)
-        (sym (ap (λ (ks : List Slot). words E.places ks hs (first_locals p.function_is us)) split_is ∙ ap (λ (ts : List Ty). words E.places (flat (list_of ps) ++ other_kinds) hs (map plain us ++ firsts ts)) others_is ∙ args_words E hs ps us other_kinds (firsts p.others) ok))
-
-    pub frame_is : (w : World) (m : Mem) → m.homes ≡ hs → callee E hs S.funcs (index_of unit f) p.inst ps us [] (record { function = 0; locals = [] }) [] p.is_at p.takes ok ≡ frame_of E (record m { temps = temps }) (begun w)
-    frame_is w m e = ap (λ (ls : List Word). record { function = index_of unit f; locals = ls }) (locals_are ∙ ap (λ (gs : List Home). words E.places kinds gs (first_locals p.function_is us) ++ temps) (sym e))
-
-    pub start_kept : (below : ℕ) (w : World) (m : Mem) → m.homes ≡ hs → suc w.depth ≡ d → w.fuel < below → AreBytes w.input → Related E.unit.structs E.places m.homes w.objects m.segments
-        → Kept Ep (start_now below m.homes w.objects) (begun w) (record m { temps = temps })
-    start_kept below w m e dep lt bytes related = record {
-      held = subst (λ (gs : List Home). AreHeld E.unit.structs E.places kinds gs (first_locals p.function_is us)) (sym e) held_are;
-      deep = dep;
-      less = lt;
-      bytes = bytes;
-      temps = record { long = length_temps; stay = λ j l. refl };
-      grown = extends_same m.homes;
-      related = related;
-      open' = λ x s seen at. absurd (no_object x s (seen_number k x seen) at);
-      apart = first_apart us (drop (length us) slots);
-      own = first_own (length w.objects) us (drop (length us) slots);
-      lasts = lasts_same w.objects;
-    }
-
-  -- ---- the code of the body
-
-  abbrev B : Code
-  B = scheme.stmt tg slots 0 (at_body []) p.stmt_is
-
-  abbrev R : Code
+  abbrev pub R : Code
   R = result tg (scalar_of t)
 
-  abbrev pub D : Coded
-  D = (B ⨾ R) 1
+  abbrev pub does : List Value → Does Value
+  does us = run_body unit (calls_at unit i) (suc i) p.function_is p.stmt_is us
 
-  module _ (callees : CallsRun E L home K refl) (ints : (g : ℕ) (s : Ty) (qs : Tys) → slice_get K.functions g ≡ Some (function s qs) → AreScalars E L home K refl qs) where
-    slots_data : (x : ℕ) (s : Ty) → slice_get K.slots x ≡ Some s → IsData s
-    slots_data x s e = (slot_of x s e).0
+  abbrev pub flow : Does Flow
+  flow = stmt unit (calls_at unit i) (suc i) kinds p.stmt_is
 
-    plain_at : (x : ℕ) → x < k → IsPlain E x
-    plain_at x lt =
-        let l = long in
-        let s = slot_there slots x (omega (arith, lt, l)) in
-        let b = plain_slots x s.0 s.1 lt in (s.0, kinds_at x s.0 s.1 ∙ ap (λ (c : Bool). Some (s.0, c)) b, b)
+  -- the value, and what it leaves
+  abbrev pub Left : Now → Value → World → Mem → Type 0
+  Left now v w1 m1 = IsValue E t m1.homes v × (w1.fuel < now.below) × AreBytes w1.input × Extends now.homes m1.homes × Related E.unit.structs E.places m1.homes w1.objects m1.segments × Lasts now.objects w1.objects
 
-    plain_numbers : (n : ℕ) → n ≤ k → ArePlain E (numbers n)
-    plain_numbers zero le = tt
-    plain_numbers (suc n) le = plain_append E (numbers n) n (plain_numbers n (omega (arith, le))) (plain_at n (omega (arith, le)))
+  pub few : (hs : List Home) (us : List Value) → AreOf E ps hs us → 0 + length us ≤ k
+  few hs us ok = let a = length_us E hs ps us ok in omega (arith, a)
 
-    plain_from : (us : List Value) (n : ℕ) → n + length us ≤ k → ArePlain E (numbers_from n us)
-    plain_from [] n le = tt
-    plain_from (u ∷ us) n le = (plain_at n (omega (arith, le)), plain_from us (suc n) (omega (arith, le)))
+  abbrev pub begun_with : List Value → World → World
+  begun_with us w = record w { locals = first_locals p.function_is us; depth = suc w.depth }
 
-    code_is : body tg p.function_is p.stmt_is ≡ inner D
-    code_is =
-        let coded : (us : List Ty) → Ty → Coded = λ us r. let vs = objects_in tg slots (numbers (length us)) in (code.params tg us ⨾ scheme.stmt tg slots 0 (at_body vs) p.stmt_is ⨾ freed tg vs ⨾ result tg (scalar_of r)) 1 in
-        let none = no_objects E L home K refl callees ints slots_data refl (slot_there slots) (omega arith) (numbers k) (plain_numbers k (omega arith)) in
-        ap (λ (ty : Ty). inner (coded (params_in ty) (result_in ty))) p.typed
-        ∙ ap (λ (n : ℕ). let vs = objects_in tg slots (numbers k) in inner (((if n == 0 then no_code else params_from tg 0 (list_of ps)) ⨾ scheme.stmt tg slots 0 (at_body vs) p.stmt_is ⨾ freed tg vs ⨾ R) 1)) first_is
-        ∙ ap (λ (vs : List Variable). inner ((no_code ⨾ scheme.stmt tg slots 0 (at_body vs) p.stmt_is ⨾ freed tg vs ⨾ R) 1)) none
-        ∙ ap (λ (n : ℕ). inner (joined (B 1) (R n))) (let n = 1 + length (B 1).seqs in let z : n + 0 ≡ n = omega arith in z)
+  -- a call, from its start to the caller
+  abbrev pub Enters : (hs : List Home) (us : List Value) → AreOf E ps hs us → (size : ℕ) → Type 0
+  Enters hs us ok size =
+      (caller : Frame) (vs : List Word) (r : List Item) → suc (depth_of r) ≡ d → (below : ℕ) → below ≤ i → (w : World) (m : Mem) → m.homes ≡ hs → suc w.depth ≡ d → w.fuel < below → AreBytes w.input
+      → Related E.unit.structs E.places m.homes w.objects m.segments
+      → Runs S size m (exit_ended (callee E hs S.funcs (index_of unit f) p.inst ps us vs caller r p.is_at p.takes ok) vs (front (sequence S.funcs (index_of unit f) 0) (Activation (result_of p.inst) (length vs) caller ∷ r))) w
+      (λ v w1 m1. exit_ended caller (pushes E t m1.homes v vs) r) (Left (start_now below m.homes w.objects)) (does us (begun_with us w))
 
-    has : HasAll S.funcs (index_of unit f) 0 (inner D)
-    has = subst (λ (ss : List (List Instr)). HasAll S.funcs (index_of unit f) 0 ss) code_is p.code
+  -- ---- where no parameter is an object, the arguments are the first slots
 
-    pub sequence_is : sequence S.funcs (index_of unit f) 0 ≡ D.instrs
-    sequence_is = has.0
+  module _ (no_args : p.args ≡ []) (none : AreFlat p.stmt_is k 0 slots) where
+    first_zero : tg.first ≡ 0
+    first_zero = p.first_is ∙ ap length no_args
 
-    pub fits : size_of D ≤ S.most
-    fits = subst (λ (ss : List (List Instr)). total ss ≤ S.most) code_is p.small
+    plain_slots : (x : ℕ) (s : Ty) → slice_get slots x ≡ Some s → x < k → tg.is_object (Local x) ≡ false
+    plain_slots x s e lt = let z : 0 + x ≡ x = omega arith in object_is x s e ∙ subst (λ (n : ℕ). IsFlat p.stmt_is k n s) z (flat_is p.stmt_is k 0 slots none x s e) lt
 
-    -- ---- from the start of the body to the caller
+    no_object : (x : ℕ) (s : Ty) → x < k → slice_get kinds x ≡ Some (s, true) → ⊥
+    no_object x s lt e =
+        let at = slot_back p.stmt_is k 0 slots x s true e in
+        let f : false ≡ true = sym (plain_slots x s at lt) ∙ ap (λ (j : Slot). j.1) (some_is (s, tg.is_object (Local x)) (s, true) (sym (kinds_at x s at) ∙ e)) in absurd cc
 
-    abbrev pub does : List Value → Does Value
-    does us = run_body unit (calls_at unit i) (suc i) p.function_is p.stmt_is us
+    abbrev other_kinds : List Slot
+    other_kinds = meaning.slots_from p.stmt_is (0 + k) p.others
 
-    abbrev flow : Does Flow
-    flow = stmt unit (calls_at unit i) (suc i) kinds p.stmt_is
+    declared_are : (hs : List Home) → map default_of p.inst.locals ≡ words E.places other_kinds hs (firsts p.others) ++ temps
+    declared_are hs =
+        ap (map default_of) p.locals_are
+        ∙ ap (λ (n : ℕ). map default_of ((if n == 0 then drop k (slots_from tg 0 slots) else slots_from tg 0 slots) ++ scratch_locals tg (waits_stmt p.stmt_is))) first_zero
+        ∙ map_append default_of (drop k (slots_from tg 0 slots)) (scratch_locals tg (waits_stmt p.stmt_is))
+        ∙ ap (λ (ts : List Ty). map default_of (drop k (slots_from tg 0 ts)) ++ temps) p.begins
+        ∙ ap (λ (l : List Word). l ++ temps)
+        (first_words tg p.stmt_is E.places hs 0 ps p.others (λ x s e. locals_as x s (in_front x s e)))
 
-    abbrev leaves : List Value → Does (Unit {0})
-    leaves us = leave unit (calls_at unit i) (suc i) kinds (numbers_from 0 us)
+    module _ (hs : List Home) (us : List Value) (ok : AreOf E ps hs us) where
+      split_is : kinds ≡ flat (list_of ps) ++ other_kinds
+      split_is = ap (meaning.slots_from p.stmt_is 0) p.begins ∙ kinds_flat p.stmt_is k 0 ps p.others (omega arith) (subst (AreFlat p.stmt_is k 0) p.begins none)
 
-    params_are : (n : ℕ) (us : List Value) (w : World) → n + length us ≤ k → make_params unit kinds n us w ≡ gives tt w
-    params_are n [] w le = refl
-    params_are n (u ∷ us) w le =
-        let s = plain_at n (omega (arith, le)) in
-        ap (λ (o : Option (Ty × Bool)). after (after (known o w) (make_param unit n u)) (λ q. make_params unit kinds (suc n) us)) s.1 ∙ params_are (suc n) us w (omega (arith, le))
+      others_is : drop (length us) slots ≡ p.others
+      others_is = ap (drop (length us)) p.begins ∙ others_are E hs ps us p.others ok
 
-    few : (hs : List Home) (us : List Value) → AreOf E ps hs us → 0 + length us ≤ k
-    few hs us ok = let a = length_us E hs ps us ok in omega (arith, a)
+      held_are : AreHeld E.unit.structs E.places kinds hs (first_locals p.function_is us)
+      held_are =
+          subst (λ (ks : List Slot). AreHeld E.unit.structs E.places ks hs (first_locals p.function_is us)) (sym split_is)
+          (subst (λ (ts : List Ty). AreHeld E.unit.structs E.places (flat (list_of ps) ++ other_kinds) hs (map plain us ++ firsts ts)) (sym others_is)
+          (args_held E hs ps us other_kinds (firsts p.others) ok (others_held E hs p.stmt_is (0 + k) ps p.others (λ x s e. slot_of x s (in_front x s e)))))
 
-    does_is : (hs : List Home) (us : List Value) → AreOf E ps hs us → (w : World) → ((flow >>= (λ g. leaves us >> pure g)) >>= (λ g. pure (given t g))) w ≡ does us w
-    does_is hs us ok w =
-        let end : Flow → World → Result Value = λ g. pure (given t g) in
-        after_after (flow w) (λ g. leaves us >> pure g) end ∙ ap (λ (h : Flow → World → Result Value). after (flow w) h) (λ j g w1. after_after (leaves us w1) (λ u. pure g) end j)
-        ∙ ap (λ (ty : Ty). after (flow w) (λ g. leaves us >> pure (given (meaning.result_of ty) g))) (sym p.typed)
-        ∙ ap (λ (q : Result (Unit {0})). after q (λ u. flow >>= (λ g. leaves us >> pure (given (meaning.result_of p.function_is.ty) g)))) (sym (params_are 0 us w (few hs us ok)))
+      locals_are : arg_words E hs ps us ++ map default_of p.inst.locals ≡ words E.places kinds hs (first_locals p.function_is us) ++ temps
+      locals_are =
+          ap (λ (l : List Word). arg_words E hs ps us ++ l) (declared_are hs) ∙ sym (append_assoc (arg_words E hs ps us) (words E.places other_kinds hs (firsts p.others)) temps)
+          ∙ ap (λ (l : List Word). l ++ temps)
+          (sym (ap (λ (ks : List Slot). words E.places ks hs (first_locals p.function_is us)) split_is ∙ ap (λ (ts : List Ty). words E.places (flat (list_of ps) ++ other_kinds) hs (map plain us ++ firsts ts)) others_is ∙ args_words E hs ps us other_kinds (firsts p.others) ok))
 
-    flow_runs : (hs : List Home) (us : List Value) → AreOf E ps hs us → FlowRuns Ep at_top 0 0 B same (flow >>= (λ g. leaves us >> pure g))
-    flow_runs hs us ok =
-        left_runs E L home K refl callees ints slots_data refl (slot_there slots) (omega arith) (numbers k) at_top 0 0 B flow (numbers_from 0 us) (plain_from us 0 (few hs us ok))
-        (stmt_runs E L home K refl callees ints slots_data refl (slot_there slots) (omega arith) (numbers k) 0 None (at_body []) no_jumps no_off p.stmt_is (out_none E (numbers k)) (omega arith) p.ready p.well)
+      frame_is : (vs : List Word) (caller : Frame) (r : List Item) (w : World) (m : Mem) → m.homes ≡ hs → callee E hs S.funcs (index_of unit f) p.inst ps us vs caller r p.is_at p.takes ok ≡ frame_of E (record m { temps = temps }) (begun_with us w)
+      frame_is vs caller r w m e =
+          ap (λ (ls : List Word). record { function = index_of unit f; locals = ls }) (locals_are ∙ ap (λ (gs : List Home). words E.places kinds gs (first_locals p.function_is us) ++ temps) (sym e))
+          ∙ ap (λ (as : List Word). record { function = index_of unit f; locals = as ++ (words E.places kinds m.homes (first_locals p.function_is us) ++ temps) }) (sym no_args)
 
-    -- the value, and what it leaves
-    abbrev pub Left : Now → Value → World → Mem → Type 0
-    Left now v w1 m1 = IsValue E t m1.homes v × (w1.fuel < now.below) × AreBytes w1.input × Extends now.homes m1.homes × Related E.unit.structs E.places m1.homes w1.objects m1.segments × Lasts now.objects w1.objects
+      start_kept : (below : ℕ) (w : World) (m : Mem) → m.homes ≡ hs → suc w.depth ≡ d → w.fuel < below → AreBytes w.input → Related E.unit.structs E.places m.homes w.objects m.segments
+          → Kept Ep (start_now below m.homes w.objects) (begun_with us w) (record m { temps = temps })
+      start_kept below w m e dep lt bytes related = record {
+        held = subst (λ (gs : List Home). AreHeld E.unit.structs E.places kinds gs (first_locals p.function_is us)) (sym e) held_are;
+        deep = dep;
+        less = lt;
+        bytes = bytes;
+        temps = record { long = length_temps; stay = λ j l. refl };
+        grown = extends_same m.homes;
+        related = related;
+        open' = λ x s seen at. absurd (no_object x s (seen_number k x seen) at);
+        apart = first_apart us (drop (length us) slots);
+        own = first_own (length w.objects) us (drop (length us) slots);
+        lasts = lasts_same w.objects;
+      }
 
-    pub callee_runs : (hs : List Home) (us : List Value) → AreOf E ps hs us → (caller : Frame) (vs : List Word) (r : List Item) → suc (depth_of r) ≡ d → (now : Now) → IsAt Ep 0 now → (w : World) (m : Mem) → Kept Ep now w m
-        → Runs S (size_of D) m (at_work E m w vs (front D.instrs (Activation (result_of p.inst) (length vs) caller ∷ r))) w (λ v w1 m1. exit_ended caller (pushes E t m1.homes v vs) r) (Left now) (does us w)
-    callee_runs hs us ok caller vs r dep now le w m kp =
-        let to = λ (v : Value) (w1 : World) (m1 : Mem). exit_ended caller (pushes E t m1.homes v vs) r in
-        subst (λ (o : Option ValType). Runs S (size_of D) m (at_work E m w vs (front D.instrs (Activation o (length vs) caller ∷ r))) w to (Left now) (does us w)) (sym p.gives_one)
-        (subst (λ (x : Result Value). Runs S (size_of D) m (at_work E m w vs (front D.instrs (Activation (val_of t) (length vs) caller ∷ r))) w to (Left now) x) (does_is hs us ok w)
-        (body_runs Ep p.result caller vs r dep B (flow >>= (λ g. leaves us >> pure g)) (flow_runs hs us ok) 1 has.1 fits now le w m kp))
+    abbrev B : Code
+    B = scheme.stmt tg slots 0 (at_body []) p.stmt_is
 
--- ---- all calls, by the bound
+    abbrev D : Coded
+    D = (B ⨾ R) 1
 
-module _ (S : Site) (L : Linked S) (unit : Typed) (all : (f : ℕ) (t : Ty) (ps : Tys) → slice_get (map (λ (g : Function). g.ty) unit.functions) f ≡ Some (function t ps) → IsCallable unit f → Compiled S unit f t ps)
-    (par_ints : (f : ℕ) (t : Ty) (ps : Tys) → slice_get (map (λ (g : Function). g.ty) unit.functions) f ≡ Some (function t ps) → are_data ps ≡ true) where
-  module _ (i f d : ℕ) (t : Ty) (ps : Tys) (p : Compiled S unit f t ps) where
-    are_ints : (qs : Tys) → are_data qs ≡ true → AreScalars (E S L unit i f d t ps p) L (home S L unit i f d t ps p) (K S L unit i f d t ps p) refl qs
-    are_ints no_types e = tt
-    are_ints (types q qs) e = let b = both (is_data q) (are_data qs) e in (data_scalar q (data_type q b.0), are_ints qs b.1)
+    module _ (callees : CallsRun E L home K refl) (ints : (g : ℕ) (s : Ty) (qs : Tys) → slice_get K.functions g ≡ Some (function s qs) → AreScalars E L home K refl qs) where
+      plain_at : (x : ℕ) → x < k → IsPlain E x
+      plain_at x lt =
+          let l = long in
+          let s = slot_there slots x (omega (arith, lt, l)) in
+          let b = plain_slots x s.0 s.1 lt in (s.0, kinds_at x s.0 s.1 ∙ ap (λ (c : Bool). Some (s.0, c)) b, b)
 
-    pub ints_of : (g : ℕ) (s : Ty) (qs : Tys) → slice_get (map (λ (h : Function). h.ty) unit.functions) g ≡ Some (function s qs) → AreScalars (E S L unit i f d t ps p) L (home S L unit i f d t ps p) (K S L unit i f d t ps p) refl qs
-    ints_of g s qs e = are_ints qs (par_ints g s qs e)
+      plain_numbers : (n : ℕ) → n ≤ k → ArePlain E (numbers n)
+      plain_numbers zero le = tt
+      plain_numbers (suc n) le = plain_append E (numbers n) n (plain_numbers n (omega (arith, le))) (plain_at n (omega (arith, le)))
 
-    abbrev pub Callees : Type 0
-    Callees = CallsRun (E S L unit i f d t ps p) L (home S L unit i f d t ps p) (K S L unit i f d t ps p) refl
+      plain_from : (us : List Value) (n : ℕ) → n + length us ≤ k → ArePlain E (numbers_from n us)
+      plain_from [] n le = tt
+      plain_from (u ∷ us) n le = (plain_at n (omega (arith, le)), plain_from us (suc n) (omega (arith, le)))
 
-  -- one call, where those of its body do what is meant
-  module _ (i f0 d : ℕ) (t0 : Ty) (ps0 : Tys) (p0 : Compiled S unit f0 t0 ps0) (f : ℕ) (t : Ty) (ps : Tys) (p : Compiled S unit f t ps) (hs : List Home) (us : List Value) (ok : AreOf (E S L unit (suc i) f0 d t0 ps0 p0) ps hs us) (callees : Callees i f (suc d) t ps p)
-      (now : Now) (le : now.below ≤ suc i) (vs : List Word) (r : List Item) (dep : depth_of r ≡ d) (w : World) (m : Mem) (more : Extends hs m.homes) (k : Kept (E S L unit (suc i) f0 d t0 ps0 p0) now w m) where
-    abbrev C : Env
-    C = E S L unit (suc i) f0 d t0 ps0 p0
+      code_is : body tg p.function_is p.stmt_is ≡ inner D
+      code_is =
+          let coded : (us : List Ty) → Ty → Coded = λ us r. let vs = objects_in tg slots (numbers (length us)) in (code.params tg us ⨾ scheme.stmt tg slots 0 (at_body vs) p.stmt_is ⨾ freed tg vs ⨾ result tg (scalar_of r)) 1 in
+          let nothing = no_objects E L home K refl callees ints slots_data refl (slot_there slots) (omega arith) (numbers k) (plain_numbers k (omega arith)) in
+          ap (λ (ty : Ty). inner (coded (params_in ty) (result_in ty))) p.typed
+          ∙ ap (λ (n : ℕ). let vs = objects_in tg slots (numbers k) in inner (((if n == 0 then no_code else params_from tg 0 (list_of ps)) ⨾ scheme.stmt tg slots 0 (at_body vs) p.stmt_is ⨾ freed tg vs ⨾ R) 1)) first_zero
+          ∙ ap (λ (vs : List Variable). inner ((no_code ⨾ scheme.stmt tg slots 0 (at_body vs) p.stmt_is ⨾ freed tg vs ⨾ R) 1)) nothing
+          ∙ ap (λ (n : ℕ). inner (joined (B 1) (R n))) (let n = 1 + length (B 1).seqs in let z : n + 0 ≡ n = omega arith in z)
 
-    abbrev Ee : Env
-    Ee = E S L unit i f (suc d) t ps p
+      has : HasAll S.funcs (index_of unit f) 0 (inner D)
+      has = subst (λ (ss : List (List Instr)). HasAll S.funcs (index_of unit f) 0 ss) code_is p.code
 
-    abbrev whole : Coded
-    whole = D S L unit i f (suc d) t ps p
+      pub flat_fits : size_of D ≤ S.most
+      flat_fits = subst (λ (ss : List (List Instr)). total ss ≤ S.most) code_is p.small
 
-    abbrev Goal : ℕ → World → Result Value → Type 0
-    Goal size w' x = Runs S size m (thread (frame_of C m w) (piled C ps hs us vs) (Do (Call (index_of unit f)) ∷ r)) w' (ToIn C (pushes C t) vs r) (GoodIn C (IsValue C t) now) x
+      -- ---- from the start of the body to the caller
 
-    call_moves : act (goes.store S m) (Call (index_of unit f)) (thread (frame_of C m w) (piled C ps hs us vs) r) ≡ step.moved (goes.store S m) (call_on S.funcs (index_of unit f) (thread (frame_of C m w) (piled C ps hs us vs) r))
-    call_moves =
-        call_is C L (home S L unit (suc i) f0 d t0 ps0 p0) m w (index_of unit f) (piled C ps hs us vs) r (get_within S.funcs (index_of unit f) p.inst p.is_at)
-        ∙ ap (λ (o : Option FuncInst). called (goes.store S m) (index_of unit f) (thread (frame_of C m w) (piled C ps hs us vs) r) (host_in o)) p.is_at
-        ∙ ap (λ (h : Option Host). called (goes.store S m) (index_of unit f) (thread (frame_of C m w) (piled C ps hs us vs) r) h) p.no_host
+      abbrev leaves : List Value → Does (Unit {0})
+      leaves us = leave unit (calls_at unit i) (suc i) kinds (numbers_from 0 us)
 
-    -- what the callee leaves
-    abbrev Back : ℕ → Value → World → Mem → Type 0
-    Back below v w1 m1 = IsValue C t m1.homes v × (w1.fuel < below) × AreBytes w1.input × Extends m.homes m1.homes × Related C.unit.structs C.places m1.homes w1.objects m1.segments × Lasts w.objects w1.objects
+      params_are : (n : ℕ) (us : List Value) (w : World) → n + length us ≤ k → make_params unit kinds n us w ≡ gives tt w
+      params_are n [] w le = refl
+      params_are n (u ∷ us) w le =
+          let s = plain_at n (omega (arith, le)) in
+          ap (λ (o : Option (Ty × Bool)). after (after (known o w) (make_param unit n u)) (λ q. make_params unit kinds (suc n) us)) s.1 ∙ params_are (suc n) us w (omega (arith, le))
 
-    -- back at the caller, whose variables and depth are as before
-    back_runs : (size below : ℕ) (m' : Mem) (ts : Thread) (ws wn : World) → below ≤ now.below → wn.locals ≡ w.locals → wn.depth ≡ w.depth → (x : Result Value)
-        → Runs S size m' ts ws (λ v w1 m1. exit_ended (frame_of C m w) (pushes C t m1.homes v vs) r) (Back below) x
-        → Runs S size m' ts ws (ToIn C (pushes C t) vs r) (GoodIn C (IsValue C t) now) (back_to wn x)
-    back_runs size below m' ts ws wn small el ed (ends e' w1) h = h
-    back_runs size below m' ts ws wn small el ed (gives v w1) h = λ ag.
-        let q = h ag in
-        let w2 : World = record w1 { locals = wn.locals; depth = wn.depth } in
-        let m1 : Mem = q.0 in
-        let m2 : Mem = record m1 { temps = m.temps } in
-        let left = q.1 in
-        let top = pushes C t m1.homes v vs in
-        let there : exit_ended (frame_of C m w) top r ≡ at_work C m2 w2 top r =
-        ap (λ (ws' : List Word). exit_ended (record { function = C.fn; locals = C.args ++ (ws' ++ m.temps) }) top r) (sym (words_still C.unit.structs C.places m.homes m1.homes left.3 C.kinds w.locals k.held))
-        ∙ ap (λ (ls : List Held). exit_ended (record { function = C.fn; locals = C.args ++ (words C.places C.kinds m1.homes ls ++ m.temps) }) top r) (sym el) in
-        let none_more : size + 0 ≤ size = omega arith in (
-          m2,
-          (
-            left.0,
-            record {
-              held = subst (λ (ls : List Held). AreHeld C.unit.structs C.places C.kinds m1.homes ls) (sym el) (held_still C.unit.structs C.places m.homes m1.homes left.3 C.kinds w.locals k.held);
-              deep = ed ∙ k.deep;
-              less = (let lt = left.1 in omega (arith, lt, small));
-              bytes = left.2;
-              temps = k.temps;
-              grown = extends_trans now.homes m.homes m1.homes k.grown left.3;
-              related = left.4;
-              open' = subst (λ (ls : List Held). AreOpen C.kinds now.visible w1.objects ls) (sym el) (open_on C.kinds now.visible w.objects w1.objects w.locals left.5 k.open');
-              apart = subst AreApart (sym el) k.apart;
-              own = subst (AreOwn (length now.objects)) (sym el) k.own;
-              lasts = lasts_trans now.objects w.objects w1.objects k.lasts left.5;
-            },
-          ),
-          goes.sized S (size + 0) size ws w2 m' m2 ts (at_work C m2 w2 top r) none_more
-              (goes.goes_on S size 0 ws w1 w2 m' m1 m2 ts (exit_ended (frame_of C m w) top r) (at_work C m2 w2 top r) q.2
-              (subst (λ (t1 : Thread). Goes S 0 w1 w2 m1 (exit_ended (frame_of C m w) top r) m2 t1) there
-              (goes.shifts S w1 w2 m1 m.temps (exit_ended (frame_of C m w) top r) refl refl (tells_nothing w1 w2 refl refl refl)))),
-        )
+      does_is : (hs : List Home) (us : List Value) → AreOf E ps hs us → (w : World) → ((flow >>= (λ g. leaves us >> pure g)) >>= (λ g. pure (given t g))) w ≡ does us w
+      does_is hs us ok w =
+          let end : Flow → World → Result Value = λ g. pure (given t g) in
+          after_after (flow w) (λ g. leaves us >> pure g) end ∙ ap (λ (h : Flow → World → Result Value). after (flow w) h) (λ j g w1. after_after (leaves us w1) (λ u. pure g) end j)
+          ∙ ap (λ (ty : Ty). after (flow w) (λ g. leaves us >> pure (given (meaning.result_of ty) g))) (sym p.typed)
+          ∙ ap (λ (q : Result (Unit {0})). after q (λ u. flow >>= (λ g. leaves us >> pure (given (meaning.result_of p.function_is.ty) g)))) (sym (params_are 0 us w (few hs us ok)))
 
-    abbrev body_of : Does Value
-    body_of = meaning.called unit (calls_at unit i) (suc i) us p.function_is p.stmt_is
+      flow_runs : (hs : List Home) (us : List Value) → AreOf E ps hs us → FlowRuns Ep at_top 0 0 B same (flow >>= (λ g. leaves us >> pure g))
+      flow_runs hs us ok =
+          left_runs E L home K refl callees ints slots_data refl (slot_there slots) (omega arith) (numbers k) at_top 0 0 B flow (numbers_from 0 us) (plain_from us 0 (few hs us ok))
+          (stmt_runs E L home K refl callees ints slots_data refl (slot_there slots) (omega arith) (numbers k) 0 None (at_body []) no_jumps no_off p.stmt_is (out_none E (numbers k)) (omega arith) p.ready p.well)
 
-    ok' : AreOf C ps m.homes us
-    ok' = are_still C hs m.homes more ps us ok
+      callee_runs : (hs : List Home) (us : List Value) → AreOf E ps hs us → (caller : Frame) (vs : List Word) (r : List Item) → suc (depth_of r) ≡ d → (now : Now) → IsAt Ep 0 now → (w : World) (m : Mem) → Kept Ep now w m
+          → Runs S (size_of D) m (at_work E m w vs (front D.instrs (Activation (result_of p.inst) (length vs) caller ∷ r))) w (λ v w1 m1. exit_ended caller (pushes E t m1.homes v vs) r) (Left now) (does us w)
+      callee_runs hs us ok caller vs r dep now le w m kp =
+          let to = λ (v : Value) (w1 : World) (m1 : Mem). exit_ended caller (pushes E t m1.homes v vs) r in
+          subst (λ (o : Option ValType). Runs S (size_of D) m (at_work E m w vs (front D.instrs (Activation o (length vs) caller ∷ r))) w to (Left now) (does us w)) (sym p.gives_one)
+          (subst (λ (x : Result Value). Runs S (size_of D) m (at_work E m w vs (front D.instrs (Activation (val_of t) (length vs) caller ∷ r))) w to (Left now) x) (does_is hs us ok w)
+          (body_runs Ep p.result caller vs r dep B (flow >>= (λ g. leaves us >> pure g)) now (λ n h small at. flow_runs hs us ok n h small now at) 1 has.1 flat_fits le w m kp))
 
-    piled_same : piled C ps hs us vs ≡ piled C ps m.homes us vs
-    piled_same = sym (piled_still C hs m.homes more ps us vs ok)
-
-    by_fuel : depth_of r < deepest → (q : ℕ) → Kept C now (record w { fuel = q }) m → Goal 1 (record w { fuel = q }) (after (spend (record w { fuel = q })) (λ u. body_of))
-    by_fuel lt zero k' = λ ag. unspent S 1 (record w { fuel = 0 }) m (Call (index_of unit f)) (frame_of C m w) (piled C ps hs us vs) r refl
-    by_fuel lt (suc q) k' =
-        let fr = frame_of C m w in
-        let wn : World = record w { fuel = q } in
-        let ints = ints_of i f (suc d) t ps p in
-        let now' : Now = start_now S L unit i f (suc d) t ps p (suc q) m.homes w.objects in
-        let ws = begun S L unit i f (suc d) t ps p m.homes us ok' wn in
-        let m' : Mem = record m { temps = now'.temps } in
-        let marked = Activation (result_of p.inst) (length vs) fr ∷ r in
-        let ts = at_work Ee m' ws vs (front whole.instrs marked) in
-        let less = k'.less in
-        let small = fits S L unit i f (suc d) t ps p callees ints in
-        spent S 1 (size_of whole) q (record w { fuel = suc q }) m (Call (index_of unit f)) fr (piled C ps hs us vs) r (thread (callee C m.homes S.funcs (index_of unit f) p.inst ps us vs fr r p.is_at p.takes ok') vs (front (sequence S.funcs (index_of unit f) 0) marked)) (ToIn C (pushes C t) vs r) (GoodIn C (IsValue C t) now) _
-        (call_moves ∙ ap (λ (us' : List Word). step.moved (goes.store S m) (call_on S.funcs (index_of unit f) (thread fr us' r))) piled_same ∙ ap (step.moved (goes.store S m)) (shallow_call C m.homes S.funcs (index_of unit f) p.inst ps us vs fr r p.is_at p.takes ok' lt)) refl (omega (arith, small))
-        (subst (λ (t1 : Thread). Runs S (size_of whole) m t1 wn (ToIn C (pushes C t) vs r) (GoodIn C (IsValue C t) now) (body_of wn))
-        (sym (ap (λ (is : List Instr). exit_ended (callee C m.homes S.funcs (index_of unit f) p.inst ps us vs fr r p.is_at p.takes ok') vs (front is marked)) (sequence_is S L unit i f (suc d) t ps p callees ints)
-        ∙ ap (λ (fr' : Frame). exit_ended fr' vs (front whole.instrs marked)) (frame_is S L unit i f (suc d) t ps p m.homes us ok' wn m refl)))
-        (resize S (0 + size_of whole) (size_of whole) m ts wn (ToIn C (pushes C t) vs r) (GoodIn C (IsValue C t) now) (body_of wn) (omega arith)
-        (behind_goes S 0 (size_of whole) wn ws m m' ts ts (ToIn C (pushes C t) vs r) (GoodIn C (IsValue C t) now) (body_of wn)
-        (goes.shifts S wn ws m now'.temps ts refl refl (tells_nothing wn ws refl refl refl))
-        (back_runs (size_of whole) (suc q) m' ts ws wn (omega (arith, less)) refl refl (does S L unit i f (suc d) t ps p callees ints us ws)
-        (callee_runs S L unit i f (suc d) t ps p callees ints m.homes us ok' fr vs r (ap suc dep) now' (record { below = omega (arith, less, le); waits = refl; seen = refl }) ws m'
-        (start_kept S L unit i f (suc d) t ps p m.homes us ok' (suc q) wn m refl (ap suc k'.deep) (omega arith) k'.bytes k'.related))))))
-
-    by_depth : (b : Bool) → nat_lt w.depth deepest ≡ b → Goal 1 w (if b then (spend >> body_of) w else ends deep w)
-    by_depth true e' = by_fuel (let a = ltb-true _ _ e' in let b = k.deep in omega (arith, a, dep, b)) w.fuel k
-    by_depth false e' =
-        let ge = ltb-false w.depth deepest e' in
-        let deep_is = k.deep in
-        λ ag. trapped S w m (Call (index_of unit f)) (frame_of C m w) (piled C ps hs us vs) r traps.Depth deep
-        (call_moves ∙ ap (λ (us' : List Word). step.moved (goes.store S m) (call_on S.funcs (index_of unit f) (thread (frame_of C m w) us' r))) piled_same ∙ ap (step.moved (goes.store S m)) (deep_call C m.homes S.funcs (index_of unit f) p.inst ps us vs (frame_of C m w) r p.is_at p.takes ok' (omega (arith, ge, dep, deep_is)))) tt refl tt
-
-    pub call_runs : Goal 1 w (calls_at unit (suc i) f us w)
-    call_runs =
-        let go : Function → Stmt → Does Value = λ g b. if_shallow (spend >> meaning.called unit (calls_at unit i) (suc i) us g b) in
-        subst (λ (x : Result Value). Goal 1 w x) (sym (ap (λ (o : Option Function). of_defined unit o go w) p.named ∙ ap (λ (b : Option Stmt). with_body unit p.function_is b go w) p.has_body)) (by_depth (nat_lt w.depth deepest) refl)
-
-  pub calls_run : (i f d : ℕ) (t : Ty) (ps : Tys) (p : Compiled S unit f t ps) → Callees i f d t ps p
-  calls_run zero f0 d t0 ps0 p0 f t ps e b hs us ok n has now le vs r dep w m k = absurd (let lt = k.less in let q = le.below in omega (arith, lt, q))
-  calls_run (suc i) f0 d t0 ps0 p0 f t ps e b hs us ok n has now le vs r dep w m k =
-      let p = all f t ps e b in call_runs i f0 d t0 ps0 p0 f t ps p hs us ok (calls_run i f (suc d) t ps p) now le.below vs r dep w m (extends_trans hs now.homes m.homes le.grown k.grown) k
+      pub flat_enters : (hs : List Home) (us : List Value) (ok : AreOf E ps hs us) → Enters hs us ok (size_of D)
+      flat_enters hs us ok caller vs r dep below le w m e deep lt bytes related =
+          let m' : Mem = record m { temps = temps } in
+          let ws = begun_with us w in
+          let now = start_now below m.homes w.objects in
+          let marked = Activation (result_of p.inst) (length vs) caller ∷ r in
+          let ts = at_work E m' ws vs (front D.instrs marked) in
+          let to = λ (v : Value) (w1 : World) (m1 : Mem). exit_ended caller (pushes E t m1.homes v vs) r in
+          subst (λ (t1 : Thread). Runs S (size_of D) m t1 w to (Left now) (does us ws))
+          (sym (ap (λ (is : List Instr). exit_ended (callee E hs S.funcs (index_of unit f) p.inst ps us vs caller r p.is_at p.takes ok) vs (front is marked)) has.0
+          ∙ ap (λ (fr' : Frame). exit_ended fr' vs (front D.instrs marked)) (frame_is hs us ok vs caller r w m e)))
+          (resize S (0 + size_of D) (size_of D) m ts w to (Left now) (does us ws) (omega arith)
+          (behind_goes S 0 (size_of D) w ws m m' ts ts to (Left now) (does us ws)
+          (goes.shifts S w ws m temps ts refl refl (tells_nothing w ws refl refl refl))
+          (callee_runs hs us ok caller vs r dep now (record { below = le; waits = refl; seen = refl }) ws m' (start_kept hs us ok below w m e deep lt bytes related))))

@@ -186,7 +186,7 @@ module _ (E : Env) where
         (λ gs grown u ok''. (v', refl, λ vs. refl, value_still E.unit.structs E.places hs gs grown t v' ok'))
 
     -- the operands as they are where more objects have homes
-    over_handle : (gs hs : List Home) → Extends gs hs → (p v : Value) → LeadsTo t gs p → IsValue E t hs v → (vs : List Word)
+    pub over_handle : (gs hs : List Home) → Extends gs hs → (p v : Value) → LeadsTo t gs p → IsValue E t hs v → (vs : List Word)
         → word_of E.places t hs v ∷ Handle (handle hs p) ∷ vs ≡ pushes E t hs v (Handle (handle gs p) ∷ vs)
     over_handle gs hs grown p v of_p ok vs =
         ap (λ (h : HandleOf). word_of E.places t hs v ∷ Handle h ∷ vs) (handle_still E.unit.structs E.places gs hs grown (pointer t) p of_p)

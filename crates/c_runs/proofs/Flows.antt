@@ -115,6 +115,13 @@ module _ (E : Env) where
       → (vs : List Word) (r br cr rr : List Item) (caller : Frame) → Around vs r b c l br cr rr caller → depth_of r ≡ E.depth → (w : World) (m : Mem) → Kept E now w m
       → Runs E.site (size_of (code n)) m (at_work E m w (pre vs) (front (code n).instrs r)) w (to_flow vs r br cr rr caller) (GoodFlow l now) (x w)
 
+  -- the same from one start
+  abbrev pub FlowAt : (l : Way) → Now → (b c : ℕ) → Code → Stack → Does Flow → Type 0
+  FlowAt l now b c code pre x =
+      (n : ℕ) → HasAll E.site.funcs E.fn n (code n).seqs → size_of (code n) ≤ E.site.most → IsAt l.depth now
+      → (vs : List Word) (r br cr rr : List Item) (caller : Frame) → Around vs r b c l br cr rr caller → depth_of r ≡ E.depth → (w : World) (m : Mem) → Kept E now w m
+      → Runs E.site (size_of (code n)) m (at_work E m w (pre vs) (front (code n).instrs r)) w (to_flow vs r br cr rr caller) (GoodFlow l now) (x w)
+
   -- the same where the objects have these homes at least
   abbrev pub FlowIn : (l : Way) → List Home → (b c : ℕ) → Code → Stack → Does Flow → Type 0
   FlowIn l hs b c code pre x =

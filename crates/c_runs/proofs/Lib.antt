@@ -31,6 +31,9 @@ pub mod Scopes
 pub mod Stmts
 pub mod Bodies
 pub mod Callees
+pub mod Params
+pub mod Copied
+pub mod Calls
 pub mod Numbers
 pub mod Placed
 pub mod Top

@@ -1,9 +1,10 @@
 -- What a call needs of each function, from what a store has of the unit.
-use Rattle.std.proofs.Common.{◌≡◌, ◌≢◌, ℕ, zero, suc, ◌+◌, ◌<◌, ◌≤◌, List, [], ◌∷◌, length, map, max, Bool, true, false, is_some, Option, Some, None, refl, sym, ap, ◌∙◌, arith, subst}
-use Rattle.std.specs.Prelude.{get_or, not, slice_get, ◌&&◌}
+use Rattle.std.proofs.Common.{◌≡◌, ◌≢◌, ℕ, zero, suc, ◌+◌, ◌<◌, ◌≤◌, List, [], ◌∷◌, length, map, max, Bool, true, false, cond, is_some, Option, Some, None, refl, sym, ap, ◌∙◌, arith, subst}
+use Rattle.std.specs.Prelude.{get_or, nat_lt, not, position, replicate, slice_get, ◌&&◌}
+use Rattle.core.specs.List.{prefix_len}
 use Rattle.std.specs.List.{All, list_any}
 use Rattle.std.proofs.lemmas.Option.{slice_get_within}
-use Rattle.std.proofs.lemmas.List.{length-map}
+use Rattle.std.proofs.lemmas.List.{length-map, length-replicate}
 use Rattle.std.proofs.lemmas.List.Elements.{All-head, All-tail}
 use Rattle.ms_types.specs.declared.types.FuncType.{FuncType}
 use Rattle.ms_types.specs.declared.types.ValType.{ValType}
@@ -12,7 +13,7 @@ use Rattle.ms_module.specs.declared.instr.Instr.{Instr}
 use Rattle.ms_module.specs.Numbered.{sequence_at}
 use Rattle.ms_task.specs.declared.func.FuncInst.{FuncInst}
 use Rattle.ms_task.specs.Thread.{body_in, body_of, sequence}
-use Rattle.c_types.specs.Types.{Ty, void, integer, function, Tys, no_types, types}
+use Rattle.c_types.specs.Types.{Ty, void, integer, pointer, is_function, function, Tys, no_types, types}
 use Rattle.c_typed.specs.Objects.{is_whole}
 use Rattle.c_typed.specs.Tree.{Function, Made, Stmt, Typed}
 use Rattle.c_well_typed.specs.Units.{IsBody, IsFunction, IsWellTyped, list_of}
@@ -20,14 +21,14 @@ use Rattle.ms_emit.specs.Codes.{total}
 use Rattle.c_code.specs.Functions.{body, held_as, listed, locals, params_in, result_in}
 use Rattle.c_code.specs.Modules.{index_of, is_call_of, is_defined, is_defined_at, target_of}
 use Rattle.c_code.specs.Operations.{val_of}
-use Rattle.c_stage.specs.Stage.{are_data, are_slots, count_in, in_body, in_functions, in_stage, in_stmt, is_empty, is_integer_or_void, is_plain_function, parameters}
+use Rattle.c_stage.specs.Stage.{are_data, are_slots, in_body, in_functions, in_stage, in_stmt, is_data, is_empty, is_main, is_plain_function, is_result}
 use Rattle.c_code.specs.Uses as uses
 use Rattle.c_code.specs.Uses.{waits_stmt}
 use Rattle.c_runs.specs.Placed.{IsPlaced, instructions_in, longest_in, longest_of}
 use Rattle.c_runs.proofs.Goes.{Mem, Site}
 use Rattle.c_runs.proofs.Operations.{Linked}
 use Rattle.c_runs.proofs.Related.{HasAll}
-use Rattle.c_runs.proofs.Bodies.{IsResult, is_void}
+use Rattle.c_runs.proofs.Bodies.{IsResult, is_integer_or_void, is_pointer, is_void}
 use Rattle.c_runs.proofs.Callees.{Compiled, slots_of}
 use Rattle.c_runs.proofs.Numbers.{never_passes}
 use Rattle.c_runs.proofs.Ready.{AreCallable, IsCallable, any_left, any_right, in_stmt_of, right_of}
@@ -52,14 +53,14 @@ get_mapped (f ∷ fs) zero t e = (f, refl, same_one f.ty t e)
 get_mapped (f ∷ fs) (suc n) t e = get_mapped fs n t e
 
 abbrev IsStaged : Function → Type 0
-IsStaged f = (is_plain_function f.ty ≡ true) × (in_body f f.body ≡ true)
+IsStaged f = (is_plain_function f f.ty ≡ true) × (in_body f f.body ≡ true)
 
 staged_at : (fs : List Function) (n : ℕ) (f : Function) → slice_get fs n ≡ Some f → in_functions fs ≡ true → IsStaged f
 staged_at [] n f e h = absurd cc
 staged_at (g ∷ fs) zero f e h =
-    let q = both (is_plain_function g.ty) (in_body g g.body && in_functions fs) h in subst IsStaged (same_one g f e) (q.0, (both (in_body g g.body) (in_functions fs) q.1).0)
+    let q = both (is_plain_function g g.ty) (in_body g g.body && in_functions fs) h in subst IsStaged (same_one g f e) (q.0, (both (in_body g g.body) (in_functions fs) q.1).0)
 staged_at (g ∷ fs) (suc n) f e h =
-    let q = both (is_plain_function g.ty) (in_body g g.body && in_functions fs) h in staged_at fs n f e (both (in_body g g.body) (in_functions fs) q.1).1
+    let q = both (is_plain_function g g.ty) (in_body g g.body && in_functions fs) h in staged_at fs n f e (both (in_body g g.body) (in_functions fs) q.1).1
 
 pub defined_by : (o : Option Stmt) → is_some o ≡ true → (b : Stmt) × (o ≡ Some b)
 defined_by None e = absurd cc
@@ -119,10 +120,6 @@ abbrev types_in : Ty → Tys
 types_in (function r ps) = ps
 types_in t = no_types
 
-counted : (ps : Tys) → count_in ps ≡ length (list_of ps)
-counted no_types = refl
-counted (types t ps) = ap suc (counted ps)
-
 first_listed : (o : Option ValType) → slice_get (listed o) 0 ≡ o
 first_listed None = refl
 first_listed (Some v) = refl
@@ -131,10 +128,41 @@ not_empty : (ts : List Ty) → 0 < length ts → ts ≢ []
 not_empty [] lt e = absurd (omega (arith, lt))
 not_empty (t ∷ ts) lt e = absurd cc
 
-result_kind : (t : Ty) → is_integer_or_void t ≡ true → IsResult t
-result_kind void e = is_void refl
-result_kind (integer u) e = Rattle.c_runs.proofs.Bodies.is_integer u refl
-result_kind _ e = absurd cc
+not_true : (b : Bool) → not b ≡ true → b ≡ false
+not_true true e = absurd cc
+not_true false e = refl
+
+result_kind : (f : Function) (t : Ty) → is_result f t ≡ true → IsResult t
+result_kind f void e = is_void refl
+result_kind f (integer u) e = Rattle.c_runs.proofs.Bodies.is_integer u refl
+result_kind f (pointer s) e = is_pointer s refl (not_true (is_function s) (both (not (is_function s)) (not (is_main f)) e).0)
+result_kind f _ e = absurd cc
+
+-- `main` gives no pointer
+main_kind : (f : Function) (t : Ty) → is_main f ≡ true → is_result f t ≡ true → is_integer_or_void t ≡ true
+main_kind f void m e = refl
+main_kind f (integer u) m e = refl
+main_kind f (pointer s) m e = absurd (let q = (both (not (is_function s)) (not (is_main f)) e).1 in let z : not (is_main f) ≡ false = ap not m in let w : true ≡ false = sym q ∙ z in cc)
+main_kind f _ m e = absurd cc
+
+at_prefix : (q : Function → Bool) (fs : List Function) (f : Function) → slice_get fs (prefix_len q fs) ≡ Some f → q f ≡ false
+at_prefix q [] f h = absurd cc
+at_prefix q (g ∷ fs) f h = by (q g) refl h where
+  by : (b : Bool) → q g ≡ b → slice_get (g ∷ fs) (cond b (1 + prefix_len q fs) 0) ≡ Some f → q f ≡ false
+  by true e h' = let z : 1 + prefix_len q fs ≡ suc (prefix_len q fs) = omega arith in at_prefix q fs f (ap (slice_get (g ∷ fs)) (sym z) ∙ h')
+  by false e h' = ap q (sym (same_one g f h')) ∙ e
+
+named_main : (fs : List Function) (n : ℕ) (f : Function) → position is_main fs ≡ Some n → slice_get fs n ≡ Some f → is_main f ≡ true
+named_main fs n f e h = by (nat_lt (prefix_len (λ g. not (is_main g)) fs) (length fs)) e where
+  twice : (b : Bool) → not b ≡ false → b ≡ true
+  twice true q = refl
+  twice false q = absurd cc
+
+  by : (b : Bool) → cond b (Some (prefix_len (λ g. not (is_main g)) fs)) None ≡ Some n → is_main f ≡ true
+  by true e' =
+      let same : prefix_len (λ g. not (is_main g)) fs ≡ n = same_one (prefix_len (λ g. not (is_main g)) fs) n e' in
+      twice (is_main f) (at_prefix (λ g. not (is_main g)) fs f (ap (slice_get fs) same ∙ h))
+  by false e' = absurd cc
 
 -- ---- the site of a store
 
@@ -164,8 +192,8 @@ module _ (u : Typed) (s : Store) (well : IsWellTyped u) (staged : in_stage u ≡
     in_stage_here : IsStaged found.0
     in_stage_here = staged_at u.functions n found.0 found.1 split.1
 
-    plain_here : (is_integer_or_void t ≡ true) × (are_data ps ≡ true)
-    plain_here = both (is_integer_or_void t) (are_data ps) (ap is_plain_function (sym found.2) ∙ in_stage_here.0)
+    plain_here : (is_result found.0 t ≡ true) × (are_data ps ≡ true)
+    plain_here = both (is_result found.0 t) (are_data ps) (ap (is_plain_function found.0) (sym found.2) ∙ in_stage_here.0)
 
     pub params_are : are_data ps ≡ true
     params_are = plain_here.1
@@ -187,7 +215,7 @@ module _ (u : Typed) (s : Store) (well : IsWellTyped u) (staged : in_stage u ≡
         let ps_is : here.1 ≡ ps = ap types_in (sym here.2 ∙ ty_is) in
         let bd : IsBody u t ps f.slots (Some b.0) =
         subst (λ (r : Ty). IsBody u r ps f.slots (Some b.0)) r_is (subst (λ (qs : Tys). IsBody u here.0 qs f.slots (Some b.0)) ps_is (subst (λ (o : Option Stmt). IsBody u here.0 here.1 f.slots o) b.1 here.4)) in
-        let st = both (are_slots b.0 (parameters f.ty) 0 f.slots) (in_stmt b.0) (ap (in_body f) (sym b.1) ∙ in_stage_here.1) in
+        let st = both (are_slots f.slots) (in_stmt b.0) (ap (in_body f) (sym b.1) ∙ in_stage_here.1) in
         let as_many : length (params_in f.ty) ≡ length (list_of ps) = ap (λ (ty : Ty). length (params_in ty)) ty_is in
         record {
           inst = at.inst;
@@ -207,9 +235,15 @@ module _ (u : Typed) (s : Store) (well : IsWellTyped u) (staged : in_stage u ≡
           others = bd.0.0;
           begins = bd.0.1;
           well = bd.2;
-          slots_are = slots_of b.0 (length (list_of ps)) 0 f.slots (ap (λ (k : ℕ). are_slots b.0 k 0 f.slots) (sym (counted ps) ∙ ap parameters (sym ty_is)) ∙ st.0);
+          slots_are = slots_of f.slots st.0;
           ready = record { in_stage = st.1; callable = callable b.0 b.1; objects = λ x e. right_of (is_whole (get_or f.slots x void)) (in_stmt_of b.0 x) e };
-          result = result_kind t plain_here.0;
+          result = result_kind f t plain_here.0;
+          args = replicate (target_of u f b.0).first (I32 0);
+          first_is = sym (length-replicate (target_of u f b.0).first (I32 0));
           laid_out = well.laid_out;
           has_members = λ n l e. not_empty l.members (well.structs n l e).0;
         }
+
+    -- of `main`
+    pub main_result : main_number u ≡ Some n → (f : Function) → slice_get u.functions n ≡ Some f → is_integer_or_void t ≡ true
+    main_result is_number f at = main_kind found.0 t (named_main u.functions n found.0 is_number found.1) plain_here.0

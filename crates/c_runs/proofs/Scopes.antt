@@ -190,6 +190,11 @@ module _ (E : Env) where
 
 -- ---- a block that is entered
 
+-- a plain variable may be named, too
+pub open_plain_too : (E : Env) (now : Now) (w : World) (x : ℕ) (t : Ty) → slice_get E.kinds x ≡ Some (t, false) → AreOpen E.kinds now.visible w.objects w.locals → AreOpen E.kinds (now.visible ++ x ∷ []) w.objects w.locals
+open_plain_too E now w x t at h i u seen at' =
+    visible_either now.visible (x ∷ []) i seen (λ old. h i u old at') (λ new. absurd (other_kind E.kinds x i t u at at' (only_one x i new)))
+
 module _ (E : Env) (zeros : (x : ℕ) (t : Ty) → slice_get E.kinds x ≡ Some (t, false) → Op E (zeroed E.target (Local x) (scalar_of t)) same (gone E) (Always E) (hold (Local x) (plain (zero_value t)))) where
   abbrev Enters : Code → List ℕ → Does (Unit {0}) → Type 0
   Enters c ns x =
@@ -199,15 +204,10 @@ module _ (E : Env) (zeros : (x : ℕ) (t : Ty) → slice_get E.kinds x ≡ Some 
   abbrev enters_slot : ℕ → Slot → Does (Unit {0})
   enters_slot x k = enter_slot E.unit E.calls E.turn_bound E.kinds x k
 
-  -- a plain variable
-  open_plain_too : (now : Now) (w : World) (x : ℕ) (t : Ty) → slice_get E.kinds x ≡ Some (t, false) → AreOpen E.kinds now.visible w.objects w.locals → AreOpen E.kinds (now.visible ++ x ∷ []) w.objects w.locals
-  open_plain_too now w x t at h i u seen at' =
-      visible_either now.visible (x ∷ []) i seen (λ old. h i u old at') (λ new. absurd (other_kind E.kinds x i t u at at' (only_one x i new)))
-
   enters_plain : (x : ℕ) (t : Ty) → slice_get E.kinds x ≡ Some (t, false) → Enters (entered E.target false (Local x) t) (x ∷ []) (enters_slot x (t, false))
   enters_plain x t at n has now le vs r dep w m k =
       weaker E.site (size_of (entered E.target false (Local x) t n)) m (at_work E m w vs (front (entered E.target false (Local x) t n).instrs r)) w (λ u w1 m1. at_work E m1 w1 vs r) (λ u w1 m1. Always E u × Kept E now w1 m1) (λ u w1 m1. Kept E (record now { visible = now.visible ++ x ∷ [] }) w1 m1) (enters_slot x (t, false) w)
-      (λ u w1 m1 g. kept_seen E now (now.visible ++ x ∷ []) w1.objects w1 m1 (open_plain_too now w1 x t at g.1.open') g.1)
+      (λ u w1 m1 g. kept_seen E now (now.visible ++ x ∷ []) w1.objects w1 m1 (open_plain_too E now w1 x t at g.1.open') g.1)
       (zeros x t at n has now le vs r dep w m k)
 
   enters_made : (x : ℕ) (t : Ty) → slice_get E.kinds x ≡ Some (t, true) → Enters (made E.target (Local x) (size E.unit.structs t)) (x ∷ []) (enters_slot x (t, true))

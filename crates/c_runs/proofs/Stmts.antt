@@ -148,7 +148,7 @@ take_append : (us vs : List Variable) (k : ℕ) → take (length us + k) (us ++ 
 take_append [] vs k = let z : 0 + k ≡ k = omega arith in ap (λ (j : ℕ). take j vs) z
 take_append (u ∷ us) vs k = let z : suc (length us) + k ≡ suc (length us + k) = omega arith in ap (λ (j : ℕ). take j (u ∷ (us ++ vs))) z ∙ ap (λ (l : List Variable). u ∷ l) (take_append us vs k)
 
-take_zero : (vs : List Variable) → take 0 vs ≡ []
+pub take_zero : (vs : List Variable) → take 0 vs ≡ []
 take_zero [] = refl
 take_zero (v ∷ vs) = refl
 

@@ -11,8 +11,8 @@ use Rattle.ms_machine.specs.Running.{AreBytes, func_thread, start_of}
 use Rattle.ms_machine.specs.Store.{Store}
 use Rattle.ms_task.specs.Control.{exit_ended, nobody}
 use Rattle.ms_task.specs.declared.func.FuncInst.{FuncInst}
-use Rattle.ms_task.specs.Thread.{Activation, Frame, Item, Thread, result_of}
-use Rattle.c_types.specs.Types.{Ty, function, Tys, no_types}
+use Rattle.ms_task.specs.Thread.{Activation, Frame, Item, Thread, result_of, sequence}
+use Rattle.c_types.specs.Types.{Ty, void, integer, function, Tys, no_types}
 use Rattle.c_typed.specs.Tree.{Function, Made, Stmt, Typed}
 use Rattle.c_well_typed.specs.Units.{IsWellTyped}
 use Rattle.c_meaning.specs.Functions as meaning
@@ -21,18 +21,17 @@ use Rattle.c_meaning.specs.Units.{as_result, closed, first_world, give_each, mai
 use Rattle.c_meaning.specs.Values.{Value}
 use Rattle.c_meaning.specs.World as world
 use Rattle.c_meaning.specs.World.{End, World, Result, gives, ends, Does, after, ◌>>=◌, ◌>>◌, pure}
-use Rattle.ms_emit.specs.Codes.{Coded, size_of}
 use Rattle.c_code.specs.Modules.{index_of, is_defined, is_defined_at}
 use Rattle.c_stage.specs.Stage.{are_data, in_stage}
+use Rattle.c_runs.proofs.Bodies.{is_integer_or_void}
 use Rattle.c_runs.specs.Correct.{Behaves, IsPrefix, Reports, main_result, meant, result_in, run_at}
 use Rattle.c_runs.specs.Crews.{Same, crew_end}
 use Rattle.c_runs.specs.Ends.{stop_of}
 use Rattle.c_runs.specs.Placed.{IsPlaced, longest_of}
 use Rattle.c_runs.specs.Threads.{Ended, Trapped, Paused, Stuck, Stop, behind, ran, steps}
 use Rattle.c_runs.specs.Words.{pushed}
-use Rattle.c_runs.proofs.Bodies.{IsResult, is_integer, is_void}
-use Rattle.c_runs.proofs.Callees.{Compiled, Callees, D, E, K, Left, home, begun, callee_runs, calls_run, does, fits, frame_is, ints_of, sequence_is, start_kept, start_now, temps}
-use Rattle.c_runs.proofs.Exprs.{AreScalars}
+use Rattle.c_runs.proofs.Callees.{Compiled, E, Left, begun_with, does, start_now}
+use Rattle.c_runs.proofs.Calls.{Callees, Entered, calls_run, enters}
 use Rattle.c_runs.proofs.Goes.{Asks, IsEnd, Mem, Runs, RunsTo, Site, Stops, store, weaker}
 use Rattle.c_runs.proofs.Grants.{Agrees}
 use Rattle.c_runs.proofs.Longer.{same_run}
@@ -51,7 +50,7 @@ use Rattle.c_runs.proofs.Related.{Env, IsValue, Now, frame_of, front, pushes}
 
 module _ (S : Site) (L : Linked S) (unit : Typed) (all : (f : ℕ) (t : Ty) (ps : Tys) → slice_get (map (λ (g : Function). g.ty) unit.functions) f ≡ Some (function t ps) → IsCallable unit f → Compiled S unit f t ps)
     (par_ints : (f : ℕ) (t : Ty) (ps : Tys) → slice_get (map (λ (g : Function). g.ty) unit.functions) f ≡ Some (function t ps) → are_data ps ≡ true)
-    (m0 : Mem) (new : m0.homes ≡ []) (placed : Placed m0.segments) (f : ℕ) (t : Ty) (p : Compiled S unit f t no_types) (is_main : main_number unit ≡ Some f) (none_made : unit.made ≡ []) (longest_is : S.most ≡ longest_of unit) where
+    (m0 : Mem) (new : m0.homes ≡ []) (placed : Placed m0.segments) (f : ℕ) (t : Ty) (p : Compiled S unit f t no_types) (is_main : main_number unit ≡ Some f) (none_made : unit.made ≡ []) (longest_is : S.most ≡ longest_of unit) (numeric : is_integer_or_void t ≡ true) where
   abbrev pub here_store : Store
   here_store = store S m0
 
@@ -62,35 +61,29 @@ module _ (S : Site) (L : Linked S) (unit : Typed) (all : (f : ℕ) (t : Ty) (ps 
     abbrev w : World
     w = first_world unit input g fuel
 
-    callees : Callees S L unit all par_ints (suc fuel) f 1 t no_types p
-    callees = calls_run S L unit all par_ints (suc fuel) f 1 t no_types p
+    callees : (q : Compiled S unit f t no_types) → Callees S L unit all par_ints (suc fuel) f 1 t no_types q
+    callees q = calls_run S L unit all par_ints (suc fuel) f 1 t no_types q
 
-    abbrev ints : (g' : ℕ) (s : Ty) (qs : Tys) → slice_get (map (λ (h : Function). h.ty) unit.functions) g' ≡ Some (function s qs) → AreScalars (E S L unit (suc fuel) f 1 t no_types p) L (home S L unit (suc fuel) f 1 t no_types p) (K S L unit (suc fuel) f 1 t no_types p) refl qs
-    ints = ints_of S L unit all par_ints (suc fuel) f 1 t no_types p
+    entered : Entered S L unit all par_ints (suc fuel) f 1 t no_types p callees refl [] [] tt
+    entered = enters S L unit all par_ints (suc fuel) f 1 t no_types p callees refl [] [] tt
 
-    abbrev whole : Coded
-    whole = D S L unit (suc fuel) f 1 t no_types p
+    abbrev size : ℕ
+    size = entered.0
 
     abbrev nobody' : Frame
     nobody' = nobody S.funcs
 
     abbrev ws : World
-    ws = begun S L unit (suc fuel) f 1 t no_types p [] [] tt w
-
-    abbrev m' : Mem
-    m' = record m0 { temps = temps S L unit (suc fuel) f 1 t no_types p }
+    ws = begun_with S L unit (suc fuel) f 1 t no_types p [] w
 
     abbrev marked : List Item
     marked = Activation (result_of p.inst) 0 nobody' ∷ []
 
-    start_is : start ≡ exit_ended (frame_of (E S L unit (suc fuel) f 1 t no_types p) m' ws) [] (front whole.instrs marked)
-    start_is =
-        ap (λ (o : Option FuncInst). start_of here_store (index_of unit f) o) p.is_at
-        ∙ ap (λ (is : List Instr). exit_ended (record { function = index_of unit f; locals = map default_of p.inst.locals }) [] (front is marked)) (sequence_is S L unit (suc fuel) f 1 t no_types p callees ints)
-        ∙ ap (λ (fr : Frame). exit_ended fr [] (front whole.instrs marked)) (frame_is S L unit (suc fuel) f 1 t no_types p [] [] tt w m0 new)
+    start_is : start ≡ exit_ended (record { function = index_of unit f; locals = [] ++ map default_of p.inst.locals }) [] (front (sequence S.funcs (index_of unit f) 0) marked)
+    start_is = ap (λ (o : Option FuncInst). start_of here_store (index_of unit f) o) p.is_at
 
     abbrev body : World → Result Value
-    body = does S L unit (suc fuel) f 1 t no_types p callees ints []
+    body = does S L unit (suc fuel) f 1 t no_types p []
 
     abbrev Em : Env
     Em = E S L unit (suc fuel) f 1 t no_types p
@@ -116,16 +109,17 @@ module _ (S : Site) (L : Linked S) (unit : Typed) (all : (f : ℕ) (t : Ty) (ps 
 
     -- of a type without a pointer
     pushed_end : (hs : List Home) (v : Value) → pushes Em t hs v [] ≡ pushed t v []
-    pushed_end hs v = go p.result where
-      go : IsResult t → pushes Em t hs v [] ≡ pushed t v []
-      go (is_void q) = subst (λ (s : Ty). pushes Em s hs v [] ≡ pushed s v []) (sym q) refl
-      go (is_integer u q) = subst (λ (s : Ty). pushes Em s hs v [] ≡ pushed s v []) (sym q) refl
+    pushed_end hs v = go t numeric where
+      go : (s : Ty) → is_integer_or_void s ≡ true → pushes Em s hs v [] ≡ pushed s v []
+      go void q = refl
+      go (integer u) q = refl
+      go _ q = absurd cc
 
-    main_runs : Runs S (size_of whole) m' start ws to_end AtEnd (body ws)
+    main_runs : Runs S size m0 start w to_end AtEnd (body ws)
     main_runs =
-        subst (λ (t0 : Thread). Runs S (size_of whole) m' t0 ws to_end AtEnd (body ws)) (sym start_is)
-        (weaker S (size_of whole) m' (exit_ended (frame_of (E S L unit (suc fuel) f 1 t no_types p) m' ws) [] (front whole.instrs marked)) ws to_end (Left S L unit (suc fuel) f 1 t no_types p callees ints now) AtEnd (body ws) (λ v w1 m1 q. (q.0, q.1, q.2))
-        (callee_runs S L unit (suc fuel) f 1 t no_types p callees ints [] [] tt nobody' [] [] refl now (record { below = omega arith; waits = refl; seen = refl }) ws m' (start_kept S L unit (suc fuel) f 1 t no_types p [] [] tt (suc fuel) w m0 new refl (omega arith) are_bytes related)))
+        subst (λ (t0 : Thread). Runs S size m0 t0 w to_end AtEnd (body ws)) (sym start_is)
+        (weaker S size m0 (exit_ended (record { function = index_of unit f; locals = [] ++ map default_of p.inst.locals }) [] (front (sequence S.funcs (index_of unit f) 0) marked)) w to_end (Left S L unit (suc fuel) f 1 t no_types p now) AtEnd (body ws) (λ v w1 m1 q. (q.0, q.1, q.2))
+        (entered.2 nobody' [] [] refl (suc fuel) (omega arith) w m0 new refl (omega arith) are_bytes related))
 
     abbrev ending : Result Value → End × World
     ending x = closed unit (after (back_to w x) (λ v. pure (as_result unit t v)))
@@ -146,26 +140,27 @@ module _ (S : Site) (L : Linked S) (unit : Typed) (all : (f : ℕ) (t : Ty) (ps 
       pub how : How here_store start input fuel st e w1 known.cost known.events
       pub reports : (end : crews.End) → end ≡ crew_end st → Reports t e end
 
-    bounded : (cost f' : ℕ) → cost + S.most * f' ≤ size_of whole + S.most * fuel → cost ≤ S.most * (fuel + 1)
+    bounded : (cost f' : ℕ) → cost + S.most * f' ≤ size + S.most * fuel → cost ≤ S.most * (fuel + 1)
     bounded cost f' h =
-        let small = fits S L unit (suc fuel) f 1 t no_types p callees ints in
+        let small = entered.1 in
         let more : S.most * (fuel + 1) ≡ S.most * fuel + S.most = ap (λ (n : ℕ). S.most * n) (let q : fuel + 1 ≡ suc fuel = omega arith in q) ∙ mul-suc S.most fuel in
         omega (arith, h, small, more)
 
     reports_value : (v : Value) (end : crews.End) → end ≡ crews.Results (slice_get (pushed t v []) 0 ∷ []) → Reports t (world.result (as_result unit t v)) end
-    reports_value v end e = go p.result where
-      go : IsResult t → Reports t (world.result (as_result unit t v)) end
-      go (is_void q) = subst (λ (s : Ty). end ≡ crews.Results (slice_get (pushed s v []) 0 ∷ []) → Reports s (world.result (as_result unit s v)) end) (sym q) (λ e'. e') e
-      go (is_integer u q) = subst (λ (s : Ty). end ≡ crews.Results (slice_get (pushed s v []) 0 ∷ []) → Reports s (world.result (as_result unit s v)) end) (sym q) (λ e'. e') e
+    reports_value v end e = go t numeric e where
+      go : (s : Ty) → is_integer_or_void s ≡ true → end ≡ crews.Results (slice_get (pushed s v []) 0 ∷ []) → Reports s (world.result (as_result unit s v)) end
+      go void q e' = e'
+      go (integer u) q e' = e'
+      go _ q e' = absurd cc
 
-    known_end : (e : End) (w1 : World) → Stops S (size_of whole) ws w1 m' start e → Bundle e w1
+    known_end : (e : End) (w1 : World) → Stops S size w w1 m0 start e → Bundle e w1
     known_end e w1 h = record {
       st = stop_of e;
       known = record { puts = h.puts; events = h.events; cost = h.cost; so = h.so; output = h.tells.output; sizes = h.tells.sizes; taken = h.tells.grants; room = bounded h.cost w1.fuel h.greatest };
       how = how_of e h.is h.asks;
       reports = reports_of e h.is;
     } where
-      how_of : (e : End) → IsEnd S e w1 → Asks S e h.cost m' start ws h.events → How here_store start input fuel (stop_of e) e w1 h.cost h.events
+      how_of : (e : End) → IsEnd S e w1 → Asks S e h.cost m0 start w h.events → How here_store start input fuel (stop_of e) e w1 h.cost h.events
       how_of (world.result v) is asks = absurd is
       how_of (world.unsafe u) is asks = over (λ q. absurd cc)
       how_of world.zero_divide is asks = over (λ q. absurd cc)
@@ -191,7 +186,7 @@ module _ (S : Site) (L : Linked S) (unit : Typed) (all : (f : ℕ) (t : Ty) (ps 
       reports_of world.out_of_fuel is end q = q
       reports_of world.lost is end q = absurd is
 
-    bundle_of : (x : Result Value) → RunsTo S (size_of whole) m' start ws to_end AtEnd x → Bundle (ending x).0 (ending x).1
+    bundle_of : (x : Result Value) → RunsTo S size m0 start w to_end AtEnd x → Bundle (ending x).0 (ending x).1
     bundle_of (gives v w1) r =
         let h = r.2 in
         let none_more : h.cost + 0 ≡ h.cost = omega arith in
@@ -291,6 +286,7 @@ compiled_behaves u s n f b t well staged is_main at has_body ty_is placed =
     let there : is_defined_at u n ≡ true = ap is_defined at ∙ ap (λ (o : Option Stmt). is_some o) has_body in
     behaves (site_of u s) (stands.linked u s well staged placed) u all (stands.params_are u s well staged placed) (mem_of s) refl placed.segments n t
     (all n t no_types (typed_at u.functions n at) (λ lt. there)) is_main (stands.none_made u s well staged placed) refl
+    (stands.main_result u s well staged placed n f t no_types is_main at ty_is)
   where
     typed_at : (fs : List Function) (k : ℕ) → slice_get fs k ≡ Some f → slice_get (map (λ (g : Function). g.ty) fs) k ≡ Some (function t no_types)
     typed_at [] k e = absurd cc

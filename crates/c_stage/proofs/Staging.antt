@@ -9,7 +9,6 @@ use Rattle.c_typed.specs.declared.tree.Expr.TheVariants as exprs
 use Rattle.c_typed.specs.declared.tree.Stmt.{Stmt}
 use Rattle.c_typed.specs.declared.tree.Stmt.TheVariants as stmts
 use Rattle.c_typed.specs.declared.unit.Function.{Function}
-use Rattle.c_typed.specs.Objects.{is_object}
 use Rattle.c_typed.specs.Parts.{sequence}
 use Rattle.c_typed.specs.Tree as tree
 use Rattle.c_well_typed.specs.Statements.{count}
@@ -17,11 +16,9 @@ use Rattle.c_typed.specs.refinement.Views.{body_of, expr_of, function_of, list_o
 use Rattle.c_typed.proofs.Sequences.{scope_is, switch_is}
 use Rattle.c_well_typed.specs.Units.{list_of as tys_in}
 use Rattle.c_code.specs.Functions.{params_in, result_in}
-use Rattle.c_stage.specs.Stage.{are_data, are_slots, count_in, in_body, in_expr, in_exprs, in_stmt, in_stmts, is_data, is_integer_or_void, is_plain_function, parameters}
-use Rattle.c_place.specs.refinement.Flags.{of_body, of_function, slots_from}
+use Rattle.c_stage.specs.Stage.{are_data, are_slots, in_body, in_expr, in_exprs, in_stmt, in_stmts, is_data, is_plain_function, is_result}
 use Rattle.c_place.specs.refinement.Lists.{exprs_in}
 use Rattle.c_place.proofs.Lists.{call_is}
-use Rattle.c_stage.specs.refinement.Staged.{are_unset, is_apart}
 use Rattle.c_code.proofs.ParameterTypes.{params_are}
 use Rattle.c_place.proofs.Lists.{count_is}
 
@@ -38,62 +35,24 @@ data_are : (ps : Tys) → are_data ps ≡ list_all is_data (tys_in ps)
 data_are no_types = refl
 data_are (types t ts) = ap (λ b. is_data t && b) (data_are ts)
 
-plain_is : (t : Ty) → is_function t ≡ true → is_plain_function t ≡ (is_integer_or_void (result_in t) && list_all is_data (params_in t))
-plain_is void e = absurd (cc)
-plain_is (integer t) e = absurd (cc)
-plain_is (struct n) e = absurd (cc)
-plain_is (pointer t) e = absurd (cc)
-plain_is (array t n) e = absurd (cc)
-plain_is (function r ps) e = ap (λ b. is_integer_or_void r && b) (data_are ps)
+plain_is : (f : tree.Function) (t : Ty) → is_function t ≡ true → is_plain_function f t ≡ (is_result f (result_in t) && list_all is_data (params_in t))
+plain_is f void e = absurd (cc)
+plain_is f (integer t) e = absurd (cc)
+plain_is f (struct n) e = absurd (cc)
+plain_is f (pointer t) e = absurd (cc)
+plain_is f (array t n) e = absurd (cc)
+plain_is f (function r ps) e = ap (λ b. is_result f r && b) (data_are ps)
 
-pub function_is : (f : _) → is_plain_function (type_of (code.Function f)) ≡ is_integer_or_void (type_of f.value.result) && list_all is_data (map type_of f.value.params.items)
-function_is f =
-    plain_is (type_of (code.Function f)) refl ∙ ap (λ ts. is_integer_or_void (type_of f.value.result) && list_all is_data ts) (params_are f)
+pub function_is : (f : tree.Function) (s : _) → is_plain_function f (type_of (code.Function s)) ≡ is_result f (type_of s.value.result) && list_all is_data (map type_of s.value.params.items)
+function_is f s =
+    plain_is f (type_of (code.Function s)) refl ∙ ap (λ ts. is_result f (type_of s.value.result) && list_all is_data ts) (params_are s)
 
--- parameters are counted by their list
-so_many : (ps : Tys) → count_in ps ≡ length (tys_in ps)
-so_many no_types = refl
-so_many (types t ts) = ap suc (so_many ts)
+slots_are : (ts : List Ty) → list_all is_data ts ≡ are_slots ts
+slots_are [] = refl
+slots_are (t ∷ ts) = ap (λ b. is_data t && b) (slots_are ts)
 
-parameters_are : (t : Ty) → is_function t ≡ true → parameters t ≡ length (params_in t)
-parameters_are void e = absurd (cc)
-parameters_are (integer t) e = absurd (cc)
-parameters_are (struct n) e = absurd (cc)
-parameters_are (pointer t) e = absurd (cc)
-parameters_are (array t n) e = absurd (cc)
-parameters_are (function r ps) e = so_many ps
-
-pub arity_is : (f : _) → parameters (type_of (code.Function f)) ≡ length f.value.params.items
-arity_is f = parameters_are (type_of (code.Function f)) refl ∙ ap length (params_are f) ∙ length-map f.value.params.items type_of
-
--- slots are tested by their types, and by their flags
-both : (a b c d : Bool) → ((a && c) && (b && d)) ≡ (a && (b && (c && d)))
-both true true c d = refl
-both true false true d = refl
-both true false false d = refl
-both false b c d = refl
-
-slots_by_flags : (s : tree.Stmt) (k n : ℕ) (ts : List Ty) → (list_all is_data ts && are_unset k n (slots_from s n ts)) ≡ are_slots s k n ts
-slots_by_flags s k n [] = refl
-slots_by_flags s k n (t ∷ ts) =
-    both (is_data t) (is_apart k n (is_object s n t)) (list_all is_data ts) (are_unset k (suc n) (slots_from s (suc n) ts))
-    ∙ ap (λ b. is_data t && (is_apart k n (is_object s n t) && b)) (slots_by_flags s k (suc n) ts)
-
-pub body_in : (f : Function) (s : Stmt) (flags : List Bool) → f.body ≡ Some s → flags ≡ of_function (function_of f)
-    → in_body (function_of f) (body_of f.body) ≡ ((list_all is_data (map type_of f.slots.items) && are_unset (parameters (type_of f.ty)) 0 flags) && in_stmt (stmt_of s))
-body_in f s flags is e =
-    let slots = map type_of f.slots.items in
-    let k = parameters (type_of f.ty) in
-    ap (λ b. in_body (function_of f) (body_of b)) is
-    ∙ ap (λ b. b && in_stmt (stmt_of s)) (sym (slots_by_flags (stmt_of s) k 0 slots))
-    ∙ ap (λ l. (list_all is_data slots && are_unset k 0 l) && in_stmt (stmt_of s)) (sym (e ∙ ap (λ b. of_body slots (body_of b)) is))
-
--- the flags of a function in a list of them
-pub flags_at : (fs : List Function) (all : List (List Bool)) (i : ℕ) (f : Function) (flags : List Bool) → all ≡ map of_function (map function_of fs)
-    → i < length fs → f ≡ get_or fs i f → flags ≡ get_or all i flags → flags ≡ of_function (function_of f)
-flags_at fs all i f flags is lt at here =
-    here ∙ ap (λ l. get_or l i flags) is ∙ get_or-map of_function (map function_of fs) i (function_of f) flags (simp length-map lt)
-    ∙ ap of_function (get_or-map function_of fs i f (function_of f) lt ∙ ap function_of (sym at))
+pub body_in : (f : Function) (s : Stmt) → f.body ≡ Some s → in_body (function_of f) (body_of f.body) ≡ (list_all is_data (map type_of f.slots.items) && in_stmt (stmt_of s))
+body_in f s is = ap (λ b. in_body (function_of f) (body_of b)) is ∙ ap (λ b. b && in_stmt (stmt_of s)) (sym (slots_are (map type_of f.slots.items)))
 
 -- ---- lists in the tree
 

@@ -1,14 +1,12 @@
 -- The units of which it is shown so far that their code does what they mean: those of integers and pointers to objects, variables of
--- such types, of which parameters are no objects, their addresses, control, and calls of functions by their names. An i32 counts the
--- groups of a switch, but for one number.
-use Rattle.std.specs.Prelude.{ℕ, suc, nat_lt, ◌&&◌, not, Bool, true, false, List, [], ◌∷◌, Option, Some, None}
+-- such types, their addresses, control, and calls of functions by their names. An i32 counts the groups of a switch, but for one number.
+use Rattle.std.specs.Prelude.{nat_lt, ◌&&◌, not, Bool, true, false, List, [], ◌∷◌, bytes_eq, codes, Option, Some, None}
 use Rattle.c_types.specs.declared.types.Scalar.{Scalar}
 use Rattle.c_types.specs.declared.types.Scalar.TheVariants as scalars
 use Rattle.c_types.specs.Types.{Ty, void, integer, pointer, function, is_function, Tys, no_types, types}
 use Rattle.c_typed.specs.declared.ops.Variable.TheVariants.{Local, Global}
 use Rattle.c_typed.specs.declared.ops.RelOp.{RelOp}
 use Rattle.c_typed.specs.declared.ops.RelOp.TheVariants as relations
-use Rattle.c_typed.specs.Objects.{is_object}
 use Rattle.c_typed.specs.Tree as tree
 use Rattle.c_typed.specs.Tree.{Place, of, deref, Expr, Exprs, none, more, Stmt, nothing, perform, if_else, loop, do_while, switch, scope, return, return_nothing, break, continue, Stmts, done, seq, Function, Typed}
 use Rattle.c_well_typed.specs.Statements.{count}
@@ -91,40 +89,35 @@ abbrev mutual
   in_stmts done = true
   in_stmts (seq s ss) = in_stmt s && in_stmts ss
 
--- each slot from the n-th on is of such a type, and none of the first k, the parameters, is an object
-abbrev pub are_slots : Stmt → (k n : ℕ) → List Ty → Bool
-are_slots body k n [] = true
-are_slots body k n (t ∷ ts) = is_data t && (not (nat_lt n k && is_object body n t) && are_slots body k (suc n) ts)
-
-abbrev pub count_in : Tys → ℕ
-count_in no_types = 0
-count_in (types t ts) = suc (count_in ts)
-
--- how many parameters
-abbrev pub parameters : Ty → ℕ
-parameters (function r ps) = count_in ps
-parameters _ = 0
+abbrev pub are_slots : List Ty → Bool
+are_slots [] = true
+are_slots (t ∷ ts) = is_data t && are_slots ts
 
 abbrev pub are_data : Tys → Bool
 are_data no_types = true
 are_data (types t ts) = is_data t && are_data ts
 
-abbrev pub is_integer_or_void : Ty → Bool
-is_integer_or_void void = true
-is_integer_or_void (integer t) = true
-is_integer_or_void _ = false
+abbrev pub is_main : Function → Bool
+is_main f = bytes_eq (codes "main") f.name
 
-abbrev pub is_plain_function : Ty → Bool
-is_plain_function (function r ps) = is_integer_or_void r && are_data ps
-is_plain_function _ = false
+-- what a function gives: `main` gives no pointer
+abbrev pub is_result : Function → Ty → Bool
+is_result f void = true
+is_result f (integer t) = true
+is_result f (pointer t) = not (is_function t) && not (is_main f)
+is_result f _ = false
+
+abbrev pub is_plain_function : Function → Ty → Bool
+is_plain_function f (function r ps) = is_result f r && are_data ps
+is_plain_function f _ = false
 
 abbrev pub in_body : Function → Option Stmt → Bool
 in_body f None = true
-in_body f (Some s) = are_slots s (parameters f.ty) 0 f.slots && in_stmt s
+in_body f (Some s) = are_slots f.slots && in_stmt s
 
 abbrev pub in_functions : List Function → Bool
 in_functions [] = true
-in_functions (f ∷ fs) = is_plain_function f.ty && (in_body f f.body && in_functions fs)
+in_functions (f ∷ fs) = is_plain_function f f.ty && (in_body f f.body && in_functions fs)
 
 abbrev pub is_empty : {A : Type 0} → List A → Bool
 is_empty [] = true

@@ -1,35 +1,24 @@
 //! The units of which it is shown that their code does what they mean.
 
-ghost use Rattle.std.specs.Prelude.{◌≡◌, ◌&&◌, length, map, nat_lt, not, IfOk};
+ghost use Rattle.std.specs.Prelude.{◌≡◌, ◌&&◌, map, nat_lt, not};
 ghost use Rattle.std.specs.List.{list_all};
 ghost use Rattle.c_types.specs.Types.{type_of};
 ghost use Rattle.c_typed.specs.Parts.{sequence};
 ghost use Rattle.c_typed.specs.refinement.Views.{body_of, expr_of, function_of, list_of, place_of, sized_of, step_of, stmt_of, typed_of};
 ghost use Rattle.c_stage.specs.Stage as words;
 ghost use Rattle.c_well_typed.specs.Statements.{count};
-ghost use Rattle.c_place.specs.refinement.Flags.{flags, of_function};
 ghost use Rattle.c_place.specs.refinement.Lists.{exprs_in};
-ghost use Rattle.c_stage.specs.refinement.Staged as staged;
 
-use c_place::find_objects;
 use c_typed::{Expr, Function, Place, RelOp, Sized, Stmt, Variable};
 use c_types::{CType, Scalar, Signature};
 use c_well_typed::Typed;
-use ms_types::Vector;
-use std::alloc::{AllocError, Global};
 
-/// Whether a unit is one of integers and pointers to objects, variables of such types, of which parameters are no objects, control, and
-/// calls of functions by their names.
-pub fn is_in_stage(alloc: Global, typed: &Typed) -> Result<bool, AllocError>
-    ensures { IfOk result (λ b. b ≡ words.in_stage (typed_of typed.now)) }
+/// Whether a unit is one of integers and pointers to objects, variables of such types, control, and calls of functions by their names.
+pub fn is_in_stage(typed: &Typed) -> bool
+    ensures { result ≡ words.in_stage (typed_of typed.now) }
 {
-    let objects = find_objects(alloc, typed)?;
     let unit = typed.unit();
-    Ok(
-        unit.made.is_empty()
-            && unit.globals.is_empty()
-            && in_functions(&unit.functions, &objects.functions),
-    )
+    unit.made.is_empty() && unit.globals.is_empty() && in_functions(&unit.functions)
 }
 
 /// Whether it is an integer, or a pointer that leads to no function.
@@ -57,30 +46,37 @@ fn are_data(ts: &[CType]) -> bool
     true
 }
 
-fn is_integer_or_void(t: &CType) -> bool
-    ensures { result ≡ words.is_integer_or_void (type_of t.now) }
+fn is_main(f: &Function) -> bool
+    ensures { result ≡ words.is_main (function_of f.now) }
+{
+    b"main".as_slice() == f.name.as_slice()
+}
+
+/// Whether a function may give this: `main` gives no pointer.
+fn is_result(f: &Function, t: &CType) -> bool
+    ensures { result ≡ words.is_result (function_of f.now) (type_of t.now) }
 {
     match t {
         CType::Void => true,
         CType::Int(_) => true,
+        CType::Pointer(t) => !t.is_function() && !is_main(f),
         CType::Struct(_) => false,
-        CType::Pointer(_) => false,
         CType::Array(_, _) => false,
         CType::Function(_) => false,
     }
 }
 
-fn is_plain_signature(f: &Signature) -> bool
-    ensures { result ≡ (words.is_integer_or_void (type_of f.now.result) && list_all words.is_data (map type_of f.now.params.items)) }
+fn is_plain_signature(f: &Function, s: &Signature) -> bool
+    ensures { result ≡ (words.is_result (function_of f.now) (type_of s.now.result) && list_all words.is_data (map type_of s.now.params.items)) }
 {
-    is_integer_or_void(&f.result) && are_data(&f.params)
+    is_result(f, &s.result) && are_data(&s.params)
 }
 
-fn is_plain_function(t: &CType) -> bool
-    ensures { result ≡ words.is_plain_function (type_of t.now) }
+fn is_plain_function(f: &Function) -> bool
+    ensures { result ≡ words.is_plain_function (function_of f.now) (type_of f.now.ty) }
 {
-    match t {
-        CType::Function(f) => is_plain_signature(f),
+    match &f.ty {
+        CType::Function(s) => is_plain_signature(f, s),
         CType::Void => false,
         CType::Int(_) => false,
         CType::Struct(_) => false,
@@ -243,75 +239,26 @@ fn in_stmts(ss: &[Stmt]) -> bool
     true
 }
 
-/// How many parameters.
-fn parameters(t: &CType) -> usize
-    ensures { result ≡ words.parameters (type_of t.now) }
-{
-    match t {
-        CType::Function(f) => arity(f),
-        CType::Void => 0,
-        CType::Int(_) => 0,
-        CType::Struct(_) => 0,
-        CType::Pointer(_) => 0,
-        CType::Array(_, _) => 0,
-    }
-}
-
-fn arity(f: &Signature) -> usize
-    ensures { result ≡ length f.now.params.items }
-{
-    f.params.len()
-}
-
-/// Whether a slot is no parameter, of which there are so many, or has no flag.
-fn is_apart(parameters: usize, slot: usize, flag: bool) -> bool
-    ensures { result ≡ staged.is_apart parameters slot flag }
-{
-    slot >= parameters || !flag
-}
-
-/// Whether none of the first slots, the parameters, has a flag.
-fn are_unset(parameters: usize, flags: &[bool]) -> bool
-    ensures { result ≡ staged.are_unset parameters 0 flags.now }
-{
-    for i in 0..flags.len() {
-        if !is_apart(parameters, i, flags[i]) {
-            return false;
-        }
-    }
-    true
-}
-
-/// Whether slots of these types, with these flags, are integers and pointers to objects, and no parameter is an object.
-fn are_slots(parameters: usize, slots: &[CType], flags: &[bool]) -> bool
-    ensures { result ≡ (list_all words.is_data (map type_of slots.now) && staged.are_unset parameters 0 flags.now) }
-{
-    are_data(slots) && are_unset(parameters, flags)
-}
-
-fn in_body(f: &Function, flags: &[bool]) -> bool
-    requires { flags.now ≡ of_function (function_of f.now) }
+fn in_body(f: &Function) -> bool
     ensures { result ≡ words.in_body (function_of f.now) (body_of f.now.body) }
 {
     match &f.body {
         None => true,
-        Some(body) => are_slots(parameters(&f.ty), &f.slots, flags) && in_stmt(body),
+        Some(body) => are_data(&f.slots) && in_stmt(body),
     }
 }
 
-fn in_function(f: &Function, flags: &[bool]) -> bool
-    requires { flags.now ≡ of_function (function_of f.now) }
-    ensures { result ≡ (words.is_plain_function (type_of f.now.ty) && words.in_body (function_of f.now) (body_of f.now.body)) }
+fn in_function(f: &Function) -> bool
+    ensures { result ≡ (words.is_plain_function (function_of f.now) (type_of f.now.ty) && words.in_body (function_of f.now) (body_of f.now.body)) }
 {
-    is_plain_function(&f.ty) && in_body(f, flags)
+    is_plain_function(f) && in_body(f)
 }
 
-fn in_functions(fs: &[Function], flags: &[Vector<bool>]) -> bool
-    requires { flags.now ≡ map of_function (map function_of fs.now) }
+fn in_functions(fs: &[Function]) -> bool
     ensures { result ≡ words.in_functions (map function_of fs.now) }
 {
-    for i in 0..fs.len() {
-        if !in_function(&fs[i], flags[i].as_slice()) {
+    for f in fs {
+        if !in_function(f) {
             return false;
         }
     }

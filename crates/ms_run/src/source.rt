@@ -123,11 +123,10 @@ fn staged(alloc: Global, bytes: &[u8]) -> Result<Typed, SourceFault>
         Ok(typed) => typed,
         Err(fault) => return Err(fault),
     };
-    match is_in_stage(alloc, &typed) {
-        Ok(true) => Ok(typed),
-        Ok(false) => Err(SourceFault::Stage),
-        Err(_) => Err(SourceFault::Memory),
+    if !is_in_stage(&typed) {
+        return Err(SourceFault::Stage);
     }
+    Ok(typed)
 }
 
 /// Reads the module of a file of C (C11, 5.1.1.2): the bytes are a unit that has a typing, and this is its module.
