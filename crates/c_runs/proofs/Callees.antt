@@ -111,9 +111,10 @@ module _ (s : Stmt) (k : ℕ) where
   pub flat_of : (n : ℕ) (ts : List Ty) → ((x : ℕ) (t : Ty) → slice_get ts x ≡ Some t → n + x < k → is_object s (n + x) t ≡ false) → AreFlat n ts
   flat_of n [] h = tt
   flat_of n (t ∷ ts) h =
-      let z : n + 0 ≡ n = omega arith in
-      ((λ lt. subst (λ (m : ℕ). is_object s m t ≡ false) z (h 0 t refl (omega (arith, lt)))),
-      flat_of (suc n) ts (λ x u e lt. let q : n + suc x ≡ suc n + x = omega arith in subst (λ (m : ℕ). is_object s m u ≡ false) q (h (suc x) u e (omega (arith, lt)))))
+      let z : n + 0 ≡ n = omega arith in (
+        (λ lt. subst (λ (m : ℕ). is_object s m t ≡ false) z (h 0 t refl (omega (arith, lt)))),
+        flat_of (suc n) ts (λ x u e lt. let q : n + suc x ≡ suc n + x = omega arith in subst (λ (m : ℕ). is_object s m u ≡ false) q (h (suc x) u e (omega (arith, lt)))),
+      )
 
   pub flat_is : (n : ℕ) (ts : List Ty) → AreFlat n ts → (x : ℕ) (t : Ty) → slice_get ts x ≡ Some t → IsFlat (n + x) t
   flat_is n [] a x t e = absurd cc
@@ -235,7 +236,7 @@ pub record Compiled (S : Site) (unit : Typed) (f : ℕ) (t : Ty) (ps : Tys) : Ty
   pub args : List Word
   pub first_is : (target_of unit function_is stmt_is).first ≡ length args
 
-get_within : (xs : List FuncInst) (i : ℕ) (x : FuncInst) → slice_get xs i ≡ Some x → i < length xs
+pub get_within : (xs : List FuncInst) (i : ℕ) (x : FuncInst) → slice_get xs i ≡ Some x → i < length xs
 get_within [] i x e = absurd cc
 get_within (y ∷ xs) zero x e = omega arith
 get_within (y ∷ xs) (suc i) x e = let lt = get_within xs i x e in omega (arith, lt)
@@ -261,7 +262,7 @@ module _ (S : Site) (L : Linked S) (unit : Typed) (i f d : ℕ) (t : Ty) (ps : T
   pub long : k ≤ length slots
   long = let a = ap length p.begins in let b = length-append (list_of ps) p.others in omega (arith, a, b)
 
-  scratch_is : tg.scratch ≡ length p.args + length slots
+  pub scratch_is : tg.scratch ≡ length p.args + length slots
   scratch_is = let e = p.first_is in omega (arith, e)
 
   abbrev pub kinds : List Slot
@@ -411,7 +412,7 @@ module _ (S : Site) (L : Linked S) (unit : Typed) (i f d : ℕ) (t : Ty) (ps : T
       frame_is : (vs : List Word) (caller : Frame) (r : List Item) (w : World) (m : Mem) → m.homes ≡ hs → callee E hs S.funcs (index_of unit f) p.inst ps us vs caller r p.is_at p.takes ok ≡ frame_of E (record m { temps = temps }) (begun_with us w)
       frame_is vs caller r w m e =
           ap (λ (ls : List Word). record { function = index_of unit f; locals = ls }) (locals_are ∙ ap (λ (gs : List Home). words E.places kinds gs (first_locals p.function_is us) ++ temps) (sym e))
-          ∙ ap (λ (as : List Word). record { function = index_of unit f; locals = as ++ (words E.places kinds m.homes (first_locals p.function_is us) ++ temps) }) (sym no_args)
+          ∙ ap (λ (front : List Word). record { function = index_of unit f; locals = front ++ (words E.places kinds m.homes (first_locals p.function_is us) ++ temps) }) (sym no_args)
 
       start_kept : (below : ℕ) (w : World) (m : Mem) → m.homes ≡ hs → suc w.depth ≡ d → w.fuel < below → AreBytes w.input → Related E.unit.structs E.places m.homes w.objects m.segments
           → Kept Ep (start_now below m.homes w.objects) (begun_with us w) (record m { temps = temps })
@@ -497,7 +498,7 @@ module _ (S : Site) (L : Linked S) (unit : Typed) (i f d : ℕ) (t : Ty) (ps : T
           (body_runs Ep p.result caller vs r dep B (flow >>= (λ g. leaves us >> pure g)) now (λ n h small at. flow_runs hs us ok n h small now at) 1 has.1 flat_fits le w m kp))
 
       pub flat_enters : (hs : List Home) (us : List Value) (ok : AreOf E ps hs us) → Enters hs us ok (size_of D)
-      flat_enters hs us ok caller vs r dep below le w m e deep lt bytes related =
+      flat_enters hs us ok caller vs r dep below le w m e deeper lt bytes related =
           let m' : Mem = record m { temps = temps } in
           let ws = begun_with us w in
           let now = start_now below m.homes w.objects in
@@ -510,4 +511,4 @@ module _ (S : Site) (L : Linked S) (unit : Typed) (i f d : ℕ) (t : Ty) (ps : T
           (resize S (0 + size_of D) (size_of D) m ts w to (Left now) (does us ws) (omega arith)
           (behind_goes S 0 (size_of D) w ws m m' ts ts to (Left now) (does us ws)
           (goes.shifts S w ws m temps ts refl refl (tells_nothing w ws refl refl refl))
-          (callee_runs hs us ok caller vs r dep now (record { below = le; waits = refl; seen = refl }) ws m' (start_kept hs us ok below w m e deep lt bytes related))))
+          (callee_runs hs us ok caller vs r dep now (record { below = le; waits = refl; seen = refl }) ws m' (start_kept hs us ok below w m e deeper lt bytes related))))

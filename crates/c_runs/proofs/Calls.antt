@@ -66,8 +66,8 @@ use Rattle.c_runs.proofs.Bodies.{IsResult, at_top, body_runs}
 use Rattle.c_runs.proofs.Entering.{arg_words, args_held, args_words, callee, deep_call, first_apart, first_own, firsts, flat, length_us, others_are, shallow_call}
 use Rattle.c_runs.proofs.Ready.{IsCallable, IsReady, in_stmt_of}
 use Rattle.c_runs.proofs.Whole.{both}
-
-use Rattle.c_runs.proofs.Callees.{AreFlat, Compiled, E, Enters, K, begun_with, does, flat_enters, flat_fits, flat_of, home, in_front, long, object_is, slots, tg}
+use Rattle.c_runs.proofs.Callees.{AreFlat, Compiled, get_within, E, Enters, K, begun_with, does, flat_enters, flat_fits, flat_of, home, in_front, long, object_is, slots, tg}
+use Rattle.c_runs.proofs.Entering.{length_args}
 use Rattle.c_runs.proofs.Copied.{copied_enters, copied_fits}
 use Rattle.c_runs.proofs.Params.{AreScalarsOf, args_from, numbers_are, numbers_differ}
 use Rattle.c_runs.proofs.Ending.{Differ}
@@ -81,25 +81,46 @@ none_both P (y ∷ xs) k e =
 
 none_at : (P : ℕ → Bool) (k x : ℕ) → list_any P (numbers k) ≡ false → x < k → P x ≡ false
 none_at P zero x e lt = absurd (omega (arith, lt))
-none_at P (suc k) x e lt = by (nat_lt x k) refl (none_both P (numbers k) k e) where
-  by : (b : Bool) → nat_lt x k ≡ b → (list_any P (numbers k) ≡ false) × (P k ≡ false) → P x ≡ false
-  by true q r = none_at P k x r.0 (ltb-true x k q)
-  by false q r = let le = ltb-false x k q in let same : x ≡ k = omega (arith, le, lt) in ap P same ∙ r.1
+none_at P (suc k) x e lt = by (nat_lt x k) refl (none_both P (numbers k) k e) (none_at P k x) where
+  by : (b : Bool) → nat_lt x k ≡ b → (list_any P (numbers k) ≡ false) × (P k ≡ false) → (list_any P (numbers k) ≡ false → x < k → P x ≡ false) → P x ≡ false
+  by true q r rest = rest r.0 (ltb-true x k q)
+  by false q r rest = let le = ltb-false x k q in let same : x ≡ k = omega (arith, le, lt) in ap P same ∙ r.1
 
 some_numbers : (P : ℕ → Bool) (k : ℕ) → list_any P (numbers k) ≡ true → (k == 0) ≡ false
 some_numbers P zero e = absurd cc
-some_numbers P (suc k) e = refl
+some_numbers P (suc k) e = grind arith
 
 all_scalars : (E : Env) (hs : List Home) (ps : Tys) → are_data ps ≡ true → AreScalarsOf E hs ps
 all_scalars E hs no_types e = tt
 all_scalars E hs (types t ts) e = let q = both (is_data t) (are_data ts) e in (data_scalar t (data_type t q.0), all_scalars E hs ts q.1)
 
 -- with these arguments in front
-at_args : {S : Site} {unit : Typed} {f : ℕ} {t : Ty} {ps : Tys} (p : Compiled S unit f t ps) (as : List Word) → (target_of unit p.function_is p.stmt_is).first ≡ length as → Compiled S unit f t ps
-at_args p as e = record {
-  inst = p.inst; is_at = p.is_at; no_host = p.no_host; at_home = p.at_home; takes = p.takes; gives_one = p.gives_one; function_is = p.function_is; named = p.named; typed = p.typed; stmt_is = p.stmt_is;
-  has_body = p.has_body; locals_are = p.locals_are; code = p.code; small = p.small; others = p.others; begins = p.begins; well = p.well; slots_are = p.slots_are; ready = p.ready; result = p.result;
-  laid_out = p.laid_out; has_members = p.has_members; args = as; first_is = e;
+abbrev at_args : {S : Site} {unit : Typed} {f : ℕ} {t : Ty} {ps : Tys} (p : Compiled S unit f t ps) (front : List Word) → (target_of unit p.function_is p.stmt_is).first ≡ length front → Compiled S unit f t ps
+at_args p front e = record {
+  inst = p.inst;
+  is_at = p.is_at;
+  no_host = p.no_host;
+  at_home = p.at_home;
+  takes = p.takes;
+  gives_one = p.gives_one;
+  function_is = p.function_is;
+  named = p.named;
+  typed = p.typed;
+  stmt_is = p.stmt_is;
+  has_body = p.has_body;
+  locals_are = p.locals_are;
+  code = p.code;
+  small = p.small;
+  others = p.others;
+  begins = p.begins;
+  well = p.well;
+  slots_are = p.slots_are;
+  ready = p.ready;
+  result = p.result;
+  laid_out = p.laid_out;
+  has_members = p.has_members;
+  args = front;
+  first_is = e;
 }
 
 -- ---- all calls, by the bound
@@ -134,16 +155,15 @@ module _ (S : Site) (L : Linked S) (unit : Typed) (all : (f : ℕ) (t : Ty) (ps 
     abbrev first_of : Bool → ℕ
     first_of b = if b then length (params_in p.function_is.ty) else 0
 
-    pub Entered : Type 0
+    abbrev pub Entered : Type 0
     Entered = (size : ℕ) × (size ≤ S.most) × Enters S L unit i f d t ps p hs us ok size
 
     by_kind : (b : Bool) → list_any is_param_object (numbers (length (params_in p.function_is.ty))) ≡ b → Entered
-    unfolding Entered
     by_kind false q =
         let first_zero : target.first ≡ 0 = ap first_of q in
         let p' = at_args p [] first_zero in
         let none = flat_of p.stmt_is n_params 0 (slots S L unit i f d t ps p)
-        (λ x s e lt. sym (object_is S L unit i f d t ps p x s e) ∙ none_at is_param_object n_params x (ap (λ (n : ℕ). list_any is_param_object (numbers n)) (sym as_many) ∙ q) lt) in (
+        (λ x s e lt. let z : 0 + x ≡ x = omega arith in subst (λ (n : ℕ). is_object p.stmt_is n s ≡ false) (sym z) (sym (object_is S L unit i f d t ps p x s e) ∙ none_at is_param_object n_params x (ap (λ (n : ℕ). list_any is_param_object (numbers n)) (sym as_many) ∙ q) (omega (arith, lt)))) in (
           _,
           flat_fits S L unit i f d t ps p' refl none (callees p') (ints_of i f d t ps p'),
           flat_enters S L unit i f d t ps p' refl none (callees p') (ints_of i f d t ps p') hs us ok,

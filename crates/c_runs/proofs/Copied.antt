@@ -133,7 +133,7 @@ module _ (S : Site) (L : Linked S) (unit : Typed) (i f d : ℕ) (t : Ty) (ps : T
       frame_is : (vs : List Word) (caller : Frame) (r : List Item) (w : World) (m : Mem) → m.homes ≡ hs → callee Ec hs S.funcs (index_of unit f) p.inst ps us vs caller r p.is_at p.takes ok ≡ frame_of Ec (record m { temps = first_temps }) (empty w)
       frame_is vs caller r w m e =
           ap (λ (ls : List Word). record { function = index_of unit f; locals = arg_words Ec hs ps us ++ ls }) (declared_are hs)
-          ∙ ap (λ (as : List Word). record { function = index_of unit f; locals = as ++ (words Ec.places (kinds S L unit i f d t ps p) hs (firsts ks) ++ first_temps) }) (sym args_are)
+          ∙ ap (λ (front : List Word). record { function = index_of unit f; locals = front ++ (words Ec.places (kinds S L unit i f d t ps p) hs (firsts ks) ++ first_temps) }) (sym args_are)
           ∙ ap (λ (gs : List Home). record { function = index_of unit f; locals = p.args ++ (words Ec.places (kinds S L unit i f d t ps p) gs (firsts ks) ++ first_temps) }) (sym e)
 
       start_kept : (below : ℕ) (w : World) (m : Mem) → suc w.depth ≡ d → w.fuel < below → AreBytes w.input → Related Ec.unit.structs Ec.places m.homes w.objects m.segments
@@ -244,7 +244,7 @@ module _ (S : Site) (L : Linked S) (unit : Typed) (i f d : ℕ) (t : Ty) (ps : T
           -- ---- from the start of the call to the caller
 
           pub copied_enters : (ok : AreOf Ec ps hs us) (args_are : p.args ≡ arg_words Ec hs ps us) → length us ≤ length ks → Enters S L unit i f d t ps p hs us ok (size_of D)
-          copied_enters ok args_are le' caller vs r dep below le w m e deep lt bytes related =
+          copied_enters ok args_are le' caller vs r dep below le w m e deeper lt bytes related =
               let m' : Mem = record m { temps = first_temps } in
               let ws = empty w in
               let now = now_of below m.homes w.objects in
@@ -263,4 +263,4 @@ module _ (S : Site) (L : Linked S) (unit : Typed) (i f d : ℕ) (t : Ty) (ps : T
               (goes.shifts S w ws m first_temps ts refl refl (tells_nothing w ws refl refl refl))
               (subst (λ (o : Option ValType). Runs S (size_of D) m' (at_work Ec m' ws vs (front D.instrs (Activation o (length vs) caller ∷ r))) ws to good (copied ws)) (sym p.gives_one)
               (body_runs Ec p.result caller vs r dep whole (copy >> block_of) now (arrives now (record { below = le; grown = grown; seen = λ x s. absurd cc })) 1 has.1 copied_fits (record { below = le; waits = refl; seen = refl }) ws m'
-              (start_kept hs us ok args_are below w m deep lt bytes related))))))
+              (start_kept hs us ok args_are below w m deeper lt bytes related))))))

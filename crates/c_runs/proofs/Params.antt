@@ -1,7 +1,7 @@
 -- Parameters of a function of which one is an object: each is copied from its argument, which stands in front of all slots, and the
 -- objects are made in their order.
 use Rattle.std.proofs.Common.{◌≡◌, ◌≢◌, ℕ, zero, suc, ◌+◌, ◌<◌, ◌≤◌, List, [], ◌∷◌, ◌++◌, length, length-append, append_assoc, append-nil, drop, map, Bool, true, false, Option, Some, None, refl, sym, ap, ◌∙◌, arith, subst}
-use Rattle.std.specs.Prelude.{slice_get, slice_set, ◌==◌}
+use Rattle.std.specs.Prelude.{slice_get, slice_set, ◌==◌, ◌||◌, ◌*◌}
 use Rattle.std.proofs.lemmas.Bool.{ne_eqb}
 use Rattle.std.proofs.lemmas.Option.{slice_get_within}
 use Rattle.ms_linear.specs.declared.value.Value.{Value as Word}
@@ -21,7 +21,8 @@ use Rattle.c_meaning.specs.Objects as objects
 use Rattle.c_meaning.specs.Objects.{Object, Outcome, to_object, write}
 use Rattle.c_meaning.specs.World.{End, Held, plain, object, World, Result, gives, ends, Does, after, ◌>>=◌, ◌>>◌, pure, alter, as_done, known}
 use Rattle.c_meaning.specs.World as world
-use Rattle.c_meaning.specs.Accesses.{hold, make_frame}
+use Rattle.c_meaning.specs.Accesses.{asked, hold, make_frame, with_object}
+use Rattle.c_meaning.specs.Shapes.{shape, size}
 use Rattle.c_meaning.specs.Expressions as meaning
 use Rattle.c_meaning.specs.Expressions.{Spot, at, variable, place, spot_of}
 use Rattle.c_meaning.specs.Functions.{first_locals, make_param, make_params, numbers_from}
@@ -131,11 +132,11 @@ numbers_on n (u ∷ us) =
     sym (append_assoc (numbers n) (n ∷ []) (numbers_from (suc n) us)) ∙ numbers_on (suc n) us ∙ ap numbers z
 
 pub numbers_are : (us : List Value) → numbers_from 0 us ≡ numbers (length us)
-numbers_are us = numbers_on 0 us
+numbers_are us = numbers_on 0 us ∙ (let z : 0 + length us ≡ length us = omega arith in ap numbers z)
 
 behind_others : (n k : ℕ) (us : List Value) → n < k → is_visible (numbers_from k us) n ≡ false
 behind_others n k [] lt = refl
-behind_others n k (u ∷ us) lt = ap (λ (b : Bool). Rattle.std.specs.Prelude.cond b true (is_visible (numbers_from (suc k) us) n)) (ne_eqb k n (λ e. omega (arith, lt, e))) ∙ behind_others n (suc k) us (omega (arith, lt))
+behind_others n k (u ∷ us) lt = ap (λ (b : Bool). b || is_visible (numbers_from (suc k) us) n) (ne_eqb k n (λ e. omega (arith, lt, e))) ∙ behind_others n (suc k) us (omega (arith, lt))
 
 pub numbers_differ : (n : ℕ) (us : List Value) → Differ (numbers_from n us)
 numbers_differ n [] = tt
@@ -156,37 +157,40 @@ module _ (unit : Typed) (kinds : List Slot) where
   abbrev with_values : ℕ → List Value → World → World
   with_values n us w = record w { locals = filled n us w.locals }
 
-  mutual
-    pub copies_same : (n : ℕ) (us : List Value) (w : World) → SameBut (copies n us w) (make_params unit kinds n us (with_values n us w))
-    copies_same n [] w = given_same tt w
-    copies_same n (u ∷ us) w = by_kind n u us w (slice_get kinds n)
+  -- behind this parameter
+  abbrev Rest : ℕ → List Value → Type 0
+  Rest n us = (w : World) → SameBut (copies n us w) (make_params unit kinds n us (with_values n us w))
 
-    by_kind : (n : ℕ) (u : Value) (us : List Value) (w : World) (o : Option Slot)
-        → SameBut (after (after (known o w) (copy_param n u)) (λ q. copies (suc n) us)) (after (after (known o (with_values n (u ∷ us) w)) (make_param unit n u)) (λ q. make_params unit kinds (suc n) us))
-    by_kind n u us w None = ended_same world.lost w (filled n (u ∷ us) w.locals)
-    by_kind n u us w (Some (t, false)) = copies_same (suc n) us (record w { locals = slice_set w.locals n (plain u) })
-    by_kind n u us w (Some (t, true)) = by_grants n u us t w w.grants
+  by_write : (n : ℕ) (us : List Value) → Rest (suc n) us → (w : World) (ls : List Held) → ls ≡ filled (suc n) us w.locals → (o : Outcome (List Object))
+      → SameBut (after (after (as_done o w) (λ os w1. gives (tt {0}) (record w1 { objects = os }))) (λ q. copies (suc n) us))
+      (after (after (as_done o (record w { locals = ls })) (λ os w1. gives (tt {0}) (record w1 { objects = os }))) (λ q. make_params unit kinds (suc n) us))
+  by_write n us rest w ls e (objects.gives os) =
+      subst (λ (l : List Held). SameBut (copies (suc n) us (record w { objects = os })) (make_params unit kinds (suc n) us (record w { locals = l; objects = os }))) (sym e)
+      (rest (record w { objects = os }))
+  by_write n us rest w ls e (objects.stops u) = ended_same (world.unsafe u) w ls
+  by_write n us rest w ls e objects.lost = ended_same world.lost w ls
 
-    by_grants : (n : ℕ) (u : Value) (us : List Value) (t : Ty) (w : World) (gs : List Bool)
-        → SameBut (after (make_param unit n u (t, true) (record w { grants = gs })) (λ q. copies (suc n) us)) (after (make_param unit n u (t, true) (record (with_values n (u ∷ us) w) { grants = gs })) (λ q. make_params unit kinds (suc n) us))
-    by_grants n u us t w [] = ended_same world.ungranted (record w { grants = [] }) (filled n (u ∷ us) w.locals)
-    by_grants n u us t w (false ∷ gs) = ended_same world.exhausted _ (filled n (u ∷ us) w.locals)
-    by_grants n u us t w (true ∷ gs) =
-        let o : ℕ = length w.objects in
-        let w0 : World = Rattle.c_meaning.specs.Accesses.with_object (objects.new_object objects.frame (Rattle.c_meaning.specs.Shapes.shape unit.structs t) 1) (Rattle.c_meaning.specs.Accesses.asked gs (1 * Rattle.c_meaning.specs.Shapes.size (Rattle.c_meaning.specs.Shapes.shape unit.structs t)) w) in
-        let w1 : World = record w0 { locals = slice_set w.locals n (object o) } in
-        by_write n us w1 (slice_set (filled (suc n) us (slice_set w.locals n (plain u))) n (object o))
-        (filled_set (suc n) us (slice_set w.locals n (plain u)) n (object o) (omega arith) ∙ ap (filled (suc n) us) (set_twice w.locals n (plain u) (object o)))
-        (write w1.objects (to_object o) u)
+  by_grants : (n : ℕ) (u : Value) (us : List Value) → Rest (suc n) us → (t : Ty) (w : World) (gs : List Bool)
+      → SameBut (after (make_param unit n u (t, true) (record w { grants = gs })) (λ q. copies (suc n) us)) (after (make_param unit n u (t, true) (record (with_values n (u ∷ us) w) { grants = gs })) (λ q. make_params unit kinds (suc n) us))
+  by_grants n u us rest t w [] = ended_same world.ungranted (record w { grants = [] }) (filled n (u ∷ us) w.locals)
+  by_grants n u us rest t w (false ∷ gs) = ended_same world.exhausted (asked gs (1 * size (shape unit.structs t)) w) (filled n (u ∷ us) w.locals)
+  by_grants n u us rest t w (true ∷ gs) =
+      let o : ℕ = length w.objects in
+      let w0 : World = with_object (objects.new_object objects.frame (shape unit.structs t) 1) (asked gs (1 * size (shape unit.structs t)) w) in
+      let w1 : World = record w0 { locals = slice_set w.locals n (object o) } in
+      by_write n us rest w1 (slice_set (filled (suc n) us (slice_set w.locals n (plain u))) n (object o))
+      (filled_set (suc n) us (slice_set w.locals n (plain u)) n (object o) (omega arith) ∙ ap (filled (suc n) us) (set_twice w.locals n (plain u) (object o)))
+      (write w1.objects (to_object o) u)
 
-    by_write : (n : ℕ) (us : List Value) (w : World) (ls : List Held) → ls ≡ filled (suc n) us w.locals → (o : Outcome (List Object))
-        → SameBut (after (after (as_done o w) (λ os w1. gives tt (record w1 { objects = os }))) (λ q. copies (suc n) us))
-        (after (after (as_done o (record w { locals = ls })) (λ os w1. gives tt (record w1 { objects = os }))) (λ q. make_params unit kinds (suc n) us))
-    by_write n us w ls e (objects.gives os) =
-        subst (λ (l : List Held). SameBut (copies (suc n) us (record w { objects = os })) (make_params unit kinds (suc n) us (record w { locals = l; objects = os }))) (sym e)
-        (copies_same (suc n) us (record w { objects = os }))
-    by_write n us w ls e (objects.stops u) = ended_same (world.unsafe u) w ls
-    by_write n us w ls e objects.lost = ended_same world.lost w ls
+  by_kind : (n : ℕ) (u : Value) (us : List Value) → Rest (suc n) us → (w : World) (o : Option Slot)
+      → SameBut (after (after (known o w) (copy_param n u)) (λ q. copies (suc n) us)) (after (after (known o (with_values n (u ∷ us) w)) (make_param unit n u)) (λ q. make_params unit kinds (suc n) us))
+  by_kind n u us rest w None = ended_same world.lost w (filled n (u ∷ us) w.locals)
+  by_kind n u us rest w (Some (t, false)) = rest (record w { locals = slice_set w.locals n (plain u) })
+  by_kind n u us rest w (Some (t, true)) = by_grants n u us rest t w w.grants
+
+  pub copies_same : (n : ℕ) (us : List Value) → Rest n us
+  copies_same n [] w = given_same tt w
+  copies_same n (u ∷ us) w = by_kind n u us (copies_same (suc n) us) w (slice_get kinds n)
 
 -- ---- the code of a parameter that is an object
 
@@ -298,7 +302,9 @@ module _ (E : Env) (hs : List Home) where
         by [] = refl
         by (false ∷ gs) = refl
         by (true ∷ gs) =
-            ap (λ (h : Option Held). after (after (known h _) (λ y. pure (spot_of (Local x) y))) (λ q. meaning.store q u)) (sym (set_there w.locals x (object (length w.objects)) lt))
+            let w1 : World = with_object (objects.new_object objects.frame (shape E.unit.structs t) 1) (asked gs (1 * size (shape E.unit.structs t)) (record w { grants = true ∷ gs })) in
+            let w2 : World = record w1 { locals = slice_set w.locals x (object (length w.objects)) } in
+            ap (λ (h : Option Held). after (after (known h w2) (λ y. pure (spot_of (Local x) y))) (λ q. meaning.store q u)) (sym (set_there w.locals x (object (length w.objects)) lt))
 
       copies_object : Copies (param E.target true x t) (x ∷ []) (make_param E.unit x u (t, true))
       copies_object =

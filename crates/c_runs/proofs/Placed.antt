@@ -1,7 +1,7 @@
 -- What a call needs of each function, from what a store has of the unit.
 use Rattle.std.proofs.Common.{◌≡◌, ◌≢◌, ℕ, zero, suc, ◌+◌, ◌<◌, ◌≤◌, List, [], ◌∷◌, length, map, max, Bool, true, false, cond, is_some, Option, Some, None, refl, sym, ap, ◌∙◌, arith, subst}
 use Rattle.std.specs.Prelude.{get_or, nat_lt, not, position, replicate, slice_get, ◌&&◌}
-use Rattle.core.specs.List.{prefix_len}
+use Rattle.std.specs.List.{position_or_len}
 use Rattle.std.specs.List.{All, list_any}
 use Rattle.std.proofs.lemmas.Option.{slice_get_within}
 use Rattle.std.proofs.lemmas.List.{length-map, length-replicate}
@@ -13,6 +13,8 @@ use Rattle.ms_module.specs.declared.instr.Instr.{Instr}
 use Rattle.ms_module.specs.Numbered.{sequence_at}
 use Rattle.ms_task.specs.declared.func.FuncInst.{FuncInst}
 use Rattle.ms_task.specs.Thread.{body_in, body_of, sequence}
+use Rattle.ms_linear.specs.declared.value.Value.TheVariants.{I32}
+use Rattle.c_meaning.specs.Units.{main_number}
 use Rattle.c_types.specs.Types.{Ty, void, integer, pointer, is_function, function, Tys, no_types, types}
 use Rattle.c_typed.specs.Objects.{is_whole}
 use Rattle.c_typed.specs.Tree.{Function, Made, Stmt, Typed}
@@ -145,23 +147,17 @@ main_kind f (integer u) m e = refl
 main_kind f (pointer s) m e = absurd (let q = (both (not (is_function s)) (not (is_main f)) e).1 in let z : not (is_main f) ≡ false = ap not m in let w : true ≡ false = sym q ∙ z in cc)
 main_kind f _ m e = absurd cc
 
-at_prefix : (q : Function → Bool) (fs : List Function) (f : Function) → slice_get fs (prefix_len q fs) ≡ Some f → q f ≡ false
-at_prefix q [] f h = absurd cc
-at_prefix q (g ∷ fs) f h = by (q g) refl h where
-  by : (b : Bool) → q g ≡ b → slice_get (g ∷ fs) (cond b (1 + prefix_len q fs) 0) ≡ Some f → q f ≡ false
-  by true e h' = let z : 1 + prefix_len q fs ≡ suc (prefix_len q fs) = omega arith in at_prefix q fs f (ap (slice_get (g ∷ fs)) (sym z) ∙ h')
-  by false e h' = ap q (sym (same_one g f h')) ∙ e
+at_first : (p : Function → Bool) (fs : List Function) (f : Function) → slice_get fs (position_or_len p fs) ≡ Some f → p f ≡ true
+at_first p [] f h = absurd cc
+at_first p (g ∷ fs) f h = by (p g) refl h (at_first p fs f) where
+  by : (b : Bool) → p g ≡ b → slice_get (g ∷ fs) (cond (not b) (1 + position_or_len p fs) 0) ≡ Some f → (slice_get fs (position_or_len p fs) ≡ Some f → p f ≡ true) → p f ≡ true
+  by true e h' rest = ap p (sym (same_one g f h')) ∙ e
+  by false e h' rest = let z : 1 + position_or_len p fs ≡ suc (position_or_len p fs) = omega arith in rest (ap (slice_get (g ∷ fs)) (sym z) ∙ h')
 
 named_main : (fs : List Function) (n : ℕ) (f : Function) → position is_main fs ≡ Some n → slice_get fs n ≡ Some f → is_main f ≡ true
-named_main fs n f e h = by (nat_lt (prefix_len (λ g. not (is_main g)) fs) (length fs)) e where
-  twice : (b : Bool) → not b ≡ false → b ≡ true
-  twice true q = refl
-  twice false q = absurd cc
-
-  by : (b : Bool) → cond b (Some (prefix_len (λ g. not (is_main g)) fs)) None ≡ Some n → is_main f ≡ true
-  by true e' =
-      let same : prefix_len (λ g. not (is_main g)) fs ≡ n = same_one (prefix_len (λ g. not (is_main g)) fs) n e' in
-      twice (is_main f) (at_prefix (λ g. not (is_main g)) fs f (ap (slice_get fs) same ∙ h))
+named_main fs n f e h = by (nat_lt (position_or_len is_main fs) (length fs)) e where
+  by : (b : Bool) → cond b (Some (position_or_len is_main fs)) None ≡ Some n → is_main f ≡ true
+  by true e' = at_first is_main fs f (ap (slice_get fs) (same_one (position_or_len is_main fs) n e') ∙ h)
   by false e' = absurd cc
 
 -- ---- the site of a store
@@ -245,5 +241,5 @@ module _ (u : Typed) (s : Store) (well : IsWellTyped u) (staged : in_stage u ≡
         }
 
     -- of `main`
-    pub main_result : main_number u ≡ Some n → (f : Function) → slice_get u.functions n ≡ Some f → is_integer_or_void t ≡ true
-    main_result is_number f at = main_kind found.0 t (named_main u.functions n found.0 is_number found.1) plain_here.0
+    pub main_result : main_number u ≡ Some n → is_integer_or_void t ≡ true
+    main_result is_number = main_kind found.0 t (named_main u.functions n found.0 is_number found.1) plain_here.0

@@ -286,7 +286,7 @@ compiled_behaves u s n f b t well staged is_main at has_body ty_is placed =
     let there : is_defined_at u n ≡ true = ap is_defined at ∙ ap (λ (o : Option Stmt). is_some o) has_body in
     behaves (site_of u s) (stands.linked u s well staged placed) u all (stands.params_are u s well staged placed) (mem_of s) refl placed.segments n t
     (all n t no_types (typed_at u.functions n at) (λ lt. there)) is_main (stands.none_made u s well staged placed) refl
-    (stands.main_result u s well staged placed n f t no_types is_main at ty_is)
+    (stands.main_result u s well staged placed n t no_types (typed_at u.functions n at) is_main)
   where
     typed_at : (fs : List Function) (k : ℕ) → slice_get fs k ≡ Some f → slice_get (map (λ (g : Function). g.ty) fs) k ≡ Some (function t no_types)
     typed_at [] k e = absurd cc
