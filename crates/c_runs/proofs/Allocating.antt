@@ -12,7 +12,7 @@ use Rattle.ms_module.specs.declared.numeric.BinOp.TheVariants as bins
 use Rattle.ms_module.specs.declared.numeric.Numeric.TheVariants.{ExtendU, Wrap}
 use Rattle.ms_module.specs.declared.numeric.RelOp.TheVariants as rels
 use Rattle.ms_module.specs.declared.numeric.Width.TheVariants.{W32, W64}
-use Rattle.ms_num.specs.Integers.{truth, wrapped}
+use Rattle.ms_num.specs.Integers.{truth}
 use Rattle.ms_num.specs.declared.arith.Arith.TheVariants.{ZeroDivide}
 use Rattle.ms_operate.specs.Numbers.{given}
 use Rattle.ms_operate.specs.Outcomes as operate
