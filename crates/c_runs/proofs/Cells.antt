@@ -128,16 +128,16 @@ module _ (E : Env) where
     inside : i < length m.temps
     inside = let e = k.temps.long in omega (arith, e, few')
 
-    tees : (v : Word) (vs : List Word) (r : List Item) → Goes E.site 1 w w m (at_work E m w (v ∷ vs) (Do (LocalTee x) ∷ r)) (with_temp E m i v) (at_work E (with_temp E m i v) w (v ∷ vs) r)
+    pub tees : (v : Word) (vs : List Word) (r : List Item) → Goes E.site 1 w w m (at_work E m w (v ∷ vs) (Do (LocalTee x) ∷ r)) (with_temp E m i v) (at_work E (with_temp E m i v) w (v ∷ vs) r)
     tees v vs r = one_here E.site w m (with_temp E m i v) (LocalTee x) (frame_of E m w) (v ∷ vs) r (thread (frame_of E (with_temp E m i v) w) (v ∷ vs) r) (set_temp E w m k.held x i is inside v (v ∷ vs) (v ∷ vs) r)
 
-    tees_kept : (v : Word) → Kept E now w (with_temp E m i v)
+    pub tees_kept : (v : Word) → Kept E now w (with_temp E m i v)
     tees_kept v = set_stays E now w.objects w m i v (λ h l e. omega (arith, l, e, few')) k
 
-    tees_there : (v : Word) → slice_get (with_temp E m i v).temps i ≡ Some v
+    pub tees_there : (v : Word) → slice_get (with_temp E m i v).temps i ≡ Some v
     tees_there v = set_there m.temps i v inside
 
-  gets : (x i : ℕ) → IsTemp E x i → (now : Now) (w : World) (m : Mem) → Kept E now w m → (v : Word) → slice_get m.temps i ≡ Some v → (vs : List Word) (r : List Item)
+  pub gets : (x i : ℕ) → IsTemp E x i → (now : Now) (w : World) (m : Mem) → Kept E now w m → (v : Word) → slice_get m.temps i ≡ Some v → (vs : List Word) (r : List Item)
       → Goes E.site 1 w w m (at_work E m w vs (Do (LocalGet x) ∷ r)) m (at_work E m w (v ∷ vs) r)
   gets x i is now w m k v e vs r = one_here E.site w m m (LocalGet x) (frame_of E m w) vs r (thread (frame_of E m w) (v ∷ vs) r) (get_temp E w m k.held x i is v e vs r)
 

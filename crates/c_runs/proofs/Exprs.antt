@@ -10,7 +10,7 @@ use Rattle.c_types.specs.declared.integers.IntType.{IntType}
 use Rattle.c_types.specs.declared.integers.IntType.TheVariants.{Char, SignedChar, UnsignedChar, Short, UnsignedShort, Int, UnsignedInt, Long, UnsignedLong, LongLong, UnsignedLongLong}
 use Rattle.c_types.specs.declared.types.Scalar.{Scalar}
 use Rattle.c_types.specs.declared.types.Scalar.TheVariants as scalars
-use Rattle.c_types.specs.Layout.{IsSmall, Table, most_bytes}
+use Rattle.c_types.specs.Layout.{IsSmall, Table, most_bytes, size as type_size}
 use Rattle.c_types.specs.Types.{Ty, is_function, void, integer, pointer, struct, array, function, Tys, no_types, scalar_of}
 use Rattle.c_types.specs.Types as ty
 use Rattle.c_typed.specs.declared.ops.BinaryOp.{BinaryOp}
@@ -22,6 +22,7 @@ use Rattle.c_typed.specs.Tree.{Place, of, deref, member, Expr, Exprs, none, more
 use Rattle.c_well_typed.specs.refinement.Expressions as well
 use Rattle.c_well_typed.specs.refinement.Expressions.{HasType, HaveTypes, IsNarrow, IsPlace, is_visible}
 use Rattle.c_typed.specs.declared.ops.RelOp.TheVariants as relations
+use Rattle.c_meaning.specs.Shapes.{shape, size}
 use Rattle.c_meaning.specs.Objects.{same_place}
 use Rattle.c_meaning.specs.Values.{Value, null, number}
 use Rattle.c_meaning.specs.World.{World, Result, gives, ends, Does, after, ask, ◌>>=◌, ◌>>◌, pure, stop, abort}
@@ -31,10 +32,10 @@ use Rattle.c_meaning.specs.Expressions as meaning
 use Rattle.c_meaning.specs.Expressions.{as_number, expr, exprs, is_true, place, store}
 use Rattle.ms_emit.specs.Codes.{Code, one, ◌⨾◌, choice}
 use Rattle.c_code.specs.Expressions as code
-use Rattle.c_code.specs.Expressions.{as_bit, begun, converted, ended, fetched, int, is_bit, is_null, left, number_in, of_type, updated}
+use Rattle.c_code.specs.Expressions.{allocated, as_bit, begun, bytes_in, converted, ended, fetched, int, is_bit, is_null, left, number_in, of_type, product_allocated, updated}
 use Rattle.c_code.specs.Operations.{constant, convert, eqz, i32, operated, truth, val_option, width_of}
 use Rattle.c_stage.specs.Stage.{in_expr, in_exprs, in_place}
-use Rattle.c_code.specs.Targets.{get, plain_in}
+use Rattle.c_code.specs.Targets.{get, plain_in, scratch_i64}
 use Rattle.c_code.specs.Uses as uses
 use Rattle.c_code.specs.Uses.{calls}
 use Rattle.c_numbers.proofs.Ranges.{value_in, wrap_in}
@@ -50,6 +51,8 @@ use Rattle.c_runs.proofs.Cells.{Leads, address_runs, assign_there, deref_leads, 
 use Rattle.c_runs.proofs.Scalars.{IsData, data_scalar, data_value, null_runs, pointer_type, scalar_type, small_slot, truth_pointer}
 use Rattle.c_runs.proofs.Equal.{equal_runs, unequal_runs}
 use Rattle.c_runs.proofs.Updates.{update_there}
+use Rattle.c_runs.proofs.Allocating.{calloc_runs, known_bytes, malloc_runs}
+use Rattle.c_runs.proofs.Freeing.{free_runs}
 use Rattle.c_runs.proofs.Ready.{IsCallable, IsReady, addressed, called, either, in_expr_of, in_exprs_of, in_place_of, parts, taken}
 use Rattle.c_runs.proofs.Whole.{whole_as_bit, whole_expr, whole_plain}
 
@@ -196,6 +199,9 @@ module _ (E : Env) (L : Linked E.site) (home : AtHome E) (k : well.Context) (slo
     -- a type with a size
     sized : (t : Ty) → IsSmall k.structs t → IsSlot E.unit.structs t
     sized t h = small_slot E.unit.structs E.laid_out E.has_members t (subst (λ (table : Table). IsSmall table t) structs_same h)
+
+    size_is : (t : Ty) → IsSmall k.structs t → type_size E.target.structs t ≡ size (shape E.unit.structs t)
+    size_is t h = ap (λ (table : Table). type_size table t) E.structs_are ∙ sym (sized t h).sized
 
     slot_scalar : (x : ℕ) (t : Ty) → slice_get k.slots x ≡ Some t → IsScalar t
     slot_scalar x t e = data_scalar t (slots_data x t e)
@@ -378,6 +384,22 @@ module _ (E : Env) (L : Linked E.site) (home : AtHome E) (k : well.Context) (slo
           left_int kept (code_of true d e ⨾ one (Call 0)) t Int (value_in_E (tree.putchar e)) h.0 (putchar_runs E L home (code_of true d e) (value_in_E e) (expr_runs true d e (integer Int) x h.1))
       expr_runs kept d tree.getchar t x h = left_int kept (one (Call 1)) t Int (value_in_E tree.getchar) h (getchar_runs E L home)
       expr_runs kept d tree.abort t x h = subst (λ (q : Ty). Carries E kept (one (Call 2)) q (stop abort)) (sym h) (abort_runs E L home (remains E kept void))
+      expr_runs kept d (tree.malloc u e) t x h =
+          let slot = sized u h.2 in
+          let c = allocated (type_size E.target.structs u) (bytes_in e) (code_of true d e) in
+          subst (λ (r : Ty). Carries E kept (left kept (Some scalars.Pointer) c) r (value_in_E (tree.malloc u e))) (sym h.0)
+          (left_runs E kept (Some scalars.Pointer) (pointer u) c (value_in_E (tree.malloc u e)) (pointer_scalar u slot.is_data)
+          (malloc_runs E u slot (type_size E.target.structs u) (size_is u h.2) (bytes_in e) (code_of true d e) (value_in_E e) (λ b q. known_bytes E k e b q x.in_stage h.3) (expr_runs true d e (integer UnsignedInt) x h.3)))
+      expr_runs kept d (tree.calloc u a b) t x h =
+          let q = parts E.target.is_object E.unit (in_expr a) (in_expr b) (uses.in_expr a) (uses.in_expr b) (in_expr_of a) (in_expr_of b) x in
+          let slot = sized u h.2 in
+          let c = product_allocated (scratch_i64 E.target) (type_size E.target.structs u) (code_of true d a) (code_of true d b) in
+          subst (λ (r : Ty). Carries E kept (left kept (Some scalars.Pointer) c) r (value_in_E (tree.calloc u a b))) (sym h.0)
+          (left_runs E kept (Some scalars.Pointer) (pointer u) c (value_in_E (tree.calloc u a b)) (pointer_scalar u slot.is_data)
+          (calloc_runs E u slot (type_size E.target.structs u) (size_is u h.2) (code_of true d a) (code_of true d b) (value_in_E a) (value_in_E b) (expr_runs true d a (integer UnsignedInt) q.0 h.3) (expr_runs true d b (integer UnsignedInt) q.1 h.4)))
+      expr_runs kept d (tree.free e) t x h =
+          subst (λ (q : Ty). Carries E kept (code_of kept d (tree.free e)) q (value_in_E (tree.free e))) (sym h.1)
+          (free_runs E h.0 h.2 kept (code_of true d e) (value_in_E e) (expr_runs true d e (pointer h.0) x h.3))
       expr_runs kept d (tree.discard e) t x h =
           subst (λ (q : Ty). Carries E kept (code_of false d e) q (value_in_E (tree.discard e))) (sym h.1)
           (op_look_in E [] (code_of false d e) same (λ hs. gone E) (remains E kept void) (IsValue E h.0) (IsValue E void) (value_in_E e) (λ v. pure meaning.nothing_given) (expr_runs false d e h.0 x h.2)

@@ -20,6 +20,9 @@ pub mod Operations
 pub mod Updates
 pub mod Scalars
 pub mod Equal
+pub mod Tested
+pub mod Allocating
+pub mod Freeing
 pub mod Exprs
 pub mod Ahead
 pub mod Flows

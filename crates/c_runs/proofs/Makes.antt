@@ -43,7 +43,7 @@ use Rattle.c_runs.proofs.Ops.{at_work, carried_is}
 use Rattle.c_runs.proofs.Nodes.{local_of_x, set_slot}
 use Rattle.c_runs.proofs.Creating.{Made, NewGoes, granted, made_world, new_goes, refused', refused_world, unasked}
 
-wrapped_small : (n : ℕ) → n < 2 ^ 32 → wrapped 32 (pos n) ≡ n
+pub wrapped_small : (n : ℕ) → n < 2 ^ 32 → wrapped 32 (pos n) ≡ n
 wrapped_small n lt = omega arith
 
 once : (n : ℕ) → n ≡ 1 * n

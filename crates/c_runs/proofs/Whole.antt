@@ -12,6 +12,7 @@ use Rattle.c_types.specs.declared.integers.IntType.TheVariants.{Int}
 use Rattle.c_types.specs.declared.types.Scalar.{Scalar}
 use Rattle.c_types.specs.declared.types.Scalar.TheVariants as scalars
 use Rattle.c_types.specs.Integers.{bits, is_signed}
+use Rattle.c_types.specs.Layout.{size}
 use Rattle.c_typed.specs.declared.ops.RelOp.TheVariants as relations
 use Rattle.c_typed.specs.declared.ops.UnaryOp.TheVariants as signs
 use Rattle.c_typed.specs.declared.ops.Variable.{Variable}
@@ -19,10 +20,10 @@ use Rattle.c_typed.specs.declared.ops.Variable.TheVariants.{Local, Global}
 use Rattle.c_typed.specs.Tree as tree
 use Rattle.c_typed.specs.Tree.{Place, of, Expr, Exprs, none, more}
 use Rattle.ms_emit.specs.Codes.{Code, plain, one, no_code, ◌⨾◌, choice}
-use Rattle.c_code.specs.Expressions.{as_bit, begun, begun_with_old, begun_over_old, converted, ended, expr, exprs, fetched, int, is_bit, is_null, left, number_in, place, pointers_compared, put, updated}
+use Rattle.c_code.specs.Expressions.{allocated, as_bit, begun, begun_with_old, begun_over_old, bytes_in, converted, ended, expr, exprs, fetched, freed, int, is_bit, is_null, left, number_in, place, pointers_compared, product_allocated, put, updated}
 use Rattle.c_code.specs.Operations.{by_width, convert, i32, narrow, to_type, truth, val_option, width_of}
 use Rattle.c_stage.specs.Stage.{in_expr, in_exprs, in_place, is_value}
-use Rattle.c_code.specs.Targets.{Target, plain_in, tee}
+use Rattle.c_code.specs.Targets.{Target, plain_in, scratch_i64, tee}
 
 -- both of two
 pub both : (a b : Bool) → (a && b) ≡ true → (a ≡ true) × (b ≡ true)
@@ -105,6 +106,22 @@ whole_unequal : (n : Bool) (a b : Code) → IsWhole a → IsWhole b → IsWhole 
 whole_unequal true a b ha hb = whole_then a _ ha (whole_plain _)
 whole_unequal false a b ha hb = whole_then a _ ha (whole_then b _ hb (whole_plain _))
 
+-- ---- objects of the heap
+
+never_empty : (is js : List Instr) (i : Instr) → is ++ i ∷ js ≡ [] → ⊥
+never_empty [] js i e = absurd cc
+never_empty (j ∷ is) js i e = absurd cc
+
+whole_allocated : (n : ℕ) (o : Option ℕ) (a : Code) → IsWhole (allocated n o a)
+whole_allocated n None a j e = absurd (never_empty (a j).instrs _ _ e)
+whole_allocated n (Some k) a j e = refl
+
+whole_product : (x n : ℕ) (a b : Code) → IsWhole (product_allocated x n a b)
+whole_product x n a b j e = absurd (never_empty (a j).instrs _ _ e)
+
+whole_freed : (t : Target) (a : Code) → IsWhole (freed t a)
+whole_freed t a j e = absurd (never_empty (a j).instrs _ _ e)
+
 module _ (t : Target) where
   whole_fetched : (v : Option Variable) (p : Code) (s : Scalar) → IsWhole p → IsWhole (fetched t v p s)
   whole_fetched (Some v) p s h = whole_plain _
@@ -186,6 +203,9 @@ module _ (t : Target) where
     whole_expr k d (tree.putchar e) h = whole_left k _ _ (whole_then (expr t true d e) _ (whole_expr true d e h) (whole_plain _))
     whole_expr k d tree.getchar h = whole_left k _ _ (whole_plain _)
     whole_expr k d tree.abort h = whole_plain _
+    whole_expr k d (tree.malloc u e) h = whole_left k _ _ (whole_allocated (size t.structs u) (bytes_in e) (expr t true d e))
+    whole_expr k d (tree.calloc u a b) h = whole_left k _ _ (whole_product (scratch_i64 t) (size t.structs u) (expr t true d a) (expr t true d b))
+    whole_expr k d (tree.free e) h = whole_freed t (expr t true d e)
     whole_expr k d (tree.discard e) h = whole_expr false d e h
     whole_expr k d (tree.size_of_place n p) h = whole_left k _ _ (whole_plain _)
     whole_expr k d (tree.size_of_value n e) h = whole_left k _ _ (whole_plain _)

@@ -56,6 +56,9 @@ abbrev mutual
   in_expr (tree.putchar e) = in_expr e
   in_expr tree.getchar = true
   in_expr tree.abort = true
+  in_expr (tree.malloc t e) = in_expr e
+  in_expr (tree.calloc t a b) = in_expr a && in_expr b
+  in_expr (tree.free e) = in_expr e
   in_expr (tree.discard e) = in_expr e
   in_expr (tree.size_of_place n p) = true
   in_expr (tree.size_of_value n e) = true

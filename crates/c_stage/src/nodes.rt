@@ -159,6 +159,9 @@ fn in_expr(e: &Expr) -> bool
         Expr::Update(_, _, _, _, p, a) => in_place(p) && in_expr(a),
         Expr::Call(_, _, es) => in_exprs(es),
         Expr::Putchar(a) => in_expr(a),
+        Expr::Malloc(_, a) => in_expr(a),
+        Expr::Calloc(_, a, b) => in_expr(a) && in_expr(b),
+        Expr::Free(a) => in_expr(a),
         Expr::Discard(a) => in_expr(a),
         Expr::NoFunction => false,
         Expr::Function(_) => false,
@@ -171,9 +174,6 @@ fn in_expr(e: &Expr) -> bool
         Expr::Advance(_, _, _, _, _) => false,
         Expr::Copy(_, _, _) => false,
         Expr::CallThrough(_, _, _, _) => false,
-        Expr::Malloc(_, _) => false,
-        Expr::Calloc(_, _, _) => false,
-        Expr::Free(_) => false,
         Expr::Visit(_) => false,
     }
 }
