@@ -42,7 +42,7 @@ module _ (table : Table) (places : ℕ → ℕ) (old new : List Home) (more : Ex
   is_of_still t v (is_number in_range) = is_number in_range
   is_of_still t v (is_null f) = is_null f
   is_of_still t v (is_invalid f) = is_invalid f
-  is_of_still t v (is_pointer {p} h s f at span same) = is_pointer h s f (more p.object h at) span same
+  is_of_still t v (is_pointer {p} h s f at span same near) = is_pointer h s f (more p.object h at) span same near
   is_of_still t v (is_named f small) = is_named f small
   is_of_still t v (is_no_function f) = is_no_function f
 
@@ -50,7 +50,7 @@ module _ (table : Table) (places : ℕ → ℕ) (old new : List Home) (more : Ex
   handle_still t v (is_number in_range) = refl
   handle_still t v (is_null f) = refl
   handle_still t v (is_invalid f) = refl
-  handle_still t v (is_pointer {p} h s f at span same) = ap (λ (o : Option Home). handle_in o p) (more p.object h at ∙ sym at)
+  handle_still t v (is_pointer {p} h s f at span same near) = ap (λ (o : Option Home). handle_in o p) (more p.object h at ∙ sym at)
   handle_still t v (is_named f small) = refl
   handle_still t v (is_no_function f) = refl
 

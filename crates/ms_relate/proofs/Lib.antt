@@ -1,4 +1,5 @@
 pub mod Laid
+pub mod Near
 pub mod Shapes
 pub mod Accesses
 pub mod Leaves
@@ -10,6 +11,7 @@ pub mod Making
 pub mod Moving
 pub mod Slicing
 pub mod Comparing
+pub mod Distances
 pub mod Copying
 pub mod Operands
 pub mod Acts
