@@ -9,6 +9,7 @@ pub mod Ending
 pub mod Making
 pub mod Moving
 pub mod Slicing
+pub mod Parts
 pub mod Comparing
 pub mod Copying
 pub mod Operands
