@@ -17,7 +17,7 @@ use Rattle.c_typed.specs.refinement.Views.{body_of, expr_of, function_of, list_o
 use Rattle.c_typed.proofs.Sequences.{scope_is, switch_is}
 use Rattle.c_well_typed.specs.Units.{list_of as tys_in}
 use Rattle.c_code.specs.Functions.{params_in, result_in}
-use Rattle.c_stage.specs.Stage.{are_data, are_slots, count_in, in_body, in_expr, in_exprs, in_stmt, in_stmts, is_data, is_integer_or_void, is_plain_function, parameters}
+use Rattle.c_stage.specs.Stage.{are_data, are_slots, count_in, in_body, in_expr, in_exprs, in_stmt, in_stmts, is_data, is_integer_or_void, is_plain_function, is_variable, parameters}
 use Rattle.c_place.specs.refinement.Flags.{of_body, of_function, slots_from}
 use Rattle.c_place.specs.refinement.Lists.{exprs_in}
 use Rattle.c_place.proofs.Lists.{call_is}
@@ -73,20 +73,20 @@ both true false true d = refl
 both true false false d = refl
 both false b c d = refl
 
-slots_by_flags : (s : tree.Stmt) (k n : ℕ) (ts : List Ty) → (list_all is_data ts && are_unset k n (slots_from s n ts)) ≡ are_slots s k n ts
+slots_by_flags : (s : tree.Stmt) (k n : ℕ) (ts : List Ty) → (list_all is_variable ts && are_unset k n (slots_from s n ts)) ≡ are_slots s k n ts
 slots_by_flags s k n [] = refl
 slots_by_flags s k n (t ∷ ts) =
-    both (is_data t) (is_apart k n (is_object s n t)) (list_all is_data ts) (are_unset k (suc n) (slots_from s (suc n) ts))
-    ∙ ap (λ b. is_data t && (is_apart k n (is_object s n t) && b)) (slots_by_flags s k (suc n) ts)
+    both (is_variable t) (is_apart k n (is_object s n t)) (list_all is_variable ts) (are_unset k (suc n) (slots_from s (suc n) ts))
+    ∙ ap (λ b. is_variable t && (is_apart k n (is_object s n t) && b)) (slots_by_flags s k (suc n) ts)
 
 pub body_in : (f : Function) (s : Stmt) (flags : List Bool) → f.body ≡ Some s → flags ≡ of_function (function_of f)
-    → in_body (function_of f) (body_of f.body) ≡ ((list_all is_data (map type_of f.slots.items) && are_unset (parameters (type_of f.ty)) 0 flags) && in_stmt (stmt_of s))
+    → in_body (function_of f) (body_of f.body) ≡ ((list_all is_variable (map type_of f.slots.items) && are_unset (parameters (type_of f.ty)) 0 flags) && in_stmt (stmt_of s))
 body_in f s flags is e =
     let slots = map type_of f.slots.items in
     let k = parameters (type_of f.ty) in
     ap (λ b. in_body (function_of f) (body_of b)) is
     ∙ ap (λ b. b && in_stmt (stmt_of s)) (sym (slots_by_flags (stmt_of s) k 0 slots))
-    ∙ ap (λ l. (list_all is_data slots && are_unset k 0 l) && in_stmt (stmt_of s)) (sym (e ∙ ap (λ b. of_body slots (body_of b)) is))
+    ∙ ap (λ l. (list_all is_variable slots && are_unset k 0 l) && in_stmt (stmt_of s)) (sym (e ∙ ap (λ b. of_body slots (body_of b)) is))
 
 -- the flags of a function in a list of them
 pub flags_at : (fs : List Function) (all : List (List Bool)) (i : ℕ) (f : Function) (flags : List Bool) → all ≡ map of_function (map function_of fs)

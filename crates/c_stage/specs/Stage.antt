@@ -1,16 +1,16 @@
 -- The units of which it is shown so far that their code does what they mean: those of integers and pointers to objects, variables of
--- such types, of which parameters are no objects, their addresses, control, and calls of functions by their names. An i32 counts the
--- groups of a switch, but for one number.
+-- such types and arrays and structs, of which parameters are no objects, their addresses and members, control, and calls of functions by
+-- their names. An i32 counts the groups of a switch, but for one number.
 use Rattle.std.specs.Prelude.{ℕ, suc, nat_lt, ◌&&◌, not, Bool, true, false, List, [], ◌∷◌, Option, Some, None}
 use Rattle.c_types.specs.declared.types.Scalar.{Scalar}
 use Rattle.c_types.specs.declared.types.Scalar.TheVariants as scalars
-use Rattle.c_types.specs.Types.{Ty, void, integer, pointer, function, is_function, Tys, no_types, types}
+use Rattle.c_types.specs.Types.{Ty, void, integer, struct, pointer, array, function, is_function, Tys, no_types, types}
 use Rattle.c_typed.specs.declared.ops.Variable.TheVariants.{Local, Global}
 use Rattle.c_typed.specs.declared.ops.RelOp.{RelOp}
 use Rattle.c_typed.specs.declared.ops.RelOp.TheVariants as relations
 use Rattle.c_typed.specs.Objects.{is_object}
 use Rattle.c_typed.specs.Tree as tree
-use Rattle.c_typed.specs.Tree.{Place, of, deref, Expr, Exprs, none, more, Stmt, nothing, perform, if_else, loop, do_while, switch, scope, return, return_nothing, break, continue, Stmts, done, seq, Function, Typed}
+use Rattle.c_typed.specs.Tree.{Place, of, deref, member, Expr, Exprs, none, more, Stmt, nothing, perform, if_else, loop, do_while, switch, scope, return, return_nothing, break, continue, Stmts, done, seq, Function, Typed}
 use Rattle.c_well_typed.specs.Statements.{count}
 
 -- of an integer, or of a pointer that leads to no function
@@ -18,6 +18,12 @@ abbrev pub is_data : Ty → Bool
 is_data (integer t) = true
 is_data (pointer t) = not (is_function t)
 is_data _ = false
+
+-- a variable that is no parameter may be an array or a struct, too
+abbrev pub is_variable : Ty → Bool
+is_variable (array t n) = true
+is_variable (struct n) = true
+is_variable t = is_data t
 
 abbrev pub is_value : Scalar → Bool
 is_value (scalars.Int t) = true
@@ -30,16 +36,18 @@ is_equality relations.NotEqual = true
 is_equality _ = false
 
 abbrev mutual
-  -- a variable of a function, or what a pointer points to
+  -- a variable of a function, what a pointer points to, or a member of these
   pub in_place : Place → Bool
   in_place (of (Local n)) = true
   in_place (deref e) = in_expr e
+  in_place (member p n m) = in_place p
   in_place _ = false
 
   pub in_expr : Expr → Bool
   in_expr (tree.number t n) = true
   in_expr tree.null = true
   in_expr (tree.read s p) = in_place p
+  in_expr (tree.decay t n p) = in_place p
   in_expr (tree.address p) = in_place p
   in_expr (tree.convert t u a) = in_expr a
   in_expr (tree.truth s a) = is_value s && in_expr a
@@ -59,6 +67,7 @@ abbrev mutual
   in_expr tree.getchar = true
   in_expr tree.abort = true
   in_expr (tree.discard e) = in_expr e
+  in_expr (tree.visit p) = in_place p
   in_expr (tree.size_of_place n p) = true
   in_expr (tree.size_of_value n e) = true
   in_expr (tree.size_of_type n) = nat_lt n 4294967296
@@ -94,7 +103,7 @@ abbrev mutual
 -- each slot from the n-th on is of such a type, and none of the first k, the parameters, is an object
 abbrev pub are_slots : Stmt → (k n : ℕ) → List Ty → Bool
 are_slots body k n [] = true
-are_slots body k n (t ∷ ts) = is_data t && (not (nat_lt n k && is_object body n t) && are_slots body k (suc n) ts)
+are_slots body k n (t ∷ ts) = is_variable t && (not (nat_lt n k && is_object body n t) && are_slots body k (suc n) ts)
 
 abbrev pub count_in : Tys → ℕ
 count_in no_types = 0

@@ -18,8 +18,8 @@ use c_well_typed::Typed;
 use ms_types::Vector;
 use std::alloc::{AllocError, Global};
 
-/// Whether a unit is one of integers and pointers to objects, variables of such types, of which parameters are no objects, control, and
-/// calls of functions by their names.
+/// Whether a unit is one of integers and pointers to objects, variables of such types and arrays and structs, of which parameters are no
+/// objects, their addresses and members, control, and calls of functions by their names.
 pub fn is_in_stage(alloc: Global, typed: &Typed) -> Result<bool, AllocError>
     ensures { IfOk result (λ b. b ≡ words.in_stage (typed_of typed.now)) }
 {
@@ -51,6 +51,31 @@ fn are_data(ts: &[CType]) -> bool
 {
     for t in ts {
         if !is_data(t) {
+            return false;
+        }
+    }
+    true
+}
+
+/// Whether it is an array, a struct, an integer, or a pointer that leads to no function.
+fn is_variable(t: &CType) -> bool
+    ensures { result ≡ words.is_variable (type_of t.now) }
+{
+    match t {
+        CType::Array(_, _) => true,
+        CType::Struct(_) => true,
+        CType::Int(_) => true,
+        CType::Pointer(t) => !t.is_function(),
+        CType::Void => false,
+        CType::Function(_) => false,
+    }
+}
+
+fn are_variables(ts: &[CType]) -> bool
+    ensures { result ≡ list_all words.is_variable (map type_of ts.now) }
+{
+    for t in ts {
+        if !is_variable(t) {
             return false;
         }
     }
@@ -123,7 +148,7 @@ fn in_size(n: u32, operand: &Sized) -> bool
     }
 }
 
-/// A variable of a function, or what a pointer points to.
+/// A variable of a function, what a pointer points to, or a member of these.
 #[cycle(staged)]
 fn in_place(p: &Place) -> bool
     ensures { result ≡ words.in_place (place_of p.now) }
@@ -132,7 +157,7 @@ fn in_place(p: &Place) -> bool
         Place::Of(Variable::Local(_)) => true,
         Place::Of(Variable::Global(_)) => false,
         Place::Deref(e) => in_expr(e),
-        Place::Member(_, _, _) => false,
+        Place::Member(p, _, _) => in_place(p),
     }
 }
 
@@ -147,6 +172,7 @@ fn in_expr(e: &Expr) -> bool
         Expr::Abort => true,
         Expr::SizeOf(n, operand) => in_size(*n, operand),
         Expr::Read(_, p) => in_place(p),
+        Expr::Decay(_, _, p) => in_place(p),
         Expr::Address(p) => in_place(p),
         Expr::Convert(_, _, a) => in_expr(a),
         Expr::Truth(s, a) => is_value(*s) && in_expr(a),
@@ -164,10 +190,10 @@ fn in_expr(e: &Expr) -> bool
         Expr::Call(_, _, es) => in_exprs(es),
         Expr::Putchar(a) => in_expr(a),
         Expr::Discard(a) => in_expr(a),
+        Expr::Visit(p) => in_place(p),
         Expr::NoFunction => false,
         Expr::Function(_) => false,
         Expr::Literal(_) => false,
-        Expr::Decay(_, _, _) => false,
         Expr::SameFunction(_, _, _) => false,
         Expr::Difference(_, _, _) => false,
         Expr::Move(_, _, _, _) => false,
@@ -178,7 +204,6 @@ fn in_expr(e: &Expr) -> bool
         Expr::Malloc(_, _) => false,
         Expr::Calloc(_, _, _) => false,
         Expr::Free(_) => false,
-        Expr::Visit(_) => false,
     }
 }
 
@@ -282,11 +307,11 @@ fn are_unset(parameters: usize, flags: &[bool]) -> bool
     true
 }
 
-/// Whether slots of these types, with these flags, are integers and pointers to objects, and no parameter is an object.
+/// Whether slots of these types, with these flags, are arrays, structs, integers and pointers to objects, and no parameter is an object.
 fn are_slots(parameters: usize, slots: &[CType], flags: &[bool]) -> bool
-    ensures { result ≡ (list_all words.is_data (map type_of slots.now) && staged.are_unset parameters 0 flags.now) }
+    ensures { result ≡ (list_all words.is_variable (map type_of slots.now) && staged.are_unset parameters 0 flags.now) }
 {
-    are_data(slots) && are_unset(parameters, flags)
+    are_variables(slots) && are_unset(parameters, flags)
 }
 
 fn in_body(f: &Function, flags: &[bool]) -> bool
