@@ -19,7 +19,7 @@ use Rattle.ms_module.specs.declared.instr.Instr.TheVariants.{Call}
 use Rattle.ms_task.specs.Control.{call_on, deepest, exit_ended}
 use Rattle.ms_task.specs.declared.func.FuncInst.{FuncInst}
 use Rattle.ms_task.specs.Thread.{Activation, Do, Frame, Item, Thread, thread, depth_of, result_of, sequence}
-use Rattle.c_types.specs.Layout.{IsLaidOut, Layout, layout_at}
+use Rattle.c_types.specs.Layout.{IsLaidOut, IsSmall, Layout, layout_at}
 use Rattle.c_types.specs.Types.{Ty, function, Tys, no_types, types, scalar_of}
 use Rattle.c_typed.specs.declared.ops.Variable.{Variable}
 use Rattle.c_typed.specs.declared.ops.Variable.TheVariants.{Local}
@@ -39,19 +39,20 @@ use Rattle.c_code.specs.Functions as code
 use Rattle.c_code.specs.Functions.{body, held_as, locals, params_from, params_in, result, result_in, scratch_locals, slots_from}
 use Rattle.c_code.specs.Modules.{index_of, named, rank_in, target_of}
 use Rattle.c_code.specs.Operations.{val_of}
-use Rattle.c_stage.specs.Stage.{are_data, are_slots, in_stmt, is_data}
+use Rattle.c_stage.specs.Stage.{are_data, are_slots, in_stmt, is_data, is_variable}
 use Rattle.c_code.specs.Statements as scheme
 use Rattle.c_code.specs.Statements.{at_body, freed, objects_in}
 use Rattle.c_code.specs.Targets.{Target}
 use Rattle.c_code.specs.Uses as uses
 use Rattle.c_code.specs.Uses.{waits_stmt}
+use Rattle.c_typing.proofs.Sound.{AreSoundNames}
 use Rattle.c_runs.proofs.Goes as goes
 use Rattle.c_runs.proofs.Goes.{Site, Mem, Runs, Goes, after_after, behind_goes, resize, spent, tells_nothing, trapped, unspent}
 use Rattle.c_meaning.specs.Objects.{Object}
 use Rattle.ms_relate.specs.refinement.Homes.{Home}
 use Rattle.ms_relate.specs.refinement.Relation.{Related}
 use Rattle.ms_relate.proofs.Growing.{Extends}
-use Rattle.c_runs.proofs.Held.{AreApart, AreHeld, AreOpen, AreOwn, IsHeld, Lasts, Slot, held_still, held_word, some_is, words, words_still}
+use Rattle.c_runs.proofs.Held.{AreApart, AreHeld, AreOpen, AreOwn, IsHeld, Lasts, Slot, get_behind, held_still, held_word, some_is, words, words_still}
 use Rattle.c_runs.proofs.Lasting.{lasts_same, lasts_trans, open_on}
 use Rattle.c_runs.proofs.Related as related
 use Rattle.c_runs.proofs.Related.{AreOf, Env, HasAll, IsValue, Kept, Now, are_still, extends_same, extends_trans, frame_of, front, piled, piled_still, pushes, seeing}
@@ -60,7 +61,7 @@ use Rattle.c_runs.proofs.Operations.{AtHome, Linked, call_is}
 use Rattle.c_runs.proofs.Exprs.{AreScalars, CallsRun}
 use Rattle.c_runs.proofs.Flows.{FlowRuns, IsAt}
 use Rattle.c_runs.proofs.Makes.{get_is}
-use Rattle.c_runs.proofs.Scalars.{IsData, data_scalar, data_slot, data_type, zero_held, zero_word}
+use Rattle.c_runs.proofs.Scalars.{IsData, IsVariable, data_scalar, data_type, plain_data, small_slot, variable_type, zero_held, zero_word}
 use Rattle.c_runs.proofs.Stmts.{ArePlain, IsPlain, left_runs, neither, no_objects, no_off, out_none, stmt_runs}
 use Rattle.c_runs.proofs.Bodies.{IsResult, at_top, body_runs}
 use Rattle.c_runs.proofs.Entering.{arg_words, args_held, args_words, callee, deep_call, first_apart, first_own, firsts, flat, length_us, others_are, shallow_call}
@@ -147,15 +148,15 @@ module _ (s : Stmt) (k : ℕ) where
 
 abbrev pub AreSlots : List Ty → Type 0
 AreSlots [] = Unit {0}
-AreSlots (t ∷ ts) = IsData t × AreSlots ts
+AreSlots (t ∷ ts) = IsVariable t × AreSlots ts
 
 pub slots_of : (ts : List Ty) → are_slots ts ≡ true → AreSlots ts
 slots_of [] e = tt
-slots_of (t ∷ ts) e = let q = both (is_data t) (are_slots ts) e in (data_type t q.0, slots_of ts q.1)
+slots_of (t ∷ ts) e = let q = both (is_variable t) (are_slots ts) e in (variable_type t q.0, slots_of ts q.1)
 
-pub slot_is : (ts : List Ty) → AreSlots ts → (x : ℕ) (t : Ty) → slice_get ts x ≡ Some t → IsData t
+pub slot_is : (ts : List Ty) → AreSlots ts → (x : ℕ) (t : Ty) → slice_get ts x ≡ Some t → IsVariable t
 slot_is [] a x t e = absurd cc
-slot_is (q ∷ ts) a zero t e = subst IsData (some_is q t e) a.0
+slot_is (q ∷ ts) a zero t e = subst IsVariable (some_is q t e) a.0
 slot_is (q ∷ ts) a (suc x) t e = slot_is ts a.1 x t e
 
 -- ---- the locals that are declared are the slots behind the parameters, and hold zeros, or no handle yet
@@ -166,15 +167,15 @@ map_append f (x ∷ xs) ys = ap (λ (l : List _). f x ∷ l) (map_append f xs ys
 
 module _ (tg : Target) (body : Stmt) where
   abbrev AreLocals : ℕ → List Ty → Type 0
-  AreLocals n ts = (x : ℕ) (t : Ty) → slice_get ts x ≡ Some t → IsData t × (tg.is_object (Local (n + x)) ≡ is_object body (n + x) t)
+  AreLocals n ts = (x : ℕ) (t : Ty) → slice_get ts x ≡ Some t → (is_object body (n + x) t ≡ false → IsData t) × (tg.is_object (Local (n + x)) ≡ is_object body (n + x) t)
 
   behind_one : (n : ℕ) (t : Ty) (ts : List Ty) → AreLocals n (t ∷ ts) → AreLocals (suc n) ts
-  behind_one n t ts h x s e = let q = h (suc x) s e in let z : n + suc x ≡ suc n + x = omega arith in (q.0, subst (λ (k : ℕ). tg.is_object (Local k) ≡ is_object body k s) z q.1)
+  behind_one n t ts h x s e = let q = h (suc x) s e in let z : n + suc x ≡ suc n + x = omega arith in (subst (λ (k : ℕ). is_object body k s ≡ false → IsData s) z q.0, subst (λ (k : ℕ). tg.is_object (Local k) ≡ is_object body k s) z q.1)
 
   module _ (places : ℕ → ℕ) (hs : List Home) where
-    first_word : (t : Ty) (b : Bool) → IsData t → default_of (held_as b t) ≡ held_word places (t, b) hs (plain (zero_value t))
+    first_word : (t : Ty) (b : Bool) → (b ≡ false → IsData t) → default_of (held_as b t) ≡ held_word places (t, b) hs (plain (zero_value t))
     first_word t true u = refl
-    first_word t false u = zero_word places t u hs
+    first_word t false u = zero_word places t (u refl) hs
 
     pub words_of : (n : ℕ) (ts : List Ty) → AreLocals n ts → map default_of (slots_from tg n ts) ≡ words places (meaning.slots_from body n ts) hs (firsts ts)
     words_of n [] h = refl
@@ -183,7 +184,7 @@ module _ (tg : Target) (body : Stmt) where
         let z : n + 0 ≡ n = omega arith in
         ap (λ (b : Bool). default_of (held_as b t) ∷ map default_of (slots_from tg (suc n) ts)) (subst (λ (k : ℕ). tg.is_object (Local k) ≡ is_object body k t) z q.1)
         ∙ ap (λ (l : List Word). default_of (held_as (is_object body n t) t) ∷ l) (words_of (suc n) ts (behind_one n t ts h))
-        ∙ ap (λ (v : Word). v ∷ words places (meaning.slots_from body (suc n) ts) hs (firsts ts)) (first_word t (is_object body n t) q.0)
+        ∙ ap (λ (v : Word). v ∷ words places (meaning.slots_from body (suc n) ts) hs (firsts ts)) (first_word t (is_object body n t) (subst (λ (k : ℕ). is_object body k t ≡ false → IsData t) z q.0))
 
     pub first_words : (n : ℕ) (ps : Tys) (ts : List Ty) → AreLocals n (list_of ps ++ ts) → map default_of (drop (length (list_of ps)) (slots_from tg n (list_of ps ++ ts))) ≡ words places (meaning.slots_from body (n + length (list_of ps)) ts) hs (firsts ts)
     first_words n no_types ts h = let z : n ≡ n + 0 = omega arith in words_of n ts h ∙ ap (λ (m : ℕ). words places (meaning.slots_from body m ts) hs (firsts ts)) z
@@ -191,21 +192,22 @@ module _ (tg : Target) (body : Stmt) where
         let z : suc n + length (list_of ps) ≡ n + suc (length (list_of ps)) = omega arith in
         first_words (suc n) ps ts (behind_one n t (list_of ps ++ ts) h) ∙ ap (λ (m : ℕ). words places (meaning.slots_from body m ts) hs (firsts ts)) z
 
-abbrev pub AreData : List Ty → Type 0
-AreData ts = (x : ℕ) (t : Ty) → slice_get ts x ≡ Some t → IsData t
+-- those from the n-th on that are no objects are of one value
+abbrev pub AreData : Stmt → (n : ℕ) → List Ty → Type 0
+AreData body n ts = (x : ℕ) (t : Ty) → slice_get ts x ≡ Some t → is_object body (n + x) t ≡ false → IsData t
 
 module _ (E : Env) (hs : List Home) (body : Stmt) where
-  first_held : (t : Ty) (b : Bool) → IsData t → IsHeld E.unit.structs E.places (t, b) hs (plain (zero_value t))
+  first_held : (t : Ty) (b : Bool) → (b ≡ false → IsData t) → IsHeld E.unit.structs E.places (t, b) hs (plain (zero_value t))
   first_held t true u = tt
-  first_held t false u = zero_held E.unit.structs E.places t u hs
+  first_held t false u = zero_held E.unit.structs E.places t (u refl) hs
 
-  pub firsts_held : (n : ℕ) (ts : List Ty) → AreData ts → AreHeld E.unit.structs E.places (meaning.slots_from body n ts) hs (firsts ts)
+  pub firsts_held : (n : ℕ) (ts : List Ty) → AreData body n ts → AreHeld E.unit.structs E.places (meaning.slots_from body n ts) hs (firsts ts)
   firsts_held n [] h = tt
-  firsts_held n (t ∷ ts) h = (first_held t (is_object body n t) (h 0 t refl), firsts_held (suc n) ts (λ x s e. h (suc x) s e))
-
-  others_held : (n : ℕ) (ps : Tys) (ts : List Ty) → AreData (list_of ps ++ ts) → AreHeld E.unit.structs E.places (meaning.slots_from body n ts) hs (firsts ts)
-  others_held n no_types ts h = firsts_held n ts h
-  others_held n (types t ps) ts h = others_held n ps ts (λ x s e. h (suc x) s e)
+  firsts_held n (t ∷ ts) h =
+      let z : n + 0 ≡ n = omega arith in (
+        first_held t (is_object body n t) (subst (λ (k : ℕ). is_object body k t ≡ false → IsData t) z (h 0 t refl)),
+        firsts_held (suc n) ts (λ x s e. let y : n + suc x ≡ suc n + x = omega arith in subst (λ (k : ℕ). is_object body k s ≡ false → IsData s) y (h (suc x) s e)),
+      )
 
 -- ---- a function that was compiled
 
@@ -232,6 +234,8 @@ pub record Compiled (S : Site) (unit : Typed) (f : ℕ) (t : Ty) (ps : Tys) : Ty
   pub result : IsResult t
   pub laid_out : IsLaidOut unit.structs
   pub has_members : (n : ℕ) (l : Layout) → layout_at unit.structs n ≡ Some l → l.members ≢ []
+  pub sizes : (x : ℕ) (s : Ty) → slice_get function_is.slots x ≡ Some s → IsSmall unit.structs s
+  pub sound : AreSoundNames unit.structs unit.globals function_is.slots (map (λ (g : Function). g.ty) unit.functions)
   -- what stands in front of the slots: the arguments, where they are copied
   pub args : List Word
   pub first_is : (target_of unit function_is stmt_is).first ≡ length args
@@ -253,7 +257,7 @@ module _ (S : Site) (L : Linked S) (unit : Typed) (i f d : ℕ) (t : Ty) (ps : T
   abbrev pub tg : Target
   tg = target_of unit p.function_is p.stmt_is
 
-  slot_of : (x : ℕ) (s : Ty) → slice_get slots x ≡ Some s → IsData s
+  slot_of : (x : ℕ) (s : Ty) → slice_get slots x ≡ Some s → IsVariable s
   slot_of = slot_is slots p.slots_are
 
   pub object_is : (x : ℕ) (s : Ty) → slice_get slots x ≡ Some s → tg.is_object (Local x) ≡ is_object p.stmt_is x s
@@ -273,7 +277,7 @@ module _ (S : Site) (L : Linked S) (unit : Typed) (i f d : ℕ) (t : Ty) (ps : T
       let z : 0 + x ≡ x = omega arith in kind_is p.stmt_is k 0 slots x s e ∙ ap (λ (n : ℕ). Some (s, is_object p.stmt_is n s)) z ∙ ap (λ (b : Bool). Some (s, b)) (sym (object_is x s e))
 
   pub objects_at : (x : ℕ) (s : Ty) → slice_get kinds x ≡ Some (s, true) → related.IsSlot unit.structs s
-  objects_at x s e = let u = slot_of x s (slot_back p.stmt_is k 0 slots x s true e) in data_slot unit.structs s u
+  objects_at x s e = small_slot unit.structs p.laid_out p.has_members s (p.sizes x s (slot_back p.stmt_is k 0 slots x s true e))
 
   abbrev pub E : Env
   E = record {
@@ -329,11 +333,14 @@ module _ (S : Site) (L : Linked S) (unit : Typed) (i f d : ℕ) (t : Ty) (ps : T
   pub in_front : (x : ℕ) (s : Ty) → slice_get (list_of ps ++ p.others) x ≡ Some s → slice_get slots x ≡ Some s
   in_front x s e = ap (λ (ts : List Ty). slice_get ts x) p.begins ∙ e
 
-  pub slots_data : (x : ℕ) (s : Ty) → slice_get K.slots x ≡ Some s → IsData s
-  slots_data = slot_of
+  pub slots_data : (x : ℕ) (s : Ty) → slice_get K.slots x ≡ Some s → tg.is_object (Local x) ≡ false → IsData s
+  slots_data x s e plain' = plain_data p.stmt_is x s (slot_of x s e) (sym (object_is x s e) ∙ plain')
 
-  pub locals_as : (x : ℕ) (s : Ty) → slice_get slots x ≡ Some s → IsData s × (tg.is_object (Local (0 + x)) ≡ is_object p.stmt_is (0 + x) s)
-  locals_as x s e = let z : x ≡ 0 + x = omega arith in (slot_of x s e, subst (λ (n : ℕ). tg.is_object (Local n) ≡ is_object p.stmt_is n s) z (object_is x s e))
+  others_data : AreData p.stmt_is (0 + k) p.others
+  others_data x s e = plain_data p.stmt_is (0 + k + x) s (slot_of (k + x) s (in_front (k + x) s (get_behind (list_of ps) p.others x ∙ e)))
+
+  pub locals_as : (x : ℕ) (s : Ty) → slice_get slots x ≡ Some s → (is_object p.stmt_is (0 + x) s ≡ false → IsData s) × (tg.is_object (Local (0 + x)) ≡ is_object p.stmt_is (0 + x) s)
+  locals_as x s e = let z : x ≡ 0 + x = omega arith in (plain_data p.stmt_is (0 + x) s (slot_of x s e), subst (λ (n : ℕ). tg.is_object (Local n) ≡ is_object p.stmt_is n s) z (object_is x s e))
 
   -- ---- the code, and what it does
 
@@ -401,7 +408,7 @@ module _ (S : Site) (L : Linked S) (unit : Typed) (i f d : ℕ) (t : Ty) (ps : T
       held_are =
           subst (λ (ks : List Slot). AreHeld E.unit.structs E.places ks hs (first_locals p.function_is us)) (sym split_is)
           (subst (λ (ts : List Ty). AreHeld E.unit.structs E.places (flat (list_of ps) ++ other_kinds) hs (map plain us ++ firsts ts)) (sym others_is)
-          (args_held E hs ps us other_kinds (firsts p.others) ok (others_held E hs p.stmt_is (0 + k) ps p.others (λ x s e. slot_of x s (in_front x s e)))))
+          (args_held E hs ps us other_kinds (firsts p.others) ok (firsts_held E hs p.stmt_is (0 + k) p.others others_data)))
 
       locals_are : arg_words E hs ps us ++ map default_of p.inst.locals ≡ words E.places kinds hs (first_locals p.function_is us) ++ temps
       locals_are =
@@ -454,7 +461,7 @@ module _ (S : Site) (L : Linked S) (unit : Typed) (i f d : ℕ) (t : Ty) (ps : T
       code_is : body tg p.function_is p.stmt_is ≡ inner D
       code_is =
           let coded : (us : List Ty) → Ty → Coded = λ us r. let vs = objects_in tg slots (numbers (length us)) in (code.params tg us ⨾ scheme.stmt tg slots 0 (at_body vs) p.stmt_is ⨾ freed tg vs ⨾ result tg (scalar_of r)) 1 in
-          let nothing = no_objects E L home K refl callees ints slots_data refl (slot_there slots) (omega arith) (numbers k) (plain_numbers k (omega arith)) in
+          let nothing = no_objects E L home K refl callees ints slots_data refl p.sound (slot_there slots) (omega arith) (numbers k) (plain_numbers k (omega arith)) in
           ap (λ (ty : Ty). inner (coded (params_in ty) (result_in ty))) p.typed
           ∙ ap (λ (n : ℕ). let vs = objects_in tg slots (numbers k) in inner (((if n == 0 then no_code else params_from tg 0 (list_of ps)) ⨾ scheme.stmt tg slots 0 (at_body vs) p.stmt_is ⨾ freed tg vs ⨾ R) 1)) first_zero
           ∙ ap (λ (vs : List Variable). inner ((no_code ⨾ scheme.stmt tg slots 0 (at_body vs) p.stmt_is ⨾ freed tg vs ⨾ R) 1)) nothing
@@ -486,8 +493,8 @@ module _ (S : Site) (L : Linked S) (unit : Typed) (i f d : ℕ) (t : Ty) (ps : T
 
       flow_runs : (hs : List Home) (us : List Value) → AreOf E ps hs us → FlowRuns Ep at_top 0 0 B same (flow >>= (λ g. leaves us >> pure g))
       flow_runs hs us ok =
-          left_runs E L home K refl callees ints slots_data refl (slot_there slots) (omega arith) (numbers k) at_top 0 0 B flow (numbers_from 0 us) (plain_from us 0 (few hs us ok))
-          (stmt_runs E L home K refl callees ints slots_data refl (slot_there slots) (omega arith) (numbers k) 0 None (at_body []) no_jumps no_off p.stmt_is (out_none E (numbers k)) (omega arith) p.ready p.well)
+          left_runs E L home K refl callees ints slots_data refl p.sound (slot_there slots) (omega arith) (numbers k) at_top 0 0 B flow (numbers_from 0 us) (plain_from us 0 (few hs us ok))
+          (stmt_runs E L home K refl callees ints slots_data refl p.sound (slot_there slots) (omega arith) (numbers k) 0 None (at_body []) no_jumps no_off p.stmt_is (out_none E (numbers k)) (omega arith) p.ready p.well)
 
       callee_runs : (hs : List Home) (us : List Value) → AreOf E ps hs us → (caller : Frame) (vs : List Word) (r : List Item) → suc (depth_of r) ≡ d → (now : Now) → IsAt Ep 0 now → (w : World) (m : Mem) → Kept Ep now w m
           → Runs S (size_of D) m (at_work E m w vs (front D.instrs (Activation (result_of p.inst) (length vs) caller ∷ r))) w (λ v w1 m1. exit_ended caller (pushes E t m1.homes v vs) r) (Left now) (does us w)

@@ -1,16 +1,16 @@
 -- Expressions do what is meant.
-use Rattle.std.proofs.Common.{◌≡◌, ℕ, ◌^◌, ◌<◌, ◌≤◌, List, [], ◌∷◌, ◌++◌, Bool, true, false, T, ltb→lt, Option, Some, None, refl, sym, ap, ◌∙◌, arith, subst}
-use Rattle.std.specs.Prelude.{ℤ, pos, ◌&&◌, not, slice_get, if◌then◌else◌}
+use Rattle.std.proofs.Common.{◌≡◌, ℕ, ◌+◌, ◌*◌, ◌^◌, ◌<◌, ◌≤◌, List, [], ◌∷◌, ◌++◌, Bool, true, false, T, ltb→lt, Option, Some, None, refl, sym, ap, ◌∙◌, arith, subst}
+use Rattle.std.specs.Prelude.{ℤ, pos, ◌&&◌, get_or, not, slice_get, if◌then◌else◌}
 use Rattle.ms_linear.specs.declared.value.Value.{Value as Word}
 use Rattle.ms_types.specs.declared.types.ValType.TheVariants as vals
 use Rattle.ms_module.specs.declared.access.Segment.TheVariants as segment
-use Rattle.ms_module.specs.declared.instr.Instr.TheVariants.{Call, Segment}
+use Rattle.ms_module.specs.declared.instr.Instr.TheVariants.{Call, Drop, Segment}
 use Rattle.ms_module.specs.declared.numeric.Width.TheVariants.{W32}
 use Rattle.c_types.specs.declared.integers.IntType.{IntType}
 use Rattle.c_types.specs.declared.integers.IntType.TheVariants.{Char, SignedChar, UnsignedChar, Short, UnsignedShort, Int, UnsignedInt, Long, UnsignedLong, LongLong, UnsignedLongLong}
 use Rattle.c_types.specs.declared.types.Scalar.{Scalar}
 use Rattle.c_types.specs.declared.types.Scalar.TheVariants as scalars
-use Rattle.c_types.specs.Layout.{IsSmall, Table, most_bytes, size as type_size}
+use Rattle.c_types.specs.Layout.{IsSmall, Table, most_bytes, size as type_size, members_of, offset}
 use Rattle.c_types.specs.Types.{Ty, is_function, void, integer, pointer, struct, array, function, Tys, no_types, scalar_of}
 use Rattle.c_types.specs.Types as ty
 use Rattle.c_typed.specs.declared.ops.BinaryOp.{BinaryOp}
@@ -20,13 +20,13 @@ use Rattle.c_typed.specs.declared.ops.Variable.TheVariants.{Local, Global}
 use Rattle.c_typed.specs.Tree as tree
 use Rattle.c_typed.specs.Tree.{Place, of, deref, member, Expr, Exprs, none, more}
 use Rattle.c_well_typed.specs.refinement.Expressions as well
-use Rattle.c_well_typed.specs.refinement.Expressions.{HasType, HaveTypes, IsNarrow, IsPlace, is_visible}
+use Rattle.c_well_typed.specs.refinement.Expressions.{HasType, HaveTypes, IsNarrow, IsPlace, is_visible, IsMember}
 use Rattle.c_typed.specs.declared.ops.RelOp.{RelOp}
 use Rattle.c_typed.specs.declared.ops.RelOp.TheVariants as relations
 use Rattle.c_meaning.specs.Shapes.{shape, size}
 use Rattle.c_meaning.specs.Objects.{same_place, distance}
 use Rattle.c_meaning.specs.Objects as objects
-use Rattle.c_meaning.specs.Values.{Value, null, number}
+use Rattle.c_meaning.specs.Values.{Value, null, number, inside}
 use Rattle.c_meaning.specs.World.{World, Result, gives, ends, Does, after, ask, ◌>>=◌, ◌>>◌, pure, stop, abort}
 use Rattle.c_meaning.specs.Integers as meant
 use Rattle.c_meaning.specs.Integers.{value_of, wrap}
@@ -34,13 +34,14 @@ use Rattle.c_meaning.specs.Expressions as meaning
 use Rattle.c_meaning.specs.Expressions.{as_number, expr, exprs, is_true, place, store}
 use Rattle.ms_emit.specs.Codes.{Code, plain, one, ◌⨾◌, choice}
 use Rattle.c_code.specs.Expressions as code
-use Rattle.c_code.specs.Expressions.{allocated, as_bit, begun, bytes_in, converted, ended, fetched, int, is_bit, is_null, left, number_in, of_type, product_allocated, updated, moved}
-use Rattle.c_code.specs.Operations.{constant, convert, eqz, i32, operated, truth, val_option, width_of, compared, i64}
+use Rattle.c_code.specs.Expressions.{allocated, as_bit, begun, bytes_in, converted, ended, fetched, int, is_bit, is_null, left, number_in, of_type, product_allocated, updated, moved, decayed, is_deref}
+use Rattle.c_code.specs.Operations.{constant, convert, eqz, i32, operated, truth, val_option, width_of, compared, i64, slice}
 use Rattle.c_stage.specs.Stage.{in_expr, in_exprs, in_place}
 use Rattle.c_code.specs.Targets.{get, plain_in, scratch_i64}
 use Rattle.c_code.specs.Uses as uses
 use Rattle.c_code.specs.Uses.{calls}
 use Rattle.c_numbers.proofs.Ranges.{value_in, wrap_in}
+use Rattle.c_typing.proofs.Sound.{AreSoundNames, sound_place}
 use Rattle.c_runs.specs.Words.{pushed}
 use Rattle.ms_relate.specs.refinement.Homes.{Home, IsScalar}
 use Rattle.ms_relate.proofs.Growing.{Extends}
@@ -50,7 +51,8 @@ use Rattle.c_runs.proofs.Ops.{AllGiven, OpIn, op_any, op_assoc, op_given, op_loo
 use Rattle.c_runs.proofs.Nodes.{Carries, Leaves, assign_runs, chosen_runs, constant_runs, fetch_runs, behind_place, gone, left_runs, remains}
 use Rattle.c_runs.proofs.Operations.{AtHome, Linked, abort_runs, binary_runs, compare_runs, complement_runs, convert_runs, getchar_runs, narrow_truth_runs, negate_runs, not_runs, putchar_runs, truth_in, truth_runs, update_runs}
 use Rattle.c_runs.proofs.Cells.{Leads, address_runs, assign_there, deref_leads, read_there, variable_leads}
-use Rattle.c_runs.proofs.Scalars.{IsData, data_scalar, data_value, null_runs, pointer_type, scalar_type, small_slot, truth_pointer}
+use Rattle.c_runs.proofs.Members.{IsLaid, LeadsAll, Slices, decay_all, decay_slice, laid_member, leads_all, member_all, member_slices, slice_runs, variable_all, visit_runs}
+use Rattle.c_runs.proofs.Scalars.{IsData, null_runs, pointer_type, scalar_type, small_slot, truth_pointer}
 use Rattle.c_runs.proofs.Equal.{equal_runs, unequal_runs}
 use Rattle.c_runs.proofs.Updates.{update_there}
 use Rattle.c_runs.proofs.Allocating.{calloc_runs, known_bytes, malloc_runs}
@@ -208,7 +210,7 @@ module _ (E : Env) (L : Linked E.site) (home : AtHome E) (k : well.Context) (slo
   left_int kept c t u x e h = as_type kept (left kept (of_type u) c) t u x e (left_runs E kept (of_type u) (integer u) c x refl h)
 
   module _ (calls_run : CallsRun) (scalars_are : (f : ℕ) (t : Ty) (ps : Tys) → slice_get k.functions f ≡ Some (function t ps) → AreScalars ps)
-      (slots_data : (x : ℕ) (t : Ty) → slice_get k.slots x ≡ Some t → IsData t) (visible_are : k.visible ≡ E.visible) (structs_same : k.structs ≡ E.unit.structs) where
+      (slots_data : (x : ℕ) (t : Ty) → slice_get k.slots x ≡ Some t → E.target.is_object (Local x) ≡ false → IsData t) (visible_are : k.visible ≡ E.visible) (structs_same : k.structs ≡ E.unit.structs) (sound : AreSoundNames k.structs k.globals k.slots k.functions) where
     -- a type with a size
     sized : (t : Ty) → IsSmall k.structs t → IsSlot E.unit.structs t
     sized t h = small_slot E.unit.structs E.laid_out E.has_members t (subst (λ (table : Table). IsSmall table t) structs_same h)
@@ -216,15 +218,15 @@ module _ (E : Env) (L : Linked E.site) (home : AtHome E) (k : well.Context) (slo
     size_is : (t : Ty) → IsSmall k.structs t → type_size E.target.structs t ≡ size (shape E.unit.structs t)
     size_is t h = ap (λ (table : Table). type_size table t) E.structs_are ∙ sym (sized t h).sized
 
-    slot_scalar : (x : ℕ) (t : Ty) → slice_get k.slots x ≡ Some t → IsScalar t
-    slot_scalar x t e = data_scalar t (slots_data x t e)
-
     -- a slot, by whether it is an object
     kind_at : (x : ℕ) (t : Ty) → slice_get k.slots x ≡ Some t → (b : Bool) → E.target.is_object (Local x) ≡ b → slice_get E.kinds x ≡ Some (t, b)
     kind_at x t e b q = E.kinds_are x t (subst (λ (ts : List Ty). slice_get ts x ≡ Some t) slots_are e) ∙ ap (λ (c : Bool). Some (t, c)) q
 
+    seen_at : (x : ℕ) (t : Ty) → IsPlace k (of (Local x)) t → is_visible E.visible x ≡ true
+    seen_at x t h = ap (λ (vs : List ℕ). is_visible vs x) (sym visible_are) ∙ h.1
+
     leads_at : (x : ℕ) (t : Ty) → IsPlace k (of (Local x)) t → E.target.is_object (Local x) ≡ true → Leads E (one (get E.target (Local x))) t (place E.unit E.calls (of (Local x)))
-    leads_at x t h q = variable_leads E x t (kind_at x t h.0 true q) (ap (λ (vs : List ℕ). is_visible vs x) (sym visible_are) ∙ h.1)
+    leads_at x t h q = variable_leads E x t (kind_at x t h.0 true q) (seen_at x t h)
 
     abbrev variable_in : Bool → ℕ → Option Variable
     variable_in b x = if b then None else Some (Local x)
@@ -238,11 +240,55 @@ module _ (E : Env) (L : Linked E.site) (home : AtHome E) (k : well.Context) (slo
     abbrev LeadsIn : ℕ → Place → Ty → Type 0
     LeadsIn d p t = IsCell p → Leads E (code.place E.target d p) t (place E.unit E.calls p)
 
-    is_data : (p : Place) (t : Ty) → in_place p ≡ true → IsPlace k p t → is_function t ≡ false
-    is_data (of (Local x)) t l h = data_value t (slots_data x t h.0)
-    is_data (of (Global x)) t l h = absurd cc
-    is_data (deref a) t l h = h.0
-    is_data (member p n m) t l h = absurd cc
+    is_data : (p : Place) (t : Ty) → IsPlace k p t → is_function t ≡ false
+    is_data p t h = (sound_place k sound p t h).0
+
+    -- an array or a struct is an object
+    whole_slot : (x : ℕ) (t : Ty) → (IsData t → ⊥) → slice_get k.slots x ≡ Some t → E.target.is_object (Local x) ≡ true
+    whole_slot x t never e = by (E.target.is_object (Local x)) refl where
+      by : (b : Bool) → E.target.is_object (Local x) ≡ b → b ≡ true
+      by true q = refl
+      by false q = absurd (never (slots_data x t e q))
+
+    whole_cell : (p : Place) (t : Ty) → (IsData t → ⊥) → IsPlace k p t → IsCell p
+    whole_cell (of (Local x)) t never h = whole_slot x t never h.0
+    whole_cell (of (Global x)) t never h = tt
+    whole_cell (deref a) t never h = tt
+    whole_cell (member p n m) t never h = tt
+
+    -- ---- members
+
+    laid : (n m : ℕ) (t : Ty) → IsMember k.structs n m t → IsLaid E.unit.structs n m t
+    laid n m t h = laid_member E.unit.structs E.laid_out E.has_members n m t (subst (λ (table : Table). IsMember table n m t) structs_same h)
+
+    offset_is : (n m : ℕ) → offset E.target.structs (struct n) m ≡ offset E.unit.structs (struct n) m
+    offset_is n m = ap (λ (table : Table). offset table (struct n) m) E.structs_are
+
+    size_is : (n m : ℕ) (t : Ty) → IsMember k.structs n m t → code.member_size E.target n m ≡ size (shape E.unit.structs t)
+    size_is n m t h = ap (λ (table : Table). type_size table (get_or (members_of table (struct n)) m void)) E.structs_are ∙ (laid n m t h).sized
+
+    some_there : (n m : ℕ) (t : Ty) → IsMember k.structs n m t → 0 < code.member_size E.target n m
+    some_there n m t h = let e = size_is n m t h in let some = (laid n m t h).some in omega (arith, e, some)
+
+    within_there : (n m : ℕ) (t : Ty) → IsMember k.structs n m t → offset E.target.structs (struct n) m + code.member_size E.target n m ≤ size (shape E.unit.structs (struct n))
+    within_there n m t h = let o = offset_is n m in let e = size_is n m t h in let within = (laid n m t h).within in omega (arith, o, e, within)
+
+    abbrev SlicesIn : (d : ℕ) → Place → (n from len : ℕ) → Type 0
+    SlicesIn d p n from len = Slices E (code.part E.target d p from len) (struct n) from len (place E.unit E.calls p)
+
+    member_leads : (d : ℕ) (p : Place) (n m : ℕ) (t : Ty) → IsMember k.structs n m t → SlicesIn d p n (offset E.target.structs (struct n) m) (code.member_size E.target n m)
+        → LeadsAll E (code.place E.target d (member p n m)) t (place E.unit E.calls (member p n m))
+    member_leads d p n m t h s =
+        let c = code.place E.target d (member p n m) in
+        let x = place E.unit E.calls p in
+        member_all E n m t (laid n m t h) c x
+        (subst (λ (o : ℕ). Slices E c (struct n) o (size (shape E.unit.structs t)) x) (offset_is n m) (subst (λ (l : ℕ). Slices E c (struct n) (offset E.target.structs (struct n) m) l x) (size_is n m t h) s))
+
+    abbrev decaying : Place → Does Value
+    decaying p = meaning.pointer (place E.unit E.calls p) >>= meaning.further inside
+
+    abbrev DecaysTo : (d : ℕ) → Place → Ty → (n : ℕ) → Type 0
+    DecaysTo d p u n = Leaves E (decayed (is_deref p) (n * type_size E.target.structs u) (code.place E.target d p)) (pointer u) (decaying p)
 
     pointer_scalar : (t : Ty) → is_function t ≡ false → scalar_of (pointer t) ≡ Some scalars.Pointer
     pointer_scalar t e = ap (λ (b : Bool). Some (if b then scalars.Function else scalars.Pointer)) e
@@ -250,22 +296,22 @@ module _ (E : Env) (L : Linked E.site) (home : AtHome E) (k : well.Context) (slo
     read_runs : (d : ℕ) (s : Scalar) (p : Place) (t : Ty) → IsScalar t → in_place p ≡ true → scalar_of t ≡ Some s → IsPlace k p t → LeadsIn d p t → Leaves E (fetched E.target (plain_in E.target p) (code.place E.target d p) s) t (place E.unit E.calls p >>= meaning.fetch)
     read_runs d s (of (Local x)) t sc l e h leads = by (E.target.is_object (Local x)) refl where
       by : (b : Bool) → E.target.is_object (Local x) ≡ b → Leaves E (fetched E.target (variable_in b x) (one (get E.target (Local x))) s) t (place E.unit E.calls (of (Local x)) >>= meaning.fetch)
-      by true q = read_there E t s (slot_scalar x t h.0) e (one (get E.target (Local x))) (place E.unit E.calls (of (Local x))) (leads q)
-      by false q = behind_place E x t (slot_scalar x t h.0) (kind_at x t h.0 false q) (one (get E.target (Local x))) same (pushes E t) (IsValue E t) meaning.fetch (fetch_runs E x t (slot_scalar x t h.0) (kind_at x t h.0 false q))
+      by true q = read_there E t s sc e (one (get E.target (Local x))) (place E.unit E.calls (of (Local x))) (leads q)
+      by false q = behind_place E x t sc (kind_at x t h.0 false q) (one (get E.target (Local x))) same (pushes E t) (IsValue E t) meaning.fetch (fetch_runs E x t sc (kind_at x t h.0 false q))
     read_runs d s (of (Global x)) t sc l e h leads = absurd cc
     read_runs d s (deref a) t sc l e h leads = read_there E t s sc e (code.place E.target d (deref a)) (place E.unit E.calls (deref a)) (leads tt)
-    read_runs d s (member p n m) t sc l e h leads = absurd cc
+    read_runs d s (member p n m) t sc l e h leads = read_there E t s sc e (code.place E.target d (member p n m)) (place E.unit E.calls (member p n m)) (leads tt)
 
     assigned : (kept : Bool) (d : ℕ) (s : Scalar) (p : Place) (t : Ty) → IsScalar t → (c : Code) (y : Does Value) → in_place p ≡ true → scalar_of t ≡ Some s → IsPlace k p t → LeadsIn d p t → Leaves E c t y
         → Carries E kept (begun E.target (plain_in E.target p) (code.place E.target d p) ⨾ c ⨾ ended E.target kept (plain_in E.target p) s) t (place E.unit E.calls p >>= (λ q. y >>= (λ v. store q v >> pure v)))
     assigned kept d s (of (Local x)) t sc c y l e h leads r = by (E.target.is_object (Local x)) refl where
       by : (b : Bool) → E.target.is_object (Local x) ≡ b
           → Carries E kept (begun E.target (variable_in b x) (one (get E.target (Local x))) ⨾ c ⨾ ended E.target kept (variable_in b x) s) t (place E.unit E.calls (of (Local x)) >>= (λ q. y >>= (λ v. store q v >> pure v)))
-      by true q = assign_there E t s (slot_scalar x t h.0) e kept (one (get E.target (Local x))) c (place E.unit E.calls (of (Local x))) y (leads q) r
-      by false q = assign_runs E x t (slot_scalar x t h.0) (kind_at x t h.0 false q) kept s c y r
+      by true q = assign_there E t s sc e kept (one (get E.target (Local x))) c (place E.unit E.calls (of (Local x))) y (leads q) r
+      by false q = assign_runs E x t sc (kind_at x t h.0 false q) kept s c y r
     assigned kept d s (of (Global x)) t sc c y l e h leads r = absurd cc
     assigned kept d s (deref a) t sc c y l e h leads r = assign_there E t s sc e kept (code.place E.target d (deref a)) c (place E.unit E.calls (deref a)) y (leads tt) r
-    assigned kept d s (member p n m) t sc c y l e h leads r = absurd cc
+    assigned kept d s (member p n m) t sc c y l e h leads r = assign_there E t s sc e kept (code.place E.target d (member p n m)) c (place E.unit E.calls (member p n m)) y (leads tt) r
 
     abbrev updating : Bool → (u v : IntType) → BinaryOp → Place → Does Value → Does Value
     updating old u v o p y =
@@ -282,7 +328,7 @@ module _ (E : Env) (L : Linked E.site) (home : AtHome E) (k : well.Context) (slo
       by false q = update_runs E o u v x (kind_at x (integer u) h.0 false q) c y pr r kept old (one (get E.target (Local x))) (scalars.Int u)
     updates kept old d u v o (of (Global x)) c y l pr h leads r = absurd cc
     updates kept old d u v o (deref e) c y l pr h leads r = update_there E o u v (code.place E.target d (deref e)) (place E.unit E.calls (deref e)) (leads tt) c y pr r kept old
-    updates kept old d u v o (member p n m) c y l pr h leads r = absurd cc
+    updates kept old d u v o (member p n m) c y l pr h leads r = update_there E o u v (code.place E.target d (member p n m)) (place E.unit E.calls (member p n m)) (leads tt) c y pr r kept old
 
     abbrev advancing : Bool → ℕ → Bool → Place → Does Value → Does Value
     advancing old n back p y =
@@ -335,7 +381,42 @@ module _ (E : Env) (L : Linked E.site) (home : AtHome E) (k : well.Context) (slo
       leads_run d (of (Local x)) t i h q = leads_at x t h q
       leads_run d (of (Global x)) t i h q = absurd (let e = i.in_stage in cc)
       leads_run d (deref a) t i h q = deref_leads E (code_of true d a) t (value_in_E a) h.0 (expr_runs true d a (pointer t) i h.1)
-      leads_run d (member p n m) t i h q = absurd (let e = i.in_stage in cc)
+      leads_run d (member p n m) t i h q =
+          leads_all E (code.place E.target d (member p n m)) t (place E.unit E.calls (member p n m))
+          (member_leads d p n m t h.1 (slices_run d p n (offset E.target.structs (struct n) m) (code.member_size E.target n m) i h.0 (some_there n m t h.1) (within_there n m t h.1)))
+
+      -- a part of a struct
+      slices_run : (d : ℕ) (p : Place) (n from len : ℕ) → IsReady E.target.is_object E.unit (in_place p) (uses.in_place p) (in_place_of p) → IsPlace k p (struct n) → 0 < len → from + len ≤ size (shape E.unit.structs (struct n)) → SlicesIn d p n from len
+      slices_run d (of (Local x)) n from len i h some within =
+          slice_runs E (one (get E.target (Local x))) (struct n) from len (place E.unit E.calls (of (Local x))) (leads_at x (struct n) h (whole_slot x (struct n) (λ never. never) h.0))
+      slices_run d (of (Global x)) n from len i h some within = absurd (let e = i.in_stage in cc)
+      slices_run d (deref a) n from len i h some within =
+          slice_runs E (code_of true d a) (struct n) from len (place E.unit E.calls (deref a)) (deref_leads E (code_of true d a) (struct n) (value_in_E a) h.0 (expr_runs true d a (pointer (struct n)) i h.1))
+      slices_run d (member p n' m) n from len i h some within =
+          let o = offset E.target.structs (struct n') m in
+          let is = offset_is n' m in
+          let l = laid n' m (struct n) h.1 in
+          let end = l.within in
+          let c = code.part E.target d p (o + from) len in
+          let x = place E.unit E.calls p in
+          member_slices E n' m (struct n) l c x from len some within
+          (subst (λ (q : ℕ). Slices E c (struct n') (q + from) len x) is (slices_run d p n' (o + from) len i h.0 some (omega (arith, is, end, within))))
+
+      decays_run : (d : ℕ) (p : Place) (u : Ty) (n : ℕ) → IsReady E.target.is_object E.unit (in_place p) (uses.in_place p) (in_place_of p) → IsPlace k p (array u n) → DecaysTo d p u n
+      decays_run d (of (Local x)) u n i h =
+          decay_all E u n (sound_place k sound (of (Local x)) (array u n) h).1.0 (one (get E.target (Local x))) (place E.unit E.calls (of (Local x)))
+          (variable_all E x (array u n) (kind_at x (array u n) h.0 true (whole_slot x (array u n) (λ never. never) h.0)) (seen_at x (array u n) h))
+      decays_run d (of (Global x)) u n i h = absurd (let e = i.in_stage in cc)
+      decays_run d (deref a) u n i h =
+          let len = n * type_size E.target.structs u in
+          let c = code_of true d a in
+          let x = place E.unit E.calls (deref a) in
+          decay_slice E u n (sound_place k sound (deref a) (array u n) h).1.0 (c ⨾ slice 0 len) x
+          (subst (λ (table : Table). Slices E (c ⨾ slice 0 len) (array u n) 0 (n * type_size table u) x) E.structs_are
+          (slice_runs E c (array u n) 0 len x (deref_leads E c (array u n) (value_in_E a) h.0 (expr_runs true d a (pointer (array u n)) i h.1))))
+      decays_run d (member p n' m) u n i h =
+          decay_all E u n (sound_place k sound (member p n' m) (array u n) h).1.0 (code.place E.target d (member p n' m)) (place E.unit E.calls (member p n' m))
+          (member_leads d p n' m (array u n) h.1 (slices_run d p n' (offset E.target.structs (struct n') m) (code.member_size E.target n' m) i h.0 (some_there n' m (array u n) h.1) (within_there n' m (array u n) h.1)))
 
       pub expr_runs : (kept : Bool) (d : ℕ) (e : Expr) (t : Ty) → IsReady E.target.is_object E.unit (in_expr e) (uses.in_expr e) (in_expr_of e) → HasType k e t → Carries E kept (code_of kept d e) t (value_in_E e)
       expr_runs kept d (tree.number u n) t x h = left_int kept (one (constant (width_of u) (value_of u n))) t u (value_in_E (tree.number u n)) h.0 (constant_runs E u (value_of u n) (value_in u n h.1))
@@ -345,9 +426,13 @@ module _ (E : Env) (L : Linked E.site) (home : AtHome E) (k : well.Context) (slo
       expr_runs kept d (tree.read s p) t x h =
           left_runs E kept (Some s) t (fetched E.target (plain_in E.target p) (code.place E.target d p) s) (value_in_E (tree.read s p)) h.0
           (read_runs d s p t (scalar_type t s h.0) x.in_stage h.0 h.1 (leads_run d p t x h.1))
+      expr_runs kept d (tree.decay u n p) t x h =
+          let c = decayed (is_deref p) (n * type_size E.target.structs u) (code.place E.target d p) in
+          subst (λ (r : Ty). Carries E kept (left kept (Some scalars.Pointer) c) r (value_in_E (tree.decay u n p))) (sym h.0)
+          (left_runs E kept (Some scalars.Pointer) (pointer u) c (value_in_E (tree.decay u n p)) (pointer_scalar u (sound_place k sound p (array u n) h.1).1.0) (decays_run d p u n x h.1))
       expr_runs kept d (tree.address p) t x h =
           let i = addressed E.target.is_object E.unit (in_place p) (uses.in_place p) p x in
-          let plain_type = is_data p h.0 i.in_stage h.2 in
+          let plain_type = is_data p h.0 h.2 in
           subst (λ (r : Ty). Carries E kept (left kept (Some scalars.Pointer) (code.place E.target d p)) r (value_in_E (tree.address p))) (sym h.1)
           (left_runs E kept (Some scalars.Pointer) (pointer h.0) (code.place E.target d p) (value_in_E (tree.address p)) (pointer_scalar h.0 plain_type)
           (address_runs E (code.place E.target d p) h.0 (place E.unit E.calls p) plain_type (leads_run d p h.0 i h.2 (cell p x))))
@@ -474,6 +559,9 @@ module _ (E : Env) (L : Linked E.site) (home : AtHome E) (k : well.Context) (slo
           subst (λ (q : Ty). Carries E kept (code_of false d e) q (value_in_E (tree.discard e))) (sym h.1)
           (op_look_in E [] (code_of false d e) same (λ hs. gone E) (remains E kept void) (IsValue E h.0) (IsValue E void) (value_in_E e) (λ v. pure meaning.nothing_given) (expr_runs false d e h.0 x h.2)
           (λ gs grown v ok. (meaning.nothing_given, refl, λ vs. void_left kept v gs vs, tt)))
+      expr_runs kept d (tree.visit p) t x h =
+          subst (λ (q : Ty). Carries E kept (code.place E.target d p ⨾ one Drop) q (value_in_E (tree.visit p))) (sym h.1)
+          (visit_runs E kept (code.place E.target d p) (struct h.0) (place E.unit E.calls p) (leads_run d p (struct h.0) x h.3 (whole_cell p (struct h.0) (λ never. never) h.3)))
       expr_runs kept d (tree.size_of_place n p) t x h = size_runs kept n t h.2 (small_size n _ h.4 h.3.1)
       expr_runs kept d (tree.size_of_value n e) t x h = size_runs kept n t h.2 (small_size n _ h.4 h.3.1)
       expr_runs kept d (tree.size_of_type n) t x h = size_runs kept n t h (ltb→lt n 4294967296 (subst T (sym x.in_stage) tt))

@@ -33,6 +33,7 @@ pub mod Switches
 pub mod Loops
 pub mod Dos
 pub mod Cells
+pub mod Members
 pub mod Scopes
 pub mod Stmts
 pub mod Bodies

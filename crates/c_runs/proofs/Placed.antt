@@ -19,6 +19,8 @@ use Rattle.c_types.specs.Types.{Ty, void, integer, pointer, is_function, functio
 use Rattle.c_typed.specs.Objects.{is_whole}
 use Rattle.c_typed.specs.Tree.{Function, Made, Stmt, Typed}
 use Rattle.c_well_typed.specs.Units.{IsBody, IsFunction, IsWellTyped, list_of}
+use Rattle.c_well_typed.specs.refinement.Types.{IsObject}
+use Rattle.c_typing.proofs.Frames.{sound_with}
 use Rattle.ms_emit.specs.Codes.{total}
 use Rattle.c_code.specs.Functions.{body, held_as, listed, locals, params_in, result_in}
 use Rattle.c_code.specs.Modules.{index_of, is_call_of, is_defined, is_defined_at, target_of}
@@ -238,6 +240,8 @@ module _ (u : Typed) (s : Store) (well : IsWellTyped u) (staged : in_stage u ≡
           first_is = sym (length-replicate (target_of u f b.0).first (I32 0));
           laid_out = well.laid_out;
           has_members = λ n l e. not_empty l.members (well.structs n l e).0;
+          sizes = λ x s' e'. (all_at (IsObject u.structs) f.slots x s' e' bd.1).1;
+          sound = sound_with u well f.slots bd.1;
         }
 
     -- of `main`

@@ -22,6 +22,8 @@ use Rattle.c_types.specs.declared.integers.IntType.TheVariants.{Char, SignedChar
 use Rattle.c_types.specs.declared.types.Scalar.{Scalar}
 use Rattle.c_types.specs.declared.types.Scalar.TheVariants as scalars
 use Rattle.c_types.specs.Types.{Ty, void, integer, pointer, struct, array, function, is_function, scalar_of}
+use Rattle.c_typed.specs.Objects.{is_object}
+use Rattle.c_typed.specs.Tree.{Stmt}
 use Rattle.c_meaning.specs.Values.{Value, Pointer, null, no_function, zero_value}
 use Rattle.c_meaning.specs.Integers.{from_truth}
 use Rattle.c_meaning.specs.Objects.{Span}
@@ -31,7 +33,7 @@ use Rattle.c_meaning.specs.World.{Does, ◌>>=◌, pure}
 use Rattle.ms_emit.specs.Codes.{Code, one, ◌⨾◌}
 use Rattle.c_code.specs.Functions.{held_as, val_or_handle}
 use Rattle.c_code.specs.Operations.{eqz, integer_type, truth, val_type, width_of}
-use Rattle.c_stage.specs.Stage.{is_data}
+use Rattle.c_stage.specs.Stage.{is_data, is_variable}
 use Rattle.c_numbers.specs.Operands.{IsIn, carried, operand, word}
 use Rattle.ms_relate.specs.refinement.Homes as homes
 use Rattle.ms_relate.specs.refinement.Homes.{Home, IsScalar, handle, handle_in, handle_to, is_null, span_of}
@@ -60,6 +62,28 @@ pub data_type : (t : Ty) → is_data t ≡ true → IsData t
 data_type (integer u) e = tt
 data_type (pointer t) e = not_true (is_function t) e
 data_type _ e = absurd cc
+
+-- a variable that is an array or a struct is an object
+abbrev pub IsVariable : Ty → Type 0
+IsVariable (array t n) = Unit {0}
+IsVariable (struct n) = Unit {0}
+IsVariable t = IsData t
+
+pub variable_type : (t : Ty) → is_variable t ≡ true → IsVariable t
+variable_type (integer u) e = tt
+variable_type (pointer t) e = not_true (is_function t) e
+variable_type (array t n) e = tt
+variable_type (struct n) e = tt
+variable_type _ e = absurd cc
+
+-- one that is no object is of one value
+pub plain_data : (s : Stmt) (n : ℕ) (t : Ty) → IsVariable t → is_object s n t ≡ false → IsData t
+plain_data s n (integer u) v e = tt
+plain_data s n (pointer t) v e = v
+plain_data s n (array t k) v e = absurd cc
+plain_data s n (struct k) v e = absurd cc
+plain_data s n void v e = absurd v
+plain_data s n (function r ps) v e = absurd v
 
 pub data_scalar : (t : Ty) → IsData t → IsScalar t
 data_scalar (integer u) d = tt
@@ -134,7 +158,7 @@ data_slot table (function r ps) d = absurd d
 
 -- ---- any type of an object
 
-no_function_type : (table : Table) (t : Ty) → HasSize table t → is_function t ≡ false
+pub no_function_type : (table : Table) (t : Ty) → HasSize table t → is_function t ≡ false
 no_function_type table void h = absurd h
 no_function_type table (integer u) h = refl
 no_function_type table (struct n) h = refl

@@ -42,6 +42,7 @@ use Rattle.c_code.specs.Uses.{waits_stmt, waits_stmts}
 use Rattle.c_numbers.specs.Operands.{operand}
 use Rattle.c_numbers.proofs.Conversions.{constant_is}
 use Rattle.ms_relate.specs.refinement.Homes.{Home}
+use Rattle.c_typing.proofs.Sound.{AreSoundNames}
 use Rattle.c_runs.proofs.Goes.{Mem, Runs, bind, here, after_after}
 use Rattle.c_runs.proofs.Ending.{differ_both, new_differ, none_new, visible_either, visible_left, visible_right}
 use Rattle.c_runs.proofs.Scopes.{IsOff, frees_out, held_scope, scope_runs, with_off}
@@ -173,7 +174,7 @@ ArePlain E (x ∷ xs) = IsPlain E x × ArePlain E xs
 
 module _ (E0 : Env) (L : Linked E0.site) (home : AtHome E0) (k : well.Context) (slots_are : k.slots ≡ E0.slots) (calls_run : CallsRun (seeing [] E0) L home k slots_are)
     (scalars_are : (f : ℕ) (t : Ty) (ps : Tys) → slice_get k.functions f ≡ Some (function t ps) → AreScalars (seeing [] E0) L home k slots_are ps)
-    (slots_data : (x : ℕ) (t : Ty) → slice_get k.slots x ≡ Some t → IsData t) (structs_same : k.structs ≡ E0.unit.structs)
+    (slots_data : (x : ℕ) (t : Ty) → slice_get k.slots x ≡ Some t → E0.target.is_object (Local x) ≡ false → IsData t) (structs_same : k.structs ≡ E0.unit.structs) (sound : AreSoundNames k.structs k.globals k.slots k.functions)
     (slot_at : (x : ℕ) → x < length k.slots → (t : Ty) × (slice_get k.slots x ≡ Some t)) (wide : E0.bound ≤ E0.turn_bound) where
   -- with these variables visible
   abbrev in_blocks : List ℕ → well.Context
@@ -193,7 +194,7 @@ module _ (E0 : Env) (L : Linked E0.site) (home : AtHome E0) (k : well.Context) (
       calls_run f t ps e b hs us ok n has now (record { below = le.below; grown = le.grown; seen = sees_none now.visible }) vs r dep w m kp
 
   run_expr : (v : List ℕ) (kept : Bool) (d : ℕ) (e : Expr) (t : Ty) → IsReady E0.target.is_object E0.unit (in_expr e) (uses.in_expr e) (in_expr_of e) → HasType (in_blocks v) e t → OpIn (at v) [] (code.expr E0.target kept d e) same (remains (at v) kept t) (IsValue (at v) t) (value e)
-  run_expr v = expr_runs (at v) L home (in_blocks v) slots_are (calls_at v) scalars_are slots_data refl structs_same
+  run_expr v = expr_runs (at v) L home (in_blocks v) slots_are (calls_at v) scalars_are slots_data refl structs_same sound
 
   -- ---- blocks
 
@@ -365,8 +366,9 @@ module _ (E0 : Env) (L : Linked E0.site) (home : AtHome E0) (k : well.Context) (
       let long = E0.as_long in
       let s = slot_at x (subst (λ (ts : List Ty). x < length ts) (sym slots_are) (omega (arith, lt, long))) in
       let at_kind = E0.kinds_are x s.0 (at_slot x s.0 s.1) in
-      let same_type : s.0 ≡ t = ap (λ (q : Slot). q.0) (some_is (s.0, E0.target.is_object (Local x)) (t, false) (sym at_kind ∙ e)) in
-      zero_of v x t (subst IsData same_type (slots_data x s.0 s.1)) e
+      let same_slot = some_is (s.0, E0.target.is_object (Local x)) (t, false) (sym at_kind ∙ e) in
+      let same_type : s.0 ≡ t = ap (λ (q : Slot). q.0) same_slot in
+      zero_of v x t (subst IsData same_type (slots_data x s.0 s.1 (ap (λ (q : Slot). q.1) same_slot))) e
 
   mutual
     whole_stmt : (v : List ℕ) (d : ℕ) (x : Exits) (l : Jumps) (s : Stmt) → in_stmt s ≡ true → IsStatement (in_blocks v) E0.result l s → IsWhole (codes d x s)

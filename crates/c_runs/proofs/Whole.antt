@@ -20,7 +20,7 @@ use Rattle.c_typed.specs.declared.ops.Variable.TheVariants.{Local, Global}
 use Rattle.c_typed.specs.Tree as tree
 use Rattle.c_typed.specs.Tree.{Place, of, Expr, Exprs, none, more}
 use Rattle.ms_emit.specs.Codes.{Code, plain, one, no_code, ◌⨾◌, choice}
-use Rattle.c_code.specs.Expressions.{allocated, as_bit, begun, begun_with_old, begun_over_old, bytes_in, converted, ended, expr, exprs, fetched, freed, int, is_bit, is_null, left, number_in, place, pointers_compared, product_allocated, put, updated, moved}
+use Rattle.c_code.specs.Expressions.{allocated, as_bit, begun, begun_with_old, begun_over_old, bytes_in, converted, ended, expr, exprs, fetched, freed, int, is_bit, is_null, left, number_in, place, pointers_compared, product_allocated, put, updated, moved, decayed, is_deref, part}
 use Rattle.c_code.specs.Operations.{by_width, convert, i32, narrow, to_type, truth, val_option, width_of}
 use Rattle.c_stage.specs.Stage.{in_expr, in_exprs, in_place, is_value}
 use Rattle.c_code.specs.Targets.{Target, plain_in, scratch_i64, tee}
@@ -98,6 +98,10 @@ pub whole_as_bit : (b : Bool) (a : Code) → IsWhole a → IsWhole (as_bit b a)
 whole_as_bit true a h = h
 whole_as_bit false a h = whole_then a (truth (scalars.Int Int)) h (whole_plain _)
 
+whole_decayed : (b : Bool) (n : ℕ) (p : Code) → IsWhole p → IsWhole (decayed b n p)
+whole_decayed true n p h = whole_then p _ h (whole_plain _)
+whole_decayed false n p h = h
+
 whole_equal : (n : Bool) (a b : Code) → IsWhole a → IsWhole b → IsWhole (pointers_compared relations.Equal n a b)
 whole_equal true a b ha hb = whole_then a _ ha (whole_plain _)
 whole_equal false a b ha hb = whole_then a _ ha (whole_then b _ hb (whole_plain _))
@@ -174,12 +178,19 @@ module _ (t : Target) where
     whole_place d (of (Local n)) e = whole_plain _
     whole_place d (of (Global n)) e = absurd cc
     whole_place d (tree.deref a) e = whole_expr true d a e
-    whole_place d (tree.member p n m) e = absurd cc
+    whole_place d (tree.member p n m) e = whole_part d p _ _ e
+
+    whole_part : (d : ℕ) (p : Place) (from n : ℕ) → in_place p ≡ true → IsWhole (part t d p from n)
+    whole_part d (of (Local v)) from n e = whole_then (one _) _ (whole_plain _) (whole_plain _)
+    whole_part d (of (Global v)) from n e = absurd cc
+    whole_part d (tree.deref a) from n e = whole_then (expr t true d a) _ (whole_expr true d a e) (whole_plain _)
+    whole_part d (tree.member p k m) from n e = whole_part d p _ n e
 
     pub whole_expr : (k : Bool) (d : ℕ) (e : Expr) → in_expr e ≡ true → IsWhole (expr t k d e)
     whole_expr k d (tree.number u n) h = whole_left k _ _ (whole_plain _)
     whole_expr k d tree.null h = whole_left k _ _ (whole_plain _)
     whole_expr k d (tree.read s p) h = whole_left k _ _ (whole_fetched (plain_in t p) (place t d p) s (whole_place d p h))
+    whole_expr k d (tree.decay u n p) h = whole_left k _ _ (whole_decayed (is_deref p) _ (place t d p) (whole_place d p h))
     whole_expr k d (tree.address p) h = whole_left k _ _ (whole_place d p h)
     whole_expr k d (tree.convert u v a) h = whole_left k _ _ (whole_converted u v (number_in a) (expr t true d a) (whole_expr true d a h))
     whole_expr k d (tree.truth s a) h = let q = both (is_value s) (in_expr a) h in whole_left k _ _ (whole_then (expr t true d a) (truth s) (whole_expr true d a q.1) (whole_truth s))
@@ -225,6 +236,7 @@ module _ (t : Target) where
     whole_expr k d (tree.calloc u a b) h = whole_left k _ _ (whole_product (scratch_i64 t) (size t.structs u) (expr t true d a) (expr t true d b))
     whole_expr k d (tree.free e) h = whole_freed t (expr t true d e)
     whole_expr k d (tree.discard e) h = whole_expr false d e h
+    whole_expr k d (tree.visit p) h = whole_then (place t d p) _ (whole_place d p h) (whole_plain _)
     whole_expr k d (tree.size_of_place n p) h = whole_left k _ _ (whole_plain _)
     whole_expr k d (tree.size_of_value n e) h = whole_left k _ _ (whole_plain _)
     whole_expr k d (tree.size_of_type n) h = whole_left k _ _ (whole_plain _)

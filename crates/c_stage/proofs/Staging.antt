@@ -16,7 +16,7 @@ use Rattle.c_typed.specs.refinement.Views.{body_of, expr_of, function_of, list_o
 use Rattle.c_typed.proofs.Sequences.{scope_is, switch_is}
 use Rattle.c_well_typed.specs.Units.{list_of as tys_in}
 use Rattle.c_code.specs.Functions.{params_in, result_in}
-use Rattle.c_stage.specs.Stage.{are_data, are_slots, in_body, in_expr, in_exprs, in_stmt, in_stmts, is_data, is_plain_function, is_result}
+use Rattle.c_stage.specs.Stage.{are_data, are_slots, in_body, in_expr, in_exprs, in_stmt, in_stmts, is_data, is_plain_function, is_result, is_variable}
 use Rattle.c_place.specs.refinement.Lists.{exprs_in}
 use Rattle.c_place.proofs.Lists.{call_is}
 use Rattle.c_code.proofs.ParameterTypes.{params_are}
@@ -47,11 +47,11 @@ pub function_is : (f : tree.Function) (s : _) → is_plain_function f (type_of (
 function_is f s =
     plain_is f (type_of (code.Function s)) refl ∙ ap (λ ts. is_result f (type_of s.value.result) && list_all is_data ts) (params_are s)
 
-slots_are : (ts : List Ty) → list_all is_data ts ≡ are_slots ts
+slots_are : (ts : List Ty) → list_all is_variable ts ≡ are_slots ts
 slots_are [] = refl
-slots_are (t ∷ ts) = ap (λ b. is_data t && b) (slots_are ts)
+slots_are (t ∷ ts) = ap (λ b. is_variable t && b) (slots_are ts)
 
-pub body_in : (f : Function) (s : Stmt) → f.body ≡ Some s → in_body (function_of f) (body_of f.body) ≡ (list_all is_data (map type_of f.slots.items) && in_stmt (stmt_of s))
+pub body_in : (f : Function) (s : Stmt) → f.body ≡ Some s → in_body (function_of f) (body_of f.body) ≡ (list_all is_variable (map type_of f.slots.items) && in_stmt (stmt_of s))
 body_in f s is = ap (λ b. in_body (function_of f) (body_of b)) is ∙ ap (λ b. b && in_stmt (stmt_of s)) (sym (slots_are (map type_of f.slots.items)))
 
 -- ---- lists in the tree

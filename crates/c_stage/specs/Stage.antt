@@ -1,12 +1,13 @@
 -- The units of which it is shown so far that their code does what they mean: those of integers and pointers to objects, variables of
--- such types, their addresses, control, and calls of functions by their names. An i32 counts the groups of a switch, but for one number.
+-- such types and arrays and structs, their addresses and members, control, and calls of functions by their names. An i32 counts the
+-- groups of a switch, but for one number.
 use Rattle.std.specs.Prelude.{nat_lt, ◌&&◌, not, Bool, true, false, List, [], ◌∷◌, bytes_eq, codes, Option, Some, None}
 use Rattle.c_types.specs.declared.types.Scalar.{Scalar}
 use Rattle.c_types.specs.declared.types.Scalar.TheVariants as scalars
-use Rattle.c_types.specs.Types.{Ty, void, integer, pointer, function, is_function, Tys, no_types, types}
+use Rattle.c_types.specs.Types.{Ty, void, integer, struct, pointer, array, function, is_function, Tys, no_types, types}
 use Rattle.c_typed.specs.declared.ops.Variable.TheVariants.{Local, Global}
 use Rattle.c_typed.specs.Tree as tree
-use Rattle.c_typed.specs.Tree.{Place, of, deref, Expr, Exprs, none, more, Stmt, nothing, perform, if_else, loop, do_while, switch, scope, return, return_nothing, break, continue, Stmts, done, seq, Function, Typed}
+use Rattle.c_typed.specs.Tree.{Place, of, deref, member, Expr, Exprs, none, more, Stmt, nothing, perform, if_else, loop, do_while, switch, scope, return, return_nothing, break, continue, Stmts, done, seq, Function, Typed}
 use Rattle.c_well_typed.specs.Statements.{count}
 
 -- of an integer, or of a pointer that leads to no function
@@ -15,22 +16,30 @@ is_data (integer t) = true
 is_data (pointer t) = not (is_function t)
 is_data _ = false
 
+-- a variable that is no parameter may be an array or a struct, too
+abbrev pub is_variable : Ty → Bool
+is_variable (array t n) = true
+is_variable (struct n) = true
+is_variable t = is_data t
+
 abbrev pub is_value : Scalar → Bool
 is_value (scalars.Int t) = true
 is_value scalars.Pointer = true
 is_value scalars.Function = false
 
 abbrev mutual
-  -- a variable of a function, or what a pointer points to
+  -- a variable of a function, what a pointer points to, or a member of these
   pub in_place : Place → Bool
   in_place (of (Local n)) = true
   in_place (deref e) = in_expr e
+  in_place (member p n m) = in_place p
   in_place _ = false
 
   pub in_expr : Expr → Bool
   in_expr (tree.number t n) = true
   in_expr tree.null = true
   in_expr (tree.read s p) = in_place p
+  in_expr (tree.decay t n p) = in_place p
   in_expr (tree.address p) = in_place p
   in_expr (tree.convert t u a) = in_expr a
   in_expr (tree.truth s a) = is_value s && in_expr a
@@ -57,6 +66,7 @@ abbrev mutual
   in_expr (tree.calloc t a b) = in_expr a && in_expr b
   in_expr (tree.free e) = in_expr e
   in_expr (tree.discard e) = in_expr e
+  in_expr (tree.visit p) = in_place p
   in_expr (tree.size_of_place n p) = true
   in_expr (tree.size_of_value n e) = true
   in_expr (tree.size_of_type n) = nat_lt n 4294967296
@@ -91,7 +101,7 @@ abbrev mutual
 
 abbrev pub are_slots : List Ty → Bool
 are_slots [] = true
-are_slots (t ∷ ts) = is_data t && are_slots ts
+are_slots (t ∷ ts) = is_variable t && are_slots ts
 
 abbrev pub are_data : Tys → Bool
 are_data no_types = true

@@ -13,7 +13,8 @@ use c_typed::{Expr, Function, Place, Sized, Stmt, Variable};
 use c_types::{CType, Scalar, Signature};
 use c_well_typed::Typed;
 
-/// Whether a unit is one of integers and pointers to objects, variables of such types, control, and calls of functions by their names.
+/// Whether a unit is one of integers and pointers to objects, variables of such types and arrays and structs, their addresses and
+/// members, control, and calls of functions by their names.
 pub fn is_in_stage(typed: &Typed) -> bool
     ensures { result ≡ words.in_stage (typed_of typed.now) }
 {
@@ -40,6 +41,31 @@ fn are_data(ts: &[CType]) -> bool
 {
     for t in ts {
         if !is_data(t) {
+            return false;
+        }
+    }
+    true
+}
+
+/// Whether it is an array, a struct, an integer, or a pointer that leads to no function.
+fn is_variable(t: &CType) -> bool
+    ensures { result ≡ words.is_variable (type_of t.now) }
+{
+    match t {
+        CType::Array(_, _) => true,
+        CType::Struct(_) => true,
+        CType::Int(_) => true,
+        CType::Pointer(t) => !t.is_function(),
+        CType::Void => false,
+        CType::Function(_) => false,
+    }
+}
+
+fn are_variables(ts: &[CType]) -> bool
+    ensures { result ≡ list_all words.is_variable (map type_of ts.now) }
+{
+    for t in ts {
+        if !is_variable(t) {
             return false;
         }
     }
@@ -106,7 +132,7 @@ fn in_size(n: u32, operand: &Sized) -> bool
     }
 }
 
-/// A variable of a function, or what a pointer points to.
+/// A variable of a function, what a pointer points to, or a member of these.
 #[cycle(staged)]
 fn in_place(p: &Place) -> bool
     ensures { result ≡ words.in_place (place_of p.now) }
@@ -115,7 +141,7 @@ fn in_place(p: &Place) -> bool
         Place::Of(Variable::Local(_)) => true,
         Place::Of(Variable::Global(_)) => false,
         Place::Deref(e) => in_expr(e),
-        Place::Member(_, _, _) => false,
+        Place::Member(p, _, _) => in_place(p),
     }
 }
 
@@ -130,6 +156,7 @@ fn in_expr(e: &Expr) -> bool
         Expr::Abort => true,
         Expr::SizeOf(n, operand) => in_size(*n, operand),
         Expr::Read(_, p) => in_place(p),
+        Expr::Decay(_, _, p) => in_place(p),
         Expr::Address(p) => in_place(p),
         Expr::Convert(_, _, a) => in_expr(a),
         Expr::Truth(s, a) => is_value(*s) && in_expr(a),
@@ -154,14 +181,13 @@ fn in_expr(e: &Expr) -> bool
         Expr::Calloc(_, a, b) => in_expr(a) && in_expr(b),
         Expr::Free(a) => in_expr(a),
         Expr::Discard(a) => in_expr(a),
+        Expr::Visit(p) => in_place(p),
         Expr::NoFunction => false,
         Expr::Function(_) => false,
         Expr::Literal(_) => false,
-        Expr::Decay(_, _, _) => false,
         Expr::SameFunction(_, _, _) => false,
         Expr::Copy(_, _, _) => false,
         Expr::CallThrough(_, _, _, _) => false,
-        Expr::Visit(_) => false,
     }
 }
 
@@ -231,7 +257,7 @@ fn in_body(f: &Function) -> bool
 {
     match &f.body {
         None => true,
-        Some(body) => are_data(&f.slots) && in_stmt(body),
+        Some(body) => are_variables(&f.slots) && in_stmt(body),
     }
 }
 

@@ -10,6 +10,7 @@ pub mod Ending
 pub mod Making
 pub mod Moving
 pub mod Slicing
+pub mod Parts
 pub mod Comparing
 pub mod Distances
 pub mod Copying
