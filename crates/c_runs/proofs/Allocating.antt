@@ -42,6 +42,7 @@ use Rattle.c_numbers.specs.Operands.{IsIn, all_carried, then_on}
 use Rattle.c_numbers.proofs.Conversions.{constant_is}
 use Rattle.c_numbers.proofs.Ranges.{bits_below}
 use Rattle.ms_relate.specs.refinement.Homes.{is_null, is_pointer}
+use Rattle.ms_relate.proofs.Near.{first_near}
 use Rattle.ms_relate.proofs.Laid.{size-positive}
 use Rattle.c_runs.proofs.Goes.{Goes, Mem, RunsTo, Stops}
 use Rattle.c_runs.proofs.Held.{some_is}
@@ -110,7 +111,7 @@ module _ (E : Env) (u : Ty) (slot : IsSlot E.unit.structs u) where
 
   -- ---- the object
 
-  module _ (count : ℕ) where
+  module _ (count : ℕ) (low : count * size s < 2 ^ 32) where
     abbrev meant : Does Value
     meant = make heap s count >>= (λ o. pure (pointer_to o))
 
@@ -128,9 +129,10 @@ module _ (E : Env) (u : Ty) (slot : IsSlot E.unit.structs u) where
       new_by (granted gs e M) =
           let w1 = made_world E now heap s count slot.fits vs r w m k gs in
           let p = to_object (length w.objects) in
+          let all : M.home.count * size M.home.shape ≡ count * size s = ap (λ (n : ℕ). n * size M.home.shape) M.count_is ∙ ap (λ (q : Shape). count * size q) M.shape_is in
           subst Goal (sym (ap meant (with_grants (true ∷ gs) e))) (
             M.mem,
-            (is_pointer M.home (whole_of M.home.shape M.home.count) slot.is_data M.at refl M.shape_is, M.keeps),
+            (is_pointer M.home (whole_of M.home.shape M.home.count) slot.is_data M.at refl M.shape_is (first_near (length w.objects) [] false (whole_of M.home.shape M.home.count) (omega (arith, all, low))), M.keeps),
             subst (λ (x : Word). Goes E.site 1 w w1 m t0 M.mem (at_work E M.mem w1 (x ∷ vs) r)) (sym (pointer_word E u M.mem.homes p slot.is_data)) M.goes,
           )
       new_by (refused' gs e g) =
@@ -145,7 +147,7 @@ module _ (E : Env) (u : Ty) (slot : IsSlot E.unit.structs u) where
           (subst (λ (w0 : World). Stops E.site 1 w w0 m t0 ungranted) (with_grants [] e) st)
 
     op_new : OpIn E [] (one news) (λ vs. I32 (count * size s) ∷ vs) (pushes E P) (IsValue E P) meant
-    op_new n has now le vs r dep w m k ag = new_by now vs r w m k (new_goes E now heap s count slot.fits vs r w m k ag)
+    op_new n has now le vs r dep w m k ag = new_by now vs r w m k (new_goes E now heap s count slot.fits vs r w m k slot.small ag)
 
   -- ---- of so many bytes, as many elements as they hold
 
@@ -157,7 +159,7 @@ module _ (E : Env) (u : Ty) (slot : IsSlot E.unit.structs u) where
       let mid : Unit {0} → Stack = λ q vs. I32 (b / size s * size s) ∷ vs in
       op_then_in E [] (plain (rounds (size s))) (one news) (λ vs. I32 b ∷ vs) (λ hs. mid) (pushes E P) (λ hs. Always E) (IsValue E P) (pure tt) (λ q. allocate E.unit.structs u b)
       (op_bare E (plain (rounds (size s))) (λ vs. I32 b ∷ vs) mid (Always E) tt (λ j. refl) tt (λ j vs. rounds_is (size s) b vs some slot.small lt))
-      (λ gs grown q ok. op_any E gs (one news) (mid tt) (pushes E P) (IsValue E P) (allocate E.unit.structs u b) (op_new (b / size s)))
+      (λ gs grown q ok. op_any E gs (one news) (mid tt) (pushes E P) (IsValue E P) (allocate E.unit.structs u b) (op_new (b / size s) (whole_below b (size s) lt)))
 
   -- a number that is known
   constant_runs : (b : ℕ) → b < 2 ^ 32 → Leaves E (plain (i32 (b / size s * size s) ∷ news ∷ [])) P (allocate E.unit.structs u b)
@@ -166,7 +168,7 @@ module _ (E : Env) (u : Ty) (slot : IsSlot E.unit.structs u) where
       let mid : Unit {0} → Stack = λ q vs. I32 size' ∷ vs in
       op_then_in E [] (one (i32 size')) (one news) same (λ hs. mid) (pushes E P) (λ hs. Always E) (IsValue E P) (pure tt) (λ q. allocate E.unit.structs u b)
       (op_carried E (i32 size') same mid (Always E) tt tt (λ vs. constant_is W32 (pos size') vs ∙ ap (λ (k : ℕ). operate.Gives (I32 k ∷ vs)) (wrapped_small size' (whole_below b (size s) lt))))
-      (λ gs grown q ok. op_any E gs (one news) (mid tt) (pushes E P) (IsValue E P) (allocate E.unit.structs u b) (op_new (b / size s)))
+      (λ gs grown q ok. op_any E gs (one news) (mid tt) (pushes E P) (IsValue E P) (allocate E.unit.structs u b) (op_new (b / size s) (whole_below b (size s) lt)))
 
   -- ---- malloc
 

@@ -58,7 +58,7 @@ module _ (E : Env) where
   -- ---- places
 
   -- the first element of a variable's object
-  object_near : (n : ℕ) (t : Ty) (hs : List Home) → IsSlot E.unit.structs t → (o : IsObjectAt E.unit.structs t hs n) → IsNear (record { object = n; path = []; index = pos 0; sealed = false }) (whole_of o.home.shape o.home.count)
+  pub object_near : (n : ℕ) (t : Ty) (hs : List Home) → IsSlot E.unit.structs t → (o : IsObjectAt E.unit.structs t hs n) → IsNear (record { object = n; path = []; index = pos 0; sealed = false }) (whole_of o.home.shape o.home.count)
   object_near n t hs slot o =
       let all : o.home.count * size o.home.shape ≡ 1 * size (shape E.unit.structs t) = ap (λ (k : ℕ). k * size o.home.shape) o.one ∙ ap (λ (s : Shape). 1 * size s) o.shape_is in
       let small = slot.small in

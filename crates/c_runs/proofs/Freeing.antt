@@ -59,7 +59,7 @@ some_pointer p e = absurd cc
 passed : (table : Table) (places : ℕ → ℕ) (hs : List Home) (t : Ty) (v : Value) → is_function t ≡ false → homes.IsOf table places hs (pointer t) v → IsPassed hs v
 passed table places hs t v d (homes.is_null e) = inl (refl, refl)
 passed table places hs t v d (homes.is_invalid e) = inr (some_invalid, refl)
-passed table places hs t v d (homes.is_pointer {p = p} h s e at span shape) = inr (some_pointer p, no_null (slice_get hs p.object) p)
+passed table places hs t v d (homes.is_pointer {p = p} h s e at span shape near) = inr (some_pointer p, no_null (slice_get hs p.object) p)
 passed table places hs t v d (homes.is_named e lt) = absurd (let z : false ≡ true = sym d ∙ e in cc)
 passed table places hs t v d (homes.is_no_function e) = absurd (let z : false ≡ true = sym d ∙ e in cc)
 
