@@ -264,14 +264,14 @@ module _ (E : Env) (L : Linked E.site) (home : AtHome E) (k : well.Context) (slo
     offset_is : (n m : ℕ) → offset E.target.structs (struct n) m ≡ offset E.unit.structs (struct n) m
     offset_is n m = ap (λ (table : Table). offset table (struct n) m) E.structs_are
 
-    size_is : (n m : ℕ) (t : Ty) → IsMember k.structs n m t → code.member_size E.target n m ≡ size (shape E.unit.structs t)
-    size_is n m t h = ap (λ (table : Table). type_size table (get_or (members_of table (struct n)) m void)) E.structs_are ∙ (laid n m t h).sized
+    member_size_is : (n m : ℕ) (t : Ty) → IsMember k.structs n m t → code.member_size E.target n m ≡ size (shape E.unit.structs t)
+    member_size_is n m t h = ap (λ (table : Table). type_size table (get_or (members_of table (struct n)) m void)) E.structs_are ∙ (laid n m t h).sized
 
     some_there : (n m : ℕ) (t : Ty) → IsMember k.structs n m t → 0 < code.member_size E.target n m
-    some_there n m t h = let e = size_is n m t h in let some = (laid n m t h).some in omega (arith, e, some)
+    some_there n m t h = let e = member_size_is n m t h in let some = (laid n m t h).some in omega (arith, e, some)
 
     within_there : (n m : ℕ) (t : Ty) → IsMember k.structs n m t → offset E.target.structs (struct n) m + code.member_size E.target n m ≤ size (shape E.unit.structs (struct n))
-    within_there n m t h = let o = offset_is n m in let e = size_is n m t h in let within = (laid n m t h).within in omega (arith, o, e, within)
+    within_there n m t h = let o = offset_is n m in let e = member_size_is n m t h in let within = (laid n m t h).within in omega (arith, o, e, within)
 
     abbrev SlicesIn : (d : ℕ) → Place → (n from len : ℕ) → Type 0
     SlicesIn d p n from len = Slices E (code.part E.target d p from len) (struct n) from len (place E.unit E.calls p)
@@ -282,7 +282,7 @@ module _ (E : Env) (L : Linked E.site) (home : AtHome E) (k : well.Context) (slo
         let c = code.place E.target d (member p n m) in
         let x = place E.unit E.calls p in
         member_all E n m t (laid n m t h) c x
-        (subst (λ (o : ℕ). Slices E c (struct n) o (size (shape E.unit.structs t)) x) (offset_is n m) (subst (λ (l : ℕ). Slices E c (struct n) (offset E.target.structs (struct n) m) l x) (size_is n m t h) s))
+        (subst (λ (o : ℕ). Slices E c (struct n) o (size (shape E.unit.structs t)) x) (offset_is n m) (subst (λ (l : ℕ). Slices E c (struct n) (offset E.target.structs (struct n) m) l x) (member_size_is n m t h) s))
 
     abbrev decaying : Place → Does Value
     decaying p = meaning.pointer (place E.unit E.calls p) >>= meaning.further inside
@@ -344,7 +344,7 @@ module _ (E : Env) (L : Linked E.site) (home : AtHome E) (k : well.Context) (slo
       by false q = advance_plain E u slot back c y r x (kind_at x (pointer u) h.0 false q) kept old (one (get E.target (Local x)))
     advances kept old d u back (of (Global x)) c y slot l h leads r = absurd cc
     advances kept old d u back (deref e) c y slot l h leads r = advance_there E u slot back c y r (code.place E.target d (deref e)) (place E.unit E.calls (deref e)) (leads tt) kept old
-    advances kept old d u back (member p n m) c y slot l h leads r = absurd cc
+    advances kept old d u back (member p n m) c y slot l h leads r = advance_there E u slot back c y r (code.place E.target d (member p n m)) (place E.unit E.calls (member p n m)) (leads tt) kept old
 
     -- a pointer is left
     left_pointer : (kept : Bool) (c : Code) (t u : Ty) (x : Does Value) → t ≡ pointer u → is_function u ≡ false → Leaves E c (pointer u) x → Carries E kept (left kept code.pointer c) t x
