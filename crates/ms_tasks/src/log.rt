@@ -114,6 +114,7 @@ impl Log {
     }
 
     /// One more event.
+    #[inline(always)]
     fn see_event(&mut self, event: Event) -> Result<(), AllocError>
         requires { CountsUpTo (2 ^ 63) self.old.trace }
         ensures entries { self.new.entries ≡ self.old.entries }
