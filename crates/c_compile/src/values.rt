@@ -25,6 +25,7 @@ use crate::accesses::{
     new_known, new_product, slice, slice_of, variable, variable_twice, write, write_kept,
 };
 use crate::adding::{add, add_two, begin, end, turn};
+use crate::body::Body;
 use crate::conversions::{convert, truth};
 use crate::known::{Known, known_of};
 use crate::leaves::sum;
