@@ -1,7 +1,7 @@
 -- Places that are no plain variables, of a type of one value: an object's variable, and where a pointer leads. They are read, assigned and
 -- changed through their handle, by way of the scratch locals.
-use Rattle.std.proofs.Common.{◌≡◌, ◌≢◌, ℕ, ◌+◌, ◌<◌, List, [], ◌∷◌, length, Bool, true, false, Option, Some, None, refl, sym, ap, ◌∙◌, arith, subst}
-use Rattle.std.specs.Prelude.{slice_get, cond}
+use Rattle.std.proofs.Common.{◌≡◌, ◌≢◌, ℕ, ◌+◌, ◌*◌, ◌<◌, List, [], ◌∷◌, length, Bool, true, false, Option, Some, None, refl, sym, ap, ◌∙◌, arith, subst}
+use Rattle.std.specs.Prelude.{pos, slice_get, cond}
 use Rattle.ms_linear.specs.declared.value.Value.{Value as Word}
 use Rattle.ms_linear.specs.declared.value.Value.TheVariants.{Handle}
 use Rattle.ms_handle.specs.declared.handle.Handle.{Handle as HandleOf}
@@ -15,6 +15,7 @@ use Rattle.c_types.specs.Types.{Ty, pointer, is_function, scalar_of}
 use Rattle.c_typed.specs.declared.ops.Variable.TheVariants.{Local}
 use Rattle.c_typed.specs.Tree.{of}
 use Rattle.c_well_typed.specs.refinement.Expressions.{is_visible}
+use Rattle.c_meaning.specs.Shapes.{Shape, shape, size}
 use Rattle.c_meaning.specs.Values.{Value}
 use Rattle.c_meaning.specs.Objects.{read, to_object, whole_of, write}
 use Rattle.c_meaning.specs.World.{Held, World, Result, gives, Does, after, ◌>>=◌, ◌>>◌, pure, alter, ask, known}
@@ -25,12 +26,13 @@ use Rattle.c_code.specs.Expressions.{ended}
 use Rattle.c_code.specs.Operations.{load, store, width_of}
 use Rattle.c_code.specs.Targets.{get, scratch_of, scratch_place}
 use Rattle.ms_relate.specs.refinement.Homes as homes
-use Rattle.ms_relate.specs.refinement.Homes.{Home, IsScalar, handle, is_pointer}
+use Rattle.ms_relate.specs.refinement.Homes.{Home, IsNear, IsScalar, handle, is_pointer}
 use Rattle.ms_relate.proofs.Growing.{Extends, handle_still, is_of_still}
+use Rattle.ms_relate.proofs.Near.{first_near}
 use Rattle.c_runs.proofs.Goes.{Goes, Mem, Runs, RunsTo, behind_goes, bind, goes_on, one_here}
-use Rattle.c_runs.proofs.Held.{object_at, object_word, set_elsewhere, set_there}
+use Rattle.c_runs.proofs.Held.{IsObjectAt, object_at, object_word, set_elsewhere, set_there}
 use Rattle.c_runs.proofs.Values.{pushed_is, value_still, word_of}
-use Rattle.c_runs.proofs.Related.{Env, IsValue, Kept, Now, extends_trans, frame_of, pushes}
+use Rattle.c_runs.proofs.Related.{Env, IsSlot, IsValue, Kept, Now, extends_trans, frame_of, pushes}
 use Rattle.c_runs.proofs.Ops.{GoodIn, OpIn, Stack, ToIn, after_pure, at_work, op_any, op_look_in, op_over_in, op_then_in, same}
 use Rattle.c_runs.proofs.Nodes.{Always, Leaves, get_slot, gone, local_of_x, remains}
 use Rattle.c_runs.proofs.Steps.{SameIn, load_runs, op_load, op_store, store_runs}
@@ -55,6 +57,13 @@ module _ (E : Env) where
 
   -- ---- places
 
+  -- the first element of a variable's object
+  pub object_near : (n : ℕ) (t : Ty) (hs : List Home) → IsSlot E.unit.structs t → (o : IsObjectAt E.unit.structs t hs n) → IsNear (record { object = n; path = []; index = pos 0; sealed = false }) (whole_of o.home.shape o.home.count)
+  object_near n t hs slot o =
+      let all : o.home.count * size o.home.shape ≡ 1 * size (shape E.unit.structs t) = ap (λ (k : ℕ). k * size o.home.shape) o.one ∙ ap (λ (s : Shape). 1 * size s) o.shape_is in
+      let small = slot.small in
+      first_near n [] false (whole_of o.home.shape o.home.count) (omega (arith, all, small)) (subst (λ (s : Shape). size s < 4294967296) (sym o.shape_is) small)
+
   pub variable_leads : (x : ℕ) (t : Ty) → slice_get E.kinds x ≡ Some (t, true) → is_visible E.visible x ≡ true → Leads (one (get E.target (Local x))) t (place E.unit E.calls (of (Local x)))
   variable_leads x t at_x seen n has now le vs r dep w m k ag =
       let l = k.open' x t (le.seen x seen) at_x in
@@ -65,7 +74,7 @@ module _ (E : Env) where
       let i = LocalGet (local_of_x E x (t, true) at_x) in
       subst (λ (y : Result Spot). RunsTo E.site 1 m (at_work E m w vs (Do i ∷ r)) w (ToIn E spot_pushed vs r) (GoodIn E (IsSpot t) now) y) (sym is) (
         m,
-        (is_pointer o.home (whole_of o.home.shape o.home.count) slot.is_data o.at refl o.shape_is, k),
+        (is_pointer o.home (whole_of o.home.shape o.home.count) slot.is_data o.at refl o.shape_is (object_near l.number t m.homes slot o), k),
         one_here E.site w m m i (frame_of E m w) vs r (thread (frame_of E m w) (Handle (handle m.homes p) ∷ vs) r) (get_slot E x (t, true) at_x w m (Handle (handle m.homes p)) vs r (object_word E.unit.structs E.places E.kinds m.homes w.locals x t l.number at_x l.held)),
       )
 

@@ -21,8 +21,10 @@ use Rattle.c_typed.specs.Tree as tree
 use Rattle.c_typed.specs.Tree.{Place, of, deref, member, Expr, Exprs, none, more}
 use Rattle.c_well_typed.specs.refinement.Expressions as well
 use Rattle.c_well_typed.specs.refinement.Expressions.{HasType, HaveTypes, IsMember, IsNarrow, IsPlace, is_visible}
+use Rattle.c_typed.specs.declared.ops.RelOp.{RelOp}
 use Rattle.c_typed.specs.declared.ops.RelOp.TheVariants as relations
-use Rattle.c_meaning.specs.Objects.{same_place}
+use Rattle.c_meaning.specs.Objects as objects
+use Rattle.c_meaning.specs.Objects.{distance, same_place}
 use Rattle.c_meaning.specs.Shapes.{shape, size}
 use Rattle.c_meaning.specs.Values.{Value, inside, null, number}
 use Rattle.c_meaning.specs.World.{World, Result, gives, ends, Does, after, ask, ◌>>=◌, ◌>>◌, pure, stop, abort}
@@ -30,10 +32,10 @@ use Rattle.c_meaning.specs.Integers as meant
 use Rattle.c_meaning.specs.Integers.{value_of, wrap}
 use Rattle.c_meaning.specs.Expressions as meaning
 use Rattle.c_meaning.specs.Expressions.{as_number, expr, exprs, is_true, place, store}
-use Rattle.ms_emit.specs.Codes.{Code, one, ◌⨾◌, choice}
+use Rattle.ms_emit.specs.Codes.{Code, plain, one, ◌⨾◌, choice}
 use Rattle.c_code.specs.Expressions as code
-use Rattle.c_code.specs.Expressions.{as_bit, begun, converted, decayed, ended, fetched, int, is_bit, is_deref, is_null, left, number_in, of_type, updated}
-use Rattle.c_code.specs.Operations.{constant, convert, eqz, i32, operated, slice, truth, val_option, width_of}
+use Rattle.c_code.specs.Expressions.{as_bit, begun, converted, decayed, ended, fetched, int, is_bit, is_deref, is_null, left, moved, number_in, of_type, updated}
+use Rattle.c_code.specs.Operations.{compared, constant, convert, eqz, i32, i64, operated, slice, truth, val_option, width_of}
 use Rattle.c_stage.specs.Stage.{in_expr, in_exprs, in_place}
 use Rattle.c_code.specs.Targets.{get, plain_in}
 use Rattle.c_code.specs.Uses as uses
@@ -53,6 +55,9 @@ use Rattle.c_runs.proofs.Members.{IsLaid, LeadsAll, Slices, decay_all, decay_sli
 use Rattle.c_runs.proofs.Scalars.{IsData, null_runs, pointer_type, scalar_type, small_slot, truth_pointer}
 use Rattle.c_runs.proofs.Equal.{equal_runs, unequal_runs}
 use Rattle.c_runs.proofs.Updates.{update_there}
+use Rattle.c_runs.proofs.Moves.{by_size, bytes, move_by_runs, move_runs}
+use Rattle.c_runs.proofs.Advances.{advance_plain, advance_there}
+use Rattle.c_runs.proofs.Orders.{difference_runs, order_runs}
 use Rattle.c_runs.proofs.Ready.{IsCallable, IsReady, addressed, called, either, in_expr_of, in_exprs_of, in_place_of, parts, taken}
 use Rattle.c_runs.proofs.Whole.{whole_as_bit, whole_expr, whole_plain}
 
@@ -109,6 +114,10 @@ module _ (E : Env) where
   if_given true m n a b = a
   if_given false m n a b = b
 
+  order_given : (o : RelOp) (a b : Expr) (w : World) → AllGiven E IsBit ((value a >>= (λ p. value b >>= (λ q. ask (λ os. distance os p q) >>= (λ d. pure (meaning.truth (meant.compared o d (pos 0))))))) w)
+  order_given o a b w =
+      given_after E IsBit (value a w) _ (λ p w1. given_after E IsBit (value b w1) _ (λ q w2. given_after E IsBit (ask (λ os. distance os p q) w2) _ (λ d w3. (meant.compared o d (pos 0), refl))))
+
   bit_given : (e : Expr) → is_bit e ≡ true → in_expr e ≡ true → (w : World) → AllGiven E IsBit (value e w)
   bit_given (tree.truth s a) b h w = given_after E IsBit (meaning.test (value a) w) _ (λ x w1. (x, refl))
   bit_given (tree.not a) b h w = given_after E IsBit (meaning.test (value a) w) _ (λ x w1. (not x, refl))
@@ -117,6 +126,10 @@ module _ (E : Env) where
       given_after E IsBit (value x w) _ (λ p w1. given_after E IsBit (value y w1) _ (λ q w2. given_after E IsBit (ask (λ os. same_place os p q) w2) _ (λ r w3. (r, refl))))
   bit_given (tree.compare_pointers relations.NotEqual x y) b h w =
       given_after E IsBit (value x w) _ (λ p w1. given_after E IsBit (value y w1) _ (λ q w2. given_after E IsBit (ask (λ os. same_place os p q) w2) _ (λ r w3. (not r, refl))))
+  bit_given (tree.compare_pointers relations.Less x y) b h w = order_given relations.Less x y w
+  bit_given (tree.compare_pointers relations.LessEqual x y) b h w = order_given relations.LessEqual x y w
+  bit_given (tree.compare_pointers relations.Greater x y) b h w = order_given relations.Greater x y w
+  bit_given (tree.compare_pointers relations.GreaterEqual x y) b h w = order_given relations.GreaterEqual x y w
   bit_given (tree.and x y) b h w =
       given_after E IsBit (meaning.test (value x) w) _
       (λ p. if_given p (meaning.test (value y) >>= (λ q. pure (meaning.truth q))) (pure (meaning.truth false)) (λ w1. given_after E IsBit (meaning.test (value y) w1) _ (λ q w2. (q, refl))) (λ w1. (false, refl)))
@@ -312,6 +325,31 @@ module _ (E : Env) (L : Linked E.site) (home : AtHome E) (k : well.Context) (slo
     updates kept old d u v o (deref e) c y l pr h leads r = update_there E o u v (code.place E.target d (deref e)) (place E.unit E.calls (deref e)) (leads tt) c y pr r kept old
     updates kept old d u v o (member p n m) c y l pr h leads r = update_there E o u v (code.place E.target d (member p n m)) (place E.unit E.calls (member p n m)) (leads tt) c y pr r kept old
 
+    abbrev advancing : Bool → ℕ → Bool → Place → Does Value → Does Value
+    advancing old n back p y =
+        place E.unit E.calls p >>= (λ q. meaning.fetch q >>= (λ v. meaning.integer y >>= (λ i.
+        let new = objects.moved n (meaning.back_if back i) v in store q new >> pure (if old then v else new))))
+
+    advances : (kept old : Bool) (d : ℕ) (u : Ty) (back : Bool) (p : Place) (c : Code) (y : Does Value) (slot : IsSlot E.unit.structs u) → in_place p ≡ true → IsPlace k p (pointer u) → LeadsIn d p (pointer u) → Leaves E c (integer LongLong) y
+        → Carries E kept (updated E.target kept old (plain_in E.target p) (code.place E.target d p) scalars.Pointer (moved (bytes E u slot) back c)) (pointer u) (advancing old (bytes E u slot) back p y)
+    advances kept old d u back (of (Local x)) c y slot l h leads r = by (E.target.is_object (Local x)) refl where
+      by : (b : Bool) → E.target.is_object (Local x) ≡ b
+          → Carries E kept (updated E.target kept old (variable_in b x) (one (get E.target (Local x))) scalars.Pointer (moved (bytes E u slot) back c)) (pointer u) (advancing old (bytes E u slot) back (of (Local x)) y)
+      by true q = advance_there E u slot back c y r (one (get E.target (Local x))) (place E.unit E.calls (of (Local x))) (leads q) kept old
+      by false q = advance_plain E u slot back c y r x (kind_at x (pointer u) h.0 false q) kept old (one (get E.target (Local x)))
+    advances kept old d u back (of (Global x)) c y slot l h leads r = absurd cc
+    advances kept old d u back (deref e) c y slot l h leads r = advance_there E u slot back c y r (code.place E.target d (deref e)) (place E.unit E.calls (deref e)) (leads tt) kept old
+    advances kept old d u back (member p n m) c y slot l h leads r = advance_there E u slot back c y r (code.place E.target d (member p n m)) (place E.unit E.calls (member p n m)) (leads tt) kept old
+
+    -- a pointer is left
+    left_pointer : (kept : Bool) (c : Code) (t u : Ty) (x : Does Value) → t ≡ pointer u → is_function u ≡ false → Leaves E c (pointer u) x → Carries E kept (left kept code.pointer c) t x
+    left_pointer kept c t u x e plain_type h = subst (λ (r : Ty). Carries E kept (left kept code.pointer c) r x) (sym e) (left_runs E kept code.pointer (pointer u) c x (pointer_scalar u plain_type) h)
+
+    -- two pointers by their order
+    ordered : (kept : Bool) (o : RelOp) (a b : Code) (x y : Does Value) (t u : Ty) → t ≡ integer Int → is_function u ≡ false → Leaves E a (pointer u) x → Leaves E b (pointer u) y
+        → Carries E kept (left kept int (a ⨾ b ⨾ plain (Segment segment.Diff ∷ i64 0 ∷ compared o LongLong ∷ []))) t (x >>= (λ p. y >>= (λ q. ask (λ os. distance os p q) >>= (λ z. pure (meaning.truth (meant.compared o z (pos 0)))))))
+    ordered kept o a b x y t u e plain_type ra rb = left_int kept _ t Int _ e (order_runs E u plain_type a b x y ra rb o)
+
     size_runs : (kept : Bool) (n : ℕ) (t : Ty) → t ≡ integer UnsignedInt → n < 2 ^ 32 → Carries E kept (left kept (of_type UnsignedInt) (one (i32 n))) t (pure (number (pos n)))
     size_runs kept n t e lt = left_int kept (one (i32 n)) t UnsignedInt (pure (number (pos n))) e (constant_runs E UnsignedInt (pos n) (value_in UnsignedInt n lt))
 
@@ -422,6 +460,32 @@ module _ (E : Env) (L : Linked E.site) (home : AtHome E) (k : well.Context) (slo
           let q = parts E.target.is_object E.unit (in_expr a) (in_expr b) (uses.in_expr a) (uses.in_expr b) (in_expr_of a) (in_expr_of b) x in
           left_int kept _ t Int (value_in_E (tree.compare_pointers relations.NotEqual a b)) h.1
           (unequal_runs E h.0 h.2 (is_null b) (code_of true d a) (code_of true d b) (value_in_E a) (value_in_E b) (null_is E b) (expr_runs true d a (pointer h.0) q.0 h.3) (expr_runs true d b (pointer h.0) q.1 h.4))
+      expr_runs kept d (tree.compare_pointers relations.Less a b) t x h =
+          let q = parts E.target.is_object E.unit (in_expr a) (in_expr b) (uses.in_expr a) (uses.in_expr b) (in_expr_of a) (in_expr_of b) x in
+          ordered kept relations.Less (code_of true d a) (code_of true d b) (value_in_E a) (value_in_E b) t h.0 h.1 h.2 (expr_runs true d a (pointer h.0) q.0 h.3) (expr_runs true d b (pointer h.0) q.1 h.4)
+      expr_runs kept d (tree.compare_pointers relations.LessEqual a b) t x h =
+          let q = parts E.target.is_object E.unit (in_expr a) (in_expr b) (uses.in_expr a) (uses.in_expr b) (in_expr_of a) (in_expr_of b) x in
+          ordered kept relations.LessEqual (code_of true d a) (code_of true d b) (value_in_E a) (value_in_E b) t h.0 h.1 h.2 (expr_runs true d a (pointer h.0) q.0 h.3) (expr_runs true d b (pointer h.0) q.1 h.4)
+      expr_runs kept d (tree.compare_pointers relations.Greater a b) t x h =
+          let q = parts E.target.is_object E.unit (in_expr a) (in_expr b) (uses.in_expr a) (uses.in_expr b) (in_expr_of a) (in_expr_of b) x in
+          ordered kept relations.Greater (code_of true d a) (code_of true d b) (value_in_E a) (value_in_E b) t h.0 h.1 h.2 (expr_runs true d a (pointer h.0) q.0 h.3) (expr_runs true d b (pointer h.0) q.1 h.4)
+      expr_runs kept d (tree.compare_pointers relations.GreaterEqual a b) t x h =
+          let q = parts E.target.is_object E.unit (in_expr a) (in_expr b) (uses.in_expr a) (uses.in_expr b) (in_expr_of a) (in_expr_of b) x in
+          ordered kept relations.GreaterEqual (code_of true d a) (code_of true d b) (value_in_E a) (value_in_E b) t h.0 h.1 h.2 (expr_runs true d a (pointer h.0) q.0 h.3) (expr_runs true d b (pointer h.0) q.1 h.4)
+      expr_runs kept d (tree.difference u a b) t x h =
+          let q = parts E.target.is_object E.unit (in_expr a) (in_expr b) (uses.in_expr a) (uses.in_expr b) (in_expr_of a) (in_expr_of b) x in
+          left_int kept _ t LongLong (value_in_E (tree.difference u a b)) h.0
+          (difference_runs E u (sized u h.1) (code_of true d a) (code_of true d b) (value_in_E a) (value_in_E b) (expr_runs true d a (pointer u) q.0 h.2) (expr_runs true d b (pointer u) q.1 h.3))
+      expr_runs kept d (tree.move u back a b) t x h =
+          let q = parts E.target.is_object E.unit (in_expr a) (in_expr b) (uses.in_expr a) (uses.in_expr b) (in_expr_of a) (in_expr_of b) x in
+          let slot = sized u h.1 in
+          left_pointer kept _ t u (value_in_E (tree.move u back a b)) h.0 slot.is_data
+          (move_runs E u slot back (code_of true d a) (code_of true d b) (value_in_E a) (value_in_E b) (expr_runs true d a (pointer u) q.0 h.2) (expr_runs true d b (integer LongLong) q.1 h.3))
+      expr_runs kept d (tree.move_by u a b) t x h =
+          let q = parts E.target.is_object E.unit (in_expr a) (in_expr b) (uses.in_expr a) (uses.in_expr b) (in_expr_of a) (in_expr_of b) x in
+          let slot = sized u h.1 in
+          left_pointer kept _ t u (value_in_E (tree.move_by u a b)) h.0 slot.is_data
+          (move_by_runs E u slot (code_of true d a) (code_of true d b) (value_in_E a) (value_in_E b) (expr_runs true d a (integer LongLong) q.0 h.2) (expr_runs true d b (pointer u) q.1 h.3))
       expr_runs kept d (tree.and a b) t x h =
           let q = parts E.target.is_object E.unit (in_expr a) (in_expr b) (uses.in_expr a) (uses.in_expr b) (in_expr_of a) (in_expr_of b) x in
           let y = as_bit (is_bit b) (code_of true d b) in
@@ -455,6 +519,12 @@ module _ (E : Env) (L : Linked E.site) (home : AtHome E) (k : well.Context) (slo
       expr_runs kept d (tree.update old u o v p e) t x h =
           let q = parts E.target.is_object E.unit (in_place p) (in_expr e) (uses.in_place p) (uses.in_expr e) (in_place_of p) (in_expr_of e) x in
           as_type kept (code_of kept d (tree.update old u o v p e)) t u (value_in_E (tree.update old u o v p e)) h.0 (updates kept old d u v o p (code_of true d e) (value_in_E e) q.0.in_stage h.1 h.2 (leads_run d p (integer u) q.0 h.2) (expr_runs true d e (integer v) q.1 h.3))
+      expr_runs kept d (tree.advance old u back p e) t x h =
+          let q = parts E.target.is_object E.unit (in_place p) (in_expr e) (uses.in_place p) (uses.in_expr e) (in_place_of p) (in_expr_of e) x in
+          let slot = sized u h.1 in
+          subst (λ (r : Ty). Carries E kept (code_of kept d (tree.advance old u back p e)) r (value_in_E (tree.advance old u back p e))) (sym h.0)
+          (by_size E u slot (λ c m. Carries E kept (updated E.target kept old (plain_in E.target p) (code.place E.target d p) scalars.Pointer (moved c back (code_of true d e))) (pointer u) (advancing old m back p (value_in_E e)))
+          (advances kept old d u back p (code_of true d e) (value_in_E e) slot q.0.in_stage h.2 (leads_run d p (pointer u) q.0 h.2) (expr_runs true d e (integer LongLong) q.1 h.3)))
       expr_runs kept d (tree.call f s es) t x h =
           let c = called E.target.is_object E.unit f (in_exprs es) (uses.in_exprs es) (in_exprs_of es) x in
           left_runs E kept s t (code.exprs E.target d es ⨾ one (Call (E.target.index f))) (value_in_E (tree.call f s es)) h.2

@@ -18,6 +18,9 @@ pub mod Blocks
 pub mod Makes
 pub mod Operations
 pub mod Updates
+pub mod Moves
+pub mod Advances
+pub mod Orders
 pub mod Scalars
 pub mod Equal
 pub mod Exprs

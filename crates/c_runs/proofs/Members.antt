@@ -45,7 +45,7 @@ use Rattle.c_runs.proofs.Ops.{GoodIn, OpIn, Stack, ToIn, at_work, carried_is, op
 use Rattle.c_runs.proofs.Nodes.{Carries, Leaves, get_slot, local_of_x, remains}
 use Rattle.c_runs.proofs.Steps.{IsQuiet, event_goes, quiet_tells}
 use Rattle.c_runs.proofs.Makes.{get_is}
-use Rattle.c_runs.proofs.Cells.{IsSpot, Leads, LeadsTo, pointer_word, spot_pushed}
+use Rattle.c_runs.proofs.Cells.{IsSpot, Leads, LeadsTo, object_near, pointer_word, spot_pushed}
 use Rattle.c_runs.proofs.Scalars.{no_function_type}
 
 -- ---- a member of a struct that is defined
@@ -134,7 +134,7 @@ module _ (E : Env) where
       let slot = E.objects_are x t at_x in
       let is : place E.unit E.calls (of (Local x)) w ≡ gives (at p) w = ap (λ (h : Option Held). after (known h w) (λ q. pure (spot_of (Local x) q))) l.held in
       let i = Rattle.ms_module.specs.declared.instr.Instr.TheVariants.LocalGet (local_of_x E x (t, true) at_x) in
-      let leads : LeadsTo E t m.homes p = is_pointer o.home (whole_of o.home.shape o.home.count) slot.is_data o.at refl o.shape_is in
+      let leads : LeadsTo E t m.homes p = is_pointer o.home (whole_of o.home.shape o.home.count) slot.is_data o.at refl o.shape_is (object_near E l.number t m.homes slot o) in
       let all = subst (λ (s : Shape). slice (handle m.homes p) 0 (size s) ≡ handle m.homes p) o.shape_is (name_all E.unit.structs E.places m.homes l.number o.home o.at o.one) in
       subst (λ (y : Result Spot). RunsTo E.site 1 m (at_work E m w vs (Do i ∷ r)) w (ToIn E (spot_pushed E) vs r) (GoodIn E (IsAll t) now) y) (sym is) (
         m,

@@ -34,7 +34,7 @@ use Rattle.c_runs.proofs.Cells.{IsSpot, Leads, LeadsTo, ends_there, lead_still, 
 -- ---- assignments with an operator (6.5.16.2, 6.5.2.4, 6.5.3.1)
 
 -- code is put together in either order
-code_assoc : (a b x : Code) → ((a ⨾ b) ⨾ x) ≡ (a ⨾ (b ⨾ x))
+pub code_assoc : (a b x : Code) → ((a ⨾ b) ⨾ x) ≡ (a ⨾ (b ⨾ x))
 code_assoc a b x = λ j n. go n j where
   go : (n : ℕ) → ((a ⨾ b) ⨾ x) n ≡ (a ⨾ (b ⨾ x)) n
   go n =

@@ -19,7 +19,7 @@ use Rattle.c_typed.specs.declared.ops.Variable.TheVariants.{Local, Global}
 use Rattle.c_typed.specs.Tree as tree
 use Rattle.c_typed.specs.Tree.{Place, of, Expr, Exprs, none, more}
 use Rattle.ms_emit.specs.Codes.{Code, plain, one, no_code, ◌⨾◌, choice}
-use Rattle.c_code.specs.Expressions.{as_bit, begun, begun_with_old, begun_over_old, converted, decayed, ended, expr, exprs, fetched, int, is_bit, is_deref, is_null, left, number_in, part, place, pointers_compared, put, updated}
+use Rattle.c_code.specs.Expressions.{as_bit, begun, begun_with_old, begun_over_old, converted, decayed, ended, expr, exprs, fetched, int, is_bit, is_deref, is_null, left, moved, number_in, part, place, pointers_compared, put, updated}
 use Rattle.c_code.specs.Operations.{by_width, convert, i32, narrow, to_type, truth, val_option, width_of}
 use Rattle.c_stage.specs.Stage.{in_expr, in_exprs, in_place, is_value}
 use Rattle.c_code.specs.Targets.{Target, plain_in, tee}
@@ -109,6 +109,14 @@ whole_unequal : (n : Bool) (a b : Code) → IsWhole a → IsWhole b → IsWhole 
 whole_unequal true a b ha hb = whole_then a _ ha (whole_plain _)
 whole_unequal false a b ha hb = whole_then a _ ha (whole_then b _ hb (whole_plain _))
 
+whole_moved : (n : ℕ) (back : Bool) (i : Code) → IsWhole i → IsWhole (moved n back i)
+whole_moved n true i h = whole_then (one _) _ (whole_plain _) (whole_then i _ h (whole_plain _))
+whole_moved n false i h = whole_then i _ h (whole_plain _)
+
+-- code behind that of two pointers
+whole_two : (a b : Code) (is : List Instr) → IsWhole a → IsWhole b → IsWhole (a ⨾ b ⨾ plain is)
+whole_two a b is ha hb = whole_then a _ ha (whole_then b _ hb (whole_plain is))
+
 module _ (t : Target) where
   whole_fetched : (v : Option Variable) (p : Code) (s : Scalar) → IsWhole p → IsWhole (fetched t v p s)
   whole_fetched (Some v) p s h = whole_plain _
@@ -176,6 +184,13 @@ module _ (t : Target) where
     whole_expr k d (tree.compare o u a b) h = let q = both (in_expr a) (in_expr b) h in whole_left k _ _ (whole_then (expr t true d a) _ (whole_expr true d a q.0) (whole_then (expr t true d b) _ (whole_expr true d b q.1) (whole_plain _)))
     whole_expr k d (tree.compare_pointers relations.Equal a b) h = let q = both (in_expr a) (in_expr b) h in whole_left k _ _ (whole_equal (is_null b) (expr t true d a) (expr t true d b) (whole_expr true d a q.0) (whole_expr true d b q.1))
     whole_expr k d (tree.compare_pointers relations.NotEqual a b) h = let q = both (in_expr a) (in_expr b) h in whole_left k _ _ (whole_unequal (is_null b) (expr t true d a) (expr t true d b) (whole_expr true d a q.0) (whole_expr true d b q.1))
+    whole_expr k d (tree.compare_pointers relations.Less a b) h = let q = both (in_expr a) (in_expr b) h in whole_left k _ _ (whole_two (expr t true d a) (expr t true d b) _ (whole_expr true d a q.0) (whole_expr true d b q.1))
+    whole_expr k d (tree.compare_pointers relations.LessEqual a b) h = let q = both (in_expr a) (in_expr b) h in whole_left k _ _ (whole_two (expr t true d a) (expr t true d b) _ (whole_expr true d a q.0) (whole_expr true d b q.1))
+    whole_expr k d (tree.compare_pointers relations.Greater a b) h = let q = both (in_expr a) (in_expr b) h in whole_left k _ _ (whole_two (expr t true d a) (expr t true d b) _ (whole_expr true d a q.0) (whole_expr true d b q.1))
+    whole_expr k d (tree.compare_pointers relations.GreaterEqual a b) h = let q = both (in_expr a) (in_expr b) h in whole_left k _ _ (whole_two (expr t true d a) (expr t true d b) _ (whole_expr true d a q.0) (whole_expr true d b q.1))
+    whole_expr k d (tree.difference u a b) h = let q = both (in_expr a) (in_expr b) h in whole_left k _ _ (whole_two (expr t true d a) (expr t true d b) _ (whole_expr true d a q.0) (whole_expr true d b q.1))
+    whole_expr k d (tree.move u back a b) h = let q = both (in_expr a) (in_expr b) h in whole_left k _ _ (whole_then (expr t true d a) _ (whole_expr true d a q.0) (whole_moved _ back (expr t true d b) (whole_expr true d b q.1)))
+    whole_expr k d (tree.move_by u a b) h = let q = both (in_expr a) (in_expr b) h in whole_left k _ _ (whole_two (expr t true d a) (expr t true d b) _ (whole_expr true d a q.0) (whole_expr true d b q.1))
     whole_expr k d (tree.and a b) h =
         let q = both (in_expr a) (in_expr b) h in let y = as_bit (is_bit b) (expr t true d b) in let z = one (i32 0) in
         whole_left k int _ (whole_then (expr t true d a) (choice (Some vals.I32) y z) (whole_expr true d a q.0) (whole_choice (Some vals.I32) y z))
@@ -193,6 +208,9 @@ module _ (t : Target) where
         let q = both (in_place p) (in_expr e) h in
         whole_updated k old (plain_in t p) (place t d p) (scalars.Int u) _ (whole_place d p q.0)
         (whole_then (convert u v) _ (whole_bare (convert u v) (bare_convert u v)) (whole_then (expr t true d e) _ (whole_expr true d e q.1) (whole_then (one _) (convert v u) (whole_plain _) (whole_bare (convert v u) (bare_convert v u)))))
+    whole_expr k d (tree.advance old u back p e) h =
+        let q = both (in_place p) (in_expr e) h in
+        whole_updated k old (plain_in t p) (place t d p) scalars.Pointer _ (whole_place d p q.0) (whole_moved _ back (expr t true d e) (whole_expr true d e q.1))
     whole_expr k d (tree.call n s es) h = whole_left k _ _ (whole_then (exprs t d es) _ (whole_exprs d es h) (whole_plain _))
     whole_expr k d (tree.putchar e) h = whole_left k _ _ (whole_then (expr t true d e) _ (whole_expr true d e h) (whole_plain _))
     whole_expr k d tree.getchar h = whole_left k _ _ (whole_plain _)

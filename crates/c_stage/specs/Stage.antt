@@ -6,8 +6,6 @@ use Rattle.c_types.specs.declared.types.Scalar.{Scalar}
 use Rattle.c_types.specs.declared.types.Scalar.TheVariants as scalars
 use Rattle.c_types.specs.Types.{Ty, void, integer, struct, pointer, array, function, is_function, Tys, no_types, types}
 use Rattle.c_typed.specs.declared.ops.Variable.TheVariants.{Local, Global}
-use Rattle.c_typed.specs.declared.ops.RelOp.{RelOp}
-use Rattle.c_typed.specs.declared.ops.RelOp.TheVariants as relations
 use Rattle.c_typed.specs.Objects.{is_object}
 use Rattle.c_typed.specs.Tree as tree
 use Rattle.c_typed.specs.Tree.{Place, of, deref, member, Expr, Exprs, none, more, Stmt, nothing, perform, if_else, loop, do_while, switch, scope, return, return_nothing, break, continue, Stmts, done, seq, Function, Typed}
@@ -30,11 +28,6 @@ is_value (scalars.Int t) = true
 is_value scalars.Pointer = true
 is_value scalars.Function = false
 
-abbrev pub is_equality : RelOp → Bool
-is_equality relations.Equal = true
-is_equality relations.NotEqual = true
-is_equality _ = false
-
 abbrev mutual
   -- a variable of a function, what a pointer points to, or a member of these
   pub in_place : Place → Bool
@@ -55,13 +48,17 @@ abbrev mutual
   in_expr (tree.unary o t a) = in_expr a
   in_expr (tree.binary o t a b) = in_expr a && in_expr b
   in_expr (tree.compare o t a b) = in_expr a && in_expr b
-  in_expr (tree.compare_pointers o a b) = is_equality o && (in_expr a && in_expr b)
+  in_expr (tree.compare_pointers o a b) = in_expr a && in_expr b
+  in_expr (tree.move t back a b) = in_expr a && in_expr b
+  in_expr (tree.move_by t a b) = in_expr a && in_expr b
+  in_expr (tree.difference t a b) = in_expr a && in_expr b
   in_expr (tree.and a b) = in_expr a && in_expr b
   in_expr (tree.or a b) = in_expr a && in_expr b
   in_expr (tree.choose s c a b) = in_expr c && (in_expr a && in_expr b)
   in_expr (tree.comma a b) = in_expr a && in_expr b
   in_expr (tree.assign s p e) = in_place p && in_expr e
   in_expr (tree.update old t o u p e) = in_place p && in_expr e
+  in_expr (tree.advance old t back p e) = in_place p && in_expr e
   in_expr (tree.call n s es) = in_exprs es
   in_expr (tree.putchar e) = in_expr e
   in_expr tree.getchar = true

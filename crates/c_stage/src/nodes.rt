@@ -12,7 +12,7 @@ ghost use Rattle.c_place.specs.refinement.Lists.{exprs_in};
 ghost use Rattle.c_stage.specs.refinement.Staged as staged;
 
 use c_place::find_objects;
-use c_typed::{Expr, Function, Place, RelOp, Sized, Stmt, Variable};
+use c_typed::{Expr, Function, Place, Sized, Stmt, Variable};
 use c_types::{CType, Scalar, Signature};
 use c_well_typed::Typed;
 use ms_types::Vector;
@@ -124,19 +124,6 @@ fn is_value(s: Scalar) -> bool
     }
 }
 
-fn is_equality(o: RelOp) -> bool
-    ensures { result ≡ words.is_equality o }
-{
-    match o {
-        RelOp::Equal => true,
-        RelOp::NotEqual => true,
-        RelOp::Less => false,
-        RelOp::LessEqual => false,
-        RelOp::Greater => false,
-        RelOp::GreaterEqual => false,
-    }
-}
-
 /// A size, which is a number of 32 bits.
 fn in_size(n: u32, operand: &Sized) -> bool
     ensures { result ≡ words.in_expr (sized_of operand.now n) }
@@ -180,13 +167,17 @@ fn in_expr(e: &Expr) -> bool
         Expr::Unary(_, _, a) => in_expr(a),
         Expr::Binary(_, _, a, b) => in_expr(a) && in_expr(b),
         Expr::Compare(_, _, a, b) => in_expr(a) && in_expr(b),
-        Expr::ComparePointers(o, a, b) => is_equality(*o) && in_expr(a) && in_expr(b),
+        Expr::ComparePointers(_, a, b) => in_expr(a) && in_expr(b),
+        Expr::Difference(_, a, b) => in_expr(a) && in_expr(b),
+        Expr::Move(_, _, a, b) => in_expr(a) && in_expr(b),
+        Expr::MoveBy(_, a, b) => in_expr(a) && in_expr(b),
         Expr::And(a, b) => in_expr(a) && in_expr(b),
         Expr::Or(a, b) => in_expr(a) && in_expr(b),
         Expr::Choose(_, c, a, b) => in_expr(c) && in_expr(a) && in_expr(b),
         Expr::Comma(a, b) => in_expr(a) && in_expr(b),
         Expr::Assign(_, p, a) => in_place(p) && in_expr(a),
         Expr::Update(_, _, _, _, p, a) => in_place(p) && in_expr(a),
+        Expr::Advance(_, _, _, p, a) => in_place(p) && in_expr(a),
         Expr::Call(_, _, es) => in_exprs(es),
         Expr::Putchar(a) => in_expr(a),
         Expr::Discard(a) => in_expr(a),
@@ -195,10 +186,6 @@ fn in_expr(e: &Expr) -> bool
         Expr::Function(_) => false,
         Expr::Literal(_) => false,
         Expr::SameFunction(_, _, _) => false,
-        Expr::Difference(_, _, _) => false,
-        Expr::Move(_, _, _, _) => false,
-        Expr::MoveBy(_, _, _) => false,
-        Expr::Advance(_, _, _, _, _) => false,
         Expr::Copy(_, _, _) => false,
         Expr::CallThrough(_, _, _, _) => false,
         Expr::Malloc(_, _) => false,

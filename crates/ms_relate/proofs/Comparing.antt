@@ -47,13 +47,13 @@ module _ (table : Table) (places : ℕ → ℕ) (homes : List Home) where
   same_is objects m t u v w related plain plain' of (is_no_function f) = absurd (let x : true ≡ false = sym f ∙ plain' in cc)
   same_is objects m t u v w related plain plain' (is_null f) (is_null g) = refl
   same_is objects m t u v w related plain plain' (is_null f) (is_invalid g) = refl
-  same_is objects m t u v w related plain plain' (is_null f) (is_pointer {p = q} j r g at' span' k) = rw (at', span') refl
+  same_is objects m t u v w related plain plain' (is_null f) (is_pointer {p = q} j r g at' span' k near') = rw (at', span') refl
   same_is objects m t u v w related plain plain' (is_invalid f) (is_null g) = refl
   same_is objects m t u v w related plain plain' (is_invalid f) (is_invalid g) = refl
-  same_is objects m t u v w related plain plain' (is_invalid f) (is_pointer {p = q} j r g at' span' k) = refl
-  same_is objects m t u v w related plain plain' (is_pointer {p} h s f at span k) (is_null g) = rw (at, span) refl
-  same_is objects m t u v w related plain plain' (is_pointer {p} h s f at span k) (is_invalid g) = rw (at, span) refl
-  same_is objects m t u v w related plain plain' (is_pointer {p} h s f at span k) (is_pointer {p = q} j r g at' span' k') = same_points objects m p q h j s r related at at' span span'
+  same_is objects m t u v w related plain plain' (is_invalid f) (is_pointer {p = q} j r g at' span' k near') = refl
+  same_is objects m t u v w related plain plain' (is_pointer {p} h s f at span k near) (is_null g) = rw (at, span) refl
+  same_is objects m t u v w related plain plain' (is_pointer {p} h s f at span k near) (is_invalid g) = rw (at, span) refl
+  same_is objects m t u v w related plain plain' (is_pointer {p} h s f at span k near) (is_pointer {p = q} j r g at' span' k' near') = same_points objects m p q h j s r related at at' span span'
 
   differ_points : (objects : List Object) (m : Memory) (p q : Pointer) (h j : Home) (s r : Span) → Related table places homes objects m → slice_get homes p.object ≡ Some h → slice_get homes q.object ≡ Some j → span_of h p.path ≡ Some s → span_of j q.path ≡ Some r → Differs (distance objects (points p) (points q)) (difference (handle homes (points p)) (handle homes (points q)))
   differ_points objects m p q h j s r related at at' span span' =
@@ -78,10 +78,10 @@ module _ (table : Table) (places : ℕ → ℕ) (homes : List Home) where
   differs_is objects m t u v w related plain plain' of (is_no_function f) = absurd (let x : true ≡ false = sym f ∙ plain' in cc)
   differs_is objects m t u v w related plain plain' (is_null f) (is_null g) = are_apart
   differs_is objects m t u v w related plain plain' (is_null f) (is_invalid g) = are_apart
-  differs_is objects m t u v w related plain plain' (is_null f) (is_pointer j r g at' span' k) = are_apart
+  differs_is objects m t u v w related plain plain' (is_null f) (is_pointer j r g at' span' k near') = are_apart
   differs_is objects m t u v w related plain plain' (is_invalid f) (is_null g) = are_apart
   differs_is objects m t u v w related plain plain' (is_invalid f) (is_invalid g) = are_apart
-  differs_is objects m t u v w related plain plain' (is_invalid f) (is_pointer j r g at' span' k) = are_apart
-  differs_is objects m t u v w related plain plain' (is_pointer {p} h s f at span k) (is_null g) = rw (at, span) are_apart
-  differs_is objects m t u v w related plain plain' (is_pointer {p} h s f at span k) (is_invalid g) = rw (at, span) are_apart
-  differs_is objects m t u v w related plain plain' (is_pointer {p} h s f at span k) (is_pointer {p = q} j r g at' span' k') = differ_points objects m p q h j s r related at at' span span'
+  differs_is objects m t u v w related plain plain' (is_invalid f) (is_pointer j r g at' span' k near') = are_apart
+  differs_is objects m t u v w related plain plain' (is_pointer {p} h s f at span k near) (is_null g) = rw (at, span) are_apart
+  differs_is objects m t u v w related plain plain' (is_pointer {p} h s f at span k near) (is_invalid g) = rw (at, span) are_apart
+  differs_is objects m t u v w related plain plain' (is_pointer {p} h s f at span k near) (is_pointer {p = q} j r g at' span' k' near') = differ_points objects m p q h j s r related at at' span span'

@@ -74,7 +74,7 @@ module _ (table : Table) (places : ℕ → ℕ) (homes : List Home) where
         (λ i os l more.
         let here : handle homes (moved (size s) (pos i) p.0) ≡ add (slice (handle homes a) 0 (n * size s)) (pos i) (size s) = moved_leads table places homes s (pos i) p.0 p.2.leads some ∙ ap (λ (h : Handle). add h (pos i) (size s)) p.2.handle_is in
         let there : handle homes (moved (size s) (pos i) q.0) ≡ add (slice (handle homes c) 0 (n * size s)) (pos i) (size s) = moved_leads table places homes s (pos i) q.0 q.2.leads some ∙ ap (λ (h : Handle). add h (pos i) (size s)) q.2.handle_is in
-        rw (← here, ← there) (copies s (moved (size s) (pos i) p.0) (moved (size s) (pos i) q.0) os l is fits.1 (moved_still_leads table places homes s (size s) (pos i) p.0 p.2.leads) (moved_still_leads table places homes s (size s) (pos i) q.0 q.2.leads) more))
+        rw (← here, ← there) (copies s (moved (size s) (pos i) p.0) (moved (size s) (pos i) q.0) os l is fits.1 (moved_still_leads table places homes s (pos i) p.0 p.2.leads) (moved_still_leads table places homes s (pos i) q.0 q.2.leads) more))
         related)
     copies (record' k ms) a c objects m is fits to from related =
         members_copy ms k ms 0 0 a c objects m is fits.1 fits (λ j p at. rw Rattle.std.proofs.Common.add-zero at) to from related

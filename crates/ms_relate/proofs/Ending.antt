@@ -89,7 +89,7 @@ module _ (table : Table) (places : ℕ → ℕ) (homes : List Home) where
 
   pub related_ended : (objects : List Object) (m : Memory) (n : ℕ) (o : Object) (h : Home) → Related table places homes objects m → slice_get objects n ≡ Some o → slice_get homes n ≡ Some h → Related table places homes (set objects n (ended o)) (with_ended m h.id)
   related_ended objects m n o h related at at' =
-      record { long = related.long ∙ sym (length-set objects n (ended o)); each = ended_each objects m n o h related at at'; rising = related.rising; made = related.made; small = related.small; placed = placed_ended m h.id related.placed }
+      record { long = related.long ∙ sym (length-set objects n (ended o)); each = ended_each objects m n o h related at at'; rising = related.rising; made = related.made; placed = placed_ended m h.id related.placed }
 
   -- ---- free
 
@@ -114,7 +114,7 @@ module _ (table : Table) (places : ℕ → ℕ) (homes : List Home) where
   pub free_object : (objects : List Object) (m : Memory) (t : Ty) (v : Value) → Related table places homes objects m → (v ≡ null → ⊥) → IsOf table places homes (pointer t) v → is_function t ≡ false → Changes table places homes (free objects v) (ended_at m (freed m (handle homes v) kinds.Heap))
   free_object objects m t v related some (is_null f) plain = absurd (some refl)
   free_object objects m t v related some (is_invalid f) plain = change_stopped invalid_ends
-  free_object objects m t v related some (is_pointer {p} h s f at span same) plain =
+  free_object objects m t v related some (is_pointer {p} h s f at span same near) plain =
       let o = object_there table places homes objects p.object h related.long at in
       let there = related.each p.object o.0 h o.1 at in
       let fit = path_within p.path (whole_of h.shape h.count) s there.fits span in

@@ -42,7 +42,7 @@ module _ (table : Table) (places : ℕ → ℕ) (old new : List Home) (more : Ex
   is_of_still t v (is_number in_range) = is_number in_range
   is_of_still t v (is_null f) = is_null f
   is_of_still t v (is_invalid f) = is_invalid f
-  is_of_still t v (is_pointer {p} h s f at span same) = is_pointer h s f (more p.object h at) span same
+  is_of_still t v (is_pointer {p} h s f at span same near) = is_pointer h s f (more p.object h at) span same near
   is_of_still t v (is_named f small) = is_named f small
   is_of_still t v (is_no_function f) = is_no_function f
 
@@ -50,7 +50,7 @@ module _ (table : Table) (places : ℕ → ℕ) (old new : List Home) (more : Ex
   handle_still t v (is_number in_range) = refl
   handle_still t v (is_null f) = refl
   handle_still t v (is_invalid f) = refl
-  handle_still t v (is_pointer {p} h s f at span same) = ap (λ (o : Option Home). handle_in o p) (more p.object h at ∙ sym at)
+  handle_still t v (is_pointer {p} h s f at span same near) = ap (λ (o : Option Home). handle_in o p) (more p.object h at ∙ sym at)
   handle_still t v (is_named f small) = refl
   handle_still t v (is_no_function f) = refl
 
@@ -75,7 +75,6 @@ module _ (table : Table) (places : ℕ → ℕ) (homes : List Home) where
         each = λ n o h at at'. at_once_more m o h (related.each n o h at at');
         rising = related.rising;
         made = related.made;
-        small = related.small;
         placed = record { within = related.placed.within; apart = related.placed.apart; ids = related.placed.ids };
       }
 
@@ -87,6 +86,5 @@ related_new table places capacity =
       each = λ n o h at at'. absurd (cc);
       rising = λ i j g h less at at'. absurd (cc);
       made = λ n h at. absurd (cc);
-      small = λ n h at. absurd (cc);
       placed = record { within = All-nil (IsWithin (length (replicate capacity (Data 0)))); apart = λ i j d first below. absurd (omega (arith, below)); ids = All-nil (λ (s : Live). (1 ≤ s.id) × (s.id ≤ 0)) };
     }

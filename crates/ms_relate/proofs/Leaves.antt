@@ -80,7 +80,7 @@ module _ (table : Table) (places : ℕ → ℕ) (homes : List Home) where
   word_below t v plain (is_number {t = u} {z} in_range) = integer_word u z
   word_below t v plain (is_null {t = u} f) = absurd (let h : is_function u ≡ true = handle_flag (is_function u) plain in cc)
   word_below t v plain (is_invalid {t = u} f) = absurd (let h : is_function u ≡ true = handle_flag (is_function u) plain in cc)
-  word_below t v plain (is_pointer {t = u} {p} h s f g k l) = absurd (let h : is_function u ≡ true = handle_flag (is_function u) plain in cc)
+  word_below t v plain (is_pointer {t = u} {p} h s f g k l near) = absurd (let h : is_function u ≡ true = handle_flag (is_function u) plain in cc)
   word_below t v plain (is_named {t = u} {n} f small) = rw f small
   word_below t v plain (is_no_function {t = u} f) = rw f (omega arith)
 

@@ -1,4 +1,5 @@
 pub mod Laid
+pub mod Near
 pub mod Shapes
 pub mod Accesses
 pub mod Leaves
@@ -11,6 +12,7 @@ pub mod Moving
 pub mod Slicing
 pub mod Parts
 pub mod Comparing
+pub mod Distances
 pub mod Copying
 pub mod Operands
 pub mod Acts

@@ -11,7 +11,7 @@ use Rattle.c_meaning.specs.Objects.{is_near, moved, moved_to, length_of}
 use Rattle.ms_handle.specs.declared.handle.Handle.{Handle}
 use Rattle.ms_handle.specs.declared.handle.Handle.TheVariants as handles
 use Rattle.ms_handle.specs.Handle.{add, moved as moved_handle}
-use Rattle.ms_relate.specs.refinement.Homes.{Home, handle, IsOf, is_null, is_invalid, is_pointer, is_named, is_no_function, Leads, leads_null, leads_invalid, leads_to}
+use Rattle.ms_relate.specs.refinement.Homes.{Home, handle, IsNear, IsOf, is_null, is_invalid, is_pointer, is_named, is_no_function, Leads, leads_null, leads_invalid, leads_to}
 use Rattle.ms_relate.proofs.Ending.{zero_index}
 
 times_suc : (x : ℤ) (n : ℕ) → x *ℤ pos (suc n) ≡ x *ℤ pos n +ℤ x
@@ -34,7 +34,7 @@ module _ (table : Table) (places : ℕ → ℕ) (homes : List Home) where
   pub moved_leads : (e : Shape) (d : ℤ) (v : Value) → Leads homes e v → 0 < size e → handle homes (moved (size e) d v) ≡ add (handle homes v) d (size e)
   moved_leads e d v leads_null some = rw (zero_index d (size e) some) (same_cond (int_eq d (pos 0)) null invalid handles.Broken refl)
   moved_leads e d v leads_invalid some = rw (zero_index d (size e) some) (same_cond (int_eq d (pos 0)) invalid invalid handles.Broken refl)
-  moved_leads e d v (leads_to {p} h s at span same) some =
+  moved_leads e d v (leads_to {p} h s at span same near) some =
       let n : ℕ = size e in
       let sized : size s.shape ≡ n = ap (λ (x : Shape). size x) same in
       let sum = times_sum p.index d n in
@@ -49,28 +49,34 @@ module _ (table : Table) (places : ℕ → ℕ) (homes : List Home) where
   leads_cond e false v w one other = other
 
   -- and leads to such elements again
-  pub moved_still_leads : (e : Shape) (n : ℕ) (d : ℤ) (v : Value) → Leads homes e v → Leads homes e (moved n d v)
-  moved_still_leads e n d v leads_null = leads_cond e (int_eq d (pos 0)) null invalid leads_null leads_invalid
-  moved_still_leads e n d v leads_invalid = leads_cond e (int_eq d (pos 0)) invalid invalid leads_invalid leads_invalid
-  moved_still_leads e n d v (leads_to {p} h s at span same) =
-      leads_cond e (int_eq d (pos 0)) (points p) (moved_to n p (p.index +ℤ d)) (leads_to h s at span same) (leads_cond e (is_near ((p.index +ℤ d) *ℤ pos n)) _ invalid (leads_to h s at span same) leads_invalid)
+  pub moved_still_leads : (e : Shape) (d : ℤ) (v : Value) → Leads homes e v → Leads homes e (moved (size e) d v)
+  moved_still_leads e d v leads_null = leads_cond e (int_eq d (pos 0)) null invalid leads_null leads_invalid
+  moved_still_leads e d v leads_invalid = leads_cond e (int_eq d (pos 0)) invalid invalid leads_invalid leads_invalid
+  moved_still_leads e d v (leads_to {p} h s at span same near) =
+      leads_cond e (int_eq d (pos 0)) (points p) (moved_to (size e) p (p.index +ℤ d)) (leads_to h s at span same near) (if_near (is_near ((p.index +ℤ d) *ℤ pos (size e))) refl) where
+        to : Pointer
+        to = record { object = p.object; path = p.path; index = p.index +ℤ d; sealed = p.sealed }
+
+        if_near : (b : Bool) → is_near ((p.index +ℤ d) *ℤ pos (size e)) ≡ b → Leads homes e (cond b (points to) invalid)
+        if_near true q = leads_to h s at span same (record { near = ap (λ (x : Shape). is_near ((p.index +ℤ d) *ℤ pos (size x))) same ∙ q; low = near.low; small = near.small })
+        if_near false q = leads_invalid
 
   -- ---- by types
 
   pub leads_of : (t : Ty) (v : Value) → is_function t ≡ false → IsOf table places homes (pointer t) v → Leads homes (shape table t) v
   leads_of t v plain (is_null f) = leads_null
   leads_of t v plain (is_invalid f) = leads_invalid
-  leads_of t v plain (is_pointer h s f at span same) = leads_to h s at span same
+  leads_of t v plain (is_pointer h s f at span same near) = leads_to h s at span same near
   leads_of t v plain (is_named f small) = absurd (let x : true ≡ false = sym f ∙ plain in cc)
   leads_of t v plain (is_no_function f) = absurd (let x : true ≡ false = sym f ∙ plain in cc)
 
   pub is_of_leads : (t : Ty) (v : Value) → is_function t ≡ false → Leads homes (shape table t) v → IsOf table places homes (pointer t) v
   is_of_leads t v plain leads_null = is_null plain
   is_of_leads t v plain leads_invalid = is_invalid plain
-  is_of_leads t v plain (leads_to h s at span same) = is_pointer h s plain at span same
+  is_of_leads t v plain (leads_to h s at span same near) = is_pointer h s plain at span same near
 
   pub moved_is : (t : Ty) (d : ℤ) (v : Value) → IsOf table places homes (pointer t) v → is_function t ≡ false → 0 < size (shape table t) → handle homes (moved (size (shape table t)) d v) ≡ add (handle homes v) d (size (shape table t))
   moved_is t d v of plain some = moved_leads (shape table t) d v (leads_of t v plain of) some
 
-  pub moved_is_of : (t : Ty) (n : ℕ) (d : ℤ) (v : Value) → IsOf table places homes (pointer t) v → is_function t ≡ false → IsOf table places homes (pointer t) (moved n d v)
-  moved_is_of t n d v of plain = is_of_leads t (moved n d v) plain (moved_still_leads (shape table t) n d v (leads_of t v plain of))
+  pub moved_is_of : (t : Ty) (d : ℤ) (v : Value) → IsOf table places homes (pointer t) v → is_function t ≡ false → IsOf table places homes (pointer t) (moved (size (shape table t)) d v)
+  moved_is_of t d v of plain = is_of_leads t (moved (size (shape table t)) d v) plain (moved_still_leads (shape table t) d v (leads_of t v plain of))

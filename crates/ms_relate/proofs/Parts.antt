@@ -17,7 +17,7 @@ use Rattle.ms_relate.specs.refinement.Homes.{Home, handle, Leads, leads_null, le
 use Rattle.ms_relate.specs.refinement.Laid.{Fits}
 use Rattle.ms_relate.specs.refinement.Relation.{Related}
 use Rattle.ms_relate.proofs.Ending.{name_handle}
-use Rattle.ms_relate.proofs.Laid.{path_size, path_within, size-positive}
+use Rattle.ms_relate.proofs.Laid.{path_within, size-positive}
 use Rattle.ms_relate.proofs.Reading.{object_there}
 use Rattle.ms_relate.proofs.Shapes.{shape_good}
 use Rattle.ms_relate.proofs.Slicing.{elements_give, member_gives, sliced, slice_is}
@@ -84,25 +84,23 @@ pub record IsPart (homes : List Home) (u : Shape) (off : ℕ) (v w : Value) : Ty
 module _ (table : Table) (places : ℕ → ℕ) (homes : List Home) where
   -- where it leads to an object
   pub led : (objects : List Object) (m : Memory) (e : Shape) (p : Pointer) → Related table places homes objects m → Leads homes e (points p) → Fits e × (size e < 2 ^ 32)
-  led objects m e p related (leads_to h s at span same) =
+  led objects m e p related (leads_to h s at span same near) =
       let o = object_there table places homes objects p.object h related.long at in
       let there = related.each p.object o.0 h o.1 at in
       let fit = path_within p.path (whole_of h.shape h.count) s there.fits span in
-      let least = path_size p.path (whole_of h.shape h.count) s there.fits span in
-      let most = related.small p.object h at in
-      subst (λ (x : Shape). Fits x × (size x < 2 ^ 32)) same (fit.2, omega (arith, least, most))
+      subst (λ (x : Shape). Fits x × (size x < 2 ^ 32)) same (fit.2, near.small)
 
   pub low_slice : (objects : List Object) (m : Memory) (e : Shape) (v : Value) (from n : ℕ) → Related table places homes objects m → Leads homes e v → from + n ≤ size e → slice (handle homes v) (low from) (low n) ≡ slice (handle homes v) from n
   low_slice objects m e v from n related leads_null within = refl
   low_slice objects m e v from n related leads_invalid within = refl
-  low_slice objects m e v from n related (leads_to {p} h s at span same) within =
-      let small = (led objects m e p related (leads_to h s at span same)).1 in
+  low_slice objects m e v from n related (leads_to {p} h s at span same near) within =
+      let small = (led objects m e p related (leads_to h s at span same near)).1 in
       ap (λ (x : ℕ). slice (handle homes (points p)) x (low n)) (low_is from (omega (arith, small, within))) ∙ ap (λ (x : ℕ). slice (handle homes (points p)) from x) (low_is n (omega (arith, small, within)))
 
   slice_within : (e : Shape) (v : Value) (off l from n : ℕ) → Leads homes e v → 0 < n → from + n ≤ l → off + l ≤ size e → slice (slice (handle homes v) off l) from n ≡ slice (handle homes v) (off + from) n
   slice_within e v off l from n leads_null some within end = refl
   slice_within e v off l from n leads_invalid some within end = refl
-  slice_within e v off l from n (leads_to {p} h s at span same) some within end =
+  slice_within e v off l from n (leads_to {p} h s at span same near) some within end =
       let sized : size s.shape ≡ size e = ap (λ (x : Shape). size x) same in
       let x : Option ℕ = index_in s.count p.index in
       let one : slice (handle homes (points p)) off l ≡ sliced p.sealed h.id s.place (size s.shape) off l x = rw (at, span) (slice_is p.sealed h.id s.place s.count (size s.shape) off l p.index (omega (arith, some, within)) (omega (arith, end, sized))) in
@@ -135,8 +133,8 @@ module _ (table : Table) (places : ℕ → ℕ) (homes : List Home) where
       → (w : Value) × (further inside objects v ≡ gives w) × Leads homes e w × (handle homes w ≡ slice (handle homes v) 0 (n * size e))
   inside_part objects m e n v related leads_null = (invalid, refl, leads_invalid, refl)
   inside_part objects m e n v related leads_invalid = (invalid, refl, leads_invalid, refl)
-  inside_part objects m e n v related (leads_to {p} h s at span same) =
-      let leads : Leads homes (elements e n) (points p) = leads_to h s at span same in
+  inside_part objects m e n v related (leads_to {p} h s at span same near) =
+      let leads : Leads homes (elements e n) (points p) = leads_to h s at span same near in
       let fits = (led objects m (elements e n) p related leads).0 in
       let g = elements_give table places homes objects m e n (points p) related leads (size-positive (elements e n) fits) in
       (g.0, g.1, g.2.leads, g.2.handle_is)
@@ -146,8 +144,8 @@ module _ (table : Table) (places : ℕ → ℕ) (homes : List Home) where
       → slice (handle homes v) (low 0) (low (n * type_size table u)) ≡ slice (handle homes v) 0 (n * size (shape table u))
   array_slice objects m u n v laid some related leads_null = refl
   array_slice objects m u n v laid some related leads_invalid = refl
-  array_slice objects m u n v laid some related (leads_to {p} h s at span same) =
-      let leads : Leads homes (shape table (array u n)) (points p) = leads_to h s at span same in
+  array_slice objects m u n v laid some related (leads_to {p} h s at span same near) =
+      let leads : Leads homes (shape table (array u n)) (points p) = leads_to h s at span same near in
       let fits = (led objects m (shape table (array u n)) p related leads).0 in
       let sized = (shape_good table laid some u (fits_size table (array u n) fits).1).sized in
       ap (λ (x : ℕ). slice (handle homes (points p)) (low 0) (low (n * x))) (sym sized) ∙ low_slice objects m (shape table (array u n)) (points p) 0 (n * size (shape table u)) related leads (omega arith)

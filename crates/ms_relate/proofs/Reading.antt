@@ -95,7 +95,7 @@ module _ (table : Table) (places : ℕ → ℕ) (homes : List Home) where
   pub read_number : (objects : List Object) (m : Memory) (t : Ty) (v : Value) → Related table places homes objects m → IsScalar t → is_handle t ≡ false → IsOf table places homes (pointer t) v → Reads table places homes t (read objects v) (loaded m (handle homes v) (width t))
   read_number objects m t v related is plain (is_null f) = stopped null_ends
   read_number objects m t v related is plain (is_invalid f) = stopped invalid_ends
-  read_number objects m t v related is plain (is_pointer {p} h s f at span same) =
+  read_number objects m t v related is plain (is_pointer {p} h s f at span same near) =
       let o = object_there objects p.object h related.long at in
       let shape' : s.shape ≡ scalar t = same ∙ scalar_shape table t is in
       let there = related.each p.object o.0 h o.1 at in
@@ -144,7 +144,7 @@ module _ (table : Table) (places : ℕ → ℕ) (homes : List Home) where
   pub read_pointer : (objects : List Object) (m : Memory) (t : Ty) (v : Value) → Related table places homes objects m → IsScalar t → is_handle t ≡ true → IsOf table places homes (pointer t) v → ReadsPointer table places homes t (read objects v) (load_handle m (handle homes v))
   read_pointer objects m t v related is has (is_null f) = pointer_stopped null_ends
   read_pointer objects m t v related is has (is_invalid f) = pointer_stopped invalid_ends
-  read_pointer objects m t v related is has (is_pointer {p} h s f at span same) =
+  read_pointer objects m t v related is has (is_pointer {p} h s f at span same near) =
       let o = object_there objects p.object h related.long at in
       let shape' : s.shape ≡ scalar t = same ∙ scalar_shape table t is in
       let there = related.each p.object o.0 h o.1 at in

@@ -131,7 +131,6 @@ module _ (table : Table) (places : ℕ → ℕ) (homes : List Home) where
         each = written_each objects m n o h g path s t k v new related scalar' at at' live span is within of spells wide;
         rising = related.rising;
         made = related.made;
-        small = related.small;
         placed = Placed-written m (g.base + s.place + k * width t) new related.placed (rw wide (write_inside m o h g path s t k (related.each n o h at at') related.placed live span is within));
       }
 
@@ -156,7 +155,7 @@ module _ (table : Table) (places : ℕ → ℕ) (homes : List Home) where
   pub write_number : (objects : List Object) (m : Memory) (t : Ty) (p v : Value) → Related table places homes objects m → IsScalar t → is_handle t ≡ false → IsOf table places homes (pointer t) p → IsOf table places homes t v → Changes table places homes (write objects p v) (stored_at m (data_of (width t) (word places t v)) (width t) (writable (access m (handle homes p) (width t))))
   write_number objects m t p v related is plain (is_null f) of = change_stopped null_ends
   write_number objects m t p v related is plain (is_invalid f) of = change_stopped invalid_ends
-  write_number objects m t p v related is plain (is_pointer {p = q} h s f at span same) of =
+  write_number objects m t p v related is plain (is_pointer {p = q} h s f at span same near) of =
       let o = object_there table places homes objects q.object h related.long at in
       let shape' : s.shape ≡ scalar t = same ∙ scalar_shape table t is in
       let there = related.each q.object o.0 h o.1 at in
@@ -169,7 +168,7 @@ module _ (table : Table) (places : ℕ → ℕ) (homes : List Home) where
   pub write_pointer : (objects : List Object) (m : Memory) (t : Ty) (p v : Value) → Related table places homes objects m → IsScalar t → is_handle t ≡ true → IsOf table places homes (pointer t) p → IsOf table places homes t v → Changes table places homes (write objects p v) (stored_at m (pieces (handle homes v)) 16 (writable (handle_access m (handle homes p))))
   write_pointer objects m t p v related is has (is_null f) of = change_stopped null_ends
   write_pointer objects m t p v related is has (is_invalid f) of = change_stopped invalid_ends
-  write_pointer objects m t p v related is has (is_pointer {p = q} h s f at span same) of =
+  write_pointer objects m t p v related is has (is_pointer {p = q} h s f at span same near) of =
       let o = object_there table places homes objects q.object h related.long at in
       let shape' : s.shape ≡ scalar t = same ∙ scalar_shape table t is in
       let there = related.each q.object o.0 h o.1 at in

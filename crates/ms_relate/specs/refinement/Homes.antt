@@ -1,12 +1,12 @@
 -- Where objects lie, and what values of C are for the machine.
-use Rattle.std.specs.Prelude.{◌≡◌, ℕ, suc, ◌<◌, ℤ, pos, ◌*ℤ◌, Bool, true, false, List, Option, Some, None, slice_get}
+use Rattle.std.specs.Prelude.{◌≡◌, ℕ, suc, ◌+◌, ◌<◌, ℤ, pos, ◌*ℤ◌, Bool, true, false, List, Option, Some, None, slice_get}
 use Rattle.c_types.specs.Integers.{bits}
 use Rattle.c_types.specs.Layout.{Table}
 use Rattle.c_types.specs.Types.{Ty, integer, pointer, is_function}
 use Rattle.c_types.specs.declared.integers.IntType.{IntType}
 use Rattle.c_meaning.specs.Shapes.{Shape, shape, size}
 use Rattle.c_meaning.specs.Values.{Pointer, Step, Value, number, null, invalid, points, function_at, no_function}
-use Rattle.c_meaning.specs.Objects.{Span, length_of, span_at, whole_of}
+use Rattle.c_meaning.specs.Objects.{Span, is_near, length_of, span_at, whole_of}
 use Rattle.ms_handle.specs.declared.handle.Handle.{Handle}
 use Rattle.ms_handle.specs.declared.handle.Handle.TheVariants as handles
 use Rattle.ms_num.specs.Integers.{wrapped}
@@ -47,6 +47,14 @@ word places (integer t) (number z) = wrapped (bits t) z
 word places t (function_at n) = suc (places n)
 word places _ _ = 0
 
+-- ---- pointers to arrays
+
+-- it isn't far from the start of its array, which ends below 2^32, and so do its elements, also where there is none
+pub record IsNear (p : Pointer) (s : Span) : Type 0 where
+  pub near : is_near (p.index *ℤ pos (size s.shape)) ≡ true
+  pub low : s.place + length_of s < 4294967296
+  pub small : size s.shape < 4294967296
+
 -- ---- the values of a type
 
 module _ (table : Table) (places : ℕ → ℕ) (homes : List Home) where
@@ -55,7 +63,7 @@ module _ (table : Table) (places : ℕ → ℕ) (homes : List Home) where
     is_null : {t : Ty} → is_function t ≡ false → IsOf (pointer t) null
     is_invalid : {t : Ty} → is_function t ≡ false → IsOf (pointer t) invalid
     -- it leads to an array of that type
-    is_pointer : {t : Ty} {p : Pointer} (h : Home) (s : Span) → is_function t ≡ false → slice_get homes p.object ≡ Some h → span_of h p.path ≡ Some s → s.shape ≡ shape table t → IsOf (pointer t) (points p)
+    is_pointer : {t : Ty} {p : Pointer} (h : Home) (s : Span) → is_function t ≡ false → slice_get homes p.object ≡ Some h → span_of h p.path ≡ Some s → s.shape ≡ shape table t → IsNear p s → IsOf (pointer t) (points p)
     is_named : {t : Ty} {n : ℕ} → is_function t ≡ true → suc (places n) < 4294967296 → IsOf (pointer t) (function_at n)
     is_no_function : {t : Ty} → is_function t ≡ true → IsOf (pointer t) no_function
 
@@ -63,7 +71,7 @@ module _ (table : Table) (places : ℕ → ℕ) (homes : List Home) where
 pub data Leads (homes : List Home) (s : Shape) : Value → Type 0 where
   leads_null : Leads homes s null
   leads_invalid : Leads homes s invalid
-  leads_to : {p : Pointer} (h : Home) (x : Span) → slice_get homes p.object ≡ Some h → span_of h p.path ≡ Some x → x.shape ≡ s → Leads homes s (points p)
+  leads_to : {p : Pointer} (h : Home) (x : Span) → slice_get homes p.object ≡ Some h → span_of h p.path ≡ Some x → x.shape ≡ s → IsNear p x → Leads homes s (points p)
 
 -- ---- types of one value
 
