@@ -2,7 +2,6 @@
 -- member are arrays of one, of which the handle leads to all.
 use Rattle.std.proofs.Common.{◌≡◌, ◌≢◌, ℕ, ◌+◌, ◌*◌, ◌<◌, ◌≤◌, List, [], ◌∷◌, Bool, true, false, is_some, Option, Some, None, refl, sym, ap, ◌∙◌, arith, subst}
 use Rattle.std.specs.Prelude.{get_or, pos, slice_get}
-use Rattle.ms_event.specs.declared.event.Event.{Event}
 use Rattle.ms_handle.specs.declared.handle.Handle.{Handle as HandleOf}
 use Rattle.ms_handle.specs.declared.handle.Handle.TheVariants as handles
 use Rattle.ms_handle.specs.Handle.{slice}
@@ -12,7 +11,7 @@ use Rattle.ms_machine.specs.Segments.{slice_event}
 use Rattle.ms_module.specs.declared.access.Segment.TheVariants as segment
 use Rattle.ms_module.specs.declared.instr.Instr.TheVariants.{Drop, Segment}
 use Rattle.ms_module.specs.declared.numeric.Width.TheVariants.{W32}
-use Rattle.ms_task.specs.Thread.{Do, Frame, Item, thread}
+use Rattle.ms_task.specs.Thread.{Do, Item, thread}
 use Rattle.c_types.specs.Layout.{IsLaidOut, Layout, Table, layout_at, members_in, members_of, offset, size as type_size}
 use Rattle.c_types.specs.Types.{Ty, void, struct, pointer, array, is_function}
 use Rattle.c_typed.specs.declared.ops.Variable.TheVariants.{Local}
@@ -20,7 +19,6 @@ use Rattle.c_typed.specs.Tree.{of}
 use Rattle.c_well_typed.specs.refinement.Expressions.{IsMember, is_visible}
 use Rattle.c_meaning.specs.Shapes.{Part, Shape, part_of, shape, size}
 use Rattle.c_meaning.specs.Values.{Value, inside, to_member}
-use Rattle.c_meaning.specs.Objects as objects
 use Rattle.c_meaning.specs.Objects.{Outcome, to_object, whole_of}
 use Rattle.c_meaning.specs.World.{Held, World, Result, gives, Does, after, as_done, known, ◌>>=◌, ◌>>◌, pure}
 use Rattle.c_meaning.specs.Expressions as meaning
@@ -32,7 +30,7 @@ use Rattle.c_code.specs.Targets.{get}
 use Rattle.c_numbers.proofs.Conversions.{constant_is}
 use Rattle.ms_relate.specs.refinement.Homes.{Home, handle, is_pointer}
 use Rattle.ms_relate.proofs.Acts.{act_gives}
-use Rattle.ms_relate.proofs.Growing.{Extends, handle_still, is_of_still}
+use Rattle.ms_relate.proofs.Growing.{handle_still, is_of_still}
 use Rattle.ms_relate.proofs.Laid.{part_fits, size-positive}
 use Rattle.ms_relate.proofs.Moving.{is_of_leads, leads_of}
 use Rattle.ms_relate.proofs.Parts.{IsPart, array_slice, fits_size, inside_part, low, member_part, name_all}

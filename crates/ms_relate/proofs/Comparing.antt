@@ -21,7 +21,7 @@ pub data Differs : Outcome ℤ → Result ℤ Apart → Type 0 where
 
 module _ (table : Table) (places : ℕ → ℕ) (homes : List Home) where
   -- where a pointer is in its object
-  place_is : (objects : List Object) (m : Memory) (o : Object) (h : Home) (p : Pointer) (s : Span) → IsAt table places homes m o h → span_of h p.path ≡ Some s → span_in o p.path ≡ Some s
+  pub place_is : (objects : List Object) (m : Memory) (o : Object) (h : Home) (p : Pointer) (s : Span) → IsAt table places homes m o h → span_of h p.path ≡ Some s → span_in o p.path ≡ Some s
   place_is objects m o h p s there span = rw (there.shape, there.count) span
 
   same_points : (objects : List Object) (m : Memory) (p q : Pointer) (h j : Home) (s r : Span) → Related table places homes objects m → slice_get homes p.object ≡ Some h → slice_get homes q.object ≡ Some j → span_of h p.path ≡ Some s → span_of j q.path ≡ Some r → same_place objects (points p) (points q) ≡ gives (eq (handle homes (points p)) (handle homes (points q)))

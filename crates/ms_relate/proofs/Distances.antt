@@ -88,8 +88,7 @@ near_not x false e far = e
 far_up : (x : ℤ) (n : ℕ) → 0 < n → is_near x ≡ true → is_near (x +ℤ pos 9223372036854775808 *ℤ pos n) ≡ false
 far_up x n some near =
     let h = near_bounds x near in
-    let e : x +ℤ pos 9223372036854775808 *ℤ pos n ≡ x +ℤ pos (9223372036854775808 * n) = refl in
-    near_not _ _ refl (λ least most. let q : x +ℤ pos (9223372036854775808 * n) ≤ℤ pos 1099511627776 = most in omega (arith, ints, some, h.0, q))
+    near_not (x +ℤ pos (9223372036854775808 * n)) _ refl (λ least most. omega (arith, ints, some, h.0, most))
 
 far_down : (x : ℤ) (n : ℕ) → 0 < n → is_near x ≡ true → is_near (x +ℤ negsuc 9223372036854775807 *ℤ pos n) ≡ false
 far_down x n some near =

@@ -223,7 +223,7 @@ module _ (table : Table) (places : ℕ → ℕ) (homes : List Home) (objects : L
 
 -- the new pointer leads to the new object
 pub new_leads : (homes : List Home) (id : ℕ) (s : Shape) (n i : ℕ) → i ≡ length homes → n * size s < 4294967296 → size s < 4294967296 → Leads (homes ++ record { id = id; shape = s; count = n } ∷ []) s (points (record { object = i; path = []; index = pos 0; sealed = false }))
-new_leads homes id s n i is low small = leads_to (record { id = id; shape = s; count = n }) (whole_of s n) (rw is (slice_get-push_new homes (record { id = id; shape = s; count = n }))) refl refl (first_near i [] false (whole_of s n) low small)
+new_leads homes id s n i is low small = leads_to (record { id = id; shape = s; count = n }) (whole_of s n) (rw is (slice_get-push_new homes (record { id = id; shape = s; count = n }))) refl refl (first_near i [] false (whole_of s n) (omega (arith, low)) small)
 
 made_at_creates : (table : Table) (places : ℕ → ℕ) (homes : List Home) (objects : List Object) (m : Memory) (k : Kind) (s : Shape) (n : ℕ) (o : Option ℕ) → Related table places homes objects m → Fits s → ((base : ℕ) → o ≡ Some base → IsPlace m.live (length m.bytes) (n * size s) (Some base)) → Creates table places homes objects m k s n (n * size s) (made_at m (n * size s) (kind_of k) o).handle (made_at m (n * size s) (kind_of k) o).event (made_at m (n * size s) (kind_of k) o).memory
 made_at_creates table places homes objects m k s n None related fits placed = refused

@@ -1,13 +1,13 @@
 -- Slices as code takes them, by numbers of 32 bits: the slice of a slice is one slice, and what a member or an array in an object is, is
 -- a slice of itself.
-use Rattle.std.proofs.Common.{◌≡◌, ◌≢◌, ℕ, ◌+◌, ◌*◌, ◌^◌, ◌<◌, ◌≤◌, Bool, true, false, ℤ, pos, negsuc, ◌+ℤ◌, ◌*ℤ◌, List, [], Option, Some, None, refl, sym, ap, ◌∙◌, subst, arith}
+use Rattle.std.proofs.Common.{◌≡◌, ◌≢◌, ℕ, ◌+◌, ◌*◌, ◌^◌, ◌<◌, ◌≤◌, Bool, true, false, ℤ, pos, negsuc, ◌+ℤ◌, List, [], Option, Some, None, refl, sym, ap, ◌∙◌, subst, arith}
 use Rattle.std.specs.Prelude.{IsSome, nat_le, slice_get, if◌then◌else◌}
 use Rattle.std.proofs.lemmas.Bool.{le-leb}
 use Rattle.c_types.specs.Layout.{HasSize, IsLaidOut, Layout, Table, depth_in, layout_at, size as type_size}
 use Rattle.c_types.specs.Types.{Ty, void, integer, struct, pointer, array, function}
 use Rattle.c_meaning.specs.Shapes.{Shape, elements, Part, part_of, shape, size, struct_shape}
 use Rattle.c_meaning.specs.Values.{Pointer, Value, invalid, inside, points, to_member}
-use Rattle.c_meaning.specs.Objects.{Object, Span, further, gives, index_in, whole_of}
+use Rattle.c_meaning.specs.Objects.{Object, further, gives, index_in, whole_of}
 use Rattle.ms_handle.specs.declared.handle.Handle.{Handle}
 use Rattle.ms_handle.specs.declared.handle.Handle.TheVariants as handles
 use Rattle.ms_handle.specs.Handle.{part, slice}
