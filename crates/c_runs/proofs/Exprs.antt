@@ -240,16 +240,16 @@ module _ (E : Env) (L : Linked E.site) (home : AtHome E) (k : well.Context) (slo
 
     -- an array or a struct is an object
     whole_slot : (x : ℕ) (t : Ty) → (IsData t → ⊥) → slice_get k.slots x ≡ Some t → E.target.is_object (Local x) ≡ true
-    whole_slot x t none e = by (E.target.is_object (Local x)) refl where
+    whole_slot x t never e = by (E.target.is_object (Local x)) refl where
       by : (b : Bool) → E.target.is_object (Local x) ≡ b → b ≡ true
       by true q = refl
-      by false q = absurd (none (slots_data x t e q))
+      by false q = absurd (never (slots_data x t e q))
 
     whole_cell : (p : Place) (t : Ty) → (IsData t → ⊥) → IsPlace k p t → IsCell p
-    whole_cell (of (Local x)) t none h = whole_slot x t none h.0
-    whole_cell (of (Global x)) t none h = tt
-    whole_cell (deref a) t none h = tt
-    whole_cell (member p n m) t none h = tt
+    whole_cell (of (Local x)) t never h = whole_slot x t never h.0
+    whole_cell (of (Global x)) t never h = tt
+    whole_cell (deref a) t never h = tt
+    whole_cell (member p n m) t never h = tt
 
     -- ---- members
 
@@ -383,7 +383,7 @@ module _ (E : Env) (L : Linked E.site) (home : AtHome E) (k : well.Context) (slo
       -- a part of a struct
       slices_run : (d : ℕ) (p : Place) (n from len : ℕ) → IsReady E.target.is_object E.unit (in_place p) (uses.in_place p) (in_place_of p) → IsPlace k p (struct n) → 0 < len → from + len ≤ size (shape E.unit.structs (struct n)) → SlicesIn d p n from len
       slices_run d (of (Local x)) n from len i h some within =
-          slice_runs E (one (get E.target (Local x))) (struct n) from len (place E.unit E.calls (of (Local x))) (leads_at x (struct n) h (whole_slot x (struct n) (λ none. none) h.0))
+          slice_runs E (one (get E.target (Local x))) (struct n) from len (place E.unit E.calls (of (Local x))) (leads_at x (struct n) h (whole_slot x (struct n) (λ never. never) h.0))
       slices_run d (of (Global x)) n from len i h some within = absurd (let e = i.in_stage in cc)
       slices_run d (deref a) n from len i h some within =
           slice_runs E (code_of true d a) (struct n) from len (place E.unit E.calls (deref a)) (deref_leads E (code_of true d a) (struct n) (value_in_E a) h.0 (expr_runs true d a (pointer (struct n)) i h.1))
@@ -400,7 +400,7 @@ module _ (E : Env) (L : Linked E.site) (home : AtHome E) (k : well.Context) (slo
       decays_run : (d : ℕ) (p : Place) (u : Ty) (n : ℕ) → IsReady E.target.is_object E.unit (in_place p) (uses.in_place p) (in_place_of p) → IsPlace k p (array u n) → DecaysTo d p u n
       decays_run d (of (Local x)) u n i h =
           decay_all E u n (sound_place k sound (of (Local x)) (array u n) h).1.0 (one (get E.target (Local x))) (place E.unit E.calls (of (Local x)))
-          (variable_all E x (array u n) (kind_at x (array u n) h.0 true (whole_slot x (array u n) (λ none. none) h.0)) (seen_at x (array u n) h))
+          (variable_all E x (array u n) (kind_at x (array u n) h.0 true (whole_slot x (array u n) (λ never. never) h.0)) (seen_at x (array u n) h))
       decays_run d (of (Global x)) u n i h = absurd (let e = i.in_stage in cc)
       decays_run d (deref a) u n i h =
           let len = n * type_size E.target.structs u in
@@ -540,7 +540,7 @@ module _ (E : Env) (L : Linked E.site) (home : AtHome E) (k : well.Context) (slo
           (λ gs grown v ok. (meaning.nothing_given, refl, λ vs. void_left kept v gs vs, tt)))
       expr_runs kept d (tree.visit p) t x h =
           subst (λ (q : Ty). Carries E kept (code.place E.target d p ⨾ one Drop) q (value_in_E (tree.visit p))) (sym h.1)
-          (visit_runs E kept (code.place E.target d p) (struct h.0) (place E.unit E.calls p) (leads_run d p (struct h.0) x h.3 (whole_cell p (struct h.0) (λ none. none) h.3)))
+          (visit_runs E kept (code.place E.target d p) (struct h.0) (place E.unit E.calls p) (leads_run d p (struct h.0) x h.3 (whole_cell p (struct h.0) (λ never. never) h.3)))
       expr_runs kept d (tree.size_of_place n p) t x h = size_runs kept n t h.2 (small_size n _ h.4 h.3.1)
       expr_runs kept d (tree.size_of_value n e) t x h = size_runs kept n t h.2 (small_size n _ h.4 h.3.1)
       expr_runs kept d (tree.size_of_type n) t x h = size_runs kept n t h (ltb→lt n 4294967296 (subst T (sym x.in_stage) tt))

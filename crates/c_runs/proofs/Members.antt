@@ -162,9 +162,8 @@ module _ (E : Env) where
 
   pub slice_runs : (c : Code) (t : Ty) (from n : ℕ) (p : Does Spot) → Leads E c t p → Slices (c ⨾ code.slice from n) t from n p
   slice_runs c t from n p h = op_after_in E [] c (code.slice from n) same (spot_pushed E) (sliced from n) (IsSpot E t) (IsSpot E t) p h (λ gs grown q ok. by gs q ok) where
-    by : (gs : List Home) (q : Spot) → IsSpot E t gs q → OpIn E gs (code.slice from n) (spot_pushed E gs q) (sliced from n) (IsSpot E t) (pure q)
-    by gs (variable x) ok = absurd ok
-    by gs (at v) ok j has now le vs r dep w m k ag =
+    step : (gs : List Home) (v : Value) → LeadsTo E t gs v → OpIn E gs (code.slice from n) (spot_pushed E gs (at v)) (sliced from n) (IsSpot E t) (pure (at v))
+    step gs v ok j has now le vs r dep w m k ag =
         let more = extends_trans gs now.homes m.homes le.grown k.grown in
         let is = handle_still E.unit.structs E.places gs m.homes more (pointer t) v ok in
         let start = at_work E m w (Handle (handle gs v) ∷ vs) (Do (i32 from) ∷ Do (i32 n) ∷ Do (Segment segment.Slice) ∷ r) in (
@@ -172,6 +171,10 @@ module _ (E : Env) where
           (is_of_still E.unit.structs E.places gs m.homes more (pointer t) v ok, k),
           subst (λ (h : HandleOf). Goes E.site (1 + (1 + 1)) w w m start m (at_work E m w (Handle (slice h (low from) (low n)) ∷ vs) r)) (sym is) (slice_goes from n (handle gs v) vs r w m),
         )
+
+    by : (gs : List Home) (q : Spot) → IsSpot E t gs q → OpIn E gs (code.slice from n) (spot_pushed E gs q) (sliced from n) (IsSpot E t) (pure q)
+    by gs (variable x) ok = absurd ok
+    by gs (at v) ok = step gs v ok
 
   -- ---- members (6.5.2.3)
 
@@ -261,7 +264,10 @@ module _ (E : Env) where
     dropped : (gs : List Home) (v : Value) (vs : List Word) (r : List Item) (w : World) (m : Mem) → Goes E.site 1 w w m (at_work E m w (Handle (handle gs v) ∷ vs) (Do Drop ∷ r)) m (at_work E m w vs r)
     dropped gs v vs r w m = one_here E.site w m m Drop (frame_of E m w) (Handle (handle gs v) ∷ vs) r (thread (frame_of E m w) vs r) refl
 
+    drops : (b : Bool) (gs : List Home) (v : Value) → OpIn E gs (one Drop) (spot_pushed E gs (at v)) (remains E b void) (IsValue E void) (pure meaning.nothing_given)
+    drops true gs v n has now le vs r dep w m k ag = (m, (tt, k), dropped gs v vs r w m)
+    drops false gs v n has now le vs r dep w m k ag = (m, (tt, k), dropped gs v vs r w m)
+
     by : (b : Bool) (gs : List Home) (q : Spot) → IsSpot E t gs q → OpIn E gs (one Drop) (spot_pushed E gs q) (remains E b void) (IsValue E void) (pure meaning.nothing_given)
     by b gs (variable x) ok = absurd ok
-    by true gs (at v) ok n has now le vs r dep w m k ag = (m, (tt, k), dropped gs v vs r w m)
-    by false gs (at v) ok n has now le vs r dep w m k ag = (m, (tt, k), dropped gs v vs r w m)
+    by b gs (at v) ok = drops b gs v
