@@ -53,7 +53,7 @@ IsNothing hs v = (r : Bool) × (is_no_handle (handle hs v) ≡ r) × ((os : List
 nothing_is : (table : Table) (places : ℕ → ℕ) (hs : List Home) (t : Ty) (v : Value) → is_function t ≡ false → homes.IsOf table places hs (pointer t) v → IsNothing hs v
 nothing_is table places hs t v d (homes.is_null e) = (true, refl, λ os. refl)
 nothing_is table places hs t v d (homes.is_invalid e) = (false, refl, λ os. refl)
-nothing_is table places hs t v d (homes.is_pointer {p = p} h s e at span shape) = (false, no_null (slice_get hs p.object) p, λ os. refl)
+nothing_is table places hs t v d (homes.is_pointer {p = p} h s e at span shape near) = (false, no_null (slice_get hs p.object) p, λ os. refl)
 nothing_is table places hs t v d (homes.is_named e lt) = absurd (let z : false ≡ true = sym d ∙ e in cc)
 nothing_is table places hs t v d (homes.is_no_function e) = absurd (let z : false ≡ true = sym d ∙ e in cc)
 

@@ -250,7 +250,7 @@ IsTrue hs v = (b : Bool) × (is_no_handle (handle hs v) ≡ not b) × (is_true v
 pointer_truth : (table : Table) (places : ℕ → ℕ) (hs : List Home) (t : Ty) (v : Value) → is_function t ≡ false → homes.IsOf table places hs (pointer t) v → IsTrue hs v
 pointer_truth table places hs t v d (is_null e) = (false, refl, refl)
 pointer_truth table places hs t v d (homes.is_invalid e) = (true, refl, refl)
-pointer_truth table places hs t v d (homes.is_pointer {p = p} h s e at span shape) = (true, no_null (slice_get hs p.object) p, refl)
+pointer_truth table places hs t v d (homes.is_pointer {p = p} h s e at span shape near) = (true, no_null (slice_get hs p.object) p, refl)
 pointer_truth table places hs t v d (homes.is_named e lt) = absurd (let z : false ≡ true = sym d ∙ e in cc)
 pointer_truth table places hs t v d (homes.is_no_function e) = absurd (let z : false ≡ true = sym d ∙ e in cc)
 
