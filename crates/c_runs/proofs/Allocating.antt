@@ -132,7 +132,7 @@ module _ (E : Env) (u : Ty) (slot : IsSlot E.unit.structs u) where
           let all : M.home.count * size M.home.shape ≡ count * size s = ap (λ (n : ℕ). n * size M.home.shape) M.count_is ∙ ap (λ (q : Shape). count * size q) M.shape_is in
           subst Goal (sym (ap meant (with_grants (true ∷ gs) e))) (
             M.mem,
-            (is_pointer M.home (whole_of M.home.shape M.home.count) slot.is_data M.at refl M.shape_is (first_near (length w.objects) [] false (whole_of M.home.shape M.home.count) (omega (arith, all, low))), M.keeps),
+            (is_pointer M.home (whole_of M.home.shape M.home.count) slot.is_data M.at refl M.shape_is (first_near (length w.objects) [] false (whole_of M.home.shape M.home.count) (omega (arith, all, low)) (subst (λ (q : Shape). size q < 4294967296) (sym M.shape_is) slot.small)), M.keeps),
             subst (λ (x : Word). Goes E.site 1 w w1 m t0 M.mem (at_work E M.mem w1 (x ∷ vs) r)) (sym (pointer_word E u M.mem.homes p slot.is_data)) M.goes,
           )
       new_by (refused' gs e g) =
@@ -147,7 +147,7 @@ module _ (E : Env) (u : Ty) (slot : IsSlot E.unit.structs u) where
           (subst (λ (w0 : World). Stops E.site 1 w w0 m t0 ungranted) (with_grants [] e) st)
 
     op_new : OpIn E [] (one news) (λ vs. I32 (count * size s) ∷ vs) (pushes E P) (IsValue E P) meant
-    op_new n has now le vs r dep w m k ag = new_by now vs r w m k (new_goes E now heap s count slot.fits vs r w m k slot.small ag)
+    op_new n has now le vs r dep w m k ag = new_by now vs r w m k (new_goes E now heap s count slot.fits vs r w m k ag)
 
   -- ---- of so many bytes, as many elements as they hold
 

@@ -60,7 +60,7 @@ use Rattle.c_runs.proofs.Operations.{AtHome, Linked, call_is}
 use Rattle.c_runs.proofs.Exprs.{AreScalars, CallsRun}
 use Rattle.c_runs.proofs.Flows.{FlowRuns, IsAt}
 use Rattle.c_runs.proofs.Makes.{get_is}
-use Rattle.c_runs.proofs.Scalars.{IsData, data_scalar, data_slot, data_type, zero_held, zero_word}
+use Rattle.c_runs.proofs.Scalars.{IsData, data_scalar, data_type, zero_held, zero_word}
 use Rattle.c_runs.proofs.Stmts.{ArePlain, IsPlain, left_runs, neither, no_objects, no_off, out_none, stmt_runs}
 use Rattle.c_runs.proofs.Bodies.{IsResult, at_top, body_runs}
 use Rattle.c_runs.proofs.Entering.{arg_words, args_held, args_words, callee, deep_call, first_apart, first_own, firsts, flat, length_us, others_are, shallow_call}

@@ -62,7 +62,7 @@ module _ (E : Env) where
   object_near n t hs slot o =
       let all : o.home.count * size o.home.shape ≡ 1 * size (shape E.unit.structs t) = ap (λ (k : ℕ). k * size o.home.shape) o.one ∙ ap (λ (s : Shape). 1 * size s) o.shape_is in
       let small = slot.small in
-      first_near n [] false (whole_of o.home.shape o.home.count) (omega (arith, all, small))
+      first_near n [] false (whole_of o.home.shape o.home.count) (omega (arith, all, small)) (subst (λ (s : Shape). size s < 4294967296) (sym o.shape_is) small)
 
   pub variable_leads : (x : ℕ) (t : Ty) → slice_get E.kinds x ≡ Some (t, true) → is_visible E.visible x ≡ true → Leads (one (get E.target (Local x))) t (place E.unit E.calls (of (Local x)))
   variable_leads x t at_x seen n has now le vs r dep w m k ag =

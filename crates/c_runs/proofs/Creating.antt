@@ -1,5 +1,5 @@
 -- An object is made: the grant that the meaning takes is the one that the machine gives.
-use Rattle.std.proofs.Common.{◌≡◌, ℕ, ◌*◌, ◌^◌, ◌<◌, inl, inr, List, [], ◌∷◌, ◌++◌, length, append-nil, Bool, true, false, Some, refl, sym, ap, ◌∙◌, arith, subst}
+use Rattle.std.proofs.Common.{◌≡◌, ℕ, ◌*◌, inl, inr, List, [], ◌∷◌, ◌++◌, length, append-nil, Bool, true, false, Some, refl, sym, ap, ◌∙◌, arith, subst}
 use Rattle.std.specs.Prelude.{slice_get}
 use Rattle.ms_event.specs.declared.event.Event.{Event}
 use Rattle.ms_event.specs.declared.event.Event.TheVariants as events
@@ -141,8 +141,8 @@ module _ (E : Env) (now : Now) (k : Kind) (s : Shape) (n : ℕ) (fits : Fits s) 
             (act_gives (goes.store E.site m) (frame_of E m w) r (segment.New (kind_of k)) (I32 bytes ∷ vs) (top ∷ vs) seg (Some (events.Alloc id base bytes)) is));
       }
 
-  pub new_goes : size s < 2 ^ 32 → Agrees (goes.store E.site m) t (given w) w.grants → NewGoes
-  new_goes narrow ag = by (new_acts E.unit.structs E.places m.homes m.segments w.objects k s n kept.related fits narrow) where
+  pub new_goes : Agrees (goes.store E.site m) t (given w) w.grants → NewGoes
+  new_goes ag = by (new_acts E.unit.structs E.places m.homes m.segments w.objects k s n kept.related fits) where
     fit : (e : Event) → grants (steps 1 (goes.store E.site m) t (given w)).events ≡ grants (e ∷ []) → Fit (grants (e ∷ [])) w.grants
     fit e told = subst (λ (l : List Bool). Fit l w.grants) told (ag 1)
 

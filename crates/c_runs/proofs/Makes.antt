@@ -276,7 +276,7 @@ module _ (E : Env) (x : ℕ) (t : Ty) (at_x : slice_get E.kinds x ≡ Some (t, t
           (trapped E.site u1 m Unreachable g2 vs ru traps.Unreachable exhausted refl tt refl tt)))))))
 
     pub enters_object : HasAll E.site.funcs E.fn j (c j).seqs → Runs E.site (size_of (c j)) m t0 w to Opened (meant w)
-    enters_object has ag = by (new_goes E now frame s 1 slot.fits vs r1 w m kept slot.small (agrees_after E.site 1 w w m m t0 t1 first_goes ag)) where
+    enters_object has ag = by (new_goes E now frame s 1 slot.fits vs r1 w m kept (agrees_after E.site 1 w w m m t0 t1 first_goes ag)) where
       by : NewGoes E now frame s 1 slot.fits vs r1 w m kept → Goal (meant w)
       by (granted gs e M) = made_runs gs e M
       by (refused' gs e g) = refuses has.0 gs e g

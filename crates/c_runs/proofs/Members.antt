@@ -35,6 +35,7 @@ use Rattle.ms_relate.proofs.Laid.{part_fits, size-positive}
 use Rattle.ms_relate.proofs.Moving.{is_of_leads, leads_of}
 use Rattle.ms_relate.proofs.Parts.{IsPart, array_slice, fits_size, inside_part, low, member_part, name_all}
 use Rattle.ms_relate.proofs.Shapes.{part_is, shape_good}
+use Rattle.c_typing.proofs.Sound.{sized_is}
 use Rattle.c_runs.proofs.Goes as goes
 use Rattle.c_runs.proofs.Goes.{Goes, Mem, Runs, RunsTo, bind, goes_on, here, one_here, weaker}
 use Rattle.c_runs.proofs.Held.{object_at, object_word}
@@ -43,8 +44,7 @@ use Rattle.c_runs.proofs.Ops.{GoodIn, OpIn, Stack, ToIn, at_work, carried_is, op
 use Rattle.c_runs.proofs.Nodes.{Carries, Leaves, get_slot, local_of_x, remains}
 use Rattle.c_runs.proofs.Steps.{IsQuiet, event_goes, quiet_tells}
 use Rattle.c_runs.proofs.Makes.{get_is}
-use Rattle.c_runs.proofs.Cells.{IsSpot, Leads, LeadsTo, pointer_word, spot_pushed, object_near}
-use Rattle.c_runs.proofs.Scalars.{no_function_type}
+use Rattle.c_runs.proofs.Cells.{IsSpot, Leads, LeadsTo, object_near, pointer_word, spot_pushed}
 
 -- ---- a member of a struct that is defined
 
@@ -70,7 +70,7 @@ laid_member table laid some n k t h = by (layout_at table n) refl h where
         part = part;
         some = size-positive (shape table t) fit.1;
         within = fit.0;
-        is_data = no_function_type table t has;
+        is_data = sized_is table t has;
         sized = ap (λ (u : Ty). type_size table u) (get_is (members_of table (struct n)) k t h) ∙ sym (shape_good table laid some t has).sized;
       }
 

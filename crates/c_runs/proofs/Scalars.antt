@@ -1,5 +1,5 @@
 -- Types of variables, integer types and those of pointers that lead to no function, and what a variable of one begins with: zero, or null.
-use Rattle.std.proofs.Common.{◌≡◌, ◌≢◌, ℕ, ◌/◌, ◌^◌, ◌<◌, List, [], ◌∷◌, Bool, true, false, Option, Some, None, refl, sym, ap, ◌∙◌, arith, subst}
+use Rattle.std.proofs.Common.{◌≡◌, ◌≢◌, ℕ, List, [], ◌∷◌, Bool, true, false, Option, Some, None, refl, sym, ap, ◌∙◌, arith, subst}
 use Rattle.std.specs.Prelude.{ℤ, pos, not, cond, slice_get, if◌then◌else◌}
 use Rattle.ms_num.specs.Integers.{truth as bit}
 use Rattle.ms_operate.specs.Outcomes as operate
@@ -15,8 +15,7 @@ use Rattle.ms_machine.specs.Segments.{is_null as is_no_handle}
 use Rattle.ms_module.specs.declared.numeric.Width.{Width}
 use Rattle.ms_module.specs.declared.numeric.Width.TheVariants.{W32, W64}
 use Rattle.ms_task.specs.Thread.{thread}
-use Rattle.c_types.specs.Integers.{bits}
-use Rattle.c_types.specs.Layout.{HasSize, IsLaidOut, IsSmall, Layout, Table, layout_at}
+use Rattle.c_types.specs.Layout.{IsLaidOut, IsSmall, Layout, Table, layout_at}
 use Rattle.c_types.specs.declared.integers.IntType.{IntType}
 use Rattle.c_types.specs.declared.integers.IntType.TheVariants.{Char, SignedChar, UnsignedChar, Short, UnsignedShort, Int, UnsignedInt, Long, UnsignedLong, LongLong, UnsignedLongLong}
 use Rattle.c_types.specs.declared.types.Scalar.{Scalar}
@@ -39,6 +38,7 @@ use Rattle.ms_relate.specs.refinement.Homes as homes
 use Rattle.ms_relate.specs.refinement.Homes.{Home, IsScalar, handle, handle_in, handle_to, is_null, span_of}
 use Rattle.ms_relate.proofs.Acts.{act_gives}
 use Rattle.ms_relate.proofs.Shapes.{shape_good}
+use Rattle.c_typing.proofs.Sound.{sized_is}
 use Rattle.c_runs.proofs.Goes as goes
 use Rattle.c_runs.proofs.Goes.{Goes, one_here}
 use Rattle.c_runs.proofs.Values.{IsOf, IsValueOf, word_of}
@@ -93,14 +93,6 @@ data_scalar (struct n) d = absurd d
 data_scalar (array t n) d = absurd d
 data_scalar (function r ps) d = absurd d
 
-pub data_value : (t : Ty) → IsData t → is_function t ≡ false
-data_value (integer u) d = refl
-data_value (pointer t) d = refl
-data_value void d = absurd d
-data_value (struct n) d = absurd d
-data_value (array t n) d = absurd d
-data_value (function r ps) d = absurd d
-
 -- a type with a scalar is of one value
 pub scalar_type : (t : Ty) (s : Scalar) → scalar_of t ≡ Some s → IsScalar t
 scalar_type (integer u) s e = tt
@@ -112,64 +104,10 @@ scalar_type (function r ps) s e = absurd cc
 
 -- ---- objects
 
-integer_slot : (table : Table) (u : IntType) → IsSlot table (integer u)
-integer_slot table u = record { is_data = refl; fits = wide u; sized = refl; small = short u } where
-  wide : (v : IntType) → 0 < bits v / 8
-  wide Char = omega arith
-  wide SignedChar = omega arith
-  wide UnsignedChar = omega arith
-  wide Short = omega arith
-  wide UnsignedShort = omega arith
-  wide Int = omega arith
-  wide UnsignedInt = omega arith
-  wide Long = omega arith
-  wide UnsignedLong = omega arith
-  wide LongLong = omega arith
-  wide UnsignedLongLong = omega arith
-
-  short : (v : IntType) → bits v / 8 < 2 ^ 32
-  short Char = omega arith
-  short SignedChar = omega arith
-  short UnsignedChar = omega arith
-  short Short = omega arith
-  short UnsignedShort = omega arith
-  short Int = omega arith
-  short UnsignedInt = omega arith
-  short Long = omega arith
-  short UnsignedLong = omega arith
-  short LongLong = omega arith
-  short UnsignedLongLong = omega arith
-
-pointer_slot : (table : Table) (t : Ty) → is_function t ≡ false → IsSlot table (pointer t)
-pointer_slot table t d = record {
-  is_data = refl;
-  fits = subst (λ (b : Bool). 0 < (if b then 4 else 16)) (sym d) (omega arith);
-  sized = refl;
-  small = subst (λ (b : Bool). (if b then 4 else 16) < 2 ^ 32) (sym d) (omega arith);
-}
-
-pub data_slot : (table : Table) (t : Ty) → IsData t → IsSlot table t
-data_slot table (integer u) d = integer_slot table u
-data_slot table (pointer t) d = pointer_slot table t d
-data_slot table void d = absurd d
-data_slot table (struct n) d = absurd d
-data_slot table (array t n) d = absurd d
-data_slot table (function r ps) d = absurd d
-
--- ---- any type of an object
-
-pub no_function_type : (table : Table) (t : Ty) → HasSize table t → is_function t ≡ false
-no_function_type table void h = absurd h
-no_function_type table (integer u) h = refl
-no_function_type table (struct n) h = refl
-no_function_type table (pointer t) h = refl
-no_function_type table (array t n) h = refl
-no_function_type table (function r ps) h = absurd h
-
 pub small_slot : (table : Table) → IsLaidOut table → ((n : ℕ) (l : Layout) → layout_at table n ≡ Some l → l.members ≢ []) → (t : Ty) → IsSmall table t → IsSlot table t
 small_slot table laid some t h =
     let g = shape_good table laid some t h.0 in
-    record { is_data = no_function_type table t h.0; fits = g.fits; sized = g.sized; small = let e = g.sized in let le = h.1 in omega (arith, e, le) }
+    record { is_data = sized_is table t h.0; fits = g.fits; sized = g.sized; small = let e = g.sized in let le = h.1 in omega (arith, e, le) }
 
 -- ---- zeros
 

@@ -1,5 +1,5 @@
 -- Each instruction on segments acts as the meaning does.
-use Rattle.std.proofs.Common.{◌∙◌, ◌≡◌, ℕ, ◌+◌, ◌*◌, ◌^◌, ◌<◌, ◌≤◌, Bool, true, false, cond, ℤ, List, ◌∷◌, Option, Some, None, Result, Ok, refl, sym, ap}
+use Rattle.std.proofs.Common.{◌∙◌, ◌≡◌, ℕ, ◌+◌, ◌*◌, ◌<◌, ◌≤◌, Bool, true, false, cond, ℤ, List, ◌∷◌, Option, Some, None, Result, Ok, refl, sym, ap}
 use Rattle.c_types.specs.Layout.{Table}
 use Rattle.c_types.specs.Types.{Ty, void, integer, struct, pointer, array, function, is_function}
 use Rattle.c_types.specs.declared.integers.IntType.{IntType}
@@ -160,8 +160,8 @@ module _ (table : Table) (places : ℕ → ℕ) (homes : List Home) (m : Memory)
   created_acts objects k s n bytes h e after (created {id} {base} related is) = new_created related (λ rest. ap (λ (x : Handle). Gives (operands.Handle x ∷ rest) after (Some (events.Alloc id base bytes))) is)
   created_acts objects k s n bytes h e after refused = new_refused (λ rest. refl)
 
-  pub new_acts : (objects : List Object) (k : Kind) (s : Shape) (n : ℕ) → Related table places homes objects m → Fits s → size s < 2 ^ 32 → NewActs table places homes objects m k s n (n * size s) (λ rest. segment_on (New (kind_of k)) m (operands.I32 (n * size s) ∷ rest))
-  new_acts objects k s n related fits narrow = created_acts objects k s n (n * size s) _ _ _ (creates table places homes objects m k s n related fits narrow)
+  pub new_acts : (objects : List Object) (k : Kind) (s : Shape) (n : ℕ) → Related table places homes objects m → Fits s → NewActs table places homes objects m k s n (n * size s) (λ rest. segment_on (New (kind_of k)) m (operands.I32 (n * size s) ∷ rest))
+  new_acts objects k s n related fits = created_acts objects k s n (n * size s) _ _ _ (creates table places homes objects m k s n related fits)
 
 -- ---- on the whole machine: the store's other parts, the frame and the work stay
 

@@ -89,7 +89,7 @@ module _ (table : Table) (places : ℕ → ℕ) (homes : List Home) where
 
   pub related_ended : (objects : List Object) (m : Memory) (n : ℕ) (o : Object) (h : Home) → Related table places homes objects m → slice_get objects n ≡ Some o → slice_get homes n ≡ Some h → Related table places homes (set objects n (ended o)) (with_ended m h.id)
   related_ended objects m n o h related at at' =
-      record { long = related.long ∙ sym (length-set objects n (ended o)); each = ended_each objects m n o h related at at'; rising = related.rising; made = related.made; small = related.small; placed = placed_ended m h.id related.placed }
+      record { long = related.long ∙ sym (length-set objects n (ended o)); each = ended_each objects m n o h related at at'; rising = related.rising; made = related.made; placed = placed_ended m h.id related.placed }
 
   -- ---- free
 

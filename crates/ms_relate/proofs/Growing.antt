@@ -75,7 +75,6 @@ module _ (table : Table) (places : ℕ → ℕ) (homes : List Home) where
         each = λ n o h at at'. at_once_more m o h (related.each n o h at at');
         rising = related.rising;
         made = related.made;
-        small = related.small;
         placed = record { within = related.placed.within; apart = related.placed.apart; ids = related.placed.ids };
       }
 
@@ -87,6 +86,5 @@ related_new table places capacity =
       each = λ n o h at at'. absurd (cc);
       rising = λ i j g h less at at'. absurd (cc);
       made = λ n h at. absurd (cc);
-      small = λ n h at. absurd (cc);
       placed = record { within = All-nil (IsWithin (length (replicate capacity (Data 0)))); apart = λ i j d first below. absurd (omega (arith, below)); ids = All-nil (λ (s : Live). (1 ≤ s.id) × (s.id ≤ 0)) };
     }

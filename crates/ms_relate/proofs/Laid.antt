@@ -290,32 +290,6 @@ path_within (step ∷ path) s t fits is =
     let far = path_within path next.0 t near.2 next.2 in
     (omega (arith, near.0, far.0), omega (arith, near.1, far.1), far.2)
 
--- no element is larger than those of the array in which it lies
-step_size : (step : Step) (s t : Span) → Fits s.shape → span_by step s ≡ Some t → size t.shape ≤ size s.shape
-step_size (to_member i m) s t fits is =
-    let test = cond_is (ltb i s.count) _ t is in
-    let part = member_at_is (s.place + i * size s.shape) (part_of s.shape m) t test.1 in
-    let fit = part_fits s.shape m part.0 fits part.1 in
-    subst (λ (x : Span). size x.shape ≤ size s.shape) part.2 (omega (arith, fit.0))
-step_size (inside i) s t fits is =
-    let test = cond_is (ltb i s.count) _ t is in
-    let there = elements_at_is (s.place + i * size s.shape) s.shape t test.1 in
-    let sized = ap (λ (x : Shape). size x) there.2 in
-    let less = one_of there.0 there.1 (subst Fits there.2 fits) in
-    subst (λ (x : Span). size x.shape ≤ size s.shape) there.3 (omega (arith, sized, less))
-  where
-    one_of : (u : Shape) (n : ℕ) → Fits (elements u n) → size u ≤ n * size u
-    one_of u n fits = let h : 1 * size u ≤ n * size u = mul-le-mul_right (size u) (let g : 1 ≤ n = omega (arith, fits.0) in g) in omega (arith, h)
-
-pub path_size : (path : List Step) (s t : Span) → Fits s.shape → span_at path s ≡ Some t → size t.shape ≤ size s.shape
-path_size [] s t fits is = let same : s ≡ t = cc in subst (λ (x : Span). size x.shape ≤ size s.shape) same (omega arith)
-path_size (step ∷ path) s t fits is =
-    let next = on_is (span_by step s) (λ u. span_at path u) t is in
-    let near = step_within step s next.0 fits next.1 in
-    let first' = step_size step s next.0 fits next.1 in
-    let rest = path_size path next.0 t near.2 next.2 in
-    omega (arith, first', rest)
-
 -- ---- along a path
 
 module _ (P Q : ℕ → Ty → Value → Type 0) (c n : ℕ) (f : (b : ℕ) (t : Ty) (v : Value) → (b + width t ≤ c) ⊎ (c + n ≤ b) → P b t v → Q b t v) where

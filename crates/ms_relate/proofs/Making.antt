@@ -1,5 +1,5 @@
 -- A new object: its segment's bytes 0 are the zeros of its shape, and all other objects are as before.
-use Rattle.std.proofs.Common.{◌≡◌, ℕ, suc, zero, ◌+◌, ◌-◌, ◌*◌, ◌%◌, ◌^◌, ◌<◌, ◌≤◌, inl, inr, Bool, true, false, cond, ℤ, pos, ◌*ℤ◌, List, [], ◌∷◌, ◌++◌, Option, Some, None, length, replicate, get_or, take, refl, sym, ap, ◌∙◌, subst, arith, length-append}
+use Rattle.std.proofs.Common.{◌≡◌, ℕ, suc, zero, ◌+◌, ◌-◌, ◌*◌, ◌%◌, ◌<◌, ◌≤◌, inl, inr, Bool, true, false, cond, ℤ, pos, ◌*ℤ◌, List, [], ◌∷◌, ◌++◌, Option, Some, None, length, replicate, get_or, take, refl, sym, ap, ◌∙◌, subst, arith, length-append}
 use Rattle.std.specs.Prelude.{nat_lt, slice_get}
 use Rattle.std.specs.List.{All}
 use Rattle.std.proofs.lemmas.List.{drop-replicate, length-replicate, take-replicate}
@@ -195,13 +195,6 @@ module _ (table : Table) (places : ℕ → ℕ) (homes : List Home) (objects : L
         | inr new ↦ let is : m.made + 1 ≡ h.id = ap (λ (x : Home). x.id) new.1 in (omega (arith, is), omega (arith, is))
       ]
 
-  small_made : size s < 2 ^ 32 → (i : ℕ) (h : Home) → slice_get grown i ≡ Some h → size h.shape < 2 ^ 32
-  small_made narrow i h at =
-      elim (push_cases homes home i h at) [
-        | inl old ↦ related.small i h old
-        | inr new ↦ subst (λ (x : Home). size x.shape < 2 ^ 32) new.1 narrow
-      ]
-
   now_placed : Placed now
   now_placed =
       let old = related.placed in
@@ -213,14 +206,13 @@ module _ (table : Table) (places : ℕ → ℕ) (homes : List Home) (objects : L
         ids = All-push (λ (x : Live). (1 ≤ x.id) × (x.id ≤ m.made + 1)) m.live segment (All-weaker (λ (x : Live). (1 ≤ x.id) × (x.id ≤ m.made)) (λ (x : Live). (1 ≤ x.id) × (x.id ≤ m.made + 1)) (λ x id. (id.0, omega (arith, id.1))) m.live old.ids) (omega arith, omega arith);
       }
 
-  pub related_made : size s < 2 ^ 32 → Related table places grown (one_more objects k s n) now
-  related_made narrow =
+  pub related_made : Related table places grown (one_more objects k s n) now
+  related_made =
       record {
         long = length-append homes (home ∷ []) ∙ (ap (λ x. x + 1) related.long ∙ sym (length-append objects (new_object k s n ∷ [])));
         each = each_made;
         rising = rising_made;
         made = made_made;
-        small = small_made narrow;
         placed = now_placed;
       }
 
@@ -230,18 +222,18 @@ module _ (table : Table) (places : ℕ → ℕ) (homes : List Home) (objects : L
       rw there (ap (λ (i : ℤ). handles.Good false (m.made + 1) 0 (n * size s) i) (zero_times (size s)))
 
 -- the new pointer leads to the new object
-pub new_leads : (homes : List Home) (id : ℕ) (s : Shape) (n i : ℕ) → i ≡ length homes → n * size s < 4294967296 → Leads (homes ++ record { id = id; shape = s; count = n } ∷ []) s (points (record { object = i; path = []; index = pos 0; sealed = false }))
-new_leads homes id s n i is small = leads_to (record { id = id; shape = s; count = n }) (whole_of s n) (rw is (slice_get-push_new homes (record { id = id; shape = s; count = n }))) refl refl (first_near i [] false (whole_of s n) (omega (arith, small)))
+pub new_leads : (homes : List Home) (id : ℕ) (s : Shape) (n i : ℕ) → i ≡ length homes → n * size s < 4294967296 → size s < 4294967296 → Leads (homes ++ record { id = id; shape = s; count = n } ∷ []) s (points (record { object = i; path = []; index = pos 0; sealed = false }))
+new_leads homes id s n i is low small = leads_to (record { id = id; shape = s; count = n }) (whole_of s n) (rw is (slice_get-push_new homes (record { id = id; shape = s; count = n }))) refl refl (first_near i [] false (whole_of s n) (omega (arith, low)) small)
 
-made_at_creates : (table : Table) (places : ℕ → ℕ) (homes : List Home) (objects : List Object) (m : Memory) (k : Kind) (s : Shape) (n : ℕ) (o : Option ℕ) → Related table places homes objects m → Fits s → size s < 2 ^ 32 → ((base : ℕ) → o ≡ Some base → IsPlace m.live (length m.bytes) (n * size s) (Some base)) → Creates table places homes objects m k s n (n * size s) (made_at m (n * size s) (kind_of k) o).handle (made_at m (n * size s) (kind_of k) o).event (made_at m (n * size s) (kind_of k) o).memory
-made_at_creates table places homes objects m k s n None related fits narrow placed = refused
-made_at_creates table places homes objects m k s n (Some base) related fits narrow placed =
-    created (related_made table places homes objects m k s n base related fits (placed base refl) narrow) (new_handle table places homes objects m k s n base related fits (placed base refl))
+made_at_creates : (table : Table) (places : ℕ → ℕ) (homes : List Home) (objects : List Object) (m : Memory) (k : Kind) (s : Shape) (n : ℕ) (o : Option ℕ) → Related table places homes objects m → Fits s → ((base : ℕ) → o ≡ Some base → IsPlace m.live (length m.bytes) (n * size s) (Some base)) → Creates table places homes objects m k s n (n * size s) (made_at m (n * size s) (kind_of k) o).handle (made_at m (n * size s) (kind_of k) o).event (made_at m (n * size s) (kind_of k) o).memory
+made_at_creates table places homes objects m k s n None related fits placed = refused
+made_at_creates table places homes objects m k s n (Some base) related fits placed =
+    created (related_made table places homes objects m k s n base related fits (placed base refl)) (new_handle table places homes objects m k s n base related fits (placed base refl))
 
 place_found : (m : Memory) (size base : ℕ) (b : Bool) → cond b (place_of m.live (length m.bytes) size) None ≡ Some base → IsPlace m.live (length m.bytes) size (Some base)
 place_found m size base true is = subst (IsPlace m.live (length m.bytes) size) is (IsPlace-place_of m.live (length m.bytes) size)
 place_found m size base false is = absurd (cc)
 
-pub creates : (table : Table) (places : ℕ → ℕ) (homes : List Home) (objects : List Object) (m : Memory) (k : Kind) (s : Shape) (n : ℕ) → Related table places homes objects m → Fits s → size s < 2 ^ 32 → Creates table places homes objects m k s n (n * size s) (make m (n * size s) (kind_of k)).handle (make m (n * size s) (kind_of k)).event (make m (n * size s) (kind_of k)).memory
-creates table places homes objects m k s n related fits narrow =
-    made_at_creates table places homes objects m k s n _ related fits narrow (λ base is. place_found m (n * size s) base (nat_lt (length m.live) most_live) is)
+pub creates : (table : Table) (places : ℕ → ℕ) (homes : List Home) (objects : List Object) (m : Memory) (k : Kind) (s : Shape) (n : ℕ) → Related table places homes objects m → Fits s → Creates table places homes objects m k s n (n * size s) (make m (n * size s) (kind_of k)).handle (make m (n * size s) (kind_of k)).event (make m (n * size s) (kind_of k)).memory
+creates table places homes objects m k s n related fits =
+    made_at_creates table places homes objects m k s n _ related fits (λ base is. place_found m (n * size s) base (nat_lt (length m.live) most_live) is)

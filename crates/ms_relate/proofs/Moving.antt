@@ -58,7 +58,7 @@ module _ (table : Table) (places : ℕ → ℕ) (homes : List Home) where
         to = record { object = p.object; path = p.path; index = p.index +ℤ d; sealed = p.sealed }
 
         if_near : (b : Bool) → is_near ((p.index +ℤ d) *ℤ pos (size e)) ≡ b → Leads homes e (cond b (points to) invalid)
-        if_near true q = leads_to h s at span same (record { near = ap (λ (x : Shape). is_near ((p.index +ℤ d) *ℤ pos (size x))) same ∙ q; low = near.low })
+        if_near true q = leads_to h s at span same (record { near = ap (λ (x : Shape). is_near ((p.index +ℤ d) *ℤ pos (size x))) same ∙ q; low = near.low; small = near.small })
         if_near false q = leads_invalid
 
   -- ---- by types

@@ -1,13 +1,13 @@
 -- Slices as code takes them, by numbers of 32 bits: the slice of a slice is one slice, and what a member or an array in an object is, is
 -- a slice of itself.
-use Rattle.std.proofs.Common.{◌≡◌, ◌≢◌, ℕ, ◌+◌, ◌*◌, ◌^◌, ◌<◌, ◌≤◌, Bool, true, false, ℤ, pos, negsuc, ◌+ℤ◌, ◌*ℤ◌, List, [], Option, Some, None, refl, sym, ap, ◌∙◌, subst, arith}
+use Rattle.std.proofs.Common.{◌≡◌, ◌≢◌, ℕ, ◌+◌, ◌*◌, ◌^◌, ◌<◌, ◌≤◌, Bool, true, false, ℤ, pos, negsuc, ◌+ℤ◌, List, [], Option, Some, None, refl, sym, ap, ◌∙◌, subst, arith}
 use Rattle.std.specs.Prelude.{IsSome, nat_le, slice_get, if◌then◌else◌}
 use Rattle.std.proofs.lemmas.Bool.{le-leb}
 use Rattle.c_types.specs.Layout.{HasSize, IsLaidOut, Layout, Table, depth_in, layout_at, size as type_size}
 use Rattle.c_types.specs.Types.{Ty, void, integer, struct, pointer, array, function}
 use Rattle.c_meaning.specs.Shapes.{Shape, elements, Part, part_of, shape, size, struct_shape}
 use Rattle.c_meaning.specs.Values.{Pointer, Value, invalid, inside, points, to_member}
-use Rattle.c_meaning.specs.Objects.{Object, Span, further, gives, index_in, whole_of}
+use Rattle.c_meaning.specs.Objects.{Object, further, gives, index_in, whole_of}
 use Rattle.ms_handle.specs.declared.handle.Handle.{Handle}
 use Rattle.ms_handle.specs.declared.handle.Handle.TheVariants as handles
 use Rattle.ms_handle.specs.Handle.{part, slice}
@@ -17,7 +17,7 @@ use Rattle.ms_relate.specs.refinement.Homes.{Home, handle, Leads, leads_null, le
 use Rattle.ms_relate.specs.refinement.Laid.{Fits}
 use Rattle.ms_relate.specs.refinement.Relation.{Related}
 use Rattle.ms_relate.proofs.Ending.{name_handle}
-use Rattle.ms_relate.proofs.Laid.{path_size, path_within, size-positive}
+use Rattle.ms_relate.proofs.Laid.{path_within, size-positive}
 use Rattle.ms_relate.proofs.Reading.{object_there}
 use Rattle.ms_relate.proofs.Shapes.{shape_good}
 use Rattle.ms_relate.proofs.Slicing.{elements_give, member_gives, sliced, slice_is}
@@ -88,9 +88,7 @@ module _ (table : Table) (places : ℕ → ℕ) (homes : List Home) where
       let o = object_there table places homes objects p.object h related.long at in
       let there = related.each p.object o.0 h o.1 at in
       let fit = path_within p.path (whole_of h.shape h.count) s there.fits span in
-      let least = path_size p.path (whole_of h.shape h.count) s there.fits span in
-      let most = related.small p.object h at in
-      subst (λ (x : Shape). Fits x × (size x < 2 ^ 32)) same (fit.2, omega (arith, least, most))
+      subst (λ (x : Shape). Fits x × (size x < 2 ^ 32)) same (fit.2, near.small)
 
   pub low_slice : (objects : List Object) (m : Memory) (e : Shape) (v : Value) (from n : ℕ) → Related table places homes objects m → Leads homes e v → from + n ≤ size e → slice (handle homes v) (low from) (low n) ≡ slice (handle homes v) from n
   low_slice objects m e v from n related leads_null within = refl

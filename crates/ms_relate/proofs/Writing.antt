@@ -131,7 +131,6 @@ module _ (table : Table) (places : ℕ → ℕ) (homes : List Home) where
         each = written_each objects m n o h g path s t k v new related scalar' at at' live span is within of spells wide;
         rising = related.rising;
         made = related.made;
-        small = related.small;
         placed = Placed-written m (g.base + s.place + k * width t) new related.placed (rw wide (write_inside m o h g path s t k (related.each n o h at at') related.placed live span is within));
       }
 

@@ -2,7 +2,7 @@
 //!
 //! `table` has the structs, `places` the entries of functions in the table of functions, and `homes` where each object is.
 
-ghost use Rattle.std.specs.Prelude.{◌≡◌, ◌≢◌, Bool, ℕ, ◌*◌, ◌+◌, ◌^◌, ◌<◌, ◌≤◌, ℤ, pos, true, false, List, [], ◌∷◌, Some, None, Ok, slice_get, slice_set};
+ghost use Rattle.std.specs.Prelude.{◌≡◌, ◌≢◌, Bool, ℕ, ◌*◌, ◌+◌, ◌<◌, ◌≤◌, ℤ, pos, true, false, List, [], ◌∷◌, Some, None, Ok, slice_get, slice_set};
 ghost use Rattle.c_meaning.specs.Objects.{Kind, Object, copy, distance, ended, frame, free, further, gives, moved, read, same_place, write};
 ghost use Rattle.c_meaning.specs.Shapes.{Part, Shape, elements, part_of, shape, size};
 ghost use Rattle.c_meaning.specs.Values.{Value, inside, null, to_member};
@@ -45,7 +45,7 @@ pub fn accesses_agree()
 /// A new segment is a new object, in which all is zero, or is refused (C11, 6.2.4 and 7.22.3); freeing one is `free` (7.22.3.3); and
 /// the segment of a variable's object ends without a trap.
 pub fn lives_agree()
-    ensures new { (table : Table) (places : ℕ → ℕ) (homes : List Home) (m : Memory) (objects : List Object) (k : Kind) (s : Shape) (n : ℕ) → Related table places homes objects m → Fits s → size s < 2 ^ 32
+    ensures new { (table : Table) (places : ℕ → ℕ) (homes : List Home) (m : Memory) (objects : List Object) (k : Kind) (s : Shape) (n : ℕ) → Related table places homes objects m → Fits s
         → NewActs table places homes objects m k s n (n * size s) (λ rest. segment_on (New (kind_of k)) m (I32 (n * size s) ∷ rest)) }
     ensures frees { (table : Table) (places : ℕ → ℕ) (homes : List Home) (m : Memory) (objects : List Object) (t : Ty) (p : Value) → Related table places homes objects m → p ≢ null → IsOf table places homes (pointer t) p → is_function t ≡ false
         → ChangeActs table places homes (λ rest. segment_on (Free kinds.Heap) m (Handle (handle homes p) ∷ rest)) (free objects p) }

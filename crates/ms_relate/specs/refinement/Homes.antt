@@ -49,10 +49,11 @@ word places _ _ = 0
 
 -- ---- pointers to arrays
 
--- it isn't far from the start of its array, which ends below 2^32
+-- it isn't far from the start of its array, which ends below 2^32, and so do its elements, also where there is none
 pub record IsNear (p : Pointer) (s : Span) : Type 0 where
   pub near : is_near (p.index *ℤ pos (size s.shape)) ≡ true
   pub low : s.place + length_of s < 4294967296
+  pub small : size s.shape < 4294967296
 
 -- ---- the values of a type
 

@@ -1,5 +1,5 @@
 -- The relation between objects and the segment memory.
-use Rattle.std.specs.Prelude.{◌≡◌, ℕ, ◌+◌, ◌*◌, ◌%◌, ◌^◌, ◌<◌, ◌≤◌, true, false, List, length, Option, Some, None, slice_get}
+use Rattle.std.specs.Prelude.{◌≡◌, ℕ, ◌+◌, ◌*◌, ◌%◌, ◌<◌, ◌≤◌, true, false, List, length, Option, Some, None, slice_get}
 use Rattle.c_types.specs.Layout.{Table}
 use Rattle.c_types.specs.Types.{Ty}
 use Rattle.c_meaning.specs.Shapes.{size, width}
@@ -54,6 +54,4 @@ module _ (table : Table) (places : ℕ → ℕ) where
     -- identities rise with the objects' numbers, so that no two objects have one
     pub rising : (i j : ℕ) (g h : Home) → i < j → slice_get homes i ≡ Some g → slice_get homes j ≡ Some h → g.id < h.id
     pub made : (n : ℕ) (h : Home) → slice_get homes n ≡ Some h → (1 ≤ h.id) × (h.id ≤ m.made)
-    -- an i32 counts the bytes of an element
-    pub small : (n : ℕ) (h : Home) → slice_get homes n ≡ Some h → size h.shape < 2 ^ 32
     pub placed : Placed m

@@ -3,7 +3,7 @@ use Rattle.ms_relate.proofs.Ending.{frame_ends}
 use Rattle.ms_relate.proofs.laws.lives_agree.Goals as goal
 
 pub returns-clause-new : goal.returns-clause-new
-returns-clause-new c = λ table places homes m objects k s n related fits narrow. new_acts table places homes m objects k s n related fits narrow
+returns-clause-new c = λ table places homes m objects k s n related fits. new_acts table places homes m objects k s n related fits
 
 pub returns-clause-frees : goal.returns-clause-frees
 returns-clause-frees c = λ table places homes m objects t p related some of plain. free_acts table places homes m objects t p related some of plain
