@@ -97,7 +97,6 @@ module _ (S : Site) (L : Linked S) (unit : Typed) (all : (f : ℕ) (t : Ty) (ps 
       long = refl;
       each = λ n o h at at'. absurd cc;
       rising = λ i j g h less at at'. absurd cc;
-      small = λ n h at. absurd cc;
       made = λ n h at. absurd cc;
       placed = placed;
     })
