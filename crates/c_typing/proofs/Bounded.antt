@@ -6,7 +6,7 @@ use Rattle.ms_module.specs.refinement.Nesting.{NestsWithin, OfAllNamed, OfNamed}
 use Rattle.ms_module.specs.declared.instr.Instr.{Instr}
 use Rattle.ms_module.specs.declared.instr.Instr.TheVariants.{Unreachable, Nop, Block, Loop, If, Br, BrIf, BrTable, Return, Call, CallIndirect, Drop, Select, LocalGet, LocalSet, LocalTee, GlobalGet, GlobalSet, I32Const, I64Const, Numeric, Linear, Segment}
 use Rattle.ms_emit.specs.Codes.{Code, coded, plain, no_code, ◌⨾◌, block, repeat, choice, inner, second, second_seqs}
-use Rattle.c_typing.specs.LoopsAndCalls.{OfCalls, loops_among, loops_in_body, one_if_loop}
+use Rattle.c_typing.specs.refinement.LoopsAndCalls.{OfCalls, loops_among, loops_in_body, one_if_loop}
 use Rattle.c_typing.proofs.Names.{Each, each_append}
 use Rattle.c_typing.proofs.Typing.{Stand, stand_back, stand_front, stands}
 

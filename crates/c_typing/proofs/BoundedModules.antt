@@ -23,7 +23,7 @@ use Rattle.c_code.specs.Functions.{body}
 use Rattle.c_code.specs.Modules.{compiled, defined, imported, func_of, funcs_from, global_of, globals_from, literal_globals, start_func, start_target, target, target_of}
 use Rattle.c_code.specs.Targets.{Target}
 use Rattle.c_code.specs.Uses.{Use, calls, copies, in_made, in_stmt, names, through}
-use Rattle.c_typing.specs.LoopsAndCalls.{IsBounded, IsCallee, IsCalleeType, IsNoCall, IsQuiet, OfCalls, called, host, loops_among, loops_in_body, loops_in_made, loops_in_stmt, one_if_loop}
+use Rattle.c_typing.specs.refinement.LoopsAndCalls.{IsBounded, IsCallee, IsCalleeType, IsNoCall, IsQuiet, OfCalls, called, host, loops_among, loops_in_body, loops_in_made, loops_in_stmt, one_if_loop}
 use Rattle.c_typing.proofs.Bounded.{BodyBounded}
 use Rattle.c_typing.proofs.BoundedExprs.{Calls, Host}
 use Rattle.c_typing.proofs.BoundedStmts.{body_ok, start_ok}

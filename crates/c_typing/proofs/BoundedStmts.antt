@@ -32,7 +32,7 @@ use Rattle.c_code.specs.Operations.{constant, i32, i64, rel, width_of}
 use Rattle.c_code.specs.Statements.{Exits, any_continues, at_body, bytes_put, chosen, continues, entered, enters, filled, freed, groups, in_group, in_loop, iterated, made, objects_in, selected, stmt, stmts, with_objects, within, zeroed}
 use Rattle.c_code.specs.Targets.{Target, get, scratch_handle, scratch_of_width, set, waiting}
 use Rattle.c_code.specs.Uses.{in_expr, in_made, in_step, in_stmt, in_stmts, in_values}
-use Rattle.c_typing.specs.LoopsAndCalls.{loops_in_made, loops_in_stmt, loops_in_stmts, loops_in_values}
+use Rattle.c_typing.specs.refinement.LoopsAndCalls.{loops_in_made, loops_in_stmt, loops_in_stmts, loops_in_values}
 use Rattle.c_typing.proofs.Bounded.{Bounded, BodyBounded, at_most, body_bounded, flat, in_block_of, in_choice_of, in_leaf, in_repeat_of, nothing, ◌▸◌, ◌▹◌}
 use Rattle.c_typing.proofs.BoundedExprs.{Calls, E, Host, Within, both_first, both_second, constant_flat, decayed_ok, expr_ok, get_flat, higher, inside, place_ok, set_flat, store_flat, tee_ok, zero_flat}
 use Rattle.c_typing.proofs.Names.{each_back, each_front}

@@ -16,8 +16,8 @@ use Rattle.c_typed.specs.Tree.{Function, Stmt, Typed}
 use Rattle.c_code.specs.Functions.{body, locals, params_in, signature}
 use Rattle.c_code.specs.Modules.{all_functions, compiled, defined, export_of, exports_of, func_of, funcs_from, function_at, gives_function, import_from_c, imported, index_of, is_call_of, is_defined, is_defined_at, is_exported, name_in, rank_in, start_func, target_of}
 use Rattle.c_code.specs.Uses.{uses, waits_stmt}
-use Rattle.c_typing.specs.Interface.{Defines, Imports, IsAbort, IsCompiled, IsExport, IsFromC, IsGetchar, IsMadeKnown, IsPutchar, IsTaken, Lacks, MakesKnown, Takes}
-use Rattle.c_typing.specs.Interface as face
+use Rattle.c_typing.specs.refinement.Interface.{Defines, Imports, IsAbort, IsCompiled, IsExport, IsFromC, IsGetchar, IsMadeKnown, IsPutchar, IsTaken, Lacks, MakesKnown, Takes}
+use Rattle.c_typing.specs.refinement.Interface as face
 use Rattle.c_typing.proofs.Frames.{each_all}
 use Rattle.c_typing.proofs.Indices.{and_true, both, defined_from, imports_are, rank_is, sig_at, third}
 use Rattle.c_typing.proofs.Lists.{either, equal_is, filter_has, has_number, slice_left, slice_right}

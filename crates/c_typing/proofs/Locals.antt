@@ -14,7 +14,7 @@ use Rattle.c_code.specs.Limits as limits
 use Rattle.c_code.specs.Modules.{compiled, func_of, funcs_from, named, start_func, start_target, target_of, waits_made}
 use Rattle.c_code.specs.Targets.{Target}
 use Rattle.c_code.specs.Uses.{uses, waits_stmt}
-use Rattle.c_typing.specs.Waits.{unit_waits, waits_body}
+use Rattle.c_typing.specs.refinement.Waits.{unit_waits, waits_body}
 use Rattle.c_typing.proofs.Frames.{each_all}
 use Rattle.c_typing.proofs.Modules.{no_limit, not_below}
 use Rattle.c_typing.proofs.Names.{Each, each_append}

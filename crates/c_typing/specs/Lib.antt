@@ -1,3 +1,1 @@
-pub mod Interface
-pub mod LoopsAndCalls
-pub mod Waits
+pub mod refinement

@@ -15,9 +15,9 @@ ghost use Rattle.c_code.specs.Functions.{body, signature};
 ghost use Rattle.c_code.specs.Limits.{limit_of, most_slots};
 ghost use Rattle.c_code.specs.Modules.{compiled, is_exported, target_of};
 ghost use Rattle.c_code.specs.Uses.{in_made, in_stmt};
-ghost use Rattle.c_typing.specs.Interface.{MakesKnown, Takes};
-ghost use Rattle.c_typing.specs.LoopsAndCalls.{IsBounded, IsNoCall, IsQuiet, loops_in_made, loops_in_stmt};
-ghost use Rattle.c_typing.specs.Waits.{unit_waits};
+ghost use Rattle.c_typing.specs.refinement.Interface.{MakesKnown, Takes};
+ghost use Rattle.c_typing.specs.refinement.LoopsAndCalls.{IsBounded, IsNoCall, IsQuiet, loops_in_made, loops_in_stmt};
+ghost use Rattle.c_typing.specs.refinement.Waits.{unit_waits};
 
 /// The module of each well-typed unit of C that passes no limit is valid WebAssembly (WebAssembly 1.0, 3.4): each of its functions
 /// has a typed body, all indices name something, and no two exports have one name.
