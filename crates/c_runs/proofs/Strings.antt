@@ -1,6 +1,6 @@
 -- The bytes of a string go into the first elements of an array of char (C11, 6.7.9, paragraph 14), each by way of the array's handle, which
 -- waits in a scratch local.
-use Rattle.std.proofs.Common.{◌≡◌, ℕ, suc, ◌+◌, ◌*◌, ◌^◌, ◌<◌, List, [], ◌∷◌, ◌++◌, length, map, true, Some, refl, sym, ap, ◌∙◌, arith, subst, T, ltb→lt}
+use Rattle.std.proofs.Common.{◌≡◌, ℕ, suc, ◌+◌, ◌*◌, ◌^◌, ◌<◌, List, [], ◌∷◌, ◌++◌, length, map, true, Some, None, refl, sym, ap, ◌∙◌, arith, subst, T, ltb→lt}
 use Rattle.std.specs.Prelude.{pos, nat_lt, slice_get}
 use Rattle.ms_handle.specs.declared.handle.Handle.{Handle as HandleOf}
 use Rattle.ms_linear.specs.declared.value.Value.{Value as Word}
@@ -17,8 +17,8 @@ use Rattle.c_types.specs.declared.integers.IntType.TheVariants.{Char}
 use Rattle.c_types.specs.Types.{Ty, integer, pointer}
 use Rattle.c_meaning.specs.Values.{Value, number}
 use Rattle.c_meaning.specs.Objects as objects
-use Rattle.c_meaning.specs.Objects.{Object, Outcome, moved, write, write_all}
-use Rattle.c_meaning.specs.World.{End, World, Result, gives, Does, after, alter, as_done, unsafe, ◌>>=◌}
+use Rattle.c_meaning.specs.Objects.{Object, Outcome, Unsafe, moved, write, write_all}
+use Rattle.c_meaning.specs.World.{World, Result, gives, Does, after, alter, as_done, unsafe, ◌>>=◌}
 use Rattle.c_meaning.specs.Integers.{value_of}
 use Rattle.ms_emit.specs.Codes.{Code, one, ◌⨾◌, size_of}
 use Rattle.c_code.specs.Operations.{i32, i64}
@@ -64,21 +64,19 @@ char_of b = number (value_of Char b)
 abbrev changed : List Object → World → Result (Unit {0})
 changed os w = gives tt (record w { objects = os })
 
--- an end is one also where the objects differ
-pub stops_as : (S : Site) (size : ℕ) (w w' : World) (os : List Object) (m : Mem) (t : Thread) (e : End) → Stops S size w (record w' { objects = os }) m t e → Stops S size w w' m t e
-stops_as S size w w' os m t e h = record {
+-- an unsafe end is one also where the objects differ
+unsafe_as : (S : Site) (size : ℕ) (w w' : World) (os : List Object) (m : Mem) (t : Thread) (u : Unsafe) → Stops S size w (record w' { objects = os }) m t (unsafe u) → Stops S size w w' m t (unsafe u)
+unsafe_as S size w w' os m t u h = record {
   puts = h.puts;
   events = h.events;
   tells = record { output = h.tells.output; sizes = h.tells.sizes; grants = h.tells.grants };
-  is = is_end e h.is;
+  is = tt;
   cost = h.cost;
   least = h.least;
   greatest = h.greatest;
   so = h.so;
-  asks = h.asks;
-} where
-  is_end : (e : End) → goes.IsEnd S e (record w' { objects = os }) → goes.IsEnd S e w'
-  is_end e i = i
+  asks = tt;
+}
 
 module _ (E : Env) where
   abbrev byte_store : Instr
@@ -98,7 +96,7 @@ module _ (E : Env) where
       → RunsTo E.site size m t (record w { objects = os }) (to vs r) (Fills now) (after (as_done x (record w { objects = os })) changed)
       → RunsTo E.site size m t (record w { objects = os }) (to vs r) (Fills now) (after (as_done x w) changed)
   then_changed size m t now vs r w os (objects.gives qs) h = h
-  then_changed size m t now vs r w os (objects.stops u) h = stops_as E.site size (record w { objects = os }) w os m t (unsafe u) h
+  then_changed size m t now vs r w os (objects.stops u) h = unsafe_as E.site size (record w { objects = os }) w os m t u h
   then_changed size m t now vs r w os objects.lost h = absurd h.is
 
   -- ---- a byte at a pointer
