@@ -1,6 +1,6 @@
 -- The bytes of a string go into the first elements of an array of char (C11, 6.7.9, paragraph 14), each by way of the array's handle, which
 -- waits in a scratch local.
-use Rattle.std.proofs.Common.{◌≡◌, ℕ, suc, ◌+◌, ◌*◌, ◌^◌, ◌<◌, List, [], ◌∷◌, ◌++◌, length, map, true, Some, None, refl, sym, ap, ◌∙◌, arith, subst, T, ltb→lt}
+use Rattle.std.proofs.Common.{◌≡◌, ℕ, suc, ◌+◌, ◌^◌, ◌<◌, List, [], ◌∷◌, ◌++◌, length, map, true, Some, None, refl, sym, ap, ◌∙◌, arith, subst, T, ltb→lt}
 use Rattle.std.specs.Prelude.{pos, nat_lt, slice_get}
 use Rattle.ms_handle.specs.declared.handle.Handle.{Handle as HandleOf}
 use Rattle.ms_linear.specs.declared.value.Value.{Value as Word}
@@ -39,7 +39,7 @@ use Rattle.c_runs.proofs.Held.{set_there}
 use Rattle.c_runs.proofs.Lasting.{written_lasts}
 use Rattle.c_runs.proofs.Values.{value_still}
 use Rattle.c_runs.proofs.Related.{Env, IsValue, Kept, Now, extends_trans, frame_of, front, pushes}
-use Rattle.c_runs.proofs.Ops.{GoodIn, OpIn, ToIn, at_work, carried_is, op_then_in, same, size_joined}
+use Rattle.c_runs.proofs.Ops.{GoodIn, OpIn, ToIn, at_work, carried_is, op_then_in, same}
 use Rattle.c_runs.proofs.Nodes.{Always, Leaves, gone}
 use Rattle.c_runs.proofs.Steps.{Quiet, event_goes, kept_objects, quiet_store, quiet_tells, trap_is}
 use Rattle.c_runs.proofs.Switches.{IsTemp, get_temp, set_goes, set_stays, with_temp}
