@@ -151,10 +151,10 @@ module _ (E : Env) where
 
   puts : (bytes : List ℕ) → are_bytes bytes ≡ true → (i : ℕ) → i + length bytes < 2 ^ 63 → (n : ℕ) (now : Now) (p : Value) (vs : List Word) (r : List Item) (w : World) (m : Mem) → Kept E now w m → LeadsTo E char m.homes p → slice_get m.temps 2 ≡ Some (Handle (handle m.homes p))
       → Runs E.site (size_of (bytes_put E.target i bytes n)) m (at_work E m w vs (front (bytes_put E.target i bytes n).instrs r)) w (to vs r) (Fills now) (alter (write_all 1 p i (map char_of bytes)) w)
-  puts [] few i lt n now p vs r w m k of there = here E.site 0 w m (to vs r) (Fills now) tt (tt, k)
-  puts (b ∷ bytes) few i lt n now p vs r w m k of there =
+  puts [] are i lt n now p vs r w m k of there = here E.site 0 w m (to vs r) (Fills now) tt (tt, k)
+  puts (b ∷ bytes) are i lt n now p vs r w m k of there =
       let q = moved 1 (pos i) p in
-      let fit = both (nat_lt b 256) (are_bytes bytes) few in
+      let fit = both (nat_lt b 256) (are_bytes bytes) are in
       let small = ltb→lt b 256 (subst T (sym fit.0) tt) in
       let y = bytes_put E.target (suc i) bytes (n + 0) in
       let next = front y.instrs r in
@@ -175,7 +175,7 @@ module _ (E : Env) where
   -- the pointer on the operands goes into the local first
   fills : (bytes : List ℕ) → are_bytes bytes ≡ true → length bytes < 2 ^ 63 → (gs : List Home) (p : Value) → IsValue E (pointer char) gs p
       → OpIn E gs (one (LocalSet (scratch_handle E.target)) ⨾ bytes_put E.target 0 bytes) (pushes E (pointer char) gs p) (λ hs. gone E) (λ hs. Always E) (alter (write_all 1 p 0 (map char_of bytes)))
-  fills bytes few lt gs p ok n has now le vs r dep w m k =
+  fills bytes are lt gs p ok n has now le vs r dep w m k =
       let more = extends_trans gs now.homes m.homes le.grown k.grown in
       let of = value_still E.unit.structs E.places gs m.homes more (pointer char) p ok in
       let x = scratch_handle E.target in
@@ -192,10 +192,10 @@ module _ (E : Env) where
       (resize E.site (1 + size_of y) all m (at_work E m w (H ∷ vs) (Do (LocalSet x) ∷ next)) w (to vs r) (Fills now) z (omega arith)
       (behind_goes E.site 1 (size_of y) w w m m1 (at_work E m w (H ∷ vs) (Do (LocalSet x) ∷ next)) (at_work E m1 w vs next) (to vs r) (Fills now) z
       (set_goes E w m k.held x 2 is_handle inside H vs next)
-      (puts bytes few 0 (omega (arith, lt)) (n + 0) now p vs r w m1 k1 of (set_there m.temps 2 H inside))))
+      (puts bytes are 0 (omega (arith, lt)) (n + 0) now p vs r w m1 k1 of (set_there m.temps 2 H inside))))
 
   pub fill_runs : (bytes : List ℕ) → are_bytes bytes ≡ true → length bytes < 2 ^ 63 → (c : Code) (x : Does Value) → Leaves E c (pointer char) x
       → OpIn E [] (filled E.target c bytes) same (λ hs. gone E) (λ hs. Always E) (x >>= (λ p. alter (write_all 1 p 0 (map char_of bytes))))
-  fill_runs bytes few lt c x h =
+  fill_runs bytes are lt c x h =
       op_then_in E [] c (one (LocalSet (scratch_handle E.target)) ⨾ bytes_put E.target 0 bytes) same (pushes E (pointer char)) (λ hs. gone E) (IsValue E (pointer char)) (λ hs. Always E) x (λ p. alter (write_all 1 p 0 (map char_of bytes))) h
-      (λ gs grown p ok. fills bytes few lt gs p ok)
+      (λ gs grown p ok. fills bytes are lt gs p ok)
