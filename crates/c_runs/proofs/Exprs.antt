@@ -284,10 +284,10 @@ module _ (E : Env) (L : Linked E.site) (home : AtHome E) (k : well.Context) (slo
         member_all E n m t (laid n m t h) c x
         (subst (λ (o : ℕ). Slices E c (struct n) o (size (shape E.unit.structs t)) x) (offset_is n m) (subst (λ (l : ℕ). Slices E c (struct n) (offset E.target.structs (struct n) m) l x) (member_size_is n m t h) s))
 
-    abbrev decaying : Place → Does Value
+    abbrev pub decaying : Place → Does Value
     decaying p = meaning.pointer (place E.unit E.calls p) >>= meaning.further inside
 
-    abbrev DecaysTo : (d : ℕ) → Place → Ty → (n : ℕ) → Type 0
+    abbrev pub DecaysTo : (d : ℕ) → Place → Ty → (n : ℕ) → Type 0
     DecaysTo d p u n = Leaves E (decayed (is_deref p) (n * type_size E.target.structs u) (code.place E.target d p)) (pointer u) (decaying p)
 
     pointer_scalar : (t : Ty) → is_function t ≡ false → scalar_of (pointer t) ≡ Some scalars.Pointer
@@ -402,7 +402,7 @@ module _ (E : Env) (L : Linked E.site) (home : AtHome E) (k : well.Context) (slo
           member_slices E n' m (struct n) l c x from len some within
           (subst (λ (q : ℕ). Slices E c (struct n') (q + from) len x) is (slices_run d p n' (o + from) len i h.0 some (omega (arith, is, end, within))))
 
-      decays_run : (d : ℕ) (p : Place) (u : Ty) (n : ℕ) → IsReady E.target.is_object E.unit (in_place p) (uses.in_place p) (in_place_of p) → IsPlace k p (array u n) → DecaysTo d p u n
+      pub decays_run : (d : ℕ) (p : Place) (u : Ty) (n : ℕ) → IsReady E.target.is_object E.unit (in_place p) (uses.in_place p) (in_place_of p) → IsPlace k p (array u n) → DecaysTo d p u n
       decays_run d (of (Local x)) u n i h =
           decay_all E u n (sound_place k sound (of (Local x)) (array u n) h).1.0 (one (get E.target (Local x))) (place E.unit E.calls (of (Local x)))
           (variable_all E x (array u n) (kind_at x (array u n) h.0 true (whole_slot x (array u n) (λ never. never) h.0)) (seen_at x (array u n) h))

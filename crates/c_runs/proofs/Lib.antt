@@ -26,6 +26,7 @@ pub mod Equal
 pub mod Tested
 pub mod Allocating
 pub mod Freeing
+pub mod Strings
 pub mod Exprs
 pub mod Ahead
 pub mod Flows

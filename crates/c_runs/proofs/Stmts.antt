@@ -1,5 +1,5 @@
 -- Statements do what is meant.
-use Rattle.std.proofs.Common.{◌≡◌, ℕ, zero, suc, ◌+◌, ◌<◌, ◌≤◌, List, [], ◌∷◌, ◌++◌, length, take, filter, map, Bool, true, false, Option, Some, None, refl, sym, ap, ◌∙◌, arith, subst, cond, T, eqb→eq, ltb→lt}
+use Rattle.std.proofs.Common.{◌≡◌, ℕ, zero, suc, ◌+◌, ◌*◌, ◌<◌, ◌≤◌, List, [], ◌∷◌, ◌++◌, length, take, filter, map, Bool, true, false, Option, Some, None, refl, sym, ap, ◌∙◌, arith, subst, cond, T, eqb→eq, ltb→lt}
 use Rattle.std.proofs.lemmas.Option.{slice_get_within}
 use Rattle.std.specs.Prelude.{pos, nat_lt, ◌==◌, ◌-◌, not, ◌&&◌, ◌||◌, slice_get, get_or, if◌then◌else◌}
 use Rattle.ms_linear.specs.declared.value.Value.{Value as Word}
@@ -10,30 +10,33 @@ use Rattle.ms_module.specs.declared.numeric.Width.{Width}
 use Rattle.ms_task.specs.Thread.{Thread}
 use Rattle.ms_num.specs.Integers.{wrapped}
 use Rattle.c_types.specs.declared.integers.IntType.{IntType}
+use Rattle.c_types.specs.declared.integers.IntType.TheVariants.{Char}
 use Rattle.c_types.specs.declared.types.Scalar.{Scalar}
 use Rattle.c_types.specs.declared.types.Scalar.TheVariants as scalars
 use Rattle.c_types.specs.Types.{Ty, void, integer, pointer, struct, array, function, is_function, Tys, scalar_of}
 use Rattle.c_typed.specs.declared.ops.Variable.{Variable}
 use Rattle.c_typed.specs.declared.ops.Variable.TheVariants.{Local}
 use Rattle.c_typed.specs.Tree as tree
-use Rattle.c_typed.specs.Tree.{Expr, Stmt, nothing, perform, if_else, loop, scope, return, return_nothing, break, continue, Stmts, done, seq}
+use Rattle.c_typed.specs.Tree.{Place, Expr, Stmt, nothing, perform, if_else, loop, scope, return, return_nothing, break, continue, Stmts, done, seq}
 use Rattle.c_well_typed.specs.declared.jumps.Jumps.{Jumps}
 use Rattle.c_well_typed.specs.refinement.Expressions as well
 use Rattle.c_well_typed.specs.refinement.Expressions.{HasType, is_visible}
 use Rattle.c_well_typed.specs.Statements as judged
 use Rattle.c_well_typed.specs.Statements.{AreNew, AreStatements, IsStatement, IsStep, count, in_loop}
 use Rattle.c_meaning.specs.Values.{Value, null, no_function, number, zero_value}
-use Rattle.c_meaning.specs.World.{Held, plain, World, Result, gives, Does, after, ◌>>=◌, ◌>>◌, pure, known}
+use Rattle.c_meaning.specs.Values as values
+use Rattle.c_meaning.specs.Objects.{write_all}
+use Rattle.c_meaning.specs.World.{Held, plain, World, Result, gives, Does, after, alter, ◌>>=◌, ◌>>◌, pure, known}
 use Rattle.c_meaning.specs.Integers.{bits_of, is_zero}
 use Rattle.c_meaning.specs.Accesses.{hold}
 use Rattle.c_meaning.specs.Expressions as meaning
-use Rattle.c_meaning.specs.Expressions.{expr, is_true}
+use Rattle.c_meaning.specs.Expressions.{expr, is_true, place}
 use Rattle.c_meaning.specs.Statements as meant
 use Rattle.c_meaning.specs.Statements.{Flow, next, broken, continued, returned, behind_switch, goes_to, enter, enter_slot, leave, leave_held, loops, step_of, stmts_from}
 use Rattle.ms_emit.specs.Codes.{Code, one, no_code, ◌⨾◌, block, choice, size_of}
 use Rattle.c_code.specs.Expressions as code
 use Rattle.c_code.specs.Operations.{constant, width_of}
-use Rattle.c_stage.specs.Stage.{in_expr, in_step, in_stmt, in_stmts}
+use Rattle.c_stage.specs.Stage.{are_bytes, in_expr, in_place, in_step, in_stmt, in_stmts}
 use Rattle.c_code.specs.Statements as scheme
 use Rattle.c_code.specs.Statements.{Exits, any_continues, continues, entered, enters, freed, iterated, objects_in, with_objects, within}
 use Rattle.c_code.specs.Targets.{Target, set, waiting}
@@ -52,14 +55,15 @@ use Rattle.c_runs.specs.Words.{pushed}
 use Rattle.c_runs.proofs.Switches.{HeldRuns, flow_leave, from_group, goes_small, group_then, leaves, switch_runs, switched}
 use Rattle.c_runs.proofs.Related.{Env, Holds, IsValue, Now, extends_none, front, pushes, seeing, sees_none}
 use Rattle.c_runs.proofs.Ops.{Op, OpIn, Stack, at_work, op_carried, op_look_in, op_none, op_then, op_then_in, same}
-use Rattle.c_runs.proofs.Nodes.{Always, Num, gone, remains, set_runs, of_number, test_is}
+use Rattle.c_runs.proofs.Nodes.{Always, Leaves, Num, gone, remains, set_runs, of_number, test_is}
 use Rattle.c_runs.proofs.Operations.{AtHome, Linked}
 use Rattle.c_runs.proofs.Scalars.{IsData, null_runs, zero_in}
-use Rattle.c_runs.proofs.Exprs.{AreScalars, CallsRun, expr_runs, narrow_width}
+use Rattle.c_runs.proofs.Strings.{char_of, fill_runs, whole_filled}
+use Rattle.c_runs.proofs.Exprs.{AreScalars, CallsRun, decays_run, expr_runs, narrow_width}
 use Rattle.c_runs.proofs.Flows.{FlowIn, FlowOut, FlowRuns, GoodFlow, Off, ahead, to_flow, flow_none, flow_behind, flow_behind_in, flow_of, flow_seq, flow_return, flow_continue, flow_choice, no_group, Way, way}
 use Rattle.c_runs.proofs.Dos.{do_runs}
 use Rattle.c_runs.proofs.Loops.{inside, iterated_is, jumps_in, while_runs}
-use Rattle.c_runs.proofs.Ready.{IsReady, behind_test, either, in_expr_of, in_step_of, in_stmt_of, in_stmts_of, looped, parts}
+use Rattle.c_runs.proofs.Ready.{IsReady, behind_test, either, in_expr_of, in_place_of, in_step_of, in_stmt_of, in_stmts_of, looped, parts}
 use Rattle.c_runs.proofs.Whole.{IsWhole, both, whole_choice, whole_expr, whole_plain, whole_then}
 
 -- ---- a statement without a `continue` of its own is one where none may stand
@@ -304,6 +308,20 @@ module _ (E0 : Env) (L : Linked E0.site) (home : AtHome E0) (k : well.Context) (
   step_runs v d (Some e) x h =
       op_look_in (at v) [] (code.expr E0.target false d e) same (λ hs. gone (at v)) (λ hs. gone (at v)) (IsValue (at v) h.0) (λ hs. Always (at v)) (value e) (λ q. pure tt) (run_expr v false d e h.0 x h.1) (λ gs more q ok. (tt, refl, λ vs. refl, tt))
 
+  -- ---- a string that initialises an array
+
+  string_runs : (v : List ℕ) (l : Way) (b c d : ℕ) (p : Place) (n : ℕ) (bytes : List ℕ) → (nat_lt n 4294967296 && are_bytes bytes) ≡ true → IsReady E0.target.is_object E0.unit (in_place p) (uses.in_place p) (in_place_of p) → length bytes ≤ n → well.IsPlace (in_blocks v) p (array (integer Char) n)
+      → FlowRuns (at v) l b c (scheme.filled E0.target (code.decayed (code.is_deref p) n (code.place E0.target d p)) bytes) same (meant.stmt E0.unit E0.calls E0.turn_bound E0.kinds (tree.fill p n bytes))
+  string_runs v l b c d p n bytes tested ready few h =
+      let q = both (nat_lt n 4294967296) (are_bytes bytes) tested in
+      let less = ltb→lt n 4294967296 (subst T (sym q.0) tt) in
+      let size : n * 1 ≡ n = omega arith in
+      let there = decays_run (at v) L home (in_blocks v) slots_are (calls_at v) scalars_are slots_data refl structs_same sound d p (integer Char) n ready h in
+      let x = meaning.pointer (place E0.unit E0.calls p) >>= meaning.further values.inside in
+      let code_of : ℕ → Code = λ k. code.decayed (code.is_deref p) k (code.place E0.target d p) in
+      flow_of (at v) l b c (scheme.filled E0.target (code_of n) bytes) (λ hs. gone (at v)) (λ hs. Always (at v)) (x >>= (λ a. alter (write_all 1 a 0 (map char_of bytes))))
+      (fill_runs (at v) bytes q.1 (omega (arith, few, less)) (code_of n) x (subst (λ (k : ℕ). Leaves (at v) (code_of k) (pointer (integer Char)) x) size there)) (λ hs a vs. refl)
+
   -- ---- if
 
   if_runs : (v : List ℕ) (l : Way) (b c d : ℕ) (e : Expr) (u : IntType) (x y : Code) (f g : Does Flow) → IsReady E0.target.is_object E0.unit (in_expr e) (uses.in_expr e) (in_expr_of e) → well.IsNarrow u → HasType (in_blocks v) e (integer u) → IsWhole y → FlowRuns (at v) l (suc b) (suc c) x same f → FlowRuns (at v) l (suc b) (suc c) y same g
@@ -388,7 +406,7 @@ module _ (E0 : Env) (L : Linked E0.site) (home : AtHome E0) (k : well.Context) (
     whole_stmt v d x l return_nothing i h = λ n e'. absurd (never_one (freed E0.target x.objects n).instrs Return e')
     whole_stmt v d x l break i h = λ n e'. absurd (never_both (freed E0.target (take x.left_by_break x.objects) n).instrs (x.leaving (n + length (freed E0.target (take x.left_by_break x.objects) n).seqs)).instrs (Br x.break_label) e')
     whole_stmt v d x l continue i h = λ n e'. absurd (never_one (freed E0.target (take x.left_by_continue x.objects) n).instrs (Br x.continue_label) e')
-    whole_stmt v d x l (tree.fill q n bytes) i h = absurd cc
+    whole_stmt v d x l (tree.fill q n bytes) i h = whole_filled E0.target _ bytes
     whole_stmt v d x l (tree.do_while s e) i h = λ n e'. absurd cc
     whole_stmt v d x l (tree.switch t e ns cases ss) i h = λ n e'. absurd (never_in (code.expr E0.target true d e n).instrs _ _ _ e')
 
@@ -482,7 +500,9 @@ module _ (E0 : Env) (L : Linked E0.site) (home : AtHome E0) (k : well.Context) (
     stmt_runs v d o x j off continue out room i h =
         out_here v (way j d o off) x.break_label x.continue_label (freed E0.target (take x.left_by_continue x.objects) ⨾ one (Br x.continue_label)) same (pure continued)
         (out_frees v (way j d o off) [] continued x.break_label x.continue_label (one (Br x.continue_label)) same (take x.left_by_continue x.objects) out.by_continue (off_at v off.continued out.continued') (flow_continue (at v) (way j d o off) x.break_label x.continue_label h))
-    stmt_runs v d o x j off (tree.fill q n bytes) out room i h = absurd (let e = i.in_stage in cc)
+    stmt_runs v d o x j off (tree.fill q n bytes) out room i h =
+        let tested = behind_test E0.target.is_object E0.unit (nat_lt n 4294967296 && are_bytes bytes) (in_place q) (uses.in_place q) (in_place_of q) i in
+        string_runs v (way j d o off) x.break_label x.continue_label d q n bytes tested.0 tested.1 h.0 h.1
     stmt_runs v d o x j off (tree.do_while s e) out room i h =
         let q = parts E0.target.is_object E0.unit (in_stmt s) (in_expr e) (uses.in_stmt s) (uses.in_expr e) (in_stmt_of s) (in_expr_of e) i in
         let T = code.expr E0.target true d e in

@@ -1,13 +1,13 @@
 -- The units of which it is shown so far that their code does what they mean: those of integers and pointers to objects, variables of
--- such types and arrays and structs, their addresses and members, control, and calls of functions by their names. An i32 counts the
--- groups of a switch, but for one number.
-use Rattle.std.specs.Prelude.{nat_lt, ◌&&◌, not, Bool, true, false, List, [], ◌∷◌, bytes_eq, codes, Option, Some, None}
+-- such types and arrays and structs, their addresses and members, strings that initialise arrays, control, and calls of functions by
+-- their names. An i32 counts the groups of a switch, but for one number.
+use Rattle.std.specs.Prelude.{ℕ, nat_lt, ◌&&◌, not, Bool, true, false, List, [], ◌∷◌, bytes_eq, codes, Option, Some, None}
 use Rattle.c_types.specs.declared.types.Scalar.{Scalar}
 use Rattle.c_types.specs.declared.types.Scalar.TheVariants as scalars
 use Rattle.c_types.specs.Types.{Ty, void, integer, struct, pointer, array, function, is_function, Tys, no_types, types}
 use Rattle.c_typed.specs.declared.ops.Variable.TheVariants.{Local, Global}
 use Rattle.c_typed.specs.Tree as tree
-use Rattle.c_typed.specs.Tree.{Place, of, deref, member, Expr, Exprs, none, more, Stmt, nothing, perform, if_else, loop, do_while, switch, scope, return, return_nothing, break, continue, Stmts, done, seq, Function, Typed}
+use Rattle.c_typed.specs.Tree.{Place, of, deref, member, Expr, Exprs, none, more, Stmt, nothing, perform, fill, if_else, loop, do_while, switch, scope, return, return_nothing, break, continue, Stmts, done, seq, Function, Typed}
 use Rattle.c_well_typed.specs.Statements.{count}
 
 -- of an integer, or of a pointer that leads to no function
@@ -80,10 +80,16 @@ abbrev pub in_step : Option Expr → Bool
 in_step None = true
 in_step (Some e) = in_expr e
 
+-- a string's
+abbrev pub are_bytes : List ℕ → Bool
+are_bytes [] = true
+are_bytes (b ∷ bs) = nat_lt b 256 && are_bytes bs
+
 abbrev mutual
   pub in_stmt : Stmt → Bool
   in_stmt nothing = true
   in_stmt (perform e) = in_expr e
+  in_stmt (fill p n bytes) = (nat_lt n 4294967296 && are_bytes bytes) && in_place p
   in_stmt (if_else c a b) = in_expr c && (in_stmt a && in_stmt b)
   in_stmt (loop c step s) = in_expr c && (in_step step && in_stmt s)
   in_stmt (do_while s c) = in_stmt s && in_expr c
@@ -93,7 +99,6 @@ abbrev mutual
   in_stmt return_nothing = true
   in_stmt break = true
   in_stmt continue = true
-  in_stmt _ = false
 
   pub in_stmts : Stmts → Bool
   in_stmts done = true

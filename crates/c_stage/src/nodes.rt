@@ -14,7 +14,7 @@ use c_types::{CType, Scalar, Signature};
 use c_well_typed::Typed;
 
 /// Whether a unit is one of integers and pointers to objects, variables of such types and arrays and structs, their addresses and
-/// members, control, and calls of functions by their names.
+/// members, strings that initialise arrays, control, and calls of functions by their names.
 pub fn is_in_stage(typed: &Typed) -> bool
     ensures { result ≡ words.in_stage (typed_of typed.now) }
 {
@@ -220,6 +220,25 @@ fn are_few(groups: &[Stmt]) -> bool
     (groups.len() as u64) < u64::from(u32::MAX)
 }
 
+/// The bytes of a string, which are numbers below 256.
+fn are_bytes(bytes: &[u8]) -> bool
+    ensures { result ≡ words.are_bytes bytes.now }
+{
+    for byte in bytes {
+        if u16::from(*byte) >= 256 {
+            return false;
+        }
+    }
+    true
+}
+
+/// A string for an array of so many elements, which is a number of 32 bits.
+fn is_string(n: u32, bytes: &[u8]) -> bool
+    ensures { result ≡ (nat_lt n 4294967296 && words.are_bytes bytes.now) }
+{
+    u64::from(n) < 1 << 32 && are_bytes(bytes)
+}
+
 #[cycle(staged_statements)]
 fn in_stmt(s: &Stmt) -> bool
     ensures { result ≡ words.in_stmt (stmt_of s.now) }
@@ -230,7 +249,7 @@ fn in_stmt(s: &Stmt) -> bool
         Stmt::Break => true,
         Stmt::Continue => true,
         Stmt::Perform(e) => in_expr(e),
-        Stmt::Fill(_, _, _) => false,
+        Stmt::Fill(p, n, bytes) => is_string(*n, bytes) && in_place(p),
         Stmt::If(c, a, b) => in_expr(c) && in_stmt(a) && in_stmt(b),
         Stmt::Loop(c, after, s) => in_expr(c) && in_step(after) && in_stmt(s),
         Stmt::DoWhile(s, c) => in_stmt(s) && in_expr(c),

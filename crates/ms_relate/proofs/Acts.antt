@@ -1,12 +1,13 @@
 -- Each instruction on segments acts as the meaning does.
-use Rattle.std.proofs.Common.{◌∙◌, ◌≡◌, ℕ, ◌+◌, ◌*◌, ◌<◌, ◌≤◌, Bool, true, false, cond, ℤ, List, ◌∷◌, Option, Some, None, Result, Ok, refl, sym, ap}
+use Rattle.std.proofs.Common.{◌∙◌, ◌≡◌, ℕ, ◌+◌, ◌*◌, ◌<◌, ◌≤◌, Bool, true, false, cond, ℤ, pos, List, ◌∷◌, Option, Some, None, Result, Ok, refl, sym, ap}
 use Rattle.c_types.specs.Layout.{Table}
 use Rattle.c_types.specs.Types.{Ty, void, integer, struct, pointer, array, function, is_function}
 use Rattle.c_types.specs.declared.integers.IntType.{IntType}
-use Rattle.c_types.specs.declared.integers.IntType.TheVariants.{LongLong}
+use Rattle.c_types.specs.declared.integers.IntType.TheVariants.{Char, LongLong}
 use Rattle.ms_relate.specs.refinement.Laid.{Fits, is_handle}
 use Rattle.c_meaning.specs.Shapes.{Shape, elements, Part, part_of, shape, size}
 use Rattle.c_meaning.specs.Values.{Value, null, number, to_member, inside}
+use Rattle.c_meaning.specs.Integers.{value_of}
 use Rattle.c_meaning.specs.Objects.{Kind, Object, Outcome, distance, free, further, moved, read, same_place, write}
 use Rattle.ms_event.specs.declared.event.Event.{Event}
 use Rattle.ms_event.specs.declared.event.Event.TheVariants as events
@@ -26,6 +27,7 @@ use Rattle.ms_module.specs.declared.access.Segment.{Segment}
 use Rattle.ms_module.specs.declared.instr.Instr.TheVariants as Instrs
 use Rattle.ms_task.specs.Thread.{Frame, Item, thread}
 use Rattle.ms_module.specs.declared.access.LoadOp.TheVariants as loads
+use Rattle.ms_module.specs.declared.access.StoreOp.TheVariants as stores
 use Rattle.ms_module.specs.declared.access.Segment.TheVariants.{Add, Diff, Eq, Free, New, Slice, Store}
 use Rattle.ms_num.specs.Integers.{truth, wrapped}
 use Rattle.ms_segment.specs.Calls.{Change, store}
@@ -43,7 +45,7 @@ use Rattle.ms_relate.proofs.Moving.{moved_is}
 use Rattle.ms_relate.proofs.Reading.{read_number, read_pointer}
 use Rattle.ms_relate.proofs.Writing.{write_number, write_pointer}
 use Rattle.ms_relate.specs.refinement.Acts.{load_of, store_of, operand, load_instr, store_instr, Traps, null_traps, invalid_traps, freed_traps, bounds_traps, whole_traps, kind_traps, readonly_traps, LoadActs, loads', load_traps, ChangeActs, changes', change_traps, DiffActs, diff_gives, diff_traps, apart_traps, NewActs, new_created, new_refused}
-use Rattle.ms_relate.proofs.Operands.{load_width, store_is, value_is}
+use Rattle.ms_relate.proofs.Operands.{byte_is, load_width, store_is, value_is}
 
 trap_from : (u : _) (e : SegTrap) → Ends u e → Traps u (trap_of e)
 trap_from u e null_ends = null_traps
@@ -112,6 +114,12 @@ module _ (table : Table) (places : ℕ → ℕ) (homes : List Home) (m : Memory)
   store_acts objects (struct n) p v related is of value = absurd is
   store_acts objects (array t n) p v related is of value = absurd is
   store_acts objects (function r ps) p v related is of value = absurd is
+
+  -- of a byte into an element of type char
+  pub byte_acts : (objects : List Object) (p : Value) (b : ℕ) → b < 256 → IsIn Char (value_of Char b) → Related table places homes objects m → IsOf table places homes (pointer (integer Char)) p
+      → ChangeActs table places homes (λ rest. segment_on (Store stores.I32Store8) m (operands.I32 (wrapped 32 (pos b)) ∷ operands.Handle (handle homes p) ∷ rest)) (write objects p (number (value_of Char b)))
+  byte_acts objects p b lt in_range related of =
+      same_acts _ _ (write objects p (number (value_of Char b))) (λ rest. byte_is b lt m (handle homes p) rest) (store_acts objects (integer Char) p (number (value_of Char b)) related tt of (is_number in_range))
 
   pub free_acts : (objects : List Object) (t : Ty) (p : Value) → Related table places homes objects m → (p ≡ null → ⊥) → IsOf table places homes (pointer t) p → is_function t ≡ false → ChangeActs table places homes (λ rest. segment_on (Free kinds.Heap) m (operands.Handle (handle homes p) ∷ rest)) (free objects p)
   free_acts objects t p related some of plain = changed_acts (free objects p) _ (free_object table places homes objects m t p related some of plain)

@@ -1,8 +1,11 @@
 -- Numbers of C as operands and as bytes.
-use Rattle.std.proofs.Common.{◌≡◌, ℕ, ◌/◌, ◌%◌, ◌<◌, ℤ, pos, negsuc, List, [], ◌∷◌, refl, ap, ◌∙◌, arith}
+use Rattle.std.proofs.Common.{◌≡◌, ℕ, ◌-◌, ◌/◌, ◌%◌, ◌<◌, ℤ, pos, negsuc, Bool, true, false, List, [], ◌∷◌, refl, sym, ap, ◌∙◌, arith}
+use Rattle.std.specs.Prelude.{◌-ℤ◌, nat_lt, if◌then◌else◌}
+use Rattle.std.proofs.lemmas.Int.{ints}
 use Rattle.c_types.specs.Integers.{bits}
 use Rattle.c_types.specs.declared.integers.IntType.{IntType}
 use Rattle.c_types.specs.declared.integers.IntType.TheVariants.{Char, SignedChar, UnsignedChar, Short, UnsignedShort, Int, UnsignedInt, Long, UnsignedLong, LongLong, UnsignedLongLong}
+use Rattle.c_meaning.specs.Integers.{value_of as number_of}
 use Rattle.ms_module.specs.Accesses.{load_bytes, store_bytes}
 use Rattle.ms_num.specs.Integers.{wrapped}
 use Rattle.ms_operate.specs.Accesses.{value_of}
@@ -12,6 +15,7 @@ use Rattle.ms_linear.specs.declared.value.Value.{Value as Operand}
 use Rattle.ms_linear.specs.declared.value.Value.TheVariants as operands
 use Rattle.ms_machine.specs.Segments.{changed, segment_on}
 use Rattle.ms_module.specs.declared.access.Segment.TheVariants.{Store}
+use Rattle.ms_module.specs.declared.access.StoreOp.TheVariants as stores
 use Rattle.ms_segment.specs.Calls.{store, stored_at}
 use Rattle.ms_segment.specs.Memory.{Memory, access, writable}
 use Rattle.ms_tagged.specs.Bytes.{Data, data_of}
@@ -93,3 +97,17 @@ store_is Long z m h rest = refl
 store_is UnsignedLong z m h rest = refl
 store_is LongLong z m h rest = refl
 store_is UnsignedLongLong z m h rest = refl
+
+-- a byte, and the number of type char that it is
+low_char : (b : ℕ) → b < 256 → wrapped 32 (pos b) % 256 ≡ wrapped 32 (number_of Char b) % 256
+low_char b lt = by (nat_lt b 128) where
+  by : (c : Bool) → wrapped 32 (pos b) % 256 ≡ wrapped 32 (if c then pos b else pos b -ℤ pos 256) % 256
+  by true = refl
+  by false =
+      let is : pos b -ℤ pos 256 ≡ negsuc (255 - b) = omega (arith, ints, lt) in
+      let low : wrapped 32 (pos b) % 256 ≡ wrapped 32 (negsuc (255 - b)) % 256 = omega (arith, lt) in
+      low ∙ ap (λ (z : ℤ). wrapped 32 z % 256) (sym is)
+
+pub byte_is : (b : ℕ) → b < 256 → (m : Memory) (h : Handle) (rest : List Operand)
+    → segment_on (Store stores.I32Store8) m (operands.I32 (wrapped 32 (pos b)) ∷ operands.Handle h ∷ rest) ≡ segment_on (Store (store_of Char)) m (integer_operand Char (number_of Char b) ∷ operands.Handle h ∷ rest)
+byte_is b lt m h rest = ap (λ bs. changed rest (stored_at m bs 1 (writable (access m h 1)))) (one_byte (wrapped 32 (pos b)) (wrapped 32 (number_of Char b)) (low_char b lt))
