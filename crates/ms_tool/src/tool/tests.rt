@@ -854,10 +854,16 @@ const ROWS: [Row; 80] = [
     },
 ];
 
+/// What is outside of a row.
+fn row_world(alloc: Global, row: &Row) -> Result<Outside, Fail> {
+    let mut world = world(alloc, "a.wat", row.text.as_bytes())?;
+    add_file(alloc, &mut world.shelf, "a.c", row.text.as_bytes())?;
+    Ok(world)
+}
+
 /// Whether a row comes out so.
 fn expect_row<R: Abort + AllocGlobal>(rt: &R, row: &Row) -> Result<(), Fail> {
-    let mut world = world(rt.alloc(), "a.wat", row.text.as_bytes())?;
-    add_file(rt.alloc(), &mut world.shelf, "a.c", row.text.as_bytes())?;
+    let world = row_world(rt.alloc(), row)?;
     let words = row.words;
     let line = format!(in rt.alloc(); "mswasm {words}")?;
     let flow = (row.output, row.next);

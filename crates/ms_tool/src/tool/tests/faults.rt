@@ -31,7 +31,7 @@ struct Faulty {
     written: bool,
 }
 
-const FAULTY: [Faulty; 17] = [
+const FAULTY: [Faulty; 19] = [
     Faulty {
         row: Row {
             words: "asm a.wat o",
@@ -236,6 +236,30 @@ const FAULTY: [Faulty; 17] = [
         calls: [0, 0, 2, 0, 0],
         written: false,
     },
+    Faulty {
+        row: Row {
+            words: "exec a.c",
+            text: "int main(void){int a[4]; int i; for(i=0;i<=4;i=i+1){putchar(48+i); a[i]=i;} return 0;}",
+            status: Status::WriteFault,
+            report: "",
+            output: "01",
+            next: Got::Byte(b'h'),
+        },
+        calls: [0, 0, 0, 0, 3],
+        written: false,
+    },
+    Faulty {
+        row: Row {
+            words: "exec a.c",
+            text: "int main(void){return getchar();}",
+            status: Status::ReadFault,
+            report: "read fault\n",
+            output: "",
+            next: Got::Byte(b'h'),
+        },
+        calls: [0, 0, 0, 1, 0],
+        written: false,
+    },
 ];
 
 /// Whether a row comes out so when its calls fail, of which the file `o` has these bytes, if it is written.
@@ -245,7 +269,7 @@ fn expect_faulty<R: Abort + AllocGlobal>(
     bytes: &[u8],
 ) -> Result<(), Fail> {
     let row = faulty.row;
-    let mut world = world(rt.alloc(), "a.wat", row.text.as_bytes())?;
+    let mut world = row_world(rt.alloc(), &row)?;
     let_fail(&mut world, faulty.calls)?;
     let words = row.words;
     let line = format!(in rt.alloc(); "mswasm {words}")?;
