@@ -1,2 +1,4 @@
 pub mod Placing
 pub mod Growth
+pub mod Nesting
+pub mod Alignment
