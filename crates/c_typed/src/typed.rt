@@ -2,9 +2,9 @@
 
 ghost use Rattle.std.specs.Prelude.{◌≡◌};
 ghost use Rattle.c_typed.specs.refinement.Views.{typed_of};
-ghost use Rattle.c_well_typed.specs.Units.{IsWellTyped};
+ghost use Rattle.c_typed.specs.Units.{IsWellTyped};
 
-use c_typed::TypedUnit;
+use crate::unit::TypedUnit;
 use std::marker::Model;
 
 /// A translation unit with its types, which is well typed. Contracts see the unit.
@@ -16,7 +16,7 @@ pub struct Typed {
 impl Model for Typed {
     ghost use Rattle.c_typed.specs.refinement.Views.{typed_of};
     ghost use Rattle.c_typed.specs.declared.unit.TypedUnit.{TypedUnit};
-    ghost use Rattle.c_well_typed.specs.Units.{IsWellTyped};
+    ghost use Rattle.c_typed.specs.Units.{IsWellTyped};
     ghost use Rattle.std.specs.Coded.{codes};
     ghost use Rattle.c_types.specs.refinement.Codes.{coded_table};
     ghost use Rattle.c_types.specs.contracts.types.CType as ctype;
