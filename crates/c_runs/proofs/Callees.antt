@@ -172,7 +172,7 @@ module _ (tg : Target) (body : Stmt) where
   behind_one : (n : ℕ) (t : Ty) (ts : List Ty) → AreLocals n (t ∷ ts) → AreLocals (suc n) ts
   behind_one n t ts h x s e = let q = h (suc x) s e in let z : n + suc x ≡ suc n + x = omega arith in (subst (λ (k : ℕ). is_object body k s ≡ false → IsData s) z q.0, subst (λ (k : ℕ). tg.is_object (Local k) ≡ is_object body k s) z q.1)
 
-  module _ (places : ℕ → ℕ) (hs : List Home) where
+  module _ (places : Ty → ℕ → ℕ) (hs : List Home) where
     first_word : (t : Ty) (b : Bool) → (b ≡ false → IsData t) → default_of (held_as b t) ≡ held_word places (t, b) hs (plain (zero_value t))
     first_word t true u = refl
     first_word t false u = zero_word places t (u refl) hs

@@ -52,7 +52,9 @@ use Rattle.c_runs.proofs.Nodes.{Carries, Leaves, assign_runs, chosen_runs, const
 use Rattle.c_runs.proofs.Operations.{AtHome, Linked, abort_runs, binary_runs, compare_runs, complement_runs, convert_runs, getchar_runs, narrow_truth_runs, negate_runs, not_runs, putchar_runs, truth_in, truth_runs, update_runs}
 use Rattle.c_runs.proofs.Cells.{Leads, address_runs, assign_there, deref_leads, read_there, variable_leads}
 use Rattle.c_runs.proofs.Members.{IsLaid, LeadsAll, Slices, decay_all, decay_slice, laid_member, leads_all, member_all, member_slices, slice_runs, variable_all, visit_runs}
-use Rattle.c_runs.proofs.Scalars.{IsData, null_runs, pointer_type, scalar_type, small_slot, truth_pointer}
+use Rattle.c_runs.proofs.Scalars.{IsData, function_type, null_runs, pointer_type, scalar_type, small_slot, truth_pointer}
+use Rattle.c_runs.proofs.Entries.{types_of}
+use Rattle.c_runs.proofs.Functions.{function_runs, no_function_runs, same_function_runs, truth_function}
 use Rattle.c_runs.proofs.Equal.{equal_runs, unequal_runs}
 use Rattle.c_runs.proofs.Updates.{update_there}
 use Rattle.c_runs.proofs.Allocating.{calloc_runs, known_bytes, malloc_runs}
@@ -132,6 +134,7 @@ module _ (E : Env) where
   bit_given (tree.compare_pointers relations.LessEqual x y) b h w = order_given relations.LessEqual x y w
   bit_given (tree.compare_pointers relations.Greater x y) b h w = order_given relations.Greater x y w
   bit_given (tree.compare_pointers relations.GreaterEqual x y) b h w = order_given relations.GreaterEqual x y w
+  bit_given (tree.same_function alike x y) b h w = given_after E IsBit (value x w) _ (λ p w1. given_after E IsBit (value y w1) _ (λ q w2. (meaning.same_named alike p q, refl)))
   bit_given (tree.and x y) b h w =
       given_after E IsBit (meaning.test (value x) w) _
       (λ p. if_given p (meaning.test (value y) >>= (λ q. pure (meaning.truth q))) (pure (meaning.truth false)) (λ w1. given_after E IsBit (meaning.test (value y) w1) _ (λ q w2. (q, refl))) (λ w1. (false, refl)))
@@ -157,6 +160,7 @@ module _ (E : Env) where
   bit_type k (tree.not a) t b h ty = ty.1
   bit_type k (tree.compare o u x y) t b h ty = ty.0
   bit_type k (tree.compare_pointers o x y) t b h ty = ty.1
+  bit_type k (tree.same_function alike x y) t b h ty = ty.1
   bit_type k (tree.and x y) t b h ty = ty.2
   bit_type k (tree.or x y) t b h ty = ty.2
   bit_type k _ t b h ty = absurd cc
@@ -210,7 +214,7 @@ module _ (E : Env) (L : Linked E.site) (home : AtHome E) (k : well.Context) (slo
   left_int kept c t u x e h = as_type kept (left kept (of_type u) c) t u x e (left_runs E kept (of_type u) (integer u) c x refl h)
 
   module _ (calls_run : CallsRun) (scalars_are : (f : ℕ) (t : Ty) (ps : Tys) → slice_get k.functions f ≡ Some (function t ps) → AreScalars ps)
-      (slots_data : (x : ℕ) (t : Ty) → slice_get k.slots x ≡ Some t → E.target.is_object (Local x) ≡ false → IsData t) (visible_are : k.visible ≡ E.visible) (structs_same : k.structs ≡ E.unit.structs) (sound : AreSoundNames k.structs k.globals k.slots k.functions) where
+      (slots_data : (x : ℕ) (t : Ty) → slice_get k.slots x ≡ Some t → E.target.is_object (Local x) ≡ false → IsData t) (visible_are : k.visible ≡ E.visible) (structs_same : k.structs ≡ E.unit.structs) (functions_are : k.functions ≡ types_of E.unit) (sound : AreSoundNames k.structs k.globals k.slots k.functions) where
     -- a type with a size
     sized : (t : Ty) → IsSmall k.structs t → IsSlot E.unit.structs t
     sized t h = small_slot E.unit.structs E.laid_out E.has_members t (subst (λ (table : Table). IsSmall table t) structs_same h)
@@ -350,6 +354,11 @@ module _ (E : Env) (L : Linked E.site) (home : AtHome E) (k : well.Context) (slo
     left_pointer : (kept : Bool) (c : Code) (t u : Ty) (x : Does Value) → t ≡ pointer u → is_function u ≡ false → Leaves E c (pointer u) x → Carries E kept (left kept code.pointer c) t x
     left_pointer kept c t u x e plain_type h = subst (λ (r : Ty). Carries E kept (left kept code.pointer c) r x) (sym e) (left_runs E kept code.pointer (pointer u) c x (pointer_scalar u plain_type) h)
 
+    -- a pointer to a function is left
+    left_function : (kept : Bool) (c : Code) (t u : Ty) (x : Does Value) → t ≡ pointer u → is_function u ≡ true → Leaves E c (pointer u) x → Carries E kept (left kept code.function c) t x
+    left_function kept c t u x e is h =
+        subst (λ (r : Ty). Carries E kept (left kept code.function c) r x) (sym e) (left_runs E kept code.function (pointer u) c x (ap (λ (b : Bool). Some (if b then scalars.Function else scalars.Pointer)) is) h)
+
     -- two pointers by their order
     ordered : (kept : Bool) (o : RelOp) (a b : Code) (x y : Does Value) (t u : Ty) → t ≡ integer Int → is_function u ≡ false → Leaves E a (pointer u) x → Leaves E b (pointer u) y
         → Carries E kept (left kept int (a ⨾ b ⨾ plain (Segment segment.Diff ∷ i64 0 ∷ compared o LongLong ∷ []))) t (x >>= (λ p. y >>= (λ q. ask (λ os. distance os p q) >>= (λ z. pure (meaning.truth (meant.compared o z (pos 0)))))))
@@ -423,6 +432,10 @@ module _ (E : Env) (L : Linked E.site) (home : AtHome E) (k : well.Context) (slo
       expr_runs kept d tree.null t x h =
           subst (λ (r : Ty). Carries E kept (left kept (Some scalars.Pointer) (one (Segment segment.Null))) r (value_in_E tree.null)) (sym h.1)
           (left_runs E kept (Some scalars.Pointer) (pointer h.0) (one (Segment segment.Null)) (value_in_E tree.null) (pointer_scalar h.0 h.2) (null_runs E h.0 h.2))
+      expr_runs kept d tree.no_function t x h = left_function kept (one (i32 0)) t h.0 (value_in_E tree.no_function) h.1 h.2 (no_function_runs E h.0 h.2)
+      expr_runs kept d (tree.function n) t x h =
+          let is = (sound.function n h.0 h.2).0 in
+          left_function kept (one (i32 (E.target.entry n))) t h.0 (value_in_E (tree.function n)) h.1 is (function_runs E h.0 is n (subst (λ (ts : List Ty). slice_get ts n ≡ Some h.0) functions_are h.2) x.known.0)
       expr_runs kept d (tree.read s p) t x h =
           left_runs E kept (Some s) t (fetched E.target (plain_in E.target p) (code.place E.target d p) s) (value_in_E (tree.read s p)) h.0
           (read_runs d s p t (scalar_type t s h.0) x.in_stage h.0 h.1 (leads_run d p t x h.1))
@@ -447,6 +460,10 @@ module _ (E : Env) (L : Linked E.site) (home : AtHome E) (k : well.Context) (slo
           let n = pointer_type h.0 h.2 in
           left_int kept (code_of true d a ⨾ truth scalars.Pointer) t Int (value_in_E (tree.truth scalars.Pointer a)) h.1
           (truth_pointer E n.0 n.2 (code_of true d a) (value_in_E a) (subst (λ (r : Ty). Leaves E (code_of true d a) r (value_in_E a)) n.1 (expr_runs true d a h.0 x h.3)))
+      expr_runs kept d (tree.truth scalars.Function a) t x h =
+          let n = function_type h.0 h.2 in
+          left_int kept (code_of true d a ⨾ truth scalars.Function) t Int (value_in_E (tree.truth scalars.Function a)) h.1
+          (truth_function E n.0 n.2 (code_of true d a) (value_in_E a) (subst (λ (r : Ty). Leaves E (code_of true d a) r (value_in_E a)) n.1 (expr_runs true d a h.0 x h.3)))
       expr_runs kept d (tree.not a) t x h =
           left_int kept (code_of true d a ⨾ one eqz) t Int (value_in_E (tree.not a)) h.1 (not_runs E h.0 (code_of true d a) (value_in_E a) (narrow_width h.0 h.2) (expr_runs true d a (integer h.0) x h.3))
       expr_runs kept d (tree.unary signs.Negate u a) t x h = left_int kept _ t u (value_in_E (tree.unary signs.Negate u a)) h.0 (negate_runs E u (code_of true d a) (value_in_E a) h.1 (expr_runs true d a (integer u) x h.2))
@@ -477,6 +494,10 @@ module _ (E : Env) (L : Linked E.site) (home : AtHome E) (k : well.Context) (slo
       expr_runs kept d (tree.compare_pointers relations.GreaterEqual a b) t x h =
           let q = parts E.target.is_object E.unit (in_expr a) (in_expr b) (uses.in_expr a) (uses.in_expr b) (in_expr_of a) (in_expr_of b) x in
           ordered kept relations.GreaterEqual (code_of true d a) (code_of true d b) (value_in_E a) (value_in_E b) t h.0 h.1 h.2 (expr_runs true d a (pointer h.0) q.0 h.3) (expr_runs true d b (pointer h.0) q.1 h.4)
+      expr_runs kept d (tree.same_function alike a b) t x h =
+          let q = parts E.target.is_object E.unit (in_expr a) (in_expr b) (uses.in_expr a) (uses.in_expr b) (in_expr_of a) (in_expr_of b) x in
+          left_int kept _ t Int (value_in_E (tree.same_function alike a b)) h.1
+          (same_function_runs E h.0 h.2 alike (code_of true d a) (code_of true d b) (value_in_E a) (value_in_E b) (expr_runs true d a (pointer h.0) q.0 h.3) (expr_runs true d b (pointer h.0) q.1 h.4))
       expr_runs kept d (tree.difference u a b) t x h =
           let q = parts E.target.is_object E.unit (in_expr a) (in_expr b) (uses.in_expr a) (uses.in_expr b) (in_expr_of a) (in_expr_of b) x in
           left_int kept _ t LongLong (value_in_E (tree.difference u a b)) h.0

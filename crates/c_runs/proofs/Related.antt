@@ -17,11 +17,13 @@ use Rattle.c_meaning.specs.World.{Held, plain, World}
 use Rattle.c_meaning.specs.Expressions.{Calls}
 use Rattle.ms_emit.specs.Codes.{total}
 use Rattle.c_well_typed.specs.refinement.Expressions.{is_visible}
+use Rattle.c_code.specs.Modules.{entry_of}
 use Rattle.c_code.specs.Targets.{Target}
 use Rattle.ms_relate.specs.refinement.Homes.{Home}
 use Rattle.ms_relate.specs.refinement.Laid.{Fits}
 use Rattle.ms_relate.specs.refinement.Relation.{Related}
 use Rattle.ms_relate.proofs.Growing.{Extends}
+use Rattle.c_runs.proofs.Entries.{IsTable, places_of}
 use Rattle.c_runs.proofs.Goes.{Site, Mem}
 use Rattle.c_runs.proofs.Held.{AreApart, AreHeld, AreOpen, AreOwn, IsHeld, Lasts, Slot, words}
 use Rattle.c_runs.proofs.Values.{IsValueOf, pushed_of, value_still, word_of, word_still}
@@ -38,10 +40,13 @@ pub record IsSlot (table : Table) (t : Ty) : Type 0 where
 pub record Env : Type 0 where
   pub site : Site
   pub unit : Typed
-  -- the entry of a function in the table, but for one
-  pub places : ℕ → ℕ
+  -- the entry of a function in the table, but for one, by the type of a pointer to it
+  pub places : Ty → ℕ → ℕ
+  pub places_are : places ≡ places_of unit
+  pub table : IsTable site unit
   pub target : Target
   pub structs_are : target.structs ≡ unit.structs
+  pub entries_are : target.entry ≡ entry_of unit
   -- structs are laid out, each with a member
   pub laid_out : IsLaidOut unit.structs
   pub has_members : (n : ℕ) (l : Layout) → layout_at unit.structs n ≡ Some l → l.members ≢ []
@@ -96,7 +101,7 @@ pub record Temps (all waits : ℕ) (before after : List Word) : Type 0 where
   pub stay : (j : ℕ) → j < waits → slice_get after (4 + j) ≡ slice_get before (4 + j)
 
 -- what is kept, where the segments are those of these objects
-pub record Keeps (structs : Table) (places : ℕ → ℕ) (kinds : List Slot) (depth all : ℕ) (now : Now) (os : List Object) (w : World) (m : Mem) : Type 0 where
+pub record Keeps (structs : Table) (places : Ty → ℕ → ℕ) (kinds : List Slot) (depth all : ℕ) (now : Now) (os : List Object) (w : World) (m : Mem) : Type 0 where
   pub held : AreHeld structs places kinds m.homes w.locals
   pub deep : w.depth ≡ depth
   pub less : w.fuel < now.below
