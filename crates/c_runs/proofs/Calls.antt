@@ -37,7 +37,7 @@ use Rattle.c_meaning.specs.Statements.{Flow, leave, stmt}
 use Rattle.ms_emit.specs.Codes.{Code, Coded, no_code, ◌⨾◌, inner, joined, size_of, total}
 use Rattle.c_code.specs.Functions as code
 use Rattle.c_code.specs.Functions.{body, held_as, locals, params_from, params_in, result, result_in, scratch_locals, slots_from}
-use Rattle.c_code.specs.Modules.{index_of, named, rank_in, target_of}
+use Rattle.c_code.specs.Modules.{index_of, target_of}
 use Rattle.c_code.specs.Operations.{val_of}
 use Rattle.c_stage.specs.Stage.{are_data, are_slots, in_stmt, is_data}
 use Rattle.c_code.specs.Statements as scheme
@@ -117,6 +117,7 @@ at_args p front e = record {
   slots_are = p.slots_are;
   ready = p.ready;
   result = p.result;
+  table = p.table;
   sizes = p.sizes;
   sound = p.sound;
   laid_out = p.laid_out;

@@ -196,7 +196,7 @@ module _ (S : Site) (L : Linked S) (unit : Typed) (i f d : ℕ) (t : Ty) (ps : T
         stmt_flow : FlowRuns Ein (way no_jumps 0 None (with_off ns no_off)) 0 0 B same flow_is
         stmt_flow =
             same_way Ein off_body (with_off ns no_off) B flow_is refl
-            (stmt_runs Ec L (home S L unit i f d t ps p) (K S L unit i f d t ps p) refl callees_run ints (slots_data S L unit i f d t ps p) refl p.sound (slot_there ks) (omega arith) ns 0 None (at_body vs_of) no_jumps off_body p.stmt_is out (omega arith) p.ready p.well)
+            (stmt_runs Ec L (home S L unit i f d t ps p) (K S L unit i f d t ps p) refl callees_run ints (slots_data S L unit i f d t ps p) refl refl p.sound (slot_there ks) (omega arith) ns 0 None (at_body vs_of) no_jumps off_body p.stmt_is out (omega arith) p.ready p.well)
 
         module _ (hs : List Home) (us : List Value) (args : AreArgs Ec hs 0 ps us) (numbered : numbers_from 0 us ≡ ns) where
           abbrev copy : Does (Unit {0})

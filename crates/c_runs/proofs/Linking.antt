@@ -1,5 +1,5 @@
 -- Linking a unit that was compiled alone gives a store that has its functions, if each that it uses is defined.
-use Rattle.std.proofs.Common.{◌≡◌, ℕ, zero, suc, ◌+◌, ◌<◌, ◌≤◌, List, [], ◌∷◌, ◌++◌, length, map, Bool, true, false, Option, Some, None, Ok, Err, refl, sym, ap, ◌∙◌, arith, subst}
+use Rattle.std.proofs.Common.{◌≡◌, ℕ, zero, suc, ◌+◌, ◌<◌, ◌≤◌, List, [], ◌∷◌, ◌++◌, length, map, Bool, true, false, Option, Some, None, Ok, Err, refl, sym, ap, ◌∙◌, arith, subst, leb→le}
 use Rattle.std.specs.Prelude.{Result, cond, filter, get_or, is_some, nat_le, nat_lt, not, option_map, replicate, slice_get, ◌==◌}
 use Rattle.std.specs.List.{list_any, position_or_len}
 use Rattle.std.proofs.lemmas.List.{length-map, length-replicate}
@@ -187,8 +187,8 @@ module _ (u : Typed) (name : List ℕ) (c : ℕ) (none : imported u ≡ []) wher
         body_is = refl;
       }
 
-  pub placed : IsPlaced u st
-  placed = record {
+  pub placed : length (named u) < 4294967295 → IsPlaced u st
+  placed few = record {
     none_imported = none;
     inst = instance_in nothing_made (compiled u) three_hosts;
     alone = refl;
@@ -198,6 +198,7 @@ module _ (u : Typed) (name : List ℕ) (c : ℕ) (none : imported u ≡ []) wher
     getchar = refl;
     abort = refl;
     functions = function_at;
+    few = few;
     segments = (related_new [] (λ n. n) c).placed;
   }
 
@@ -280,6 +281,29 @@ none_imported u name c s e = by (imported u) e where
   by [] e = refl
   by (n ∷ ns) e = absurd cc
 
+-- ---- the table isn't too large
+
+small_made : (c : ℕ) (s : Store) (a b : Option Fault) (made : Made) → stored c (and_then (if_small a (unless b made)) (all_more [])) ≡ Ok s → a ≡ None
+small_made c s None b made e = refl
+small_made c s (Some f) b made e = absurd cc
+
+below_most : (k : ℕ) (f : Fault) → or_next (cond (nat_le k most_entries) None (Some f)) None ≡ None → k ≤ most_entries
+below_most k f e = by (nat_le k most_entries) refl e where
+  by : (b : Bool) → nat_le k most_entries ≡ b → or_next (cond b None (Some f)) None ≡ None → k ≤ most_entries
+  by true q e' = leb→le k most_entries q
+  by false q e' = absurd cc
+
+pub few_named_in : (u : Typed) (name : List ℕ) (c : ℕ) (s : Store) → linked ((name, compiled u) ∷ []) c ≡ Ok s → length (named u) < 4294967295
+few_named_in u name c s e =
+    let none = none_imported u name c s e in
+    let made' = made u name c none in
+    let a = too_large 0 (compiled u).tables (compiled u).memories in
+    let b = outside 0 made'.globals made'.tables made'.memories (instance_in nothing_made (compiled u) three_hosts) (compiled u).elements (compiled u).fills in
+    let small = small_made c s a b made'
+    (sym (ap (λ (r : Result (List Extern) Fault). stored c (and_then (with_externs nothing_made name (compiled u) r) (all_more []))) (imports_are u name c none)) ∙ e) in
+    let le = below_most (suc (length (named u))) (fault_at 0 0 TooLarge) small in
+    omega (arith, le)
+
 -- ---- the laws
 
 pub compiled_links : (u : Typed) (name : List ℕ) (c : ℕ) → imported u ≡ [] → limit_of u ≡ None → (s : Store) × (linked ((name, compiled u) ∷ []) c ≡ Ok s)
@@ -288,7 +312,7 @@ compiled_links u name c none limited = (store_of c (made u name c none), links u
 pub compiled_is_placed : (u : Typed) (name : List ℕ) (c : ℕ) (s : Store) → linked ((name, compiled u) ∷ []) c ≡ Ok s → IsPlaced u s
 compiled_is_placed u name c s e =
     let none = none_imported u name c s e in
-    subst (λ (t : Store). IsPlaced u t) (is_made u name c none s e) (placed u name c none)
+    subst (λ (t : Store). IsPlaced u t) (is_made u name c none s e) (placed u name c none (few_named_in u name c s e))
 
 pub linked_behaves : (u : Typed) (name : List ℕ) (c : ℕ) (s : Store) (n : ℕ) (f : Function) (b : Stmt) (t : Ty)
     → IsWellTyped u → in_stage u ≡ true → main_number u ≡ Some n

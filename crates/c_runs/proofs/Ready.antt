@@ -70,7 +70,7 @@ any_right p (x ∷ us) vs e = by (p x) (any_right p us vs e) where
   by true h = refl
   by false h = h
 
-same_number : (n : ℕ) (b : Bool) → ((n == n) || b) ≡ true
+pub same_number : (n : ℕ) (b : Bool) → ((n == n) || b) ≡ true
 same_number n b = let e : n == n ≡ true = grind arith in ap (λ (a : Bool). a || b) e
 
 left_of : (a b : Bool) → a ≡ true → (a || b) ≡ true

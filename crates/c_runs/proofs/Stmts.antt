@@ -35,7 +35,7 @@ use Rattle.c_meaning.specs.Statements as meant
 use Rattle.c_meaning.specs.Statements.{Flow, next, broken, continued, returned, behind_switch, goes_to, enter, enter_slot, leave, leave_held, loops, step_of, stmts_from}
 use Rattle.ms_emit.specs.Codes.{Code, one, no_code, ◌⨾◌, block, choice, size_of}
 use Rattle.c_code.specs.Expressions as code
-use Rattle.c_code.specs.Operations.{constant, width_of}
+use Rattle.c_code.specs.Operations.{constant, i32, width_of}
 use Rattle.c_stage.specs.Stage.{are_bytes, in_expr, in_place, in_step, in_stmt, in_stmts}
 use Rattle.c_code.specs.Statements as scheme
 use Rattle.c_code.specs.Statements.{Exits, any_continues, continues, entered, enters, freed, iterated, objects_in, with_objects, within}
@@ -58,6 +58,8 @@ use Rattle.c_runs.proofs.Ops.{Op, OpIn, Stack, at_work, op_carried, op_look_in, 
 use Rattle.c_runs.proofs.Nodes.{Always, Leaves, Num, gone, remains, set_runs, of_number, test_is}
 use Rattle.c_runs.proofs.Operations.{AtHome, Linked}
 use Rattle.c_runs.proofs.Scalars.{IsData, null_runs, zero_in}
+use Rattle.c_runs.proofs.Entries.{types_of}
+use Rattle.c_runs.proofs.Functions.{no_function_runs}
 use Rattle.c_runs.proofs.Strings.{char_of, fill_runs, whole_filled}
 use Rattle.c_runs.proofs.Exprs.{AreScalars, CallsRun, decays_run, expr_runs, narrow_width}
 use Rattle.c_runs.proofs.Flows.{FlowIn, FlowOut, FlowRuns, GoodFlow, Off, ahead, to_flow, flow_none, flow_behind, flow_behind_in, flow_of, flow_seq, flow_return, flow_continue, flow_choice, no_group, Way, way}
@@ -178,7 +180,7 @@ ArePlain E (x ∷ xs) = IsPlain E x × ArePlain E xs
 
 module _ (E0 : Env) (L : Linked E0.site) (home : AtHome E0) (k : well.Context) (slots_are : k.slots ≡ E0.slots) (calls_run : CallsRun (seeing [] E0) L home k slots_are)
     (scalars_are : (f : ℕ) (t : Ty) (ps : Tys) → slice_get k.functions f ≡ Some (function t ps) → AreScalars (seeing [] E0) L home k slots_are ps)
-    (slots_data : (x : ℕ) (t : Ty) → slice_get k.slots x ≡ Some t → E0.target.is_object (Local x) ≡ false → IsData t) (structs_same : k.structs ≡ E0.unit.structs) (sound : AreSoundNames k.structs k.globals k.slots k.functions)
+    (slots_data : (x : ℕ) (t : Ty) → slice_get k.slots x ≡ Some t → E0.target.is_object (Local x) ≡ false → IsData t) (structs_same : k.structs ≡ E0.unit.structs) (functions_are : k.functions ≡ types_of E0.unit) (sound : AreSoundNames k.structs k.globals k.slots k.functions)
     (slot_at : (x : ℕ) → x < length k.slots → (t : Ty) × (slice_get k.slots x ≡ Some t)) (wide : E0.bound ≤ E0.turn_bound) where
   -- with these variables visible
   abbrev in_blocks : List ℕ → well.Context
@@ -198,7 +200,7 @@ module _ (E0 : Env) (L : Linked E0.site) (home : AtHome E0) (k : well.Context) (
       calls_run f t ps e b hs us ok n has now (record { below = le.below; grown = le.grown; seen = sees_none now.visible }) vs r dep w m kp
 
   run_expr : (v : List ℕ) (kept : Bool) (d : ℕ) (e : Expr) (t : Ty) → IsReady E0.target.is_object E0.unit (in_expr e) (uses.in_expr e) (in_expr_of e) → HasType (in_blocks v) e t → OpIn (at v) [] (code.expr E0.target kept d e) same (remains (at v) kept t) (IsValue (at v) t) (value e)
-  run_expr v = expr_runs (at v) L home (in_blocks v) slots_are (calls_at v) scalars_are slots_data refl structs_same sound
+  run_expr v = expr_runs (at v) L home (in_blocks v) slots_are (calls_at v) scalars_are slots_data refl structs_same functions_are sound
 
   -- ---- blocks
 
@@ -211,6 +213,11 @@ module _ (E0 : Env) (L : Linked E0.site) (home : AtHome E0) (k : well.Context) (
       (op_carried (at v) (constant (width_of u) (pos 0)) same (λ (q : Unit {0}). Num (at v) u (pos 0)) (Always (at v)) tt tt (λ vs. constant_is (width_of u) (pos 0) vs))
       (λ q ok. set_runs (at v) x (integer u) tt e [] (number (pos 0)) (zero_in u))
 
+  none_zero : (v : List ℕ) (x : ℕ) (t : Ty) → is_function t ≡ true → slice_get E0.kinds x ≡ Some (pointer t, false) → Op (at v) (scheme.zeroed E0.target (Local x) (Some scalars.Function)) same (gone (at v)) (Always (at v)) (hold (Local x) (plain no_function))
+  none_zero v x t d e =
+      op_then_in (at v) [] (one (i32 0)) (one (set E0.target (Local x))) same (pushes (at v) (pointer t)) (λ hs. gone (at v)) (IsValue (at v) (pointer t)) (λ hs. Always (at v)) (pure no_function) (λ q. hold (Local x) (plain q)) (no_function_runs (at v) t d)
+      (λ gs grown q ok. set_runs (at v) x (pointer t) tt e gs q ok)
+
   null_zero : (v : List ℕ) (x : ℕ) (t : Ty) → is_function t ≡ false → slice_get E0.kinds x ≡ Some (pointer t, false) → Op (at v) (scheme.zeroed E0.target (Local x) (Some scalars.Pointer)) same (gone (at v)) (Always (at v)) (hold (Local x) (plain null))
   null_zero v x t d e =
       op_then_in (at v) [] (one (Segment segment.Null)) (one (set E0.target (Local x))) same (pushes (at v) (pointer t)) (λ hs. gone (at v)) (IsValue (at v) (pointer t)) (λ hs. Always (at v)) (pure null) (λ q. hold (Local x) (plain q)) (null_runs (at v) t d)
@@ -218,8 +225,13 @@ module _ (E0 : Env) (L : Linked E0.site) (home : AtHome E0) (k : well.Context) (
 
   zero_of : (v : List ℕ) (x : ℕ) (t : Ty) → IsData t → slice_get E0.kinds x ≡ Some (t, false) → Op (at v) (scheme.zeroed E0.target (Local x) (scalar_of t)) same (gone (at v)) (Always (at v)) (hold (Local x) (plain (zero_value t)))
   zero_of v x (integer u) d e = zero_runs v x u e
-  zero_of v x (pointer t) d e =
-      subst (λ (b : Bool). Op (at v) (scheme.zeroed E0.target (Local x) (Some (if b then scalars.Function else scalars.Pointer))) same (gone (at v)) (Always (at v)) (hold (Local x) (plain (if b then no_function else null)))) (sym d) (null_zero v x t d e)
+  zero_of v x (pointer t) d e = by (is_function t) refl where
+    Zeroes : Bool → Type 0
+    Zeroes b = Op (at v) (scheme.zeroed E0.target (Local x) (Some (if b then scalars.Function else scalars.Pointer))) same (gone (at v)) (Always (at v)) (hold (Local x) (plain (if b then no_function else null)))
+
+    by : (b : Bool) → is_function t ≡ b → Zeroes b
+    by true q = none_zero v x t q e
+    by false q = null_zero v x t q e
   zero_of v x void d e = absurd d
   zero_of v x (struct n) d e = absurd d
   zero_of v x (array t n) d e = absurd d
@@ -316,7 +328,7 @@ module _ (E0 : Env) (L : Linked E0.site) (home : AtHome E0) (k : well.Context) (
       let q = both (nat_lt n 4294967296) (are_bytes bytes) tested in
       let less = ltb→lt n 4294967296 (subst T (sym q.0) tt) in
       let size : n * 1 ≡ n = omega arith in
-      let there = decays_run (at v) L home (in_blocks v) slots_are (calls_at v) scalars_are slots_data refl structs_same sound d p (integer Char) n ready h in
+      let there = decays_run (at v) L home (in_blocks v) slots_are (calls_at v) scalars_are slots_data refl structs_same functions_are sound d p (integer Char) n ready h in
       let x = meaning.pointer (place E0.unit E0.calls p) >>= meaning.further values.inside in
       let code_of : ℕ → Code = λ k. code.decayed (code.is_deref p) k (code.place E0.target d p) in
       flow_of (at v) l b c (scheme.filled E0.target (code_of n) bytes) (λ hs. gone (at v)) (λ hs. Always (at v)) (x >>= (λ a. alter (write_all 1 a 0 (map char_of bytes))))

@@ -9,7 +9,7 @@ use Rattle.ms_task.specs.declared.func.FuncInst.{FuncInst}
 use Rattle.c_typed.specs.Tree.{Function, Stmt, Typed}
 use Rattle.ms_emit.specs.Codes.{total}
 use Rattle.c_code.specs.Functions.{body, locals, params_in, signature}
-use Rattle.c_code.specs.Modules.{imported, index_of, target_of}
+use Rattle.c_code.specs.Modules.{imported, index_of, named, target_of}
 use Rattle.c_code.specs.Uses.{waits_stmt}
 
 -- at the address that is its index, the function of this number, with this body
@@ -33,6 +33,8 @@ pub record IsPlaced (u : Typed) (s : Store) : Type 0 where
   pub getchar : host_in (slice_get s.funcs 1) ≡ Some hosts.Getchar
   pub abort : host_in (slice_get s.funcs 2) ≡ Some hosts.Abort
   pub functions : (n : ℕ) (f : Function) (b : Stmt) → slice_get u.functions n ≡ Some f → f.body ≡ Some b → IsFunctionAt u s n f b
+  -- an i32 counts those that are values, and none
+  pub few : length (named u) < 4294967295
   -- the live segments lie within the memory and apart
   pub segments : Placed s.segments
 
