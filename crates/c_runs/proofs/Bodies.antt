@@ -101,14 +101,14 @@ module _ (E : Env) (is_result : IsResult E.result) (caller : Frame) (vs : List W
   -- a missing result is 0
   result_runs : (n : ℕ) (now : Now) → IsAt E 0 now → (w : World) (m : Mem) → Kept E now w m → Results n now w m t
   result_runs n now le w m k = go is_result where
+    by : (q : Ty) (b : Bool) → is_function q ≡ b → Gives_zero n now w m q (if b then scalars.Function else scalars.Pointer) (if b then no_function else null)
+    by q true d = λ ag. let z = no_function_runs E q d n tt now (starts E 0 now le) vs after_body dep w m k ag in let k' = z.1.1 in (z.0, (z.1.0, k'.less, k'.bytes, k'.grown, k'.related, k'.lasts), z.2)
+    by q false d = λ ag. let z = null_runs E q d n tt now (starts E 0 now le) vs after_body dep w m k ag in let k' = z.1.1 in (z.0, (z.1.0, k'.less, k'.bytes, k'.grown, k'.related, k'.lasts), z.2)
+
     go : IsResult t → Results n now w m t
     go (is_void e) = subst (Results n now w m) (sym e) (here E.site 0 w m (λ v w1 m1. exit_ended caller (pushes E void m1.homes v vs) r) (Given now void) (zero_value void) (tt, k.less, k.bytes, k.grown, k.related, k.lasts))
     go (is_integer u e) = subst (Results n now w m) (sym e) (λ ag. let q = zero_steps u n tt now (starts E 0 now le) vs after_body dep w m k ag in let k' = q.1.1 in (q.0, (q.1.0, k'.less, k'.bytes, k'.grown, k'.related, k'.lasts), q.2))
     go (is_pointer q e) = subst (Results n now w m) (sym e) (by q (is_function q) refl)
-
-    by : (q : Ty) (b : Bool) → is_function q ≡ b → Gives_zero n now w m q (if b then scalars.Function else scalars.Pointer) (if b then no_function else null)
-    by q true d = λ ag. let z = no_function_runs E q d n tt now (starts E 0 now le) vs after_body dep w m k ag in let k' = z.1.1 in (z.0, (z.1.0, k'.less, k'.bytes, k'.grown, k'.related, k'.lasts), z.2)
-    by q false d = λ ag. let z = null_runs E q d n tt now (starts E 0 now le) vs after_body dep w m k ag in let k' = z.1.1 in (z.0, (z.1.0, k'.less, k'.bytes, k'.grown, k'.related, k'.lasts), z.2)
 
   ends_runs : (n : ℕ) (now : Now) → IsAt E 0 now → (flow : Flow) (w : World) (m : Mem) → GoodFlow E at_top now flow w m
       → Runs E.site (size_of (R n)) m (to_flow E vs (front (R n).instrs after_body) [] [] r caller flow w m) w to_caller (Returned now) (gives (given t flow) w)

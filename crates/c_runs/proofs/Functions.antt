@@ -1,5 +1,5 @@
 -- Pointers to functions are the numbers of their entries: null, functions that are values, their truth, and whether two are the same.
-use Rattle.std.proofs.Common.{◌≡◌, ◌≢◌, ℕ, zero, suc, ◌^◌, ◌<◌, List, [], ◌∷◌, length, Bool, true, false, Some, refl, sym, ap, ◌∙◌, arith, subst, cond, leb→le}
+use Rattle.std.proofs.Common.{◌≡◌, ◌≢◌, ℕ, suc, ◌<◌, ◌≤◌, List, [], ◌∷◌, length, Bool, true, false, Some, refl, sym, ap, ◌∙◌, arith, subst, cond}
 use Rattle.std.specs.Prelude.{ℤ, pos, int_le, nat_le, not, slice_get, ◌==◌, ◌&&◌, if◌then◌else◌}
 use Rattle.std.specs.List.{list_any}
 use Rattle.std.proofs.lemmas.Bool.{le-leb}
@@ -71,10 +71,13 @@ itself a = let e = le-leb a a (omega arith) in ap (λ (b : Bool). b && b) e
 equal_is_one : (a b : ℕ) → a ≡ b → are_equal a b ≡ true
 equal_is_one a b e = ap (λ (c : ℕ). are_equal a c) (sym e) ∙ itself a
 
+at_most : (a b : ℕ) → nat_le a b ≡ true → a ≤ b
+at_most a b e = grind (arith, e)
+
 unequal_are_two : (a b : ℕ) → a ≢ b → are_equal a b ≡ false
 unequal_are_two a b d = by (nat_le a b) refl (nat_le b a) refl where
   by : (x : Bool) → nat_le a b ≡ x → (y : Bool) → nat_le b a ≡ y → are_equal a b ≡ false
-  by true e true f = absurd (d (let p = leb→le a b e in let q = leb→le b a f in let z : a ≡ b = omega (arith, p, q) in z))
+  by true e true f = absurd (d (let p = at_most a b e in let q = at_most b a f in let z : a ≡ b = omega (arith, p, q) in z))
   by true e false f = ap (λ (x : Bool). x && nat_le b a) e ∙ f
   by false e y f = ap (λ (x : Bool). x && nat_le b a) e
 

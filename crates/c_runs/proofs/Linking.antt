@@ -1,5 +1,5 @@
 -- Linking a unit that was compiled alone gives a store that has its functions, if each that it uses is defined.
-use Rattle.std.proofs.Common.{◌≡◌, ℕ, zero, suc, ◌+◌, ◌<◌, ◌≤◌, List, [], ◌∷◌, ◌++◌, length, map, Bool, true, false, Option, Some, None, Ok, Err, refl, sym, ap, ◌∙◌, arith, subst, leb→le}
+use Rattle.std.proofs.Common.{◌≡◌, ℕ, zero, suc, ◌+◌, ◌<◌, ◌≤◌, List, [], ◌∷◌, ◌++◌, length, map, Bool, true, false, Option, Some, None, Ok, Err, refl, sym, ap, ◌∙◌, arith, subst}
 use Rattle.std.specs.Prelude.{Result, cond, filter, get_or, is_some, nat_le, nat_lt, not, option_map, replicate, slice_get, ◌==◌}
 use Rattle.std.specs.List.{list_any, position_or_len}
 use Rattle.std.proofs.lemmas.List.{length-map, length-replicate}
@@ -199,7 +199,7 @@ module _ (u : Typed) (name : List ℕ) (c : ℕ) (none : imported u ≡ []) wher
     abort = refl;
     functions = function_at;
     few = few;
-    segments = (related_new [] (λ n. n) c).placed;
+    segments = (related_new [] (λ t n. n) c).placed;
   }
 
   pub is_made : (s : Store) → linked ((name, compiled u) ∷ []) c ≡ Ok s → st ≡ s
@@ -287,10 +287,13 @@ small_made : (c : ℕ) (s : Store) (a b : Option Fault) (made : Made) → stored
 small_made c s None b made e = refl
 small_made c s (Some f) b made e = absurd cc
 
+is_at_most : (m n : ℕ) → nat_le m n ≡ true → m ≤ n
+is_at_most m n e = grind (arith, e)
+
 below_most : (k : ℕ) (f : Fault) → or_next (cond (nat_le k most_entries) None (Some f)) None ≡ None → k ≤ most_entries
 below_most k f e = by (nat_le k most_entries) refl e where
   by : (b : Bool) → nat_le k most_entries ≡ b → or_next (cond b None (Some f)) None ≡ None → k ≤ most_entries
-  by true q e' = leb→le k most_entries q
+  by true q e' = is_at_most k most_entries q
   by false q e' = absurd cc
 
 pub few_named_in : (u : Typed) (name : List ℕ) (c : ℕ) (s : Store) → linked ((name, compiled u) ∷ []) c ≡ Ok s → length (named u) < 4294967295
