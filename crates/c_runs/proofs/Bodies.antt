@@ -1,6 +1,6 @@
 -- A body, and what stands behind it: a result that is missing is 0, and the caller goes on with the result.
 use Rattle.ms_machine.specs.Running.{AreBytes}
-use Rattle.std.proofs.Common.{◌≡◌, ℕ, suc, ◌+◌, ◌<◌, ◌≤◌, List, [], ◌∷◌, ◌++◌, length, Bool, true, false, Option, Some, None, sym, ap, ◌∙◌, arith, subst}
+use Rattle.std.proofs.Common.{◌≡◌, ℕ, suc, ◌+◌, ◌<◌, ◌≤◌, List, [], ◌∷◌, ◌++◌, length, Bool, true, false, Option, Some, None, refl, sym, ap, ◌∙◌, arith, subst}
 use Rattle.std.specs.Prelude.{pos, if◌then◌else◌}
 use Rattle.ms_linear.specs.declared.value.Value.{Value as Word}
 use Rattle.ms_task.specs.Control.{To, exit_ended, keep, kept, over}

@@ -160,8 +160,8 @@ module _ (E : Env) (t : Ty) (is : is_function t ≡ true) where
 
   same_entries : (gs hs : List Home) (p q : Value) → IsValue E (pointer t) gs p → IsValue E (pointer t) hs q → are_equal (entry E t p) (entry E t q) ≡ same_named true p q
   same_entries gs hs p q (is_named {n = m} e lt) (is_named {n = n} e' lt') = same_functions m n lt lt'
-  same_entries gs hs p q (is_named e lt) (is_no_function e') = refl
-  same_entries gs hs p q (is_no_function e) (is_named e' lt') = refl
+  same_entries gs hs p q (is_named {n = m} e lt) (is_no_function e') = unequal_are_two (suc (E.places (pointer t) m)) 0 (λ z. absurd (omega (arith, z)))
+  same_entries gs hs p q (is_no_function e) (is_named {n = n} e' lt') = unequal_are_two 0 (suc (E.places (pointer t) n)) (λ z. absurd (omega (arith, z)))
   same_entries gs hs p q (is_no_function e) (is_no_function e') = refl
   same_entries gs hs p q (homes.is_null e) o = absurd (let z : true ≡ false = sym is ∙ e in cc)
   same_entries gs hs p q (homes.is_invalid e) o = absurd (let z : true ≡ false = sym is ∙ e in cc)
