@@ -26,7 +26,7 @@ use Rattle.ms_relate.proofs.Growing.{Extends}
 use Rattle.c_runs.specs.Words.{pushed, value_word}
 use Rattle.c_runs.proofs.Held.{Lasts}
 use Rattle.c_runs.proofs.Values.{IsOf, word_of}
-use Rattle.c_runs.proofs.Related.{Env, HasAll, IsValue, Kept, Now, pushes, depth_front, front, front_append, has_front}
+use Rattle.c_runs.proofs.Related.{Env, HasAll, IsValue, Kept, Now, pushes, depth_front, front, front_append, has_front, beside}
 use Rattle.c_runs.proofs.Ops.{Op, at_work, op_carried, same, size_joined}
 use Rattle.c_runs.proofs.Flows.{Around, FlowAt, GoodFlow, IsAt, Way, lowest_all, starts, to_flow, way}
 use Rattle.c_runs.proofs.Functions.{no_function_runs}
@@ -95,15 +95,15 @@ module _ (E : Env) (is_result : IsResult E.result) (caller : Frame) (vs : List W
       Runs E.site (size_of (result E.target (Some s) n)) m (at_work E m w vs (front (result E.target (Some s) n).instrs after_body)) w
       (λ v w1 m1. exit_ended caller (pushes E (pointer q) m1.homes v vs) r) (Given now (pointer q)) (gives v w)
 
-  zero_steps : (u : IntType) → Op E (one (constant (width_of u) (pos 0))) same (pushed (integer u)) (IsOf (integer u)) (pure (number (pos 0)))
-  zero_steps u = op_carried E (constant (width_of u) (pos 0)) same (pushed (integer u)) (IsOf (integer u)) (number (pos 0)) (zero_in u) (λ us. constant_is (width_of u) (pos 0) us)
+  zero_steps : (u : IntType) → Op (beside 0 E) (one (constant (width_of u) (pos 0))) same (pushed (integer u)) (IsOf (integer u)) (pure (number (pos 0)))
+  zero_steps u = op_carried (beside 0 E) (constant (width_of u) (pos 0)) same (pushed (integer u)) (IsOf (integer u)) (number (pos 0)) (zero_in u) (λ us. constant_is (width_of u) (pos 0) us)
 
   -- a missing result is 0
   result_runs : (n : ℕ) (now : Now) → IsAt E 0 now → (w : World) (m : Mem) → Kept E now w m → Results n now w m t
   result_runs n now le w m k = go is_result where
     by : (q : Ty) (b : Bool) → is_function q ≡ b → Gives_zero n now w m q (if b then scalars.Function else scalars.Pointer) (if b then no_function else null)
-    by q true d = λ ag. let z = no_function_runs E q d n tt now (starts E 0 now le) vs after_body dep w m k ag in let k' = z.1.1 in (z.0, (z.1.0, k'.less, k'.bytes, k'.grown, k'.related, k'.lasts), z.2)
-    by q false d = λ ag. let z = null_runs E q d n tt now (starts E 0 now le) vs after_body dep w m k ag in let k' = z.1.1 in (z.0, (z.1.0, k'.less, k'.bytes, k'.grown, k'.related, k'.lasts), z.2)
+    by q true d = λ ag. let z = no_function_runs (beside 0 E) q d n tt now (starts E 0 now le) vs after_body dep w m k ag in let k' = z.1.1 in (z.0, (z.1.0, k'.less, k'.bytes, k'.grown, k'.related, k'.lasts), z.2)
+    by q false d = λ ag. let z = null_runs (beside 0 E) q d n tt now (starts E 0 now le) vs after_body dep w m k ag in let k' = z.1.1 in (z.0, (z.1.0, k'.less, k'.bytes, k'.grown, k'.related, k'.lasts), z.2)
 
     go : IsResult t → Results n now w m t
     go (is_void e) = subst (Results n now w m) (sym e) (here E.site 0 w m (λ v w1 m1. exit_ended caller (pushes E void m1.homes v vs) r) (Given now void) (zero_value void) (tt, k.less, k.bytes, k.grown, k.related, k.lasts))

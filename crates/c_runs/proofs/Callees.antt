@@ -291,6 +291,8 @@ module _ (S : Site) (L : Linked S) (unit : Typed) (i f d : ℕ) (t : Ty) (ps : T
     target = tg;
     structs_are = refl;
     entries_are = refl;
+    indices_are = refl;
+    sigs_are = refl;
     laid_out = p.laid_out;
     has_members = p.has_members;
     args = p.args;
@@ -306,6 +308,7 @@ module _ (S : Site) (L : Linked S) (unit : Typed) (i f d : ℕ) (t : Ty) (ps : T
     objects_are = objects_at;
     scratch_is = scratch_is;
     waits = waits_stmt p.stmt_is;
+    pending = 0;
     result = t;
     depth = d;
     visible = [];

@@ -262,5 +262,5 @@ module _ (S : Site) (L : Linked S) (unit : Typed) (i f d : ℕ) (t : Ty) (ps : T
               (behind_goes S 0 (size_of D) w ws m m' ts ts to good (copied ws)
               (goes.shifts S w ws m first_temps ts refl refl (tells_nothing w ws refl refl refl))
               (subst (λ (o : Option ValType). Runs S (size_of D) m' (at_work Ec m' ws vs (front D.instrs (Activation o (length vs) caller ∷ r))) ws to good (copied ws)) (sym p.gives_one)
-              (body_runs Ec p.result caller vs r dep whole (copy >> block_of) now (arrives now (record { below = le; grown = grown; seen = λ x s. absurd cc })) 1 has.1 copied_fits (record { below = le; waits = refl; seen = refl }) ws m'
+              (body_runs Ec p.result caller vs r dep whole (copy >> block_of) now (arrives now (record { below = le; grown = grown; seen = λ x s. absurd cc; few = omega arith })) 1 has.1 copied_fits (record { below = le; waits = refl; seen = refl }) ws m'
               (start_kept hs us ok args_are below w m deeper lt bytes related))))))

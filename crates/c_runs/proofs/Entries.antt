@@ -1,18 +1,23 @@
 -- The table of functions: the entry that a function has which is a value, by the type of a pointer to it.
-use Rattle.std.proofs.Common.{◌≡◌, ℕ, suc, ◌<◌, List, [], ◌∷◌, length, map, Bool, true, false, Option, Some, None, refl, sym, ap, ◌∙◌, arith}
+use Rattle.std.proofs.Common.{◌≡◌, ℕ, suc, ◌<◌, List, [], ◌∷◌, length, map, Bool, true, false, Option, Some, None, Ok, refl, sym, ap, ◌∙◌, arith}
 use Rattle.std.specs.Prelude.{option_map, slice_get, ◌==◌, ◌&&◌, if◌then◌else◌}
 use Rattle.std.specs.List.{list_any}
 use Rattle.std.proofs.lemmas.Option.{none-some, same_Some, slice_get-map, slice_get_within}
+use Rattle.ms_linear.specs.Table.{Table, target_of}
+use Rattle.ms_machine.specs.declared.store.Instance.{Instance}
 use Rattle.c_types.specs.declared.integers.IntType.{IntType}
 use Rattle.c_types.specs.declared.integers.IntType.TheVariants.{Char, SignedChar, UnsignedChar, Short, UnsignedShort, Int, UnsignedInt, Long, UnsignedLong, LongLong, UnsignedLongLong}
-use Rattle.c_types.specs.Integers.{index_of, same_integer}
+use Rattle.c_types.specs.Integers as integers
+use Rattle.c_types.specs.Integers.{same_integer}
 use Rattle.c_types.specs.Types.{Ty, void, integer, struct, pointer, array, function, Tys, no_types, types}
 use Rattle.c_typed.specs.Tree.{Function, Typed}
-use Rattle.c_code.specs.Modules.{is_name_of, named, rank_in}
+use Rattle.c_code.specs.Functions.{signature}
+use Rattle.c_code.specs.Modules.{compiled, index_of, is_name_of, named, rank_in}
 use Rattle.c_code.specs.Uses.{uses}
 use Rattle.c_typing.proofs.Indices.{and_true, rank_is}
 use Rattle.c_typing.proofs.Lists.{equal_is, equal_itself, filter_has, has_number}
 use Rattle.c_runs.proofs.Goes.{Site}
+use Rattle.c_runs.proofs.Ready.{IsCallable}
 use Rattle.c_runs.proofs.Whole.{both}
 
 -- ---- the same type
@@ -21,7 +26,7 @@ abbrev by_index : ℕ → IntType
 by_index n =
     if n == 0 then Char else (if n == 1 then SignedChar else (if n == 2 then UnsignedChar else (if n == 3 then Short else (if n == 4 then UnsignedShort else (if n == 5 then Int else (if n == 6 then UnsignedInt else (if n == 7 then Long else (if n == 8 then UnsignedLong else (if n == 9 then LongLong else UnsignedLongLong)))))))))
 
-is_index : (t : IntType) → by_index (index_of t) ≡ t
+is_index : (t : IntType) → by_index (integers.index_of t) ≡ t
 is_index Char = refl
 is_index SignedChar = refl
 is_index UnsignedChar = refl
@@ -35,7 +40,7 @@ is_index LongLong = refl
 is_index UnsignedLongLong = refl
 
 same_integer_is : (t u : IntType) → same_integer t u ≡ true → t ≡ u
-same_integer_is t u e = sym (is_index t) ∙ ap (λ (n : ℕ). by_index n) (equal_is (index_of t) (index_of u) e) ∙ is_index u
+same_integer_is t u e = sym (is_index t) ∙ ap (λ (n : ℕ). by_index n) (equal_is (integers.index_of t) (integers.index_of u) e) ∙ is_index u
 
 abbrev mutual
   pub same_type : Ty → Ty → Bool
@@ -73,7 +78,7 @@ mutual
 mutual
   same_itself : (t : Ty) → same_type t t ≡ true
   same_itself void = refl
-  same_itself (integer t) = equal_itself (index_of t)
+  same_itself (integer t) = equal_itself (integers.index_of t)
   same_itself (struct n) = equal_itself n
   same_itself (pointer t) = same_itself t
   same_itself (array t n) = and_true (n == n) (same_type t t) (equal_itself n) (same_itself t)
@@ -148,5 +153,15 @@ apart_entries u t m n a b e = same_Some m n (sym (rank_at u t m a) ∙ ap (slice
 
 -- ---- the table of the store
 
+-- the one instance has one table: nothing stands at first in it, and behind that the functions that are values, which are defined
 pub record IsTable (S : Site) (u : Typed) : Type 0 where
   pub few : length (named u) < 4294967295
+  pub inst : Instance
+  pub alone : S.instances ≡ inst ∷ []
+  pub has_table : inst.table ≡ Some 0
+  pub types : inst.types ≡ (compiled u).sigs
+  pub table : Table
+  pub tables : S.tables ≡ table ∷ []
+  pub empty : slice_get table.entries 0 ≡ Some None
+  pub entries : (n : ℕ) (t : Ty) → IsEntry u t n → target_of table.entries (suc (rank_in (named u) n)) (signature t) ≡ Ok (record { address = index_of u n })
+  pub callable : (n : ℕ) → list_any (λ m. m == n) (named u) ≡ true → IsCallable u n

@@ -84,7 +84,7 @@ unequal_are_two a b d = by (nat_le a b) refl (nat_le b a) refl where
 -- ---- values of a type of pointers to functions
 
 module _ (E : Env) (t : Ty) (is : is_function t ≡ true) where
-  function_word : (hs : List Home) (v : Value) → word_of E.places (pointer t) hs v ≡ I32 (entry E t v)
+  pub function_word : (hs : List Home) (v : Value) → word_of E.places (pointer t) hs v ≡ I32 (entry E t v)
   function_word hs v = ap (λ (b : Bool). cond (cond b false true) (Handle (handle hs v)) (I32 (homes.word E.places (pointer t) v))) is
 
   small : (hs : List Home) (v : Value) → IsValue E (pointer t) hs v → entry E t v < 4294967296

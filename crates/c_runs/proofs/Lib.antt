@@ -29,6 +29,8 @@ pub mod Tested
 pub mod Allocating
 pub mod Freeing
 pub mod Strings
+pub mod Rooms
+pub mod Through
 pub mod Exprs
 pub mod Ahead
 pub mod Flows

@@ -1,14 +1,15 @@
 -- What is asked of a part of a function: it is of the stage, each function that it uses is defined, each that is a value in it is one
--- that the unit uses so, and each variable whose address it takes is an object.
+-- that the unit uses so, each type that is called through has its number, and each variable whose address it takes is an object.
 use Rattle.std.proofs.Common.{◌≡◌, ℕ, ◌<◌, List, [], ◌∷◌, ◌++◌, length, Bool, true, false, Option, Some, None, refl, ap, arith}
-use Rattle.std.specs.Prelude.{◌==◌, ◌&&◌, ◌||◌}
+use Rattle.std.specs.Prelude.{◌==◌, ◌&&◌, ◌||◌, slice_get}
 use Rattle.std.specs.List.{list_any}
 use Rattle.c_typed.specs.declared.ops.Variable.{Variable}
 use Rattle.c_typed.specs.declared.ops.Variable.TheVariants.{Local}
 use Rattle.c_typed.specs.Objects as addresses
 use Rattle.c_typed.specs.Tree.{Place, of, Expr, address, Exprs, Stmt, loop, Stmts, Typed}
-use Rattle.c_code.specs.Modules.{is_call_of, is_defined_at, is_name_of}
-use Rattle.c_code.specs.Uses.{Use, calls, names, uses}
+use Rattle.c_code.specs.Modules.{is_call_of, is_defined_at, is_name_of, compiled, sig_of}
+use Rattle.c_code.specs.Uses.{Use, calls, names, uses, through}
+use Rattle.c_code.specs.Functions.{signature}
 use Rattle.c_typing.proofs.Names.{Each, each_back, each_front}
 use Rattle.c_runs.proofs.Whole.{both}
 
@@ -19,9 +20,10 @@ IsCallable u n = n < length u.functions → is_defined_at u n ≡ true
 abbrev pub AreCallable : Typed → List Use → Type 0
 AreCallable u us = (n : ℕ) → list_any (is_call_of n) us ≡ true → IsCallable u n
 
--- a function that is a value is one that the unit uses so
+-- a function that is a value is one that the unit uses so, and a type that is called through has its number
 abbrev pub IsKnown : Typed → Use → Type 0
 IsKnown u (names n) = list_any (is_name_of n) (uses u) ≡ true
+IsKnown u (through t) = slice_get (compiled u).sigs (sig_of u t) ≡ Some (signature t)
 IsKnown u _ = Unit {0}
 
 pub record IsReady (is_object : Variable → Bool) (u : Typed) (staged : Bool) (us : List Use) (taken : ℕ → Bool) : Type 0 where
@@ -73,7 +75,7 @@ any_right p (x ∷ us) vs e = by (p x) (any_right p us vs e) where
 pub same_number : (n : ℕ) (b : Bool) → ((n == n) || b) ≡ true
 same_number n b = let e : n == n ≡ true = grind arith in ap (λ (a : Bool). a || b) e
 
-left_of : (a b : Bool) → a ≡ true → (a || b) ≡ true
+pub left_of : (a b : Bool) → a ≡ true → (a || b) ≡ true
 left_of true b e = refl
 left_of false b e = absurd cc
 

@@ -1,5 +1,5 @@
 -- Code without instructions has no sequences: the code of all expressions of the stage.
-use Rattle.std.proofs.Common.{◌≡◌, ℕ, ◌+◌, List, [], ◌∷◌, ◌++◌, length, Bool, true, false, Option, Some, None, refl, ap, ◌∙◌, cond}
+use Rattle.std.proofs.Common.{◌≡◌, ℕ, suc, ◌+◌, List, [], ◌∷◌, ◌++◌, length, Bool, true, false, Option, Some, None, refl, ap, ◌∙◌, cond}
 use Rattle.std.specs.Prelude.{ℤ, ◌&&◌, nat_lt}
 use Rattle.ms_types.specs.declared.types.ValType.{ValType}
 use Rattle.ms_types.specs.declared.types.ValType.TheVariants as vals
@@ -232,6 +232,9 @@ module _ (t : Target) where
         let q = both (in_place p) (in_expr e) h in
         whole_updated k old (plain_in t p) (place t d p) scalars.Pointer _ (whole_place d p q.0) (whole_moved _ back (expr t true d e) (whole_expr true d e q.1))
     whole_expr k d (tree.call n s es) h = whole_left k _ _ (whole_then (exprs t d es) _ (whole_exprs d es h) (whole_plain _))
+    whole_expr k d (tree.call_through u s e es) h =
+        let q = both (in_expr e) (in_exprs es) h in
+        whole_left k _ _ (whole_then (expr t true d e) _ (whole_expr true d e q.0) (whole_then (one _) _ (whole_plain _) (whole_then (exprs t (suc d) es) _ (whole_exprs (suc d) es q.1) (whole_plain _))))
     whole_expr k d (tree.putchar e) h = whole_left k _ _ (whole_then (expr t true d e) _ (whole_expr true d e h) (whole_plain _))
     whole_expr k d tree.getchar h = whole_left k _ _ (whole_plain _)
     whole_expr k d tree.abort h = whole_plain _
