@@ -1,6 +1,6 @@
 -- Pointers to functions are the numbers of their entries: null, functions that are values, their truth, and whether two are the same.
-use Rattle.std.proofs.Common.{◌≡◌, ◌≢◌, ℕ, suc, ◌<◌, ◌≤◌, List, [], ◌∷◌, length, Bool, true, false, Some, refl, sym, ap, ◌∙◌, arith, subst, cond}
-use Rattle.std.specs.Prelude.{ℤ, pos, int_le, nat_le, not, slice_get, ◌==◌, ◌&&◌, if◌then◌else◌}
+use Rattle.std.proofs.Common.{◌≡◌, ◌≢◌, ℕ, suc, ◌<◌, ◌≤◌, List, [], ◌∷◌, Bool, true, false, Some, refl, sym, ap, ◌∙◌, arith, subst, cond}
+use Rattle.std.specs.Prelude.{pos, int_le, nat_le, not, slice_get, ◌==◌, ◌&&◌, if◌then◌else◌}
 use Rattle.std.specs.List.{list_any}
 use Rattle.std.proofs.lemmas.Bool.{le-leb}
 use Rattle.ms_linear.specs.declared.value.Value.{Value as Word}
@@ -13,10 +13,10 @@ use Rattle.ms_task.specs.Thread.{thread}
 use Rattle.c_types.specs.declared.integers.IntType.TheVariants.{Int, UnsignedInt}
 use Rattle.c_types.specs.declared.types.Scalar.TheVariants as scalars
 use Rattle.c_types.specs.Layout.{Table}
-use Rattle.c_types.specs.Types.{Ty, integer, pointer, is_function, scalar_of}
+use Rattle.c_types.specs.Types.{Ty, integer, pointer, is_function}
 use Rattle.c_typed.specs.declared.ops.RelOp.TheVariants.{Equal, NotEqual}
 use Rattle.c_meaning.specs.Values.{Value, function_at, no_function}
-use Rattle.c_meaning.specs.Integers.{compared, is_zero}
+use Rattle.c_meaning.specs.Integers.{is_zero}
 use Rattle.c_meaning.specs.Expressions as meaning
 use Rattle.c_meaning.specs.Expressions.{is_true, same_named}
 use Rattle.c_meaning.specs.World.{Does, ◌>>=◌, pure}
@@ -30,9 +30,8 @@ use Rattle.c_numbers.proofs.Operators.{comparison}
 use Rattle.c_numbers.proofs.Ranges.{value_in}
 use Rattle.ms_relate.specs.refinement.Homes as homes
 use Rattle.ms_relate.specs.refinement.Homes.{Home, handle, is_named, is_no_function}
-use Rattle.ms_relate.proofs.Growing.{Extends}
 use Rattle.c_runs.specs.Words.{pushed}
-use Rattle.c_runs.proofs.Entries.{apart_entries, named_entry, places_of, rank_below, small_entry, types_of}
+use Rattle.c_runs.proofs.Entries.{apart_entries, named_entry, rank_below, small_entry, types_of}
 use Rattle.c_runs.proofs.Goes.{one_here}
 use Rattle.c_runs.proofs.Values.{IsOf, word_of}
 use Rattle.c_runs.proofs.Related.{Env, IsValue, frame_of, pushes}

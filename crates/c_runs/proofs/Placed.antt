@@ -18,7 +18,7 @@ use Rattle.ms_task.specs.declared.func.FuncInst.{FuncInst}
 use Rattle.ms_task.specs.Thread.{body_in, body_of, sequence}
 use Rattle.ms_linear.specs.declared.value.Value.TheVariants.{I32}
 use Rattle.c_meaning.specs.Units.{main_number}
-use Rattle.c_types.specs.Types.{Ty, void, integer, pointer, function, Tys, no_types, types}
+use Rattle.c_types.specs.Types.{Ty, void, integer, pointer, function, Tys, no_types}
 use Rattle.c_typed.specs.Objects.{is_whole}
 use Rattle.c_typed.specs.Tree.{Function, Made, Stmt, Typed}
 use Rattle.c_typed.specs.Units.{IsBody, IsFunction, IsWellTyped, list_of}
@@ -31,7 +31,7 @@ use Rattle.ms_emit.specs.Codes.{total}
 use Rattle.c_code.specs.Functions.{body, held_as, listed, locals, params_in, result_in, signature}
 use Rattle.c_code.specs.Modules.{index_of, is_call_of, is_defined, is_defined_at, is_name_of, target_of, all_functions, named, rank_in}
 use Rattle.c_code.specs.Operations.{val_of}
-use Rattle.c_stage.specs.Stage.{are_data, are_slots, in_body, in_functions, in_stage, in_stmt, is_data, is_empty, is_main, is_plain_function, is_result}
+use Rattle.c_stage.specs.Stage.{are_data, are_slots, in_body, in_functions, in_stage, in_stmt, is_empty, is_main, is_plain_function, is_result}
 use Rattle.c_code.specs.Uses as uses
 use Rattle.c_code.specs.Uses.{waits_stmt}
 use Rattle.c_runs.specs.Placed.{IsPlaced, instructions_in, longest_in, longest_of}

@@ -1,7 +1,7 @@
 -- What is asked of a part of an expression: what is asked of a part of a function, and that there is a local for each value that waits
 -- in it at once, beside d others, of which so many wait where the expression begins.
 use Rattle.std.proofs.Common.{◌≡◌, ℕ, suc, ◌+◌, ◌≤◌, List, ◌∷◌, ◌++◌, [], Bool, true, false, Some, arith}
-use Rattle.std.specs.Prelude.{max, slice_get, ◌&&◌, ◌||◌}
+use Rattle.std.specs.Prelude.{max, slice_get, ◌&&◌}
 use Rattle.std.specs.List.{list_any}
 use Rattle.c_types.specs.Types.{Ty}
 use Rattle.c_typed.specs.declared.ops.Variable.{Variable}

@@ -1,5 +1,5 @@
 -- Calls through pointers: the function waits in a local while the arguments are evaluated, and then the table leads to it.
-use Rattle.std.proofs.Common.{◌≡◌, ◌≢◌, ℕ, suc, ◌+◌, ◌<◌, ◌≤◌, List, [], ◌∷◌, ◌++◌, length, Bool, true, false, Option, Some, None, refl, sym, ap, ◌∙◌, arith, subst, cond}
+use Rattle.std.proofs.Common.{◌≡◌, ℕ, suc, ◌+◌, ◌<◌, ◌≤◌, List, [], ◌∷◌, ◌++◌, length, true, false, Option, Some, refl, sym, ap, ◌∙◌, arith, subst}
 use Rattle.std.specs.Prelude.{Result, slice_get, slice_set}
 use Rattle.ms_host.specs.declared.trap.TrapKind.TheVariants as traps
 use Rattle.ms_linear.specs.Table.{Table, target_in, target_of}
@@ -14,25 +14,24 @@ use Rattle.ms_machine.specs.Store.{at, table_address, type_at}
 use Rattle.ms_machine.specs.declared.store.Instance.{Instance}
 use Rattle.ms_module.specs.declared.instr.Instr.{Instr}
 use Rattle.ms_module.specs.declared.instr.Instr.TheVariants.{CallIndirect, LocalGet, LocalSet}
-use Rattle.ms_task.specs.Thread.{Do, Item, Thread, thread, depth_of}
+use Rattle.ms_task.specs.Thread.{Do, Item, Thread, thread}
 use Rattle.ms_types.specs.declared.types.FuncType.{FuncType}
 use Rattle.c_types.specs.Types.{Ty, function, pointer, is_function, Tys}
-use Rattle.c_meaning.specs.Values.{Value, function_at, no_function}
+use Rattle.c_meaning.specs.Values.{Value}
 use Rattle.c_meaning.specs.World.{null_call, World, Does, after, ◌>>=◌}
 use Rattle.c_meaning.specs.Expressions.{call_value}
 use Rattle.ms_emit.specs.Codes.{Code, plain, one, ◌⨾◌, size_of}
 use Rattle.c_code.specs.Functions.{signature}
-use Rattle.c_code.specs.Modules.{compiled, index_of, rank_in, named, sig_of}
+use Rattle.c_code.specs.Modules.{compiled, rank_in, named, sig_of}
 use Rattle.c_code.specs.Targets.{waiting}
 use Rattle.ms_relate.specs.refinement.Homes as homes
 use Rattle.ms_relate.specs.refinement.Homes.{Home, is_named, is_no_function}
-use Rattle.ms_relate.proofs.Growing.{Extends}
-use Rattle.c_runs.proofs.Entries.{IsEntry, places_of, small_entry, types_of}
+use Rattle.c_runs.proofs.Entries.{IsEntry, small_entry, types_of}
 use Rattle.c_runs.proofs.Functions.{entry, function_word}
 use Rattle.c_runs.proofs.Goes as goes
 use Rattle.c_runs.proofs.Goes.{Mem, behind_goes, bind, resize, Runs, weaker}
 use Rattle.c_runs.proofs.Held.{length_set, set_elsewhere, set_there}
-use Rattle.c_runs.proofs.Related.{AreOf, Env, HasAll, IsValue, Kept, Now, Starts, beside, depth_front, extends_none, extends_same, frame_of, front, front_append, has_back, has_front, kept_temps, piled, pushes, with_homes}
+use Rattle.c_runs.proofs.Related.{AreOf, Env, IsValue, Kept, Now, beside, extends_none, extends_same, frame_of, front, front_append, has_back, has_front, kept_temps, piled, pushes, with_homes}
 use Rattle.c_runs.proofs.Ops.{GoodIn, OpIn, Stack, ToIn, at_work, kept_from, kept_here, op_then_in, op_trap_in, same, size_joined}
 use Rattle.c_runs.proofs.Nodes.{Leaves}
 use Rattle.c_runs.proofs.Operations.{AtHome, Reaches}
