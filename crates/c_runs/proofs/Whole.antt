@@ -1,5 +1,5 @@
 -- Code without instructions has no sequences: the code of all expressions of the stage.
-use Rattle.std.proofs.Common.{◌≡◌, ℕ, ◌+◌, List, [], ◌∷◌, ◌++◌, length, Bool, true, false, Option, Some, None, refl, ap, ◌∙◌, cond}
+use Rattle.std.proofs.Common.{◌≡◌, ℕ, suc, ◌+◌, List, [], ◌∷◌, ◌++◌, length, Bool, true, false, Option, Some, None, refl, ap, ◌∙◌, cond}
 use Rattle.std.specs.Prelude.{ℤ, ◌&&◌, nat_lt}
 use Rattle.ms_types.specs.declared.types.ValType.{ValType}
 use Rattle.ms_types.specs.declared.types.ValType.TheVariants as vals
@@ -22,7 +22,7 @@ use Rattle.c_typed.specs.Tree.{Place, of, Expr, Exprs, none, more}
 use Rattle.ms_emit.specs.Codes.{Code, plain, one, no_code, ◌⨾◌, choice}
 use Rattle.c_code.specs.Expressions.{allocated, as_bit, begun, begun_with_old, begun_over_old, bytes_in, converted, ended, expr, exprs, fetched, freed, int, is_bit, is_null, left, number_in, place, pointers_compared, product_allocated, put, updated, moved, decayed, is_deref, part}
 use Rattle.c_code.specs.Operations.{by_width, convert, i32, narrow, to_type, truth, val_option, width_of}
-use Rattle.c_stage.specs.Stage.{in_expr, in_exprs, in_place, is_value}
+use Rattle.c_stage.specs.Stage.{in_expr, in_exprs, in_place}
 use Rattle.c_code.specs.Targets.{Target, plain_in, scratch_i64, tee}
 
 -- both of two
@@ -189,11 +189,14 @@ module _ (t : Target) where
     pub whole_expr : (k : Bool) (d : ℕ) (e : Expr) → in_expr e ≡ true → IsWhole (expr t k d e)
     whole_expr k d (tree.number u n) h = whole_left k _ _ (whole_plain _)
     whole_expr k d tree.null h = whole_left k _ _ (whole_plain _)
+    whole_expr k d tree.no_function h = whole_left k _ _ (whole_plain _)
+    whole_expr k d (tree.function n) h = whole_left k _ _ (whole_plain _)
+    whole_expr k d (tree.same_function is a b) h = let q = both (in_expr a) (in_expr b) h in whole_left k _ _ (whole_two (expr t true d a) (expr t true d b) _ (whole_expr true d a q.0) (whole_expr true d b q.1))
     whole_expr k d (tree.read s p) h = whole_left k _ _ (whole_fetched (plain_in t p) (place t d p) s (whole_place d p h))
     whole_expr k d (tree.decay u n p) h = whole_left k _ _ (whole_decayed (is_deref p) _ (place t d p) (whole_place d p h))
     whole_expr k d (tree.address p) h = whole_left k _ _ (whole_place d p h)
     whole_expr k d (tree.convert u v a) h = whole_left k _ _ (whole_converted u v (number_in a) (expr t true d a) (whole_expr true d a h))
-    whole_expr k d (tree.truth s a) h = let q = both (is_value s) (in_expr a) h in whole_left k _ _ (whole_then (expr t true d a) (truth s) (whole_expr true d a q.1) (whole_truth s))
+    whole_expr k d (tree.truth s a) h = whole_left k _ _ (whole_then (expr t true d a) (truth s) (whole_expr true d a h) (whole_truth s))
     whole_expr k d (tree.not a) h = whole_left k _ _ (whole_then (expr t true d a) _ (whole_expr true d a h) (whole_plain _))
     whole_expr k d (tree.unary signs.Negate u a) h = whole_left k _ _ (whole_then (one _) _ (whole_plain _) (whole_then (expr t true d a) _ (whole_expr true d a h) (whole_plain _)))
     whole_expr k d (tree.unary signs.Complement u a) h = whole_left k _ _ (whole_then (expr t true d a) _ (whole_expr true d a h) (whole_plain _))
@@ -229,6 +232,9 @@ module _ (t : Target) where
         let q = both (in_place p) (in_expr e) h in
         whole_updated k old (plain_in t p) (place t d p) scalars.Pointer _ (whole_place d p q.0) (whole_moved _ back (expr t true d e) (whole_expr true d e q.1))
     whole_expr k d (tree.call n s es) h = whole_left k _ _ (whole_then (exprs t d es) _ (whole_exprs d es h) (whole_plain _))
+    whole_expr k d (tree.call_through u s e es) h =
+        let q = both (in_expr e) (in_exprs es) h in
+        whole_left k _ _ (whole_then (expr t true d e) _ (whole_expr true d e q.0) (whole_then (one _) _ (whole_plain _) (whole_then (exprs t (suc d) es) _ (whole_exprs (suc d) es q.1) (whole_plain _))))
     whole_expr k d (tree.putchar e) h = whole_left k _ _ (whole_then (expr t true d e) _ (whole_expr true d e h) (whole_plain _))
     whole_expr k d tree.getchar h = whole_left k _ _ (whole_plain _)
     whole_expr k d tree.abort h = whole_plain _
