@@ -27,6 +27,8 @@ pub mod Tested
 pub mod Allocating
 pub mod Freeing
 pub mod Strings
+pub mod LeafHandles
+pub mod StructCopies
 pub mod Exprs
 pub mod Ahead
 pub mod Flows

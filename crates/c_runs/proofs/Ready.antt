@@ -94,6 +94,10 @@ module _ (is_object : Variable → Bool) (u : Typed) where
     record { in_stage = h.in_stage; callable = λ m e. h.callable m (any_right (is_call_of m) (calls n ∷ []) us e); objects = h.objects },
   )
 
+  -- the part behind another use
+  pub behind_use : (x : Use) (b : Bool) (us : List Use) (f : ℕ → Bool) → IsReady is_object u b (x ∷ us) f → IsReady is_object u b us f
+  behind_use x b us f h = record { in_stage = h.in_stage; callable = λ n e. h.callable n (any_right (is_call_of n) (x ∷ []) us e); objects = h.objects }
+
   -- the place of an address
   pub addressed : (b : Bool) (us : List Use) (p : Place) → IsReady is_object u b us (in_expr_of (address p)) → IsReady is_object u b us (in_place_of p)
   addressed b us p h = record { in_stage = h.in_stage; callable = h.callable; objects = λ x e. h.objects x (right_of (addresses.is_of (Local x) p) (in_place_of p x) e) }

@@ -236,6 +236,7 @@ module _ (t : Target) where
     whole_expr k d (tree.calloc u a b) h = whole_left k _ _ (whole_product (scratch_i64 t) (size t.structs u) (expr t true d a) (expr t true d b))
     whole_expr k d (tree.free e) h = whole_freed t (expr t true d e)
     whole_expr k d (tree.discard e) h = whole_expr false d e h
+    whole_expr k d (tree.copy n p q) h = let r = both (in_place p) (in_place q) h in whole_then (place t d p) _ (whole_place d p r.0) (whole_then (place t d q) _ (whole_place d q r.1) (λ j e. absurd cc))
     whole_expr k d (tree.visit p) h = whole_then (place t d p) _ (whole_place d p h) (whole_plain _)
     whole_expr k d (tree.size_of_place n p) h = whole_left k _ _ (whole_plain _)
     whole_expr k d (tree.size_of_value n e) h = whole_left k _ _ (whole_plain _)

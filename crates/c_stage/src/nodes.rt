@@ -14,7 +14,7 @@ use c_types::{CType, Scalar, Signature};
 use c_well_typed::Typed;
 
 /// Whether a unit is one of integers and pointers to objects, variables of such types and arrays and structs, their addresses and
-/// members, strings that initialise arrays, control, and calls of functions by their names.
+/// members, structs that are copied, strings that initialise arrays, control, and calls of functions by their names.
 pub fn is_in_stage(typed: &Typed) -> bool
     ensures { result ≡ words.in_stage (typed_of typed.now) }
 {
@@ -175,6 +175,7 @@ fn in_expr(e: &Expr) -> bool
         Expr::Assign(_, p, a) => in_place(p) && in_expr(a),
         Expr::Update(_, _, _, _, p, a) => in_place(p) && in_expr(a),
         Expr::Advance(_, _, _, p, a) => in_place(p) && in_expr(a),
+        Expr::Copy(_, p, q) => in_place(p) && in_place(q),
         Expr::Call(_, _, es) => in_exprs(es),
         Expr::Putchar(a) => in_expr(a),
         Expr::Malloc(_, a) => in_expr(a),
@@ -186,7 +187,6 @@ fn in_expr(e: &Expr) -> bool
         Expr::Function(_) => false,
         Expr::Literal(_) => false,
         Expr::SameFunction(_, _, _) => false,
-        Expr::Copy(_, _, _) => false,
         Expr::CallThrough(_, _, _, _) => false,
     }
 }
