@@ -418,22 +418,22 @@ module _ (E : Env) where
         let at_3 : slice_get m2.temps 3 ≡ Some H = set_there m1.temps 3 H in_3 in
         let at_2 : slice_get m2.temps 2 ≡ Some G = set_elsewhere m1.temps 3 2 H (λ e. omega (arith, e)) ∙ set_there m.temps 2 G in_2 in
         let ls = leaves E.target.structs n in
-        let is = instrs E ls in
+        let is = instrs ls in
         let s = shape E.unit.structs (struct n) in
         let z = copies p q w in
         let to = ToIn E (λ js. gone E) vs r in
         let good = GoodIn E (λ js. Always E) now in
         let sets : List Instr = LocalSet x ∷ LocalSet y ∷ [] in
-        let all : AllOf E now w m2 vs (handle m.homes p) (handle m.homes q) at_3 at_2 ls (copy s p q) =
-            subst (λ (t : Table). AllOf E now w m2 vs (handle m.homes p) (handle m.homes q) at_3 at_2 (leaves t n) (copy s p q)) (sym E.structs_are)
-            (struct_copied E now w m2 vs (handle m.homes p) (handle m.homes q) at_3 at_2 s (struct_record E.unit.structs n) p q refl refl (leads_of E.unit.structs E.places m.homes (struct n) p refl p') (leads_of E.unit.structs E.places m.homes (struct n) q refl q') slot.fits slot.small) in
+        let all : AllOf now w m2 vs (handle m.homes p) (handle m.homes q) at_3 at_2 ls (copy s p q) =
+            subst (λ (t : Table). AllOf now w m2 vs (handle m.homes p) (handle m.homes q) at_3 at_2 (leaves t n) (copy s p q)) (sym E.structs_are)
+            (struct_copied now w m2 vs (handle m.homes p) (handle m.homes q) at_3 at_2 s (struct_record E.unit.structs n) p q refl refl (leads_of E.unit.structs E.places m.homes (struct n) p refl p') (leads_of E.unit.structs E.places m.homes (struct n) q refl q') slot.fits slot.small) in
         let body : RunsTo E.site (2 + length is) m (at_work E m w (G ∷ H ∷ vs) (Do (LocalSet x) ∷ Do (LocalSet y) ∷ front is r)) w to good z =
             after_goes E.site 2 (length is) w w m m2 (at_work E m w (G ∷ H ∷ vs) (Do (LocalSet x) ∷ Do (LocalSet y) ∷ front is r)) (at_work E m2 w vs (front is r)) to good z
             (goes_on E.site 1 1 w w w m m1 m2 (at_work E m w (G ∷ H ∷ vs) (Do (LocalSet x) ∷ Do (LocalSet y) ∷ front is r)) (at_work E m1 w (H ∷ vs) (Do (LocalSet y) ∷ front is r)) (at_work E m2 w vs (front is r))
-            (set_goes E w m kept.held x 2 (is_handle E) in_2 G (H ∷ vs) (Do (LocalSet y) ∷ front is r))
-            (set_goes E w m1 k1.held y 3 (is_place E) in_3 H vs (front is r)))
-            (as_run E now w m2 vs (handle m.homes p) (handle m.homes q) at_3 at_2 (length is) (at_work E m2 w vs (front is r)) r (copy s p q w.objects) (all w.objects m2.segments k2 r)) in
-        subst (λ (c : Coded). RunsTo E.site (size_of (joined (coded sets []) c)) m (at_work E m w (P hs q (P gs p vs)) (front (joined (coded sets []) c).instrs r)) w to good z) (sym (leaves_are E ls (j + 0)))
+            (set_goes E w m kept.held x 2 is_handle in_2 G (H ∷ vs) (Do (LocalSet y) ∷ front is r))
+            (set_goes E w m1 k1.held y 3 is_place in_3 H vs (front is r)))
+            (as_run now w m2 vs (handle m.homes p) (handle m.homes q) at_3 at_2 (length is) (at_work E m2 w vs (front is r)) r (copy s p q w.objects) (all w.objects m2.segments k2 r)) in
+        subst (λ (c : Coded). RunsTo E.site (size_of (joined (coded sets []) c)) m (at_work E m w (P hs q (P gs p vs)) (front (joined (coded sets []) c).instrs r)) w to good z) (sym (leaves_are ls (j + 0)))
         (subst (λ (us : List Word). RunsTo E.site (size_of (joined (coded sets []) (coded is []))) m (at_work E m w us (Do (LocalSet x) ∷ Do (LocalSet y) ∷ front is r)) w to good z)
         (sym (ap (λ (v : Word). v ∷ word_of E.places (pointer (struct n)) gs p ∷ vs) q_is ∙ ap (λ (v : Word). G ∷ v ∷ vs) p_is))
         (resize_to E.site (2 + length is) (size_of (joined (coded sets []) (coded is []))) m (at_work E m w (G ∷ H ∷ vs) (Do (LocalSet x) ∷ Do (LocalSet y) ∷ front is r)) w to good z (omega arith) body))
