@@ -158,10 +158,10 @@ module _ (E : Env) where
       ap (λ (c : Coded). joined c (leaves_copied E.target ls (n + length c.seqs))) (leaf_is l (scalar_of l.ty) n)
       ∙ ap (λ (c : Coded). joined (coded (one_leaf l (scalar_of l.ty)) []) c) (leaves_are ls (n + 0))
 
-  instrs_append : (as bs : List Leaf) → instrs (as ++ bs) ≡ instrs as ++ instrs bs
-  instrs_append [] bs = refl
-  instrs_append (l ∷ as) bs =
-      ap (λ (is : List Instr). one_leaf l (scalar_of l.ty) ++ is) (instrs_append as bs) ∙ sym (append_assoc (one_leaf l (scalar_of l.ty)) (instrs as) (instrs bs))
+  instrs_append : (ls ks : List Leaf) → instrs (ls ++ ks) ≡ instrs ls ++ instrs ks
+  instrs_append [] ks = refl
+  instrs_append (l ∷ ls) ks =
+      ap (λ (is : List Instr). one_leaf l (scalar_of l.ty) ++ is) (instrs_append ls ks) ∙ sym (append_assoc (one_leaf l (scalar_of l.ty)) (instrs ls) (instrs ks))
 
   -- ---- from the handles in the locals on
 
@@ -284,11 +284,11 @@ module _ (E : Env) where
     none_copied : AllOf [] (λ os. objects.gives os)
     none_copied os g kept r = (g, kept, stays E.site (world os) (mem g) (stands os g vs r))
 
-    two_copied : (as bs : List Leaf) (f h : List Object → Outcome (List Object)) → AllOf as f → AllOf bs h → AllOf (as ++ bs) (λ os. objects.after (f os) h)
-    two_copied as bs f h x y os g kept r =
-        let xs = instrs as in
-        let ys = instrs bs in
-        subst (λ (is : List Instr). Copies (length is) os g (stands os g vs (front is r)) r (objects.after (f os) h)) (sym (instrs_append as bs))
+    two_copied : (ls ks : List Leaf) (f h : List Object → Outcome (List Object)) → AllOf ls f → AllOf ks h → AllOf (ls ++ ks) (λ os. objects.after (f os) h)
+    two_copied ls ks f h x y os g kept r =
+        let xs = instrs ls in
+        let ys = instrs ks in
+        subst (λ (is : List Instr). Copies (length is) os g (stands os g vs (front is r)) r (objects.after (f os) h)) (sym (instrs_append ls ks))
         (subst (λ (q : List Item). Copies (length (xs ++ ys)) os g (stands os g vs q) r (objects.after (f os) h)) (sym (front_append xs ys r))
         (subst (λ (n : ℕ). Copies n os g (stands os g vs (front xs (front ys r))) r (objects.after (f os) h)) (sym (length-append xs ys))
         (followed (length xs) (length ys) os g (stands os g vs (front xs (front ys r))) (front ys r) r (f os) h (x os g kept (front ys r)) (λ qs k kept'. y qs k kept' r))))
@@ -324,7 +324,7 @@ module _ (E : Env) where
     mutual
       part_copied : (s : Shape) (from l i place : ℕ) (a c : Value) → IsIn table E.places m.homes H s place a → IsElement table E.places m.homes H from l i s a → IsIn table E.places m.homes G s place c → IsElement table E.places m.homes G from l i s c
           → Fits s → size s < 4294967296 → i < 2 ^ 63 → AllOf (leaves_at s from l i place) (copy s a c)
-      part_copied (scalar t) from l i place a c in_a at_a in_c at_c fits small lt = leaf_copies t fits from l i a c in_a.leads at_a in_c.leads at_c lt
+      part_copied (scalar t) from l i place a c in_a at_a in_c at_c fits small lt os g kept r = leaf_copies t fits from l i a c in_a.leads at_a in_c.leads at_c lt os g kept r
       part_copied (elements u k) from l i place a c in_a at_a in_c at_c fits small lt os g kept r =
           let p = elements_in table E.places m.homes os g kept.related H u k place a in_a fits small in
           let q = elements_in table E.places m.homes os g kept.related G u k place c in_c fits small in
@@ -342,11 +342,11 @@ module _ (E : Env) where
           let counts = few k (size u) fits.0 some small in
           part_copied u place (k * size u) j (place + j * size u) (moved (size u) (pos j) p.0) (moved (size u) (pos j) q.0) x.0 x.1 y.0 y.1 fits.1 (omega (arith, counts.1)) (omega (arith, counts.0, less)))
           os g kept r))
-      part_copied (record' n ms) from l i place a c in_a at_a in_c at_c fits small lt = members_copied ms n ms 0 0 place a c fits.1 fits (λ j p e. rw add-zero e) in_a in_c small
+      part_copied (record' n ms) from l i place a c in_a at_a in_c at_c fits small lt os g kept r = members_copied ms n ms 0 0 place a c fits.1 fits (λ j p e. rw add-zero e) in_a in_c small os g kept r
 
       members_copied : (ms : Members) (n : ℕ) (all : Members) (number end place : ℕ) (a c : Value) → FitMembers ms end n → Fits (record' n all) → ((j : ℕ) (p : Part) → nth_member ms j ≡ Some p → nth_member all (j + number) ≡ Some p)
           → IsIn table E.places m.homes H (record' n all) place a → IsIn table E.places m.homes G (record' n all) place c → n < 4294967296 → AllOf (leaves_of ms place) (copy_members ms number a c)
-      members_copied no_members n all number end place a c fit fits known in_a in_c small = none_copied
+      members_copied no_members n all number end place a c fit fits known in_a in_c small os g kept r = none_copied os g kept r
       members_copied (member o s ms) n all number end place a c fit fits known in_a in_c small os g kept r =
           let part : Part = record { offset = o; shape = s } in
           let at : part_of (record' n all) number ≡ Some part = rw zero-add at (known 0 part refl) in
