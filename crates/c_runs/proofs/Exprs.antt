@@ -40,7 +40,7 @@ use Rattle.c_code.specs.Operations.{constant, convert, eqz, i32, operated, truth
 use Rattle.c_stage.specs.Stage.{in_expr, in_exprs, in_place}
 use Rattle.c_code.specs.Targets.{get, plain_in, scratch_i64, waiting}
 use Rattle.c_code.specs.Uses as uses
-use Rattle.c_code.specs.Uses.{calls}
+use Rattle.c_code.specs.Uses.{calls, copies}
 use Rattle.c_numbers.proofs.Ranges.{value_in, wrap_in}
 use Rattle.c_typing.proofs.Sound.{AreSound, AreSoundNames, Sound, sound_expr, sound_place}
 use Rattle.c_runs.specs.Words.{pushed}
@@ -60,11 +60,12 @@ use Rattle.c_runs.proofs.Equal.{equal_runs, unequal_runs}
 use Rattle.c_runs.proofs.Updates.{update_there}
 use Rattle.c_runs.proofs.Allocating.{calloc_runs, known_bytes, malloc_runs}
 use Rattle.c_runs.proofs.Freeing.{free_runs}
+use Rattle.c_runs.proofs.StructCopies.{copy_runs}
 use Rattle.c_runs.proofs.Moves.{by_size, bytes, move_by_runs, move_runs}
 use Rattle.c_runs.proofs.Advances.{advance_plain, advance_there}
 use Rattle.c_runs.proofs.Orders.{difference_runs, order_runs}
 use Rattle.c_runs.proofs.Ready.{IsCallable}
-use Rattle.c_runs.proofs.Rooms.{IsReady, addressed, called, either, in_expr_of, in_exprs_of, in_place_of, parts, taken, through_parts}
+use Rattle.c_runs.proofs.Rooms.{IsReady, addressed, behind_use, called, either, in_expr_of, in_exprs_of, in_place_of, parts, taken, through_parts}
 use Rattle.c_runs.proofs.Through.{through_runs}
 use Rattle.c_runs.proofs.Whole.{whole_as_bit, whole_expr, whole_plain}
 
@@ -564,6 +565,12 @@ module _ (E : Env) (L : Linked E.site) (home : AtHome E) (k : well.Context) (slo
           subst (λ (r : Ty). Carries E kept (code_of kept d (tree.advance old u back p e)) r (value_in_E (tree.advance old u back p e))) (sym h.0)
           (by_size E u slot (λ c m. Carries E kept (updated E.target kept old (plain_in E.target p) (code.place E.target d p) scalars.Pointer (moved c back (code_of true d e))) (pointer u) (advancing old m back p (value_in_E e)))
           (advances kept old d u back p (code_of true d e) (value_in_E e) slot q.0.in_stage h.2 (leads_run d p (pointer u) q.0 h.2) (expr_runs true d e (integer LongLong) q.1 h.3)))
+      expr_runs kept d (tree.copy n p q) t x h =
+          let both = behind_use E.target.is_object E.unit E.pending d E.waits (copies n) (in_place p && in_place q) (uses.in_place p ++ uses.in_place q) (either (in_place_of p) (in_place_of q)) x in
+          let r = parts E.target.is_object E.unit E.pending d E.waits (in_place p) (in_place q) (uses.in_place p) (uses.in_place q) (in_place_of p) (in_place_of q) both in
+          subst (λ (s : Ty). Carries E kept (code_of kept d (tree.copy n p q)) s (value_in_E (tree.copy n p q))) (sym h.0)
+          (copy_runs E n (sized (struct n) h.1) kept (code.place E.target d p) (code.place E.target d q) (place E.unit E.calls p) (place E.unit E.calls q)
+          (leads_run d p (struct n) r.0 h.2 (whole_cell p (struct n) (λ never. never) h.2)) (leads_run d q (struct n) r.1 h.3 (whole_cell q (struct n) (λ never. never) h.3)))
       expr_runs kept d (tree.call f s es) t x h =
           let c = called E.target.is_object E.unit E.pending d E.waits f (in_exprs es) (uses.in_exprs es) (in_exprs_of es) x in
           left_runs E kept s t (code.exprs E.target d es ⨾ one (Call (E.target.index f))) (value_in_E (tree.call f s es)) h.2

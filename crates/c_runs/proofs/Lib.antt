@@ -31,6 +31,8 @@ pub mod Freeing
 pub mod Strings
 pub mod Rooms
 pub mod Through
+pub mod LeafHandles
+pub mod StructCopies
 pub mod Exprs
 pub mod Ahead
 pub mod Flows

@@ -65,6 +65,10 @@ module _ (is_object : Variable → Bool) (u : Typed) (least d all : ℕ) where
     record { in_stage = h.in_stage; callable = λ m e. h.callable m (any_right (is_call_of m) (calls n ∷ []) us e); known = h.known.1; objects = h.objects; before = h.before; room = h.room },
   )
 
+  -- the part behind another use
+  pub behind_use : (x : Use) (b : Bool) (us : List Use) (f : Needs) → IsReady is_object u least d all b (x ∷ us) f → IsReady is_object u least d all b us f
+  behind_use x b us f h = record { in_stage = h.in_stage; callable = λ m e. h.callable m (any_right (is_call_of m) (x ∷ []) us e); known = h.known.1; objects = h.objects; before = h.before; room = h.room }
+
   -- the pointer that a call goes through, and the arguments, beside which one value more waits
   pub through_parts : (t : Ty) (a b : Bool) (us vs : List Use) (f g : Needs) → IsReady is_object u least d all (a && b) (through t ∷ (us ++ vs)) (through_of f g)
       → (slice_get (compiled u).sigs (sig_of u t) ≡ Some (signature t)) × IsReady is_object u least d all a us f × IsReady is_object u (suc d) (suc d) all b vs g

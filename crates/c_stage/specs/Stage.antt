@@ -1,6 +1,6 @@
 -- The units of which it is shown so far that their code does what they mean: those of integers and pointers, variables of such types
--- and arrays and structs, their addresses and members, strings that initialise arrays, functions as values, control, and calls of
--- functions by their names and through pointers. An i32 counts the groups of a switch, but for one number.
+-- and arrays and structs, their addresses and members, structs that are copied, strings that initialise arrays, functions as values,
+-- control, and calls of functions by their names and through pointers. An i32 counts the groups of a switch, but for one number.
 use Rattle.std.specs.Prelude.{ℕ, nat_lt, ◌&&◌, not, Bool, true, false, List, [], ◌∷◌, bytes_eq, codes, Option, Some, None}
 use Rattle.c_types.specs.Types.{Ty, void, integer, struct, pointer, array, function, Tys, no_types, types}
 use Rattle.c_typed.specs.declared.ops.Variable.TheVariants.{Local, Global}
@@ -54,6 +54,7 @@ abbrev mutual
   in_expr (tree.assign s p e) = in_place p && in_expr e
   in_expr (tree.update old t o u p e) = in_place p && in_expr e
   in_expr (tree.advance old t back p e) = in_place p && in_expr e
+  in_expr (tree.copy n p q) = in_place p && in_place q
   in_expr (tree.call n s es) = in_exprs es
   in_expr (tree.call_through t s e es) = in_expr e && in_exprs es
   in_expr (tree.putchar e) = in_expr e

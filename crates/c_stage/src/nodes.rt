@@ -13,7 +13,8 @@ use c_typed::{Expr, Function, Place, Sized, Stmt, Typed, Variable};
 use c_types::{CType, Scalar, Signature};
 
 /// Whether a unit is one of integers and pointers, variables of such types and arrays and structs, their addresses and members,
-/// strings that initialise arrays, functions as values, control, and calls of functions by their names and through pointers.
+/// structs that are copied, strings that initialise arrays, functions as values, control, and calls of functions by their names and
+/// through pointers.
 pub fn is_in_stage(typed: &Typed) -> bool
     ensures { result ≡ words.in_stage (typed_of typed.now) }
 {
@@ -167,6 +168,7 @@ fn in_expr(e: &Expr) -> bool
         Expr::Assign(_, p, a) => in_place(p) && in_expr(a),
         Expr::Update(_, _, _, _, p, a) => in_place(p) && in_expr(a),
         Expr::Advance(_, _, _, p, a) => in_place(p) && in_expr(a),
+        Expr::Copy(_, p, q) => in_place(p) && in_place(q),
         Expr::Call(_, _, es) => in_exprs(es),
         Expr::CallThrough(_, _, a, es) => in_expr(a) && in_exprs(es),
         Expr::Putchar(a) => in_expr(a),
@@ -176,7 +178,6 @@ fn in_expr(e: &Expr) -> bool
         Expr::Discard(a) => in_expr(a),
         Expr::Visit(p) => in_place(p),
         Expr::Literal(_) => false,
-        Expr::Copy(_, _, _) => false,
     }
 }
 
