@@ -1,7 +1,7 @@
 -- Where the leaves of a struct are that is copied (C11, 6.5.16.1): code takes each as an element of an array, which is a slice of the
 -- struct's handle, and the meaning goes to it step by step, from member to member and from element to element.
-use Rattle.std.proofs.Common.{◌≡◌, ℕ, ◌+◌, ◌*◌, ◌^◌, ◌<◌, ◌≤◌, Bool, true, false, ℤ, pos, ◌+ℤ◌, ◌*ℤ◌, List, Option, Some, None, refl, sym, ap, ◌∙◌, arith}
-use Rattle.std.specs.Prelude.{nat_le, if◌then◌else◌}
+use Rattle.std.proofs.Common.{◌≡◌, ℕ, ◌+◌, ◌*◌, ◌<◌, ◌≤◌, Bool, true, false, ℤ, pos, ◌+ℤ◌, ◌*ℤ◌, List, Option, Some, None, refl, sym, ap, ◌∙◌, arith}
+use Rattle.std.specs.Prelude.{if◌then◌else◌}
 use Rattle.std.specs.Ordering.{int_eq}
 use Rattle.std.proofs.lemmas.Bool.{le-leb}
 use Rattle.std.proofs.lemmas.Bool.Decides.{Decides-int_eq}
@@ -66,7 +66,7 @@ module _ (homes : List Home) (u : Shape) (k j off n : ℕ) (some : 0 < size u) (
       let sized : size s.shape ≡ l = ap (λ (e : Shape). size e) same in
       let one : slice (handle homes v) 0 l ≡ sliced p.sealed h.id s.place (size s.shape) 0 l x = rw (at, span) (slice_is p.sealed h.id s.place s.count (size s.shape) 0 l p.index (omega (arith, some, room)) (omega (arith, sized))) in
       let two : slice (handle homes v) (j * size u + off) n ≡ sliced p.sealed h.id s.place (size s.shape) (j * size u + off) n x =
-          rw (at, span) (slice_is p.sealed h.id s.place s.count (size s.shape) (j * size u + off) n p.index some' (omega (arith, sized, room, within))) in
+      rw (at, span) (slice_is p.sealed h.id s.place s.count (size s.shape) (j * size u + off) n p.index some' (omega (arith, sized, room, within))) in
       ap (λ (g : Handle). slice (add g (pos j) (size u)) off n) one ∙ by s.place (size s.shape) p.sealed h.id x ∙ sym two
     where
       by : (place w : ℕ) (z : Bool) (id : ℕ) (x : Option ℕ) → slice (add (sliced z id place w 0 (k * size u) x) (pos j) (size u)) off n ≡ sliced z id place w (j * size u + off) n x

@@ -1,8 +1,7 @@
 -- A struct is copied leaf by leaf, in rising order (C11, 6.5.16.1): the handles of both places wait in scratch locals; for each leaf either
 -- is sliced and moved to it, and its value is read there and written here, also where the two structs overlap.
-use Rattle.std.proofs.Common.{◌≡◌, ◌≢◌, ℕ, zero, suc, ◌+◌, ◌*◌, ◌^◌, ◌<◌, ◌≤◌, Bool, true, false, ℤ, pos, List, [], ◌∷◌, ◌++◌, append_assoc, length, length-append, add-zero, zero-add, mul-le-mul_left, mul-le-mul_right, Option, Some, None, refl, sym, ap, ◌∙◌, arith, subst}
+use Rattle.std.proofs.Common.{◌≡◌, ℕ, zero, suc, ◌+◌, ◌*◌, ◌^◌, ◌<◌, ◌≤◌, Bool, true, false, ℤ, pos, List, [], ◌∷◌, ◌++◌, append_assoc, length, length-append, add-zero, zero-add, mul-le-mul_left, mul-le-mul_right, Option, Some, None, refl, sym, ap, ◌∙◌, arith, subst}
 use Rattle.std.specs.Prelude.{slice_get, if◌then◌else◌}
-use Rattle.ms_event.specs.declared.event.Event.{Event}
 use Rattle.ms_handle.specs.declared.handle.Handle.{Handle as HandleOf}
 use Rattle.ms_handle.specs.Handle.{add, slice}
 use Rattle.ms_linear.specs.declared.value.Value.{Value as Word}
@@ -24,7 +23,7 @@ use Rattle.c_meaning.specs.Shapes.{Shape, scalar, elements, record', Members, no
 use Rattle.c_meaning.specs.Values.{Value, inside, to_member}
 use Rattle.c_meaning.specs.Objects as objects
 use Rattle.c_meaning.specs.Objects.{Object, Outcome, copy, copy_members, copy_value, each_from, moved, read, write}
-use Rattle.c_meaning.specs.World.{World, Result, gives, ends, Does, after, alter, as_done, unsafe, ◌>>=◌, ◌>>◌, pure}
+use Rattle.c_meaning.specs.World.{World, Does, after, alter, as_done, unsafe, ◌>>=◌, ◌>>◌, pure}
 use Rattle.c_meaning.specs.Expressions as meaning
 use Rattle.c_meaning.specs.Expressions.{Spot}
 use Rattle.c_numbers.specs.Operands.{IsIn as IsNumberIn}
@@ -53,7 +52,7 @@ use Rattle.c_runs.proofs.Related.{Env, IsSlot, IsValue, Kept, Now, extends_trans
 use Rattle.c_runs.proofs.Ops.{GoodIn, OpIn, Stack, ToIn, at_work, carried_is, op_any, op_look_in, op_over_in, op_then_in, same}
 use Rattle.c_runs.proofs.Nodes.{Always, Carries, gone, remains}
 use Rattle.c_runs.proofs.Steps.{Quiet, event_goes, kept_objects, kept_segments, load_is, quiet_read, quiet_tells, quiet_write, store_is, trap_is}
-use Rattle.c_runs.proofs.Switches.{IsTemp, get_temp, set_goes, set_stays, with_temp}
+use Rattle.c_runs.proofs.Switches.{IsTemp, set_goes, set_stays, with_temp}
 use Rattle.c_runs.proofs.Cells.{Leads as LeadsBy, address_runs, gets, pointer_word}
 use Rattle.c_runs.proofs.Members.{slice_goes}
 use Rattle.c_runs.proofs.Strings.{changed, unsafe_as}
@@ -425,14 +424,14 @@ module _ (E : Env) where
         let good = GoodIn E (λ js. Always E) now in
         let sets : List Instr = LocalSet x ∷ LocalSet y ∷ [] in
         let all : AllOf now w m2 vs (handle m.homes p) (handle m.homes q) at_3 at_2 ls (copy s p q) =
-            subst (λ (t : Table). AllOf now w m2 vs (handle m.homes p) (handle m.homes q) at_3 at_2 (leaves t n) (copy s p q)) (sym E.structs_are)
-            (struct_copied now w m2 vs (handle m.homes p) (handle m.homes q) at_3 at_2 s (struct_record E.unit.structs n) p q refl refl (leads_of E.unit.structs E.places m.homes (struct n) p refl p') (leads_of E.unit.structs E.places m.homes (struct n) q refl q') slot.fits slot.small) in
+        subst (λ (t : Table). AllOf now w m2 vs (handle m.homes p) (handle m.homes q) at_3 at_2 (leaves t n) (copy s p q)) (sym E.structs_are)
+        (struct_copied now w m2 vs (handle m.homes p) (handle m.homes q) at_3 at_2 s (struct_record E.unit.structs n) p q refl refl (leads_of E.unit.structs E.places m.homes (struct n) p refl p') (leads_of E.unit.structs E.places m.homes (struct n) q refl q') slot.fits slot.small) in
         let body : RunsTo E.site (2 + length is) m (at_work E m w (G ∷ H ∷ vs) (Do (LocalSet x) ∷ Do (LocalSet y) ∷ front is r)) w to good z =
-            after_goes E.site 2 (length is) w w m m2 (at_work E m w (G ∷ H ∷ vs) (Do (LocalSet x) ∷ Do (LocalSet y) ∷ front is r)) (at_work E m2 w vs (front is r)) to good z
-            (goes_on E.site 1 1 w w w m m1 m2 (at_work E m w (G ∷ H ∷ vs) (Do (LocalSet x) ∷ Do (LocalSet y) ∷ front is r)) (at_work E m1 w (H ∷ vs) (Do (LocalSet y) ∷ front is r)) (at_work E m2 w vs (front is r))
-            (set_goes E w m kept.held x 2 is_handle in_2 G (H ∷ vs) (Do (LocalSet y) ∷ front is r))
-            (set_goes E w m1 k1.held y 3 is_place in_3 H vs (front is r)))
-            (as_run now w m2 vs (handle m.homes p) (handle m.homes q) at_3 at_2 (length is) (at_work E m2 w vs (front is r)) r (copy s p q w.objects) (all w.objects m2.segments k2 r)) in
+        after_goes E.site 2 (length is) w w m m2 (at_work E m w (G ∷ H ∷ vs) (Do (LocalSet x) ∷ Do (LocalSet y) ∷ front is r)) (at_work E m2 w vs (front is r)) to good z
+        (goes_on E.site 1 1 w w w m m1 m2 (at_work E m w (G ∷ H ∷ vs) (Do (LocalSet x) ∷ Do (LocalSet y) ∷ front is r)) (at_work E m1 w (H ∷ vs) (Do (LocalSet y) ∷ front is r)) (at_work E m2 w vs (front is r))
+        (set_goes E w m kept.held x 2 is_handle in_2 G (H ∷ vs) (Do (LocalSet y) ∷ front is r))
+        (set_goes E w m1 k1.held y 3 is_place in_3 H vs (front is r)))
+        (as_run now w m2 vs (handle m.homes p) (handle m.homes q) at_3 at_2 (length is) (at_work E m2 w vs (front is r)) r (copy s p q w.objects) (all w.objects m2.segments k2 r)) in
         subst (λ (c : Coded). RunsTo E.site (size_of (joined (coded sets []) c)) m (at_work E m w (P hs q (P gs p vs)) (front (joined (coded sets []) c).instrs r)) w to good z) (sym (leaves_are ls (j + 0)))
         (subst (λ (us : List Word). RunsTo E.site (size_of (joined (coded sets []) (coded is []))) m (at_work E m w us (Do (LocalSet x) ∷ Do (LocalSet y) ∷ front is r)) w to good z)
         (sym (ap (λ (v : Word). v ∷ word_of E.places (pointer (struct n)) gs p ∷ vs) q_is ∙ ap (λ (v : Word). G ∷ v ∷ vs) p_is))
