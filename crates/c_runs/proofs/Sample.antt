@@ -130,7 +130,7 @@ main_typed = (
   (
     (i ∷ pointer i ∷ pointer takes_one ∷ [], refl),
     All-cons (IsObject []) i (pointer i ∷ pointer takes_one ∷ []) (tt, (tt, omega arith)) (All-cons (IsObject []) (pointer i) (pointer takes_one ∷ []) ((tt, tt), (tt, omega arith))
-    (All-cons (IsObject []) (pointer takes_one) [] ((tt, (tt, tt, (tt, tt, tt))), (tt, omega arith)) (All-nil (IsObject [])))),
+        (All-cons (IsObject []) (pointer takes_one) [] ((tt, (tt, tt, (tt, tt, tt))), (tt, omega arith)) (All-nil (IsObject [])))),
     (
       (omega arith, refl, (omega arith, refl, (omega arith, refl, tt))),
       (
