@@ -37,7 +37,7 @@ use Rattle.c_meaning.specs.Statements.{Flow, leave, stmt}
 use Rattle.ms_emit.specs.Codes.{Code, Coded, no_code, ◌⨾◌, inner, joined, size_of, total}
 use Rattle.c_code.specs.Functions as code
 use Rattle.c_code.specs.Functions.{body, held_as, locals, params_from, params_in, result, result_in, scratch_locals, slots_from}
-use Rattle.c_code.specs.Modules.{index_of, named, rank_in, target_of}
+use Rattle.c_code.specs.Modules.{index_of, target_of}
 use Rattle.c_code.specs.Operations.{val_of}
 use Rattle.c_stage.specs.Stage.{are_data, are_slots, in_stmt, is_data, is_variable}
 use Rattle.c_code.specs.Statements as scheme
@@ -46,6 +46,7 @@ use Rattle.c_code.specs.Targets.{Target}
 use Rattle.c_code.specs.Uses as uses
 use Rattle.c_code.specs.Uses.{waits_stmt}
 use Rattle.c_typing.proofs.Sound.{AreSoundNames}
+use Rattle.c_runs.proofs.Entries.{IsTable, places_of}
 use Rattle.c_runs.proofs.Goes as goes
 use Rattle.c_runs.proofs.Goes.{Site, Mem, Runs, Goes, after_after, behind_goes, resize, spent, tells_nothing, trapped, unspent}
 use Rattle.c_meaning.specs.Objects.{Object}
@@ -172,7 +173,7 @@ module _ (tg : Target) (body : Stmt) where
   behind_one : (n : ℕ) (t : Ty) (ts : List Ty) → AreLocals n (t ∷ ts) → AreLocals (suc n) ts
   behind_one n t ts h x s e = let q = h (suc x) s e in let z : n + suc x ≡ suc n + x = omega arith in (subst (λ (k : ℕ). is_object body k s ≡ false → IsData s) z q.0, subst (λ (k : ℕ). tg.is_object (Local k) ≡ is_object body k s) z q.1)
 
-  module _ (places : ℕ → ℕ) (hs : List Home) where
+  module _ (places : Ty → ℕ → ℕ) (hs : List Home) where
     first_word : (t : Ty) (b : Bool) → (b ≡ false → IsData t) → default_of (held_as b t) ≡ held_word places (t, b) hs (plain (zero_value t))
     first_word t true u = refl
     first_word t false u = zero_word places t (u refl) hs
@@ -232,6 +233,7 @@ pub record Compiled (S : Site) (unit : Typed) (f : ℕ) (t : Ty) (ps : Tys) : Ty
   pub slots_are : AreSlots function_is.slots
   pub ready : IsReady (target_of unit function_is stmt_is).is_object unit (in_stmt stmt_is) (uses.in_stmt stmt_is) (in_stmt_of stmt_is)
   pub result : IsResult t
+  pub table : IsTable S unit
   pub laid_out : IsLaidOut unit.structs
   pub has_members : (n : ℕ) (l : Layout) → layout_at unit.structs n ≡ Some l → l.members ≢ []
   pub sizes : (x : ℕ) (s : Ty) → slice_get function_is.slots x ≡ Some s → IsSmall unit.structs s
@@ -283,9 +285,14 @@ module _ (S : Site) (L : Linked S) (unit : Typed) (i f d : ℕ) (t : Ty) (ps : T
   E = record {
     site = S;
     unit = unit;
-    places = λ n. rank_in (named unit) n;
+    places = places_of unit;
+    places_are = refl;
+    table = p.table;
     target = tg;
     structs_are = refl;
+    entries_are = refl;
+    indices_are = refl;
+    sigs_are = refl;
     laid_out = p.laid_out;
     has_members = p.has_members;
     args = p.args;
@@ -301,6 +308,7 @@ module _ (S : Site) (L : Linked S) (unit : Typed) (i f d : ℕ) (t : Ty) (ps : T
     objects_are = objects_at;
     scratch_is = scratch_is;
     waits = waits_stmt p.stmt_is;
+    pending = 0;
     result = t;
     depth = d;
     visible = [];
@@ -461,7 +469,7 @@ module _ (S : Site) (L : Linked S) (unit : Typed) (i f d : ℕ) (t : Ty) (ps : T
       code_is : body tg p.function_is p.stmt_is ≡ inner D
       code_is =
           let coded : (us : List Ty) → Ty → Coded = λ us r. let vs = objects_in tg slots (numbers (length us)) in (code.params tg us ⨾ scheme.stmt tg slots 0 (at_body vs) p.stmt_is ⨾ freed tg vs ⨾ result tg (scalar_of r)) 1 in
-          let nothing = no_objects E L home K refl callees ints slots_data refl p.sound (slot_there slots) (omega arith) (numbers k) (plain_numbers k (omega arith)) in
+          let nothing = no_objects E L home K refl callees ints slots_data refl refl p.sound (slot_there slots) (omega arith) (numbers k) (plain_numbers k (omega arith)) in
           ap (λ (ty : Ty). inner (coded (params_in ty) (result_in ty))) p.typed
           ∙ ap (λ (n : ℕ). let vs = objects_in tg slots (numbers k) in inner (((if n == 0 then no_code else params_from tg 0 (list_of ps)) ⨾ scheme.stmt tg slots 0 (at_body vs) p.stmt_is ⨾ freed tg vs ⨾ R) 1)) first_zero
           ∙ ap (λ (vs : List Variable). inner ((no_code ⨾ scheme.stmt tg slots 0 (at_body vs) p.stmt_is ⨾ freed tg vs ⨾ R) 1)) nothing
@@ -493,8 +501,8 @@ module _ (S : Site) (L : Linked S) (unit : Typed) (i f d : ℕ) (t : Ty) (ps : T
 
       flow_runs : (hs : List Home) (us : List Value) → AreOf E ps hs us → FlowRuns Ep at_top 0 0 B same (flow >>= (λ g. leaves us >> pure g))
       flow_runs hs us ok =
-          left_runs E L home K refl callees ints slots_data refl p.sound (slot_there slots) (omega arith) (numbers k) at_top 0 0 B flow (numbers_from 0 us) (plain_from us 0 (few hs us ok))
-          (stmt_runs E L home K refl callees ints slots_data refl p.sound (slot_there slots) (omega arith) (numbers k) 0 None (at_body []) no_jumps no_off p.stmt_is (out_none E (numbers k)) (omega arith) p.ready p.well)
+          left_runs E L home K refl callees ints slots_data refl refl p.sound (slot_there slots) (omega arith) (numbers k) at_top 0 0 B flow (numbers_from 0 us) (plain_from us 0 (few hs us ok))
+          (stmt_runs E L home K refl callees ints slots_data refl refl p.sound (slot_there slots) (omega arith) (numbers k) 0 None (at_body []) no_jumps no_off p.stmt_is (out_none E (numbers k)) (omega arith) p.ready p.well)
 
       callee_runs : (hs : List Home) (us : List Value) → AreOf E ps hs us → (caller : Frame) (vs : List Word) (r : List Item) → suc (depth_of r) ≡ d → (now : Now) → IsAt Ep 0 now → (w : World) (m : Mem) → Kept Ep now w m
           → Runs S (size_of D) m (at_work E m w vs (front D.instrs (Activation (result_of p.inst) (length vs) caller ∷ r))) w (λ v w1 m1. exit_ended caller (pushes E t m1.homes v vs) r) (Left now) (does us w)

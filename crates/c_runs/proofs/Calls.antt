@@ -15,7 +15,6 @@ use Rattle.ms_machine.specs.Step as step
 use Rattle.ms_machine.specs.Step.{act, called, host_in}
 use Rattle.ms_machine.specs.Store.{number_of_instance}
 use Rattle.ms_module.specs.declared.instr.Instr.{Instr}
-use Rattle.ms_module.specs.declared.instr.Instr.TheVariants.{Call}
 use Rattle.ms_task.specs.Control.{call_on, deepest, exit_ended}
 use Rattle.ms_task.specs.declared.func.FuncInst.{FuncInst}
 use Rattle.ms_task.specs.Thread.{Activation, Do, Frame, Item, Thread, thread, depth_of, result_of, sequence}
@@ -37,7 +36,7 @@ use Rattle.c_meaning.specs.Statements.{Flow, leave, stmt}
 use Rattle.ms_emit.specs.Codes.{Code, Coded, no_code, ◌⨾◌, inner, joined, size_of, total}
 use Rattle.c_code.specs.Functions as code
 use Rattle.c_code.specs.Functions.{body, held_as, locals, params_from, params_in, result, result_in, scratch_locals, slots_from}
-use Rattle.c_code.specs.Modules.{index_of, named, rank_in, target_of}
+use Rattle.c_code.specs.Modules.{index_of, target_of}
 use Rattle.c_code.specs.Operations.{val_of}
 use Rattle.c_stage.specs.Stage.{are_data, are_slots, in_stmt, is_data}
 use Rattle.c_code.specs.Statements as scheme
@@ -55,8 +54,8 @@ use Rattle.c_runs.proofs.Held.{AreApart, AreHeld, AreOpen, AreOwn, IsHeld, Lasts
 use Rattle.c_runs.proofs.Lasting.{lasts_same, lasts_trans, open_on}
 use Rattle.c_runs.proofs.Related as related
 use Rattle.c_runs.proofs.Related.{AreOf, Env, HasAll, IsValue, Kept, Now, are_still, extends_same, extends_trans, frame_of, front, piled, piled_still, pushes, seeing}
-use Rattle.c_runs.proofs.Ops.{GoodIn, ToIn, at_work, same}
-use Rattle.c_runs.proofs.Operations.{AtHome, Linked, call_is}
+use Rattle.c_runs.proofs.Ops.{GoodIn, Stack, ToIn, at_work, same}
+use Rattle.c_runs.proofs.Operations.{AtHome, Linked, Reaches}
 use Rattle.c_runs.proofs.Exprs.{AreScalars, CallsRun}
 use Rattle.c_runs.proofs.Flows.{FlowRuns, IsAt}
 use Rattle.c_runs.proofs.Makes.{get_is}
@@ -117,6 +116,7 @@ at_args p front e = record {
   slots_are = p.slots_are;
   ready = p.ready;
   result = p.result;
+  table = p.table;
   sizes = p.sizes;
   sound = p.sound;
   laid_out = p.laid_out;
@@ -189,7 +189,7 @@ module _ (S : Site) (L : Linked S) (unit : Typed) (all : (f : ℕ) (t : Ty) (ps 
     enters = by_kind (list_any is_param_object (numbers (length (params_in p.function_is.ty)))) refl
 
   -- one call, where those of its body do what is meant
-  module _ (i f0 d : ℕ) (t0 : Ty) (ps0 : Tys) (p0 : Compiled S unit f0 t0 ps0) (f : ℕ) (t : Ty) (ps : Tys) (p : Compiled S unit f t ps) (hs : List Home) (us : List Value) (ok : AreOf (E S L unit (suc i) f0 d t0 ps0 p0) ps hs us) (callees : (q : Compiled S unit f t ps) → Callees i f (suc d) t ps q) (data_are : are_data ps ≡ true)
+  module _ (i f0 d : ℕ) (t0 : Ty) (ps0 : Tys) (p0 : Compiled S unit f0 t0 ps0) (f : ℕ) (t : Ty) (ps : Tys) (p : Compiled S unit f t ps) (instr : Instr) (above : Stack) (reach : Reaches (E S L unit (suc i) f0 d t0 ps0 p0) instr above (index_of unit f)) (hs : List Home) (us : List Value) (ok : AreOf (E S L unit (suc i) f0 d t0 ps0 p0) ps hs us) (callees : (q : Compiled S unit f t ps) → Callees i f (suc d) t ps q) (data_are : are_data ps ≡ true)
       (now : Now) (le : now.below ≤ suc i) (vs : List Word) (r : List Item) (dep : depth_of r ≡ d) (w : World) (m : Mem) (more : Extends hs m.homes) (k : Kept (E S L unit (suc i) f0 d t0 ps0 p0) now w m) where
     abbrev C : Env
     C = E S L unit (suc i) f0 d t0 ps0 p0
@@ -198,11 +198,11 @@ module _ (S : Site) (L : Linked S) (unit : Typed) (all : (f : ℕ) (t : Ty) (ps 
     Ee = E S L unit i f (suc d) t ps p
 
     abbrev Goal : ℕ → World → Result Value → Type 0
-    Goal size w' x = Runs S size m (thread (frame_of C m w) (piled C ps hs us vs) (Do (Call (index_of unit f)) ∷ r)) w' (ToIn C (pushes C t) vs r) (GoodIn C (IsValue C t) now) x
+    Goal size w' x = Runs S size m (thread (frame_of C m w) (above (piled C ps hs us vs)) (Do instr ∷ r)) w' (ToIn C (pushes C t) vs r) (GoodIn C (IsValue C t) now) x
 
-    call_moves : act (goes.store S m) (Call (index_of unit f)) (thread (frame_of C m w) (piled C ps hs us vs) r) ≡ step.moved (goes.store S m) (call_on S.funcs (index_of unit f) (thread (frame_of C m w) (piled C ps hs us vs) r))
+    call_moves : act (goes.store S m) instr (thread (frame_of C m w) (above (piled C ps hs us vs)) r) ≡ step.moved (goes.store S m) (call_on S.funcs (index_of unit f) (thread (frame_of C m w) (piled C ps hs us vs) r))
     call_moves =
-        call_is C L (home S L unit (suc i) f0 d t0 ps0 p0) m w (index_of unit f) (piled C ps hs us vs) r (get_within S.funcs (index_of unit f) p.inst p.is_at)
+        reach (get_within S.funcs (index_of unit f) p.inst p.is_at) m w (piled C ps hs us vs) r
         ∙ ap (λ (o : Option FuncInst). called (goes.store S m) (index_of unit f) (thread (frame_of C m w) (piled C ps hs us vs) r) (host_in o)) p.is_at
         ∙ ap (λ (h : Option Host). called (goes.store S m) (index_of unit f) (thread (frame_of C m w) (piled C ps hs us vs) r) h) p.no_host
 
@@ -259,7 +259,7 @@ module _ (S : Site) (L : Linked S) (unit : Typed) (all : (f : ℕ) (t : Ty) (ps 
     piled_same = sym (piled_still C hs m.homes more ps us vs ok)
 
     by_fuel : depth_of r < deepest → (q : ℕ) → Kept C now (record w { fuel = q }) m → Goal 1 (record w { fuel = q }) (after (spend (record w { fuel = q })) (λ u. body_of))
-    by_fuel lt zero k' = λ ag. unspent S 1 (record w { fuel = 0 }) m (Call (index_of unit f)) (frame_of C m w) (piled C ps hs us vs) r refl
+    by_fuel lt zero k' = λ ag. unspent S 1 (record w { fuel = 0 }) m instr (frame_of C m w) (above (piled C ps hs us vs)) r refl
     by_fuel lt (suc q) k' =
         let fr = frame_of C m w in
         let wn : World = record w { fuel = q } in
@@ -269,7 +269,7 @@ module _ (S : Site) (L : Linked S) (unit : Typed) (all : (f : ℕ) (t : Ty) (ps 
         let marked = Activation (result_of p.inst) (length vs) fr ∷ r in
         let less = k'.less in
         let started = thread (callee C m.homes S.funcs (index_of unit f) p.inst ps us vs fr r p.is_at p.takes ok') vs (front (sequence S.funcs (index_of unit f) 0) marked) in
-        spent S 1 size q (record w { fuel = suc q }) m (Call (index_of unit f)) fr (piled C ps hs us vs) r started (ToIn C (pushes C t) vs r) (GoodIn C (IsValue C t) now) _
+        spent S 1 size q (record w { fuel = suc q }) m instr fr (above (piled C ps hs us vs)) r started (ToIn C (pushes C t) vs r) (GoodIn C (IsValue C t) now) _
         (call_moves ∙ ap (λ (us' : List Word). step.moved (goes.store S m) (call_on S.funcs (index_of unit f) (thread fr us' r))) piled_same ∙ ap (step.moved (goes.store S m)) (shallow_call C m.homes S.funcs (index_of unit f) p.inst ps us vs fr r p.is_at p.takes ok' lt)) refl (omega (arith, small))
         (back_runs size (suc q) m (exit_ended (callee C m.homes S.funcs (index_of unit f) p.inst ps us vs fr r p.is_at p.takes ok') vs (front (sequence S.funcs (index_of unit f) 0) marked)) wn wn (omega (arith, less)) refl refl (does S L unit i f (suc d) t ps p us (begun_with S L unit i f (suc d) t ps p us wn))
         (en.2 fr vs r (ap suc dep) (suc q) (omega (arith, less, le)) wn m refl (ap suc k'.deep) (omega arith) k'.bytes k'.related))
@@ -279,7 +279,7 @@ module _ (S : Site) (L : Linked S) (unit : Typed) (all : (f : ℕ) (t : Ty) (ps 
     by_depth false e' =
         let ge = ltb-false w.depth deepest e' in
         let deep_is = k.deep in
-        λ ag. trapped S w m (Call (index_of unit f)) (frame_of C m w) (piled C ps hs us vs) r traps.Depth deep
+        λ ag. trapped S w m instr (frame_of C m w) (above (piled C ps hs us vs)) r traps.Depth deep
         (call_moves ∙ ap (λ (us' : List Word). step.moved (goes.store S m) (call_on S.funcs (index_of unit f) (thread (frame_of C m w) us' r))) piled_same ∙ ap (step.moved (goes.store S m)) (deep_call C m.homes S.funcs (index_of unit f) p.inst ps us vs (frame_of C m w) r p.is_at p.takes ok' (omega (arith, ge, dep, deep_is)))) tt refl tt
 
     pub call_runs : Goal 1 w (calls_at unit (suc i) f us w)
@@ -288,6 +288,6 @@ module _ (S : Site) (L : Linked S) (unit : Typed) (all : (f : ℕ) (t : Ty) (ps 
         subst (λ (x : Result Value). Goal 1 w x) (sym (ap (λ (o : Option Function). of_defined unit o go w) p.named ∙ ap (λ (b : Option Stmt). with_body unit p.function_is b go w) p.has_body)) (by_depth (nat_lt w.depth deepest) refl)
 
   pub calls_run : (i f d : ℕ) (t : Ty) (ps : Tys) (p : Compiled S unit f t ps) → Callees i f d t ps p
-  calls_run zero f0 d t0 ps0 p0 f t ps e b hs us ok n has now le vs r dep w m k = absurd (let lt = k.less in let q = le.below in omega (arith, lt, q))
-  calls_run (suc i) f0 d t0 ps0 p0 f t ps e b hs us ok n has now le vs r dep w m k =
-      let p = all f t ps e b in call_runs i f0 d t0 ps0 p0 f t ps p hs us ok (λ q. calls_run i f (suc d) t ps q) (par_ints f t ps e) now le.below vs r dep w m (extends_trans hs now.homes m.homes le.grown k.grown) k
+  calls_run zero f0 d t0 ps0 p0 q f t ps e b instr above reach hs us ok n has now le vs r dep w m k = absurd (let lt = k.less in let under = le.below in omega (arith, lt, under))
+  calls_run (suc i) f0 d t0 ps0 p0 q f t ps e b instr above reach hs us ok n has now le vs r dep w m k =
+      let p = all f t ps e b in call_runs i f0 d t0 ps0 p0 f t ps p instr above reach hs us ok (λ q. calls_run i f (suc d) t ps q) (par_ints f t ps e) now le.below vs r dep w m (extends_trans hs now.homes m.homes le.grown k.grown) k

@@ -196,7 +196,7 @@ module _ (S : Site) (L : Linked S) (unit : Typed) (i f d : ℕ) (t : Ty) (ps : T
         stmt_flow : FlowRuns Ein (way no_jumps 0 None (with_off ns no_off)) 0 0 B same flow_is
         stmt_flow =
             same_way Ein off_body (with_off ns no_off) B flow_is refl
-            (stmt_runs Ec L (home S L unit i f d t ps p) (K S L unit i f d t ps p) refl callees_run ints (slots_data S L unit i f d t ps p) refl p.sound (slot_there ks) (omega arith) ns 0 None (at_body vs_of) no_jumps off_body p.stmt_is out (omega arith) p.ready p.well)
+            (stmt_runs Ec L (home S L unit i f d t ps p) (K S L unit i f d t ps p) refl callees_run ints (slots_data S L unit i f d t ps p) refl refl p.sound (slot_there ks) (omega arith) ns 0 None (at_body vs_of) no_jumps off_body p.stmt_is out (omega arith) p.ready p.well)
 
         module _ (hs : List Home) (us : List Value) (args : AreArgs Ec hs 0 ps us) (numbered : numbers_from 0 us ≡ ns) where
           abbrev copy : Does (Unit {0})
@@ -262,5 +262,5 @@ module _ (S : Site) (L : Linked S) (unit : Typed) (i f d : ℕ) (t : Ty) (ps : T
               (behind_goes S 0 (size_of D) w ws m m' ts ts to good (copied ws)
               (goes.shifts S w ws m first_temps ts refl refl (tells_nothing w ws refl refl refl))
               (subst (λ (o : Option ValType). Runs S (size_of D) m' (at_work Ec m' ws vs (front D.instrs (Activation o (length vs) caller ∷ r))) ws to good (copied ws)) (sym p.gives_one)
-              (body_runs Ec p.result caller vs r dep whole (copy >> block_of) now (arrives now (record { below = le; grown = grown; seen = λ x s. absurd cc })) 1 has.1 copied_fits (record { below = le; waits = refl; seen = refl }) ws m'
+              (body_runs Ec p.result caller vs r dep whole (copy >> block_of) now (arrives now (record { below = le; grown = grown; seen = λ x s. absurd cc; few = omega arith })) 1 has.1 copied_fits (record { below = le; waits = refl; seen = refl }) ws m'
               (start_kept hs us ok args_are below w m deeper lt bytes related))))))
