@@ -62,10 +62,14 @@ instructions-push [] f = omega arith
 instructions-push (g ∷ fs) f = let h = instructions-push fs f in omega (arith, h)
 
 -- a sequence, and those behind it
+instructions-behind : (ss : List (List Instr)) (n : ℕ) → n < length ss → total (drop n ss) ≡ length (sequence_at ss n) + total (drop (suc n) ss)
+instructions-behind [] n lt = absurd (omega (arith, lt))
+instructions-behind (s ∷ ss) zero lt = refl
+instructions-behind (s ∷ ss) (suc n) lt = instructions-behind ss n (omega (arith, lt))
+
 pub instructions-from : (ss : List (List Instr)) (n : ℕ) → n < length ss → total (drop n ss) ≡ length (sequence_at ss n) + total (drop (n + 1) ss)
-instructions-from [] n lt = absurd (omega (arith, lt))
-instructions-from (s ∷ ss) zero lt = refl
-instructions-from (s ∷ ss) (suc n) lt = instructions-from ss n (omega (arith, lt))
+instructions-from ss n lt =
+    instructions-behind ss n lt ∙ ap (λ (k : ℕ). length (sequence_at ss n) + total (drop k ss)) (sym (add-one n))
 
 -- ---- globals
 
