@@ -1,27 +1,78 @@
 -- Where the leaves of a struct are that is copied (C11, 6.5.16.1): code takes each as an element of an array, which is a slice of the
 -- struct's handle, and the meaning goes to it step by step, from member to member and from element to element.
-use Rattle.std.proofs.Common.{◌≡◌, ℕ, ◌+◌, ◌*◌, ◌<◌, ◌≤◌, Bool, true, false, ℤ, pos, ◌+ℤ◌, ◌*ℤ◌, List, Option, Some, None, refl, sym, ap, ◌∙◌, arith}
+use Rattle.std.proofs.Common.{◌≡◌, ℕ, zero, suc, ◌+◌, ◌*◌, ◌<◌, ◌≤◌, Bool, true, false, ℤ, pos, ◌+ℤ◌, ◌*ℤ◌, List, Option, Some, None, refl, sym, ap, ◌∙◌, arith, mul-le-mul_left, mul-le-mul_right}
 use Rattle.std.specs.Prelude.{if◌then◌else◌}
 use Rattle.std.specs.Ordering.{int_eq}
 use Rattle.std.proofs.lemmas.Bool.{le-leb}
 use Rattle.std.proofs.lemmas.Bool.Decides.{Decides-int_eq}
 use Rattle.std.proofs.lemmas.Int.{ints}
-use Rattle.c_types.specs.Layout.{Table}
-use Rattle.c_meaning.specs.Shapes.{Shape, elements, Part, part_of, size}
+use Rattle.c_types.specs.declared.types.Scalar.{Scalar}
+use Rattle.c_types.specs.declared.types.Scalar.TheVariants as scalars
+use Rattle.c_types.specs.Layout.{Layout, Table, depth, layout_at, size as type_size}
+use Rattle.c_types.specs.Types.{Ty, void, integer, struct, pointer, array, function, is_function, scalar_of}
+use Rattle.c_meaning.specs.Shapes.{Shape, scalar, elements, record', Members, no_members, Part, part_of, members_with, shape, shape_in, size, struct_shape, width}
 use Rattle.c_meaning.specs.Values.{Value, inside, to_member}
 use Rattle.c_meaning.specs.Objects.{Object, further, gives, index_in, moved}
 use Rattle.ms_handle.specs.declared.handle.Handle.{Handle}
 use Rattle.ms_handle.specs.declared.handle.Handle.TheVariants as handles
 use Rattle.ms_handle.specs.Handle.{add, is_near, moved as moved_handle, slice}
 use Rattle.ms_segment.specs.Memory.{Memory}
-use Rattle.ms_relate.specs.refinement.Homes.{Home, handle, Leads, leads_null, leads_invalid, leads_to}
+use Rattle.ms_relate.specs.refinement.Homes.{Home, IsOf, IsScalar, handle, Leads, leads_null, leads_invalid, leads_to}
 use Rattle.ms_relate.specs.refinement.Laid.{Fits}
 use Rattle.ms_relate.specs.refinement.Relation.{Related}
 use Rattle.ms_relate.proofs.Accesses.{index_ends}
 use Rattle.ms_relate.proofs.Laid.{size-positive}
-use Rattle.ms_relate.proofs.Moving.{moved_leads, moved_still_leads}
+use Rattle.ms_relate.proofs.Moving.{is_of_leads, moved_leads, moved_still_leads}
 use Rattle.ms_relate.proofs.Parts.{inside_part, low, low_slice, member_part}
 use Rattle.ms_relate.proofs.Slicing.{slice_is, sliced}
+
+-- ---- types of leaves
+
+-- a type whose shape holds one value is of one value
+pub leaf_type : (t : Ty) → 0 < width t → (s : Scalar) × IsScalar t × (scalar_of t ≡ Some s)
+leaf_type (integer u) some = (scalars.Int u, tt, refl)
+leaf_type (pointer u) some = (if is_function u then scalars.Function else scalars.Pointer, tt, refl)
+leaf_type void some = absurd (omega (arith, some))
+leaf_type (struct n) some = absurd (omega (arith, some))
+leaf_type (array u n) some = absurd (omega (arith, some))
+leaf_type (function r ps) some = absurd (omega (arith, some))
+
+-- its size is that of its shape
+pub leaf_size : (table : Table) (t : Ty) → IsScalar t → type_size table t ≡ width t
+leaf_size table (integer u) is = refl
+leaf_size table (pointer u) is = refl
+leaf_size table void is = absurd is
+leaf_size table (struct n) is = absurd is
+leaf_size table (array u n) is = absurd is
+leaf_size table (function r ps) is = absurd is
+
+-- a pointer to a leaf is a pointer to its type
+pub to_leaf : (table : Table) (places : ℕ → ℕ) (hs : List Home) (t : Ty) (v : Value) → IsScalar t → Leads hs (scalar t) v → IsOf table places hs (pointer t) v
+to_leaf table places hs (integer u) v is leads = is_of_leads table places hs (integer u) v refl leads
+to_leaf table places hs (pointer u) v is leads = is_of_leads table places hs (pointer u) v refl leads
+to_leaf table places hs void v is leads = absurd is
+to_leaf table places hs (struct n) v is leads = absurd is
+to_leaf table places hs (array u n) v is leads = absurd is
+to_leaf table places hs (function r ps) v is leads = absurd is
+
+-- the shape of a struct is one of members
+abbrev pub IsRecord : Shape → Type 0
+IsRecord s = (k : ℕ) × (ms : Members) × (s ≡ record' k ms)
+
+pub struct_record : (table : Table) (n : ℕ) → IsRecord (shape table (struct n))
+struct_record table n = by (depth table (struct n)) where
+  laid : (of : ℕ → Shape) (o : Option Layout) → IsRecord (shape_in of o)
+  laid of None = (0, no_members, refl)
+  laid of (Some l) = (l.size, members_with of l.members l.offsets, refl)
+
+  by : (d : ℕ) → IsRecord (struct_shape table d n)
+  by zero = (0, no_members, refl)
+  by (suc d) = laid (struct_shape table d) (layout_at table n)
+
+-- some elements, and the bytes of one, are no more than the bytes of all
+pub few : (k n : ℕ) → 0 < k → 0 < n → k * n < 4294967296 → (k < 4294967296) × (n < 4294967296)
+few k n some some' lt =
+    let a : k * 1 ≤ k * n = mul-le-mul_left k some' in let b : 1 * n ≤ k * n = mul-le-mul_right n some in (omega (arith, a, lt), omega (arith, b, lt))
 
 -- ---- of handles alone
 

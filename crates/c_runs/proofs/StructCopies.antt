@@ -1,7 +1,7 @@
 -- A struct is copied leaf by leaf, in rising order (C11, 6.5.16.1): the handles of both places wait in scratch locals; for each leaf either
 -- is sliced and moved to it, and its value is read there and written here, also where the two structs overlap.
-use Rattle.std.proofs.Common.{◌≡◌, ℕ, zero, suc, ◌+◌, ◌*◌, ◌^◌, ◌<◌, ◌≤◌, Bool, true, false, ℤ, pos, List, [], ◌∷◌, ◌++◌, append_assoc, length, length-append, add-zero, zero-add, mul-le-mul_left, mul-le-mul_right, Option, Some, None, refl, sym, ap, ◌∙◌, arith, subst}
-use Rattle.std.specs.Prelude.{slice_get, if◌then◌else◌}
+use Rattle.std.proofs.Common.{◌≡◌, ℕ, zero, suc, ◌+◌, ◌*◌, ◌^◌, ◌<◌, ◌≤◌, Bool, true, false, ℤ, pos, List, [], ◌∷◌, ◌++◌, append_assoc, length, length-append, add-zero, zero-add, Option, Some, None, refl, sym, ap, ◌∙◌, arith, subst}
+use Rattle.std.specs.Prelude.{slice_get}
 use Rattle.ms_handle.specs.declared.handle.Handle.{Handle as HandleOf}
 use Rattle.ms_handle.specs.Handle.{add, slice}
 use Rattle.ms_linear.specs.declared.value.Value.{Value as Word}
@@ -16,10 +16,9 @@ use Rattle.ms_segment.specs.Memory.{Memory, once_more}
 use Rattle.ms_task.specs.Thread.{Do, Item, Thread, thread}
 use Rattle.c_types.specs.declared.integers.IntType.TheVariants.{LongLong}
 use Rattle.c_types.specs.declared.types.Scalar.{Scalar}
-use Rattle.c_types.specs.declared.types.Scalar.TheVariants as scalars
-use Rattle.c_types.specs.Layout.{Layout, Table, depth, layout_at, size as type_size}
-use Rattle.c_types.specs.Types.{Ty, void, integer, struct, pointer, array, function, is_function, scalar_of}
-use Rattle.c_meaning.specs.Shapes.{Shape, scalar, elements, record', Members, no_members, member, Part, nth_member, part_of, members_with, shape, shape_in, size, struct_shape, width}
+use Rattle.c_types.specs.Layout.{Table, size as type_size}
+use Rattle.c_types.specs.Types.{Ty, void, struct, pointer, scalar_of}
+use Rattle.c_meaning.specs.Shapes.{Shape, scalar, elements, record', Members, no_members, member, Part, nth_member, part_of, shape, size, width}
 use Rattle.c_meaning.specs.Values.{Value, inside, to_member}
 use Rattle.c_meaning.specs.Objects as objects
 use Rattle.c_meaning.specs.Objects.{Object, Outcome, copy, copy_members, copy_value, each_from, moved, read, write}
@@ -41,7 +40,7 @@ use Rattle.ms_relate.specs.refinement.Laid.{Fits, FitMembers}
 use Rattle.ms_relate.proofs.Acts.{act_gives, act_traps, load_acts, store_acts}
 use Rattle.ms_relate.proofs.Growing.{Extends, related_once_more}
 use Rattle.ms_relate.proofs.Laid.{member_fits, size-positive}
-use Rattle.ms_relate.proofs.Moving.{is_of_leads, leads_of}
+use Rattle.ms_relate.proofs.Moving.{leads_of}
 use Rattle.ms_relate.proofs.Parts.{low}
 use Rattle.c_runs.proofs.Goes as goes
 use Rattle.c_runs.proofs.Goes.{Goes, Mem, Runs, RunsTo, Site, Stops, after_goes, goes_on, one_here, resize_to, stays, stops_behind, trapped}
@@ -56,55 +55,7 @@ use Rattle.c_runs.proofs.Switches.{IsTemp, set_goes, set_stays, with_temp}
 use Rattle.c_runs.proofs.Cells.{Leads as LeadsBy, address_runs, gets, pointer_word}
 use Rattle.c_runs.proofs.Members.{slice_goes}
 use Rattle.c_runs.proofs.Strings.{changed, unsafe_as}
-use Rattle.c_runs.proofs.LeafHandles.{IsElement, IsIn, all_in, elements_in, member_in}
-
--- ---- types of leaves
-
--- a type whose shape holds one value is of one value
-leaf_type : (t : Ty) → 0 < width t → (s : Scalar) × IsScalar t × (scalar_of t ≡ Some s)
-leaf_type (integer u) some = (scalars.Int u, tt, refl)
-leaf_type (pointer u) some = (if is_function u then scalars.Function else scalars.Pointer, tt, refl)
-leaf_type void some = absurd (omega (arith, some))
-leaf_type (struct n) some = absurd (omega (arith, some))
-leaf_type (array u n) some = absurd (omega (arith, some))
-leaf_type (function r ps) some = absurd (omega (arith, some))
-
--- its size is that of its shape
-leaf_size : (table : Table) (t : Ty) → IsScalar t → type_size table t ≡ width t
-leaf_size table (integer u) is = refl
-leaf_size table (pointer u) is = refl
-leaf_size table void is = absurd is
-leaf_size table (struct n) is = absurd is
-leaf_size table (array u n) is = absurd is
-leaf_size table (function r ps) is = absurd is
-
--- a pointer to a leaf is a pointer to its type
-to_leaf : (table : Table) (places : ℕ → ℕ) (hs : List Home) (t : Ty) (v : Value) → IsScalar t → Leads hs (scalar t) v → IsOf table places hs (pointer t) v
-to_leaf table places hs (integer u) v is leads = is_of_leads table places hs (integer u) v refl leads
-to_leaf table places hs (pointer u) v is leads = is_of_leads table places hs (pointer u) v refl leads
-to_leaf table places hs void v is leads = absurd is
-to_leaf table places hs (struct n) v is leads = absurd is
-to_leaf table places hs (array u n) v is leads = absurd is
-to_leaf table places hs (function r ps) v is leads = absurd is
-
--- the shape of a struct is one of members
-abbrev IsRecord : Shape → Type 0
-IsRecord s = (k : ℕ) × (ms : Members) × (s ≡ record' k ms)
-
-struct_record : (table : Table) (n : ℕ) → IsRecord (shape table (struct n))
-struct_record table n = by (depth table (struct n)) where
-  laid : (of : ℕ → Shape) (o : Option Layout) → IsRecord (shape_in of o)
-  laid of None = (0, no_members, refl)
-  laid of (Some l) = (l.size, members_with of l.members l.offsets, refl)
-
-  by : (d : ℕ) → IsRecord (struct_shape table d n)
-  by zero = (0, no_members, refl)
-  by (suc d) = laid (struct_shape table d) (layout_at table n)
-
--- some elements, and the bytes of one, are no more than the bytes of all
-few : (k n : ℕ) → 0 < k → 0 < n → k * n < 4294967296 → (k < 4294967296) × (n < 4294967296)
-few k n some some' lt =
-    let a : k * 1 ≤ k * n = mul-le-mul_left k some' in let b : 1 * n ≤ k * n = mul-le-mul_right n some in (omega (arith, a, lt), omega (arith, b, lt))
+use Rattle.c_runs.proofs.LeafHandles.{IsElement, IsIn, IsRecord, all_in, elements_in, few, leaf_size, leaf_type, member_in, struct_record, to_leaf}
 
 -- ---- an end that comes within fewer steps
 
