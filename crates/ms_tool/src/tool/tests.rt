@@ -137,12 +137,13 @@ fn answer_to_line(alloc: Global, line: &str, world: &mut Outside) -> Result<Stat
     Ok(answer_to(alloc, words.as_slice(), world))
 }
 
-/// Words, the file `a.wat`, which is `a.c`, too, and what is wanted: the status, the report, the output, what the input gives next,
-/// and the file `o`.
+/// Words, the file `a.wat`, which is `a.c`, too, the input, and what is wanted: the status, the report, the output, what the input
+/// gives next, and the file `o`.
 #[derive(Clone, Copy)]
 struct Row {
     words: &'static str,
     text: &'static str,
+    input: &'static str,
     status: Status,
     report: &'static str,
     output: &'static str,
@@ -154,6 +155,7 @@ struct Row {
 const QUIET: Row = Row {
     words: "",
     text: "",
+    input: "hi",
     status: Status::Done,
     report: "",
     output: "",
@@ -165,6 +167,7 @@ const QUIET: Row = Row {
 fn row_world(alloc: Global, row: &Row) -> Result<Outside, Fail> {
     let mut world = world(alloc, "a.wat", row.text.as_bytes())?;
     add_file(alloc, &mut world.shelf, "a.c", row.text.as_bytes())?;
+    world.input = MemSource::new(alloc, Vec::from_slice(alloc, row.input.as_bytes())?);
     Ok(world)
 }
 

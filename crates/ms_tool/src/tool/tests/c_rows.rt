@@ -2,7 +2,7 @@
 
 use super::*;
 
-pub const C_ROWS: [Row; 38] = [
+pub const C_ROWS: [Row; 52] = [
     Row {
         words: "exec a.c",
         text: "int main(void){return 7;}",
@@ -19,7 +19,7 @@ pub const C_ROWS: [Row; 38] = [
     },
     Row {
         words: "exec a.c --budget 0",
-        text: "int main(void){return 7;}",
+        text: "int main(void){for(;;){}}",
         status: Status::OutOfBudget,
         report: "out of budget\n",
         ..QUIET
@@ -52,6 +52,111 @@ pub const C_ROWS: [Row; 38] = [
         report: "result 0\n",
         output: "hi",
         next: Got::End,
+        ..QUIET
+    },
+    Row {
+        words: "exec a.c",
+        text: ECHO,
+        input: "",
+        status: Status::Done,
+        report: "result 0\n",
+        next: Got::End,
+        ..QUIET
+    },
+    Row {
+        words: "run traced-unit",
+        text: ECHO,
+        status: Status::Done,
+        report: "result 0\n",
+        output: "hi",
+        next: Got::End,
+        written: Some(""),
+        ..QUIET
+    },
+    Row {
+        words: "exec a.c",
+        text: "int main(void){int (*f)(void)=0; return f();}",
+        status: Status::Trapped,
+        report: "trap element\n",
+        ..QUIET
+    },
+    Row {
+        words: "exec a.c",
+        text: "int add(int a,int b){return a+b;} int main(void){int (*f)(int,int)=add; return f(2,3);}",
+        status: Status::Done,
+        report: "result 5\n",
+        ..QUIET
+    },
+    Row {
+        words: "exec a.c",
+        text: "int f(int n){return f(n+1);} int main(void){return f(0);}",
+        status: Status::Trapped,
+        report: "trap depth\n",
+        ..QUIET
+    },
+    Row {
+        words: "exec a.c",
+        text: "int f(int n){if(n==0) return 0; return f(n-1);} int main(void){return f(16382);}",
+        status: Status::Done,
+        report: "result 0\n",
+        ..QUIET
+    },
+    Row {
+        words: "exec a.c",
+        text: "int f(int n){if(n==0) return 0; return f(n-1);} int main(void){return f(16383);}",
+        status: Status::Trapped,
+        report: "trap depth\n",
+        ..QUIET
+    },
+    Row {
+        words: "exec a.c --memory 16777217",
+        text: "int main(void){return 7;}",
+        status: Status::Done,
+        report: "result 7\n",
+        ..QUIET
+    },
+    Row {
+        words: "exec a.c --memory 1073741825",
+        text: "int main(void){return 7;}",
+        status: Status::Usage,
+        report: USAGE,
+        ..QUIET
+    },
+    Row {
+        words: "exec a.c",
+        text: "struct s{int a;int b;}; int main(void){struct s x; struct s y; x.a=3; x.b=4; y=x; return y.a*10+y.b;}",
+        status: Status::Done,
+        report: "result 34\n",
+        ..QUIET
+    },
+    Row {
+        words: "check a.c",
+        text: "struct s{int a[64];}; int main(void){struct s x; struct s y; y=x; return 0;}",
+        status: Status::Done,
+        report: "valid\n",
+        ..QUIET
+    },
+    Row {
+        words: "check a.c",
+        text: "struct s{int a[65];}; int main(void){struct s x; struct s y; y=x; return 0;}",
+        status: Status::Refused,
+        report: "refused c limit copy\n",
+        ..QUIET
+    },
+    Row {
+        words: "run traced-unit",
+        text: "int main(void){int *p=calloc(65536,65536); return p==0;}",
+        status: Status::Done,
+        report: "result 1\n",
+        written: Some(""),
+        ..QUIET
+    },
+    Row {
+        words: "run traced-unit",
+        text: "int main(void){int *p=calloc(2,4); return p[1];}",
+        status: Status::Done,
+        report: "result 0\n",
+        written: Some("alloc 1 0 8\nread 1 0 8 4 4\n"),
         ..QUIET
     },
     Row {
