@@ -31,6 +31,7 @@ use Rattle.c_runs.specs.Threads.{Ran, Stop, ran, steps}
 use Rattle.c_runs.proofs.Goes as goes
 use Rattle.c_runs.proofs.Goes.{Goes, Mem, Stops, Tells, given, tells_nothing}
 use Rattle.c_runs.proofs.Grants.{Agrees, Fit}
+use Rattle.c_runs.proofs.Files.{filed_still}
 use Rattle.c_runs.proofs.Held.{held_still, words_still}
 use Rattle.c_runs.proofs.Lasting.{lasts_push, lasts_trans, open_on}
 use Rattle.c_runs.proofs.Related.{Env, Kept, Now, extends_trans, frame_of}
@@ -129,6 +130,7 @@ module _ (E : Env) (now : Now) (k : Kind) (s : Shape) (n : ℕ) (fits : Fits s) 
           apart = kept.apart;
           own = kept.own;
           lasts = lasts_trans now.objects w.objects w'.objects kept.lasts push;
+          file = filed_still E.unit.structs E.places E.files E.reached E.site.shared m.homes hs more w.globals w.literals m.globals kept.file;
         };
         home = home;
         at = subst (λ (j : ℕ). slice_get hs j ≡ Some home) long (slice_get-push_new m.homes home);

@@ -37,6 +37,8 @@ pub record Site : Type 0 where
   pub instances : List Instance
   pub tables : List Table
   pub memories : List Linear
+  -- how many globals there are
+  pub shared : ℕ
   -- of instructions in a function
   pub most : ℕ
 

@@ -148,6 +148,7 @@ module _ (E : Env) (x : ℕ) (t : Ty) (at_x : slice_get E.kinds x ≡ Some (t, t
       apart = made_apart;
       own = made_own;
       lasts = M.keeps.lasts;
+      file = M.keeps.file;
     }
 
   -- ---- the code

@@ -238,6 +238,7 @@ module _ (E : Env) where
         apart = apart_plain w.locals x v k.apart;
         own = own_plain (length now.objects) w.locals x v k.own;
         lasts = k.lasts;
+        file = k.file;
       }
 
       set_step : (now : Now) (w : World) (m : Mem) → Starts E hs now → Kept E now w m → (us vs : List Word) (r : List Item)

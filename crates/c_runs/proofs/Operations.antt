@@ -284,7 +284,7 @@ module _ (E : Env) where
         let lt : b < 2 ^ 8 = byte_below z in
         let room : 0 < length E.site.funcs = let t = L.three in omega (arith, t) in (
           m,
-          (small_is b lt, kept_world E now w.objects w w' m refl refl refl k.less k.bytes k),
+          (small_is b lt, kept_world E now w.objects w w' m refl refl refl refl refl k.less k.bytes k),
           puts_one E.site w w' m (Call 0) (frame_of E m w) (I32 (wrapped 32 z) ∷ vs) (I32 (wrapped 32 (pos b)) ∷ vs) r hosts.Putchar b
               (call_is m w 0 (I32 (wrapped 32 z) ∷ vs) r room ∙ ap (called (goes.store E.site m) 0 (thread (frame_of E m w) (I32 (wrapped 32 z) ∷ vs) r)) L.putchar)
               (ap (λ (q : ℕ). hosting.Gives (I32 q ∷ vs) (Some q)) byte ∙ ap (λ (q : ℕ). hosting.Gives (I32 q ∷ vs) (Some b)) (sym (small_same b lt))) refl refl refl
@@ -311,7 +311,7 @@ module _ (E : Env) where
         let bytes : AreBytes (None ∷ bs) = subst AreBytes e k.bytes in
         let w' : World = record w { input = bs } in (
           m,
-          (refl, kept_world E now w.objects w w' m refl refl refl k.less bytes.1 k),
+          (refl, kept_world E now w.objects w w' m refl refl refl refl refl k.less bytes.1 k),
           takes_one E.site w w' m (Call 1) (frame_of E m w) vs (I32 4294967295 ∷ vs) r hosts.Getchar
               (call_is m w 1 vs r room ∙ ap (called (goes.store E.site m) 1 (thread (frame_of E m w) vs r)) L.getchar)
               (ap (λ (l : Input). host_on hosts.Getchar (first_of l) vs) e) refl
@@ -323,7 +323,7 @@ module _ (E : Env) where
         let lt : b < 256 = bytes.0 in
         let w' : World = record w { input = bs } in (
           m,
-          (small_is b lt, kept_world E now w.objects w w' m refl refl refl k.less bytes.1 k),
+          (small_is b lt, kept_world E now w.objects w w' m refl refl refl refl refl k.less bytes.1 k),
           takes_one E.site w w' m (Call 1) (frame_of E m w) vs (I32 (wrapped 32 (pos b)) ∷ vs) r hosts.Getchar
               (call_is m w 1 vs r room ∙ ap (called (goes.store E.site m) 1 (thread (frame_of E m w) vs r)) L.getchar)
               (ap (λ (l : Input). host_on hosts.Getchar (first_of l) vs) e ∙ ap (λ (q : ℕ). hosting.Gives (I32 q ∷ vs) None) (sym (small_same b lt))) refl

@@ -272,6 +272,7 @@ module _ (E : Env) where
     apart = k.apart;
     own = k.own;
     lasts = lasts_trans now.objects w.objects qs k.lasts l;
+    file = k.file;
   }
 
   -- with other segments of the same objects
@@ -288,6 +289,7 @@ module _ (E : Env) where
     apart = k.apart;
     own = k.own;
     lasts = k.lasts;
+    file = k.file;
   }
 
   -- and the locals behind the slots are as they were
