@@ -18,8 +18,8 @@ use Rattle.c_check_types.specs.TypeEquality.{same_type}
 use Rattle.c_check_types.specs.Types.{size_of}
 use Rattle.c_conversions.specs.Conversions.{Form, value, at_type}
 use Rattle.c_check_exprs.specs.Expressions.{copied, stored, assigned, worked, goes_back, updated, assigning, stepped, a_step, cast}
-use Rattle.c_well_typed.specs.refinement.Types.{IsValue, IsType}
-use Rattle.c_well_typed.specs.refinement.Expressions.{IsPlace, IsPromoted}
+use Rattle.c_typed.specs.refinement.Types.{IsValue, IsType}
+use Rattle.c_typed.specs.refinement.Expressions.{IsPlace, IsPromoted}
 use Rattle.c_check.proofs.States.{context, Good, Quiet, Does}
 use Rattle.c_check.proofs.Extension.{quiet-same}
 use Rattle.c_check.proofs.Rules.{ends, given-then, only-then, quietly}

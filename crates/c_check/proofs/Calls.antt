@@ -11,8 +11,8 @@ use Rattle.c_check_types.specs.State.{State, Rule}
 use Rattle.c_conversions.specs.Conversions as form
 use Rattle.c_conversions.specs.Conversions.{Form, value, zero, bytes, product, allocation}
 use Rattle.c_check_exprs.specs.Expressions.{exprs_of, function_number, call_of, called, freed, freeing, putting, allocating, multiplying, no_arguments, library_call, calling}
-use Rattle.c_well_typed.specs.refinement.Types.{AreParameters}
-use Rattle.c_well_typed.specs.refinement.Expressions.{Context, HasType, HaveTypes}
+use Rattle.c_typed.specs.refinement.Types.{AreParameters}
+use Rattle.c_typed.specs.refinement.Expressions.{Context, HasType, HaveTypes}
 use Rattle.c_check.proofs.States.{context, Good, Quiet, Does}
 use Rattle.c_check.proofs.Extension.{quiet-same}
 use Rattle.c_check.proofs.Rules.{ends, given-then, only-then, quietly}

@@ -15,9 +15,9 @@ use Rattle.c_check_types.specs.TypeEquality.{same_integer, same_type}
 use Rattle.c_check_types.specs.Types.{measured, size_of}
 use Rattle.c_conversions.specs.Conversions as form
 use Rattle.c_conversions.specs.Conversions.{Amount, bytes, product, Form, place, value, designator, text, zero, allocation, allocation_of, operand, read_place, literal_pointer, plain, value_of, as_integer, integer_of, as_pointer, pointer_of, as_place, place_of, at_type, condition, condition_of, null_of, to_integer, to_pointer, allocated, assigned_to, thrown_away}
-use Rattle.c_well_typed.specs.refinement.Types.{IsScalar, IsValue, MayBeLedTo, IsType}
-use Rattle.c_well_typed.specs.refinement.Expressions.{Context, HasType, IsPlace, IsCondition}
-use Rattle.c_well_typed.specs.Statements.{IsDone}
+use Rattle.c_typed.specs.refinement.Types.{IsScalar, IsValue, MayBeLedTo, IsType}
+use Rattle.c_typed.specs.refinement.Expressions.{Context, HasType, IsPlace, IsCondition}
+use Rattle.c_typed.specs.Statements.{IsDone}
 use Rattle.c_check.proofs.States.{context, Good, Quiet, IsText, Grows, Does, bind}
 use Rattle.c_check.proofs.Extension.{extends-same, quiet-same, quiet-onward, type-kept}
 use Rattle.c_check.proofs.Growth.{expr-grown, place-grown}

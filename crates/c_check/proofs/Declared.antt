@@ -10,8 +10,8 @@ use Rattle.c_check_types.specs.State.{State}
 use Rattle.c_check_types.specs.Types.{measured, Derived, whole, lengthless, Parameter, types_of_parameters}
 use Rattle.c_declare.specs.Functions.{enters_parameter, enters_parameters}
 use Rattle.c_declare.specs.Initials.{given_length, variable_type}
-use Rattle.c_well_typed.specs.refinement.Types.{IsObject}
-use Rattle.c_well_typed.specs.Units.{list_of, numbers}
+use Rattle.c_typed.specs.refinement.Types.{IsObject}
+use Rattle.c_typed.specs.Units.{list_of, numbers}
 use Rattle.c_check.proofs.States.{front, Good, Quiet, Steps, Does}
 use Rattle.c_check.proofs.Extension.{quiet-same, steps-same}
 use Rattle.c_check.proofs.Rules.{stepping, ends, given-then}

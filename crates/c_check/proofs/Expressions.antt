@@ -16,8 +16,8 @@ use Rattle.c_check_types.specs.Operators.{operator_of}
 use Rattle.c_conversions.specs.Conversions.{value, text}
 use Rattle.c_operators.specs.Operations.{choice}
 use Rattle.c_check_exprs.specs.Expressions.{exprs_of, a_place, a_condition, as_assigned, performed, step_operator, assign_operator, called_library, constant_form, typing, sole, factors, arguments}
-use Rattle.c_well_typed.specs.refinement.Types.{IsType, AreParameters}
-use Rattle.c_well_typed.specs.refinement.Expressions.{Context, HasType, HaveTypes}
+use Rattle.c_typed.specs.refinement.Types.{IsType, AreParameters}
+use Rattle.c_typed.specs.refinement.Expressions.{Context, HasType, HaveTypes}
 use Rattle.c_check.proofs.States.{context, Good, Quiet, Does}
 use Rattle.c_check.proofs.Extension.{quiet-same, quiet-grows, parameters-kept}
 use Rattle.c_check.proofs.Growth.{exprs-grown}

@@ -8,9 +8,9 @@ use Rattle.c_typed.specs.Tree as tree
 use Rattle.c_typed.specs.Tree.{Function, Made}
 use Rattle.c_check_types.specs.State.{Scope, State}
 use Rattle.c_check_types.specs.Scopes.{outer}
-use Rattle.c_well_typed.specs.refinement.Types.{IsType, IsObject, AreParameters}
-use Rattle.c_well_typed.specs.refinement.Expressions.{IsMember, is_visible}
-use Rattle.c_well_typed.specs.Units.{literals_in}
+use Rattle.c_typed.specs.refinement.Types.{IsType, IsObject, AreParameters}
+use Rattle.c_typed.specs.refinement.Expressions.{IsMember, is_visible}
+use Rattle.c_typed.specs.Units.{literals_in}
 use Rattle.c_check.proofs.States.{context, visible_in, front, Extends, IsText, MakesTexts, Quiet, IsNew, IsAbove, Steps, Grows}
 use Rattle.c_check.proofs.Visibility.{in-left, in-neither, below-all}
 

@@ -19,10 +19,10 @@ use Rattle.c_check_types.specs.Types.{Derived, whole, lengthless, whole_type, Pa
 use Rattle.c_declare.specs.Functions.{has_no_body, result_in, defined, with_definition, with_body}
 use Rattle.c_check.specs.Statements.{scope_of, nothing_done, is_missing}
 use Rattle.c_check.specs.Declarations.{global_value, declares_global, names_function, declares, declares_one, declaration, defines_function, definition, stands_alone, form, external}
-use Rattle.c_well_typed.specs.refinement.Types.{IsType, IsObject}
-use Rattle.c_well_typed.specs.refinement.Expressions.{is_visible}
-use Rattle.c_well_typed.specs.Statements.{no_jumps, IsStatement}
-use Rattle.c_well_typed.specs.Units.{literals_in, numbers, list_of, IsGiven}
+use Rattle.c_typed.specs.refinement.Types.{IsType, IsObject}
+use Rattle.c_typed.specs.refinement.Expressions.{is_visible}
+use Rattle.c_typed.specs.Statements.{no_jumps, IsStatement}
+use Rattle.c_typed.specs.Units.{literals_in, numbers, list_of, IsGiven}
 use Rattle.c_check.proofs.States.{context, visible_in, front, Good, Extends, Quiet, Steps, Grows, Does}
 use Rattle.c_check.proofs.Extension.{extends-same, extends-onward, get-kept, type-kept, object-kept, quiet-steps, steps-onward, steps-grows}
 use Rattle.c_check.proofs.Rules.{step, ends, given-then, only-then}

@@ -7,10 +7,10 @@ use Rattle.c_typed.specs.declared.ops.Variable.{Variable}
 use Rattle.c_typed.specs.declared.ops.Variable.TheVariants.{Local, Global}
 use Rattle.c_typed.specs.Tree as tree
 use Rattle.c_typed.specs.Tree.{Place, Expr, Exprs, Stmt, Stmts, Made}
-use Rattle.c_well_typed.specs.refinement.Expressions.{Context, with_literals, opened, IsVariable, IsPlace, HasType, HaveTypes, IsCondition}
-use Rattle.c_well_typed.specs.declared.jumps.Jumps.{Jumps}
-use Rattle.c_well_typed.specs.Statements.{IsDone, IsStep, AreNew, in_loop, in_switch, IsStatement, AreStatements}
-use Rattle.c_well_typed.specs.Units.{IsGiven, IsMade}
+use Rattle.c_typed.specs.refinement.Expressions.{Context, with_literals, opened, IsVariable, IsPlace, HasType, HaveTypes, IsCondition}
+use Rattle.c_typed.specs.declared.jumps.Jumps.{Jumps}
+use Rattle.c_typed.specs.Statements.{IsDone, IsStep, AreNew, in_loop, in_switch, IsStatement, AreStatements}
+use Rattle.c_typed.specs.Units.{IsGiven, IsMade}
 use Rattle.c_check.proofs.States.{Grows}
 use Rattle.c_check.proofs.Visibility.{still-on, still-off}
 use Rattle.c_check.proofs.Extension.{size-kept, small-kept, type-kept, member-kept}

@@ -9,11 +9,11 @@ use Rattle.c_typed.specs.Tree as tree
 use Rattle.c_typed.specs.Tree.{Function, Made, Stmt, Typed}
 use Rattle.c_typed.specs.declared.unit.Subject.TheVariants as subjects
 use Rattle.c_check_types.specs.State.{State}
-use Rattle.c_well_typed.specs.refinement.Types.{IsObject}
-use Rattle.c_well_typed.specs.refinement.Expressions.{Context, is_visible}
-use Rattle.c_well_typed.specs.Statements.{no_jumps, IsStatement}
+use Rattle.c_typed.specs.refinement.Types.{IsObject}
+use Rattle.c_typed.specs.refinement.Expressions.{Context, is_visible}
+use Rattle.c_typed.specs.Statements.{no_jumps, IsStatement}
 use Rattle.c_typed.specs.Identifiers.{is_identifier}
-use Rattle.c_well_typed.specs.Units.{HasIdentifier, HaveNames, literals_in, variables_in, numbers, context_of, list_of, IsBody, IsFunction, IsMade, IsGiven, IsWellTyped}
+use Rattle.c_typed.specs.Units.{HasIdentifier, HaveNames, literals_in, variables_in, numbers, context_of, list_of, IsBody, IsFunction, IsMade, IsGiven, IsWellTyped}
 use Rattle.c_declare.specs.Functions.{defined}
 use Rattle.c_check.specs.Units.{typed_state}
 use Rattle.c_check.proofs.States.{context, visible_in, IsBelow, Good, IsDeclared, Extends, IsText, IsNew, Steps, Grows}

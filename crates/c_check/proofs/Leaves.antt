@@ -22,9 +22,9 @@ use Rattle.c_check_types.specs.TypeEquality.{same_type}
 use Rattle.c_check_types.specs.Types.{measured}
 use Rattle.c_check_types.specs.Constants.{value_at, meant}
 use Rattle.c_declare.specs.Initials.{bare, is_address, is_char, string_of, at_most, fills}
-use Rattle.c_well_typed.specs.refinement.Types.{IsScalar, IsType, IsObject}
-use Rattle.c_well_typed.specs.refinement.Expressions.{Context, HasType, IsPlace, IsMember}
-use Rattle.c_well_typed.specs.Units.{IsGiven}
+use Rattle.c_typed.specs.refinement.Types.{IsScalar, IsType, IsObject}
+use Rattle.c_typed.specs.refinement.Expressions.{Context, HasType, IsPlace, IsMember}
+use Rattle.c_typed.specs.Units.{IsGiven}
 use Rattle.c_check.proofs.States.{context, Good, Quiet, Grows, Does}
 use Rattle.c_check.proofs.Extension.{type-kept, object-kept, quiet-same, quiet-grows}
 use Rattle.c_check.proofs.Rules.{quietly, ends, given-then, only-then}

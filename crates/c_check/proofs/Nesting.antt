@@ -20,7 +20,7 @@ use Rattle.c_check_types.specs.Scopes.{no_names, outer as outside}
 use Rattle.c_check_types.specs.State.{State}
 use Rattle.c_check_types.specs.Types.{Derived, whole, lengthless, whole_type, Parameter}
 use Rattle.c_declare.specs.Functions.{has_no_body, is_declared_alone, defined, with_definition, with_body, result_in}
-use Rattle.c_well_typed.specs.Statements.{no_jumps}
+use Rattle.c_typed.specs.Statements.{no_jumps}
 use Rattle.c_check.specs.Declarations.{global_value, declares_global, names_function, declares_alone, declares, declares_one, declaration, defines_function, definition, stands_alone, form, external}
 use Rattle.c_check.specs.Statements.{scope_of, nothing_done, is_missing}
 use Rattle.c_check.specs.Units.{start, typed_state, going_on, externals, typing_of}

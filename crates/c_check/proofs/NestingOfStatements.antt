@@ -28,8 +28,8 @@ use Rattle.c_check_types.specs.TypeEquality.{same_type}
 use Rattle.c_check_types.specs.Types.{Derived, whole, lengthless}
 use Rattle.c_declare.specs.Initials.{bare, is_address, fills}
 use Rattle.c_check_exprs.specs.Expressions.{typing}
-use Rattle.c_well_typed.specs.declared.jumps.Jumps.{Jumps}
-use Rattle.c_well_typed.specs.Statements.{in_loop, in_switch}
+use Rattle.c_typed.specs.declared.jumps.Jumps.{Jumps}
+use Rattle.c_typed.specs.Statements.{in_loop, in_switch}
 use Rattle.c_check.specs.Initialisers.{is_known, pointer_constant, static_value, leaf, string_value, scalar_value, single_value, member_type, inside, elements, members, from_place, copied_from, initialised}
 use Rattle.c_check.specs.Statements.{Declaring, nothing_done, scope_of, local_value, declares_variable, is_missing, declares_function_there, declares, declares_one, declaration, declaration_of, test_of, step_of, first_of, in_front_of_loop, returned, is_void, returned_nothing, jump_of, may_jump, is_nothing, with_group, is_among, labelled, defaulted, case_label, default_label, switched_on, switch_of, for_parts, statement, items}
 use Rattle.c_check.proofs.NestingOfForms.{nil, both, Any, Holds, Gives, any-holds, step, onward, done, ends, nothing, given-is, given-any, only_if-any, size_of-any, and_then-holds, ExprIn, ValueIn, assigned_to-nests, promoted-in}

@@ -35,8 +35,8 @@ use Rattle.c_conversions.specs.Conversions.{Form, place, value, designator, text
 use Rattle.c_typed.specs.Forms.{promoted_value, arithmetic, shift}
 use Rattle.c_operators.specs.Operations.{order, equality}
 use Rattle.c_check_exprs.specs.Expressions.{function_type, entity_form, name_form, operating, led_to, deref, address, plus, signed as sign_of, negated, size, size_of_value, unevaluated, member_named, member_in, member, element, constant_form}
-use Rattle.c_well_typed.specs.refinement.Types.{MayBeLedTo, IsType, IsObject}
-use Rattle.c_well_typed.specs.refinement.Expressions.{IsPlace, IsMember, is_visible}
+use Rattle.c_typed.specs.refinement.Types.{MayBeLedTo, IsType, IsObject}
+use Rattle.c_typed.specs.refinement.Expressions.{IsPlace, IsMember, is_visible}
 use Rattle.c_check.proofs.States.{context, visible_in, IsKnown, AreKnown, Good, IsDeclared, IsText, Quiet, Does}
 use Rattle.c_check.proofs.Extension.{quiet-same}
 use Rattle.c_check.proofs.Visibility.{in-left}

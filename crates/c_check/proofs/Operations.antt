@@ -17,8 +17,8 @@ use Rattle.c_conversions.specs.Conversions as form
 use Rattle.c_conversions.specs.Conversions.{Form, value, zero, at_type, null_of}
 use Rattle.c_typed.specs.Forms.{promoted_value, at_one_type, arithmetic, shift, compared}
 use Rattle.c_operators.specs.Operations.{moved, moved_by, difference, equal_pointers, sum, minus, ordered_pointers, order, Both, integers, pointers, voids, beside, equality_of, equality, chosen, choice_of, choice}
-use Rattle.c_well_typed.specs.refinement.Types.{IsValue, IsType}
-use Rattle.c_well_typed.specs.refinement.Expressions.{HasType, IsCondition, IsPromoted}
+use Rattle.c_typed.specs.refinement.Types.{IsValue, IsType}
+use Rattle.c_typed.specs.refinement.Expressions.{HasType, IsCondition, IsPromoted}
 use Rattle.c_check.proofs.States.{context, Good, Quiet, Does}
 use Rattle.c_check.proofs.Extension.{quiet-same}
 use Rattle.c_check.proofs.Rules.{ends, only-then}

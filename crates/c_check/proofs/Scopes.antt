@@ -14,9 +14,9 @@ use Rattle.c_check_types.specs.declared.entity.Entity.{Entity}
 use Rattle.c_check_types.specs.declared.entity.Entity.TheVariants as entities
 use Rattle.c_check_types.specs.State.{Names, State, Scope, number_of, followed}
 use Rattle.c_check_types.specs.Scopes.{library, no_names, outer, in_front, is_known, enters, opens, new_slot, enters_local, is_function as names_function, entity_in_front, enters_function, names_variable, a_function, new_function, has_type, old_function, old_or_new, declares_function, enters_global}
-use Rattle.c_well_typed.specs.refinement.Types.{IsType, IsObject}
-use Rattle.c_well_typed.specs.refinement.Expressions.{is_visible}
-use Rattle.c_well_typed.specs.Units.{HasIdentifier, HaveNames}
+use Rattle.c_typed.specs.refinement.Types.{IsType, IsObject}
+use Rattle.c_typed.specs.refinement.Expressions.{is_visible}
+use Rattle.c_typed.specs.Units.{HasIdentifier, HaveNames}
 use Rattle.c_check.proofs.States.{visible_in, front, IsKnown, AreKnown, AreNamed, IsBelow, IsAbove, Good, IsDeclared, Extends, Quiet, Steps, MakesTexts, IsNew, Does}
 use Rattle.c_check.proofs.Visibility.{in-left, visible-last}
 use Rattle.c_check.proofs.Extension.{extends-same, quiet-same, quiet-steps, steps-same, extends-onward, makes-onward, more, open-split}

@@ -3,7 +3,7 @@ use Rattle.std.proofs.Common.{◌≡◌, ℕ, ◌*◌, ◌<◌, ◌≤◌, ◌&&
 use Rattle.std.proofs.lemmas.Bool.Decides.{nat_tests}
 use Rattle.c_types.specs.Layout.{Table, IsSmall, size, most_bytes}
 use Rattle.c_types.specs.Types.{Ty, void, integer, struct, pointer, array, function, is_function}
-use Rattle.c_well_typed.specs.refinement.Types.{IsScalar}
+use Rattle.c_typed.specs.refinement.Types.{IsScalar}
 use Rattle.c_check_types.specs.Types.{measured, so_many}
 use Rattle.c_declare.proofs.Sizes.{chosen, integer_bits, is_measured, pointer_bytes}
 

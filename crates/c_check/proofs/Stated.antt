@@ -30,11 +30,11 @@ use Rattle.c_check_types.specs.Scopes.{outer}
 use Rattle.c_check_types.specs.Constants.{value_at}
 use Rattle.c_check_types.specs.Types.{Derived, whole, lengthless, Parameter}
 use Rattle.c_check_exprs.specs.Expressions.{typing}
-use Rattle.c_well_typed.specs.declared.jumps.Jumps.{Jumps}
-use Rattle.c_well_typed.specs.refinement.Types.{IsType, IsObject}
-use Rattle.c_well_typed.specs.refinement.Expressions.{Context, opened, is_visible, IsCondition, HasType, IsPromoted}
-use Rattle.c_well_typed.specs.Statements.{IsStep, AreNew, count, IsLabel, IsCase, AreDistinct, in_loop, in_switch, IsStatement, AreStatements}
-use Rattle.c_well_typed.specs.Units.{IsGiven}
+use Rattle.c_typed.specs.declared.jumps.Jumps.{Jumps}
+use Rattle.c_typed.specs.refinement.Types.{IsType, IsObject}
+use Rattle.c_typed.specs.refinement.Expressions.{Context, opened, is_visible, IsCondition, HasType, IsPromoted}
+use Rattle.c_typed.specs.Statements.{IsStep, AreNew, count, IsLabel, IsCase, AreDistinct, in_loop, in_switch, IsStatement, AreStatements}
+use Rattle.c_typed.specs.Units.{IsGiven}
 use Rattle.c_check.proofs.States.{context, visible_in, front, Good, Quiet, Steps, Grows, Does}
 use Rattle.c_check.proofs.Visibility.{above-all}
 use Rattle.c_check.proofs.Extension.{extends-same, type-kept, object-kept, quiet-same, steps-same, quiet-steps, quiet-onward, steps-onward, quiet-grows, steps-grows, open-split}

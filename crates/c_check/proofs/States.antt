@@ -9,9 +9,9 @@ use Rattle.c_check_types.specs.declared.entity.Entity.{Entity}
 use Rattle.c_check_types.specs.declared.entity.Entity.TheVariants as entities
 use Rattle.c_check_types.specs.State.{Names, Scope, State, Rule, followed, ◌>>=◌}
 use Rattle.c_check_types.specs.Scopes.{outer}
-use Rattle.c_well_typed.specs.refinement.Expressions.{Context, is_visible}
-use Rattle.c_well_typed.specs.refinement.Types.{IsType, IsObject}
-use Rattle.c_well_typed.specs.Units.{literals_in, AreMembers, HasIdentifier, HaveNames}
+use Rattle.c_typed.specs.refinement.Expressions.{Context, is_visible}
+use Rattle.c_typed.specs.refinement.Types.{IsType, IsObject}
+use Rattle.c_typed.specs.Units.{literals_in, AreMembers, HasIdentifier, HaveNames}
 
 -- the slots of the scopes, outer ones first
 abbrev pub visible_in : List Scope → List ℕ

@@ -16,8 +16,8 @@ use Rattle.c_types.proofs.Growth.{defined}
 use Rattle.c_check_types.specs.State.{State, number_of}
 use Rattle.c_check_types.specs.Types.{measured, whole, whole_type}
 use Rattle.c_declare.specs.Structs.{Open, opens_struct, with_member, declares_member, with_members, is_undefined, has_members, defines, closes, in_front, piece, all_pieces, last_one, outer}
-use Rattle.c_well_typed.specs.refinement.Types.{IsType, IsObject}
-use Rattle.c_well_typed.specs.Units.{AreMembers}
+use Rattle.c_typed.specs.refinement.Types.{IsType, IsObject}
+use Rattle.c_typed.specs.Units.{AreMembers}
 use Rattle.c_check.proofs.States.{Good, Extends, Quiet, Does}
 use Rattle.c_check.proofs.Extension.{quiet-same, quiet-onward, type-kept}
 use Rattle.c_check.proofs.Rules.{quietly, ends, given-then, only-then}

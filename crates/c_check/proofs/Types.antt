@@ -22,7 +22,7 @@ use Rattle.c_check_types.specs.Types.{measured, size_of, specified, integer_said
 use Rattle.c_check_types.specs.Constants.{natural, unary}
 use Rattle.c_check_types.specs.declared.constants.Constant.{Constant}
 use Rattle.c_types.proofs.Growth.{tagged}
-use Rattle.c_well_typed.specs.refinement.Types.{IsScalar, IsValue, MayBeLedTo, IsType, IsObject, AreParameters}
+use Rattle.c_typed.specs.refinement.Types.{IsScalar, IsValue, MayBeLedTo, IsType, IsObject, AreParameters}
 use Rattle.c_check.proofs.States.{Good, IsDeclared, Extends, Quiet, Does}
 use Rattle.c_check.proofs.Extension.{type-kept, object-kept, quiet-same}
 use Rattle.c_check.proofs.Rules.{quietly, ends, given-then, given-ends, only-then}

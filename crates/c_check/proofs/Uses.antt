@@ -9,8 +9,8 @@ use Rattle.c_typed.specs.Tree.{Place}
 use Rattle.c_check_types.specs.State.{State, Rule}
 use Rattle.c_conversions.specs.Conversions.{Form}
 use Rattle.c_check_exprs.specs.Expressions.{an_operand, a_value, an_integer, a_pointer, a_place, a_condition, as_assigned, performed}
-use Rattle.c_well_typed.specs.refinement.Types.{IsType}
-use Rattle.c_well_typed.specs.refinement.Expressions.{HasType, IsPlace, IsCondition}
+use Rattle.c_typed.specs.refinement.Types.{IsType}
+use Rattle.c_typed.specs.refinement.Expressions.{HasType, IsPlace, IsCondition}
 use Rattle.c_check.proofs.States.{context, Good, Quiet, Does}
 use Rattle.c_check.proofs.Extension.{quiet-grows, type-kept}
 use Rattle.c_check.proofs.Growth.{expr-grown, place-grown, condition-grown}

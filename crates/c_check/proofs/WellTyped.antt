@@ -5,8 +5,8 @@ use Rattle.c_types.specs.Layout.{Layout, layout_at}
 use Rattle.c_tree.specs.declared.external.External.{External}
 use Rattle.c_typed.specs.Tree.{Typed}
 use Rattle.c_check_types.specs.State.{State}
-use Rattle.c_well_typed.specs.refinement.Types.{IsObject}
-use Rattle.c_well_typed.specs.Units.{AreMembers, HasIdentifier, IsFunction, IsMade, IsWellTyped}
+use Rattle.c_typed.specs.refinement.Types.{IsObject}
+use Rattle.c_typed.specs.Units.{AreMembers, HasIdentifier, IsFunction, IsMade, IsWellTyped}
 use Rattle.c_check.proofs.States.{IsBelow, IsKnown, Good, IsDeclared}
 use Rattle.c_check.specs.Declarations.{external}
 use Rattle.c_check.specs.Units.{start, typed_state, going_on, externals, typing_of}

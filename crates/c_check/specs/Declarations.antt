@@ -22,7 +22,7 @@ use Rattle.c_declare.specs.Initials.{variable_type}
 use Rattle.c_declare.specs.Structs.{outer}
 use Rattle.c_check.specs.Initialisers.{initialised}
 use Rattle.c_check.specs.Statements.{scope_of, items, nothing_done, is_missing}
-use Rattle.c_well_typed.specs.Statements.{no_jumps}
+use Rattle.c_typed.specs.Statements.{no_jumps}
 
 -- ---- declarations at file scope
 

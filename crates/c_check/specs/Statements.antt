@@ -26,8 +26,8 @@ use Rattle.c_check_types.specs.Types.{Derived, whole, lengthless, specified, dec
 use Rattle.c_typed.specs.Parts.{sequence}
 use Rattle.c_declare.specs.Initials.{variable_type}
 use Rattle.c_check_exprs.specs.Expressions.{a_condition, an_integer, as_assigned, performed, typing}
-use Rattle.c_well_typed.specs.declared.jumps.Jumps.{Jumps}
-use Rattle.c_well_typed.specs.Statements.{in_loop, in_switch}
+use Rattle.c_typed.specs.declared.jumps.Jumps.{Jumps}
+use Rattle.c_typed.specs.Statements.{in_loop, in_switch}
 use Rattle.c_check.specs.Initialisers.{initialised}
 
 -- What is declared in a block, and what is done there; in a switch behind its last label. There the numbers of its labels,

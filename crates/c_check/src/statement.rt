@@ -6,7 +6,7 @@ ghost use Rattle.c_typed.specs.refinement.Views.{boxed_step, stmt_of};
 ghost use Rattle.c_tree.specs.Statements as tree;
 ghost use Rattle.c_check_types.specs.refinement.Views.{Obeys, state_of};
 ghost use Rattle.c_typed.specs.refinement.FormViews.{boxed_expr};
-ghost use Rattle.c_well_typed.specs.Statements.{in_loop, in_switch, no_jumps};
+ghost use Rattle.c_typed.specs.Statements.{in_loop, in_switch, no_jumps};
 ghost use Rattle.c_check.specs.Statements as words;
 ghost use Rattle.c_check.specs.refinement.Views.{boxed_stmt, declaring_of, item_rule};
 
@@ -20,7 +20,7 @@ use c_tree::{
 };
 use c_typed::{Expr, Stmt, boxed, do_while, if_else, loop_of, perform, return_value, while_loop};
 use c_types::{CType, IntType};
-use c_well_typed::Jumps;
+use c_typed::Jumps;
 use std::alloc::{AllocError, Global};
 
 /// The test of a `for`; a missing one holds (C11, 6.8.5.3).

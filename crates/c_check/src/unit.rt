@@ -6,7 +6,7 @@ ghost use Rattle.c_tree.specs.ExternalHeights.{unit_height};
 ghost use Rattle.c_typed.specs.refinement.Nesting.{unit_nesting};
 ghost use Rattle.c_typed.specs.refinement.Views.{names_in, typed_of};
 ghost use Rattle.c_check_types.specs.refinement.Views.{Obeys, state_of};
-ghost use Rattle.c_well_typed.specs.Units.{IsWellTyped};
+ghost use Rattle.c_typed.specs.Units.{IsWellTyped};
 ghost use Rattle.c_check.specs.Declarations as words;
 ghost use Rattle.c_check.specs.Units.{start, typed_state};
 ghost use Rattle.c_check.specs.refinement.Views.{Checks, GoesOn};
@@ -20,7 +20,7 @@ use c_token::Bytes;
 use c_tree::{External, ExternalForm, OuterSpecifier, SpecifierNode, Unit};
 use c_typed::TypedUnit;
 use c_types::{CType, Structs};
-use c_well_typed::Typed;
+use c_typed::Typed;
 use std::alloc::{AllocError, Global};
 use std::collections::LinkedList;
 

@@ -4,7 +4,7 @@ use mathlib.Core.Former.{Count}
 use Rattle.c_types.specs.declared.types.CType.{CType, Row_of-CType, end_of-CType, more_of-CType, items-the_row-CType, items_hidden-the_row-CType-0}
 use Rattle.c_types.specs.declared.types.CType.TheVariants as code
 use Rattle.c_types.specs.Types.{Ty, type_of, types_of}
-use Rattle.c_well_typed.specs.Units.{list_of}
+use Rattle.c_typed.specs.Units.{list_of}
 use Rattle.c_code.specs.Functions.{params_in}
 
 row_is : (n : _) (row : Row_of-CType n) → list_of (types_of row) ≡ map type_of (items-the_row-CType n row)

@@ -12,7 +12,7 @@ use Rattle.c_types.specs.Layout.{size}
 use Rattle.c_typed.specs.declared.ops.Variable.{Variable}
 use Rattle.c_typed.specs.declared.ops.Variable.TheVariants.{Local, Global}
 use Rattle.c_typed.specs.Tree.{Stmt, Function, Made, global, text, Typed}
-use Rattle.c_well_typed.specs.Units.{list_of, numbers}
+use Rattle.c_typed.specs.Units.{list_of, numbers}
 use Rattle.c_meaning.specs.Units.{string}
 use Rattle.ms_emit.specs.Codes.{Code, plain, one, no_code, ◌⨾◌, inner}
 use Rattle.c_code.specs.Operations.{store, val_of, zero_of}

@@ -24,7 +24,7 @@ use Rattle.c_typed.specs.declared.ops.Variable.{Variable}
 use Rattle.c_typed.specs.declared.ops.Variable.TheVariants.{Local, Global}
 use Rattle.c_typed.specs.Objects.{is_object}
 use Rattle.c_typed.specs.Tree.{Stmt, Function, Made, global, text, Typed}
-use Rattle.c_well_typed.specs.Units.{literals_in, numbers}
+use Rattle.c_typed.specs.Units.{literals_in, numbers}
 use Rattle.c_meaning.specs.Units.{is_global_object}
 use Rattle.ms_emit.specs.Codes.{inner, one}
 use Rattle.c_code.specs.Functions.{body, held_as, listed, locals, params_in, result_in, signature, start}

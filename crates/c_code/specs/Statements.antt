@@ -16,7 +16,7 @@ use Rattle.c_typed.specs.declared.ops.Variable.{Variable}
 use Rattle.c_typed.specs.declared.ops.Variable.TheVariants.{Local}
 use Rattle.c_typed.specs.declared.tree.Case.{Case}
 use Rattle.c_typed.specs.Tree.{Expr, Stmt, nothing, perform, fill, if_else, loop, do_while, switch, scope, return, return_nothing, break, continue, Stmts, done, seq}
-use Rattle.c_well_typed.specs.Statements.{count}
+use Rattle.c_typed.specs.Statements.{count}
 use Rattle.c_meaning.specs.Integers.{value_of}
 use Rattle.c_meaning.specs.Statements.{group_at, or_else}
 use Rattle.ms_emit.specs.Codes.{Code, plain, one, no_code, ◌⨾◌, block, repeat, choice}

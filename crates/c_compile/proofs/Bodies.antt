@@ -16,7 +16,7 @@ use Rattle.c_types.specs.declared.types.CType.{CType}
 use Rattle.c_typed.specs.Tree.{Function, Stmt, Typed}
 use Rattle.c_typed.specs.declared.ops.Variable.{Variable}
 use Rattle.c_typed.specs.declared.ops.Variable.TheVariants.{Local}
-use Rattle.c_well_typed.specs.Units.{numbers}
+use Rattle.c_typed.specs.Units.{numbers}
 use Rattle.c_code.specs.Functions.{body, locals, param, params, params_in, result, result_in, scratch_locals, slots_from}
 use Rattle.c_code.specs.Modules.{first_of, func_of, is_object_in, target}
 use Rattle.c_code.specs.Statements.{at_body, freed, made, objects_in, stmt}

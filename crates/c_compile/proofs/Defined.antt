@@ -8,7 +8,7 @@ use Rattle.c_typed.specs.declared.tree.Stmt.{Stmt}
 use Rattle.c_typed.specs.declared.unit.Function.{Function}
 use Rattle.c_typed.specs.declared.unit.TypedUnit.{TypedUnit}
 use Rattle.c_typed.specs.refinement.Views.{body_of, function_of, typed_of}
-use Rattle.c_well_typed.specs.Units.{numbers}
+use Rattle.c_typed.specs.Units.{numbers}
 use Rattle.c_code.specs.Modules.{defined, imported, is_call_of, is_defined, is_defined_at, is_name_of, named}
 use Rattle.c_code.specs.Uses.{uses}
 use Rattle.c_compile.proofs.Ranks.{both_flagged, flagged, found_over, index_over, long, passed, picked}

@@ -14,7 +14,7 @@ use Rattle.c_typed.specs.refinement.Views.{typed_of}
 use Rattle.c_typed.specs.declared.ops.Variable.TheVariants.{Global}
 use Rattle.c_typed.specs.declared.unit.TypedUnit.{TypedUnit}
 use Rattle.c_place.specs.refinement.Flags.{globals_from as flags_from}
-use Rattle.c_well_typed.specs.Units.{literals_in}
+use Rattle.c_typed.specs.Units.{literals_in}
 use Rattle.c_code.specs.Functions.{held_as}
 use Rattle.c_code.specs.Limits as words
 use Rattle.c_code.specs.Limits.{Limit, first_true, has_many_slots, is_long_copy, limit_of, most_named}

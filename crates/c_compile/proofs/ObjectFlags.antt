@@ -10,7 +10,7 @@ use Rattle.c_typed.specs.declared.ops.Variable.{Variable}
 use Rattle.c_typed.specs.declared.ops.Variable.TheVariants.{Local}
 use Rattle.c_meaning.specs.Units.{is_global_object}
 use Rattle.c_place.specs.refinement.Flags.{globals_from, slots_from}
-use Rattle.c_well_typed.specs.Units.{numbers}
+use Rattle.c_typed.specs.Units.{numbers}
 use Rattle.c_code.specs.Modules.{first_of, is_object_in, no_slots}
 use Rattle.c_compile.specs.refinement.Sites.{AreFlags}
 

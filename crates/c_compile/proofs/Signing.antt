@@ -6,7 +6,7 @@ use Rattle.ms_types.specs.declared.types.ValType.{ValType}
 use Rattle.c_types.specs.declared.types.CType.{CType, Row_of-CType, end_of-CType, more_of-CType, items-the_row-CType, items_hidden-the_row-CType-0}
 use Rattle.c_types.specs.declared.types.CType.TheVariants as c_types
 use Rattle.c_types.specs.Types.{Ty, type_of, types_of}
-use Rattle.c_well_typed.specs.Units.{list_of}
+use Rattle.c_typed.specs.Units.{list_of}
 use Rattle.c_code.specs.Functions.{held_as, listed, signature}
 use Rattle.c_code.specs.Operations.{val_of}
 

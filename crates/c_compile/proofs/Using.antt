@@ -25,7 +25,7 @@ use Rattle.c_typed.specs.Parts.{sequence}
 use Rattle.c_typed.specs.Tree as tree
 use Rattle.c_typed.specs.refinement.Views.{expr_of, function_of, list_of, made_of, place_of, sized_of, step_of, stmt_of, typed_of}
 use Rattle.c_typed.proofs.Sequences.{scope_is, switch_is}
-use Rattle.c_well_typed.specs.Units.{numbers}
+use Rattle.c_typed.specs.Units.{numbers}
 use Rattle.c_code.specs.Functions.{signature}
 use Rattle.c_code.specs.Limits.{is_long_copy}
 use Rattle.c_code.specs.Modules.{all_functions, distinct_behind, is_call_of, is_name_of, through_in}

@@ -1,6 +1,6 @@
 //! The compiler: the module of a typed unit of C.
 //!
-//! It stands on units that are well typed (`c_well_typed`), on which of their variables are objects (`c_place`), and on the builder
+//! It stands on units that are well typed (`c_typed`), on which of their variables are objects (`c_place`), and on the builder
 //! of bodies (`ms_module`), whose calls make the code of each part (`ms_emit`). Read `specs/Modules.antt` of `c_code` first: the
 //! module is exactly `compiled`. `values` and `statements` have a function for each group of nodes.
 #![tactic(auto)]

@@ -4,7 +4,7 @@
 ghost use Rattle.std.specs.Prelude.{◌≡◌, ◌+◌, ◌&&◌, not, false, filter, get_or, is_some, length, map, replicate, Some, slice_get, IfOk, OnOk};
 ghost use Rattle.c_types.specs.Types.{type_of};
 ghost use Rattle.c_typed.specs.refinement.Views.{function_of, typed_of};
-ghost use Rattle.c_well_typed.specs.Units.{numbers};
+ghost use Rattle.c_typed.specs.Units.{numbers};
 ghost use Rattle.c_code.specs.Functions.{signature};
 ghost use Rattle.c_code.specs.Modules as words;
 ghost use Rattle.c_compile.specs.refinement.Placed.{placed};

@@ -6,7 +6,7 @@ ghost use Rattle.c_types.specs.Types.{Ty, Tys, function, type_of};
 ghost use Rattle.c_typed.specs.Tree as tree;
 ghost use Rattle.c_typed.specs.refinement.Views.{function_of, made_of, typed_of};
 ghost use Rattle.c_typed.specs.declared.ops.Variable.TheVariants as variables;
-ghost use Rattle.c_well_typed.specs.Units.{literals_in};
+ghost use Rattle.c_typed.specs.Units.{literals_in};
 ghost use Rattle.c_code.specs.Functions.{held_as, listed, signature};
 ghost use Rattle.c_code.specs.Limits as bounds;
 ghost use Rattle.c_code.specs.Modules as words;
@@ -27,7 +27,7 @@ use crate::uses::{Uses, uses_of};
 use c_place::{Objects, find_objects};
 use c_typed::{Function, Made, TypedUnit};
 use c_types::CType;
-use c_well_typed::Typed;
+use c_typed::Typed;
 use ms_module::{
     Builder, Code, Element, Export, ExportDesc, Func, Global as GlobalEntry, Import, ImportDesc,
     Instr, Module, Name, Segment,

@@ -6,7 +6,7 @@ use Rattle.c_types.specs.Types.{Ty}
 use Rattle.c_typed.specs.declared.ops.Variable.TheVariants.{Local}
 use Rattle.c_typed.specs.declared.tree.Case.{Case}
 use Rattle.c_typed.specs.Tree.{Expr, Stmt, nothing, perform, fill, if_else, loop, do_while, switch, scope, return, return_nothing, break, continue, Stmts, done, seq, Typed}
-use Rattle.c_well_typed.specs.Statements.{count}
+use Rattle.c_typed.specs.Statements.{count}
 use Rattle.c_meaning.specs.Values.{Value, inside, number, zero_value}
 use Rattle.c_meaning.specs.Objects as objects
 use Rattle.c_meaning.specs.World.{out_of_fuel, Held, plain, object, Does, ◌>>=◌, ◌>>◌, pure, stop, known, look, alter, spend}

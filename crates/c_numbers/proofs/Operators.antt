@@ -28,7 +28,7 @@ use Rattle.c_typed.specs.declared.ops.BinaryOp.TheVariants as ops
 use Rattle.c_typed.specs.declared.ops.RelOp.{RelOp}
 use Rattle.c_typed.specs.declared.ops.RelOp.TheVariants as relations
 use Rattle.c_typed.specs.declared.ops.UnaryOp.TheVariants as signs
-use Rattle.c_well_typed.specs.refinement.Expressions.{IsPromoted}
+use Rattle.c_typed.specs.refinement.Expressions.{IsPromoted}
 use Rattle.c_meaning.specs.Integers.{changed, compared, from_truth, is_zero, operated}
 use Rattle.c_meaning.specs.World.{Does, pure, stop, zero_divide, overflow}
 use Rattle.c_code.specs.Operations.{operator, relation, width_of}

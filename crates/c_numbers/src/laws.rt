@@ -13,7 +13,7 @@ ghost use Rattle.c_types.specs.declared.types.Scalar.TheVariants as scalars;
 ghost use Rattle.c_typed.specs.declared.ops.BinaryOp.{BinaryOp};
 ghost use Rattle.c_typed.specs.declared.ops.RelOp.{RelOp};
 ghost use Rattle.c_typed.specs.declared.ops.UnaryOp.TheVariants.{Negate, Complement};
-ghost use Rattle.c_well_typed.specs.refinement.Expressions.{IsPromoted};
+ghost use Rattle.c_typed.specs.refinement.Expressions.{IsPromoted};
 ghost use Rattle.c_meaning.specs.Integers.{changed, compared, from_truth, is_zero, operated, value_of, wrap};
 ghost use Rattle.c_code.specs.Operations as code;
 ghost use Rattle.c_code.specs.Operations.{constant, convert, eqz, op, truth, width_of};

@@ -8,7 +8,7 @@ use Rattle.c_typed.specs.declared.tree.Stmt.{Stmt}
 use Rattle.c_typed.specs.Parts.{sequence}
 use Rattle.c_typed.specs.Tree as to
 use Rattle.c_typed.specs.refinement.Views.{expr_of, exprs_of, list_of}
-use Rattle.c_well_typed.specs.Statements.{count}
+use Rattle.c_typed.specs.Statements.{count}
 use Rattle.c_place.specs.refinement.Lists.{exprs_in}
 
 row_is : (n : _) (row : Row_of-Expr n) → exprs_of row ≡ exprs_in (items-the_row-Expr n row)

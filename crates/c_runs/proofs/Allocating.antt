@@ -24,8 +24,8 @@ use Rattle.c_types.specs.Integers.{bits}
 use Rattle.c_types.specs.Types.{Ty, integer, pointer}
 use Rattle.c_typed.specs.Tree as tree
 use Rattle.c_typed.specs.Tree.{Expr}
-use Rattle.c_well_typed.specs.refinement.Expressions as well
-use Rattle.c_well_typed.specs.refinement.Expressions.{HasType}
+use Rattle.c_typed.specs.refinement.Expressions as well
+use Rattle.c_typed.specs.refinement.Expressions.{HasType}
 use Rattle.c_meaning.specs.Shapes.{Shape, shape, size}
 use Rattle.c_meaning.specs.Values.{Value, null, number}
 use Rattle.c_meaning.specs.Objects.{heap, to_object, whole_of}

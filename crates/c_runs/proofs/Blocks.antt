@@ -15,7 +15,7 @@ use Rattle.ms_segment.specs.Memory.{Memory}
 use Rattle.ms_task.specs.Thread.{Do, Item, thread}
 use Rattle.c_types.specs.Types.{Ty}
 use Rattle.c_typed.specs.declared.ops.Variable.TheVariants.{Local}
-use Rattle.c_well_typed.specs.refinement.Expressions.{is_visible}
+use Rattle.c_typed.specs.refinement.Expressions.{is_visible}
 use Rattle.c_meaning.specs.Shapes.{size}
 use Rattle.c_meaning.specs.Values.{Value}
 use Rattle.c_meaning.specs.Objects.{Object, ended, to_object}

@@ -10,7 +10,7 @@ use Rattle.c_types.specs.declared.integers.IntType.{IntType}
 use Rattle.c_types.specs.declared.types.Scalar.{Scalar}
 use Rattle.c_types.specs.declared.types.Scalar.TheVariants as scalars
 use Rattle.c_types.specs.Types.{Ty, void, integer, pointer, is_function, scalar_of}
-use Rattle.c_well_typed.specs.Statements.{no_jumps}
+use Rattle.c_typed.specs.Statements.{no_jumps}
 use Rattle.c_meaning.specs.Functions.{given}
 use Rattle.c_meaning.specs.Statements.{Flow, next, broken, continued, returned}
 use Rattle.c_meaning.specs.Values.{Value, null, no_function, number, zero_value}

@@ -25,10 +25,10 @@ use Rattle.c_typed.specs.declared.ops.Variable.{Variable}
 use Rattle.c_typed.specs.declared.ops.Variable.TheVariants.{Local}
 use Rattle.c_typed.specs.Objects.{is_object}
 use Rattle.c_typed.specs.Tree.{Stmt, Function, Typed}
-use Rattle.c_well_typed.specs.refinement.Expressions as well
-use Rattle.c_well_typed.specs.refinement.Expressions.{is_visible}
-use Rattle.c_well_typed.specs.Statements.{IsStatement, no_jumps}
-use Rattle.c_well_typed.specs.Units.{context_of, list_of, numbers}
+use Rattle.c_typed.specs.refinement.Expressions as well
+use Rattle.c_typed.specs.refinement.Expressions.{is_visible}
+use Rattle.c_typed.specs.Statements.{IsStatement, no_jumps}
+use Rattle.c_typed.specs.Units.{context_of, list_of, numbers}
 use Rattle.c_meaning.specs.Values.{Value, zero_value}
 use Rattle.c_meaning.specs.World.{deep, Held, plain, World, Result, gives, ends, Does, after, ◌>>=◌, ◌>>◌, pure, known, spend}
 use Rattle.c_meaning.specs.Functions as meaning

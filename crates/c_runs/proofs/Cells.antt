@@ -14,7 +14,7 @@ use Rattle.c_types.specs.declared.types.Scalar.TheVariants as scalars
 use Rattle.c_types.specs.Types.{Ty, pointer, is_function, scalar_of}
 use Rattle.c_typed.specs.declared.ops.Variable.TheVariants.{Local}
 use Rattle.c_typed.specs.Tree.{of}
-use Rattle.c_well_typed.specs.refinement.Expressions.{is_visible}
+use Rattle.c_typed.specs.refinement.Expressions.{is_visible}
 use Rattle.c_meaning.specs.Shapes.{Shape, shape, size}
 use Rattle.c_meaning.specs.Values.{Value}
 use Rattle.c_meaning.specs.Objects.{read, to_object, whole_of, write}

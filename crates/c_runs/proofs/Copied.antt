@@ -12,9 +12,9 @@ use Rattle.ms_task.specs.Thread.{Activation, Frame, Item, Thread, depth_of, resu
 use Rattle.c_types.specs.Types.{Ty, function, Tys, scalar_of}
 use Rattle.c_typed.specs.declared.ops.Variable.{Variable}
 use Rattle.c_typed.specs.Tree.{Typed}
-use Rattle.c_well_typed.specs.refinement.Expressions.{is_visible}
-use Rattle.c_well_typed.specs.Statements.{no_jumps}
-use Rattle.c_well_typed.specs.Units.{list_of, numbers}
+use Rattle.c_typed.specs.refinement.Expressions.{is_visible}
+use Rattle.c_typed.specs.Statements.{no_jumps}
+use Rattle.c_typed.specs.Units.{list_of, numbers}
 use Rattle.c_meaning.specs.Values.{Value}
 use Rattle.c_meaning.specs.World.{World, Held, Result, Does, after, ◌>>=◌, ◌>>◌, pure}
 use Rattle.c_meaning.specs.Functions as meaning

@@ -11,7 +11,7 @@ use Rattle.ms_module.specs.declared.numeric.Width.TheVariants.{W32}
 use Rattle.ms_num.specs.Integers.{wrapped}
 use Rattle.ms_task.specs.Control.{exit_ended}
 use Rattle.ms_task.specs.Thread.{Do, Frame, Item, Label, Thread, thread, depth_of, sequence}
-use Rattle.c_well_typed.specs.declared.jumps.Jumps.{Jumps}
+use Rattle.c_typed.specs.declared.jumps.Jumps.{Jumps}
 use Rattle.c_types.specs.declared.integers.IntType.{IntType}
 use Rattle.c_types.specs.Types.{integer}
 use Rattle.c_meaning.specs.Values.{Value, number}

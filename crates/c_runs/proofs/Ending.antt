@@ -5,9 +5,9 @@ use Rattle.std.proofs.lemmas.Bool.{eq-eqb}
 use Rattle.std.proofs.lemmas.Option.{slice_get_within}
 use Rattle.c_typed.specs.Tree.{Typed}
 use Rattle.c_types.specs.Types.{Ty}
-use Rattle.c_well_typed.specs.refinement.Expressions as well
-use Rattle.c_well_typed.specs.refinement.Expressions.{is_visible}
-use Rattle.c_well_typed.specs.Statements.{AreNew}
+use Rattle.c_typed.specs.refinement.Expressions as well
+use Rattle.c_typed.specs.refinement.Expressions.{is_visible}
+use Rattle.c_typed.specs.Statements.{AreNew}
 use Rattle.c_meaning.specs.Values.{Value}
 use Rattle.c_meaning.specs.Objects.{Object, Outcome, ended, end}
 use Rattle.c_meaning.specs.Objects as objects

@@ -10,7 +10,7 @@ use Rattle.ms_task.specs.Control.{To, TooDeep, Stuck, call_on, deepest, enter, e
 use Rattle.ms_task.specs.declared.func.FuncInst.{FuncInst}
 use Rattle.ms_task.specs.Thread.{Activation, Frame, Item, thread, depth_of, dos, result_of, sequence}
 use Rattle.c_types.specs.Types.{Ty, Tys, no_types, types}
-use Rattle.c_well_typed.specs.Units.{list_of}
+use Rattle.c_typed.specs.Units.{list_of}
 use Rattle.c_meaning.specs.Values.{Value, zero_value}
 use Rattle.c_meaning.specs.World.{Held, plain, object}
 use Rattle.ms_relate.specs.refinement.Homes.{Home}

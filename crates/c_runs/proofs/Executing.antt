@@ -24,7 +24,7 @@ use Rattle.ms_task.specs.Thread.{Activation, Item, Thread, body_in, result_of, s
 use Rattle.ms_tasks.specs.Tasks.{and_thread, crew_of, exported_task, is_task_result, is_task_type, of_task_type, takes_nothing, task_address, thread_at, threads_from}
 use Rattle.c_types.specs.Types.{Ty, function, Tys, no_types, types}
 use Rattle.c_typed.specs.Tree.{Function, Made, Stmt, Typed}
-use Rattle.c_well_typed.specs.Units.{HaveNames, IsFunction, IsWellTyped, list_of, numbers}
+use Rattle.c_typed.specs.Units.{HaveNames, IsFunction, IsWellTyped, list_of, numbers}
 use Rattle.c_meaning.specs.Units.{main_number}
 use Rattle.c_code.specs.Functions.{held_as, params_in, start}
 use Rattle.c_code.specs.Modules.{compiled, defined, export_of, exports_of, funcs_from, function_at, imported, index_of, is_defined, is_defined_at, is_exported, start_func, start_target}

@@ -12,7 +12,7 @@ use Rattle.c_types.specs.Layout.{Table}
 use Rattle.c_types.specs.Types.{Ty, integer, array}
 use Rattle.c_meaning.specs.Values.{Pointer, Value, points}
 use Rattle.c_meaning.specs.World.{Held, plain, object}
-use Rattle.c_well_typed.specs.refinement.Expressions.{is_visible}
+use Rattle.c_typed.specs.refinement.Expressions.{is_visible}
 use Rattle.ms_relate.specs.refinement.Homes.{Home, handle, handle_in}
 use Rattle.ms_relate.proofs.Growing.{Extends}
 use Rattle.c_runs.proofs.Held.{AreHeld, IsHeld, IsObjectAt, Slot, held_set, held_still, length_set, length_words, other_kind, set_elsewhere, set_there, some_is, words, words_set, words_still}

@@ -11,8 +11,8 @@ use Rattle.ms_module.specs.declared.instr.Instr.TheVariants.{Br, Return}
 use Rattle.ms_task.specs.Control.{To, branch, lowest, return_on, exit_ended}
 use Rattle.ms_task.specs.Thread.{Frame, Item, Label, Thread, thread, depth_of}
 use Rattle.ms_task.proofs.Items.{branch_past, return_past}
-use Rattle.c_well_typed.specs.refinement.Expressions.{is_visible}
-use Rattle.c_well_typed.specs.declared.jumps.Jumps.{Jumps}
+use Rattle.c_typed.specs.refinement.Expressions.{is_visible}
+use Rattle.c_typed.specs.declared.jumps.Jumps.{Jumps}
 use Rattle.c_meaning.specs.Values.{Value}
 use Rattle.c_meaning.specs.World.{World, Result, gives, Does, after, ◌>>=◌, ◌>>◌, pure}
 use Rattle.c_meaning.specs.Statements.{Flow, next, broken, continued, returned, followed}

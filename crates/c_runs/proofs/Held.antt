@@ -11,7 +11,7 @@ use Rattle.c_meaning.specs.Shapes.{shape}
 use Rattle.c_meaning.specs.Values.{Value}
 use Rattle.c_meaning.specs.Objects.{Object, ended, frame, to_object}
 use Rattle.c_meaning.specs.World.{Held, plain, object}
-use Rattle.c_well_typed.specs.refinement.Expressions.{is_visible}
+use Rattle.c_typed.specs.refinement.Expressions.{is_visible}
 use Rattle.ms_relate.specs.refinement.Homes.{Home, handle}
 use Rattle.ms_relate.proofs.Growing.{Extends}
 use Rattle.c_runs.proofs.Values.{IsValueOf, value_still, word_of, word_still}

@@ -19,7 +19,7 @@ use Rattle.ms_machine.specs.declared.externs.Why.TheVariants.{Fit, TooLarge}
 use Rattle.ms_task.specs.declared.func.FuncInst.{FuncInst}
 use Rattle.c_types.specs.Types.{Ty, function, no_types}
 use Rattle.c_typed.specs.Tree.{Function, Stmt, Typed}
-use Rattle.c_well_typed.specs.Units.{IsWellTyped}
+use Rattle.c_typed.specs.Units.{IsWellTyped}
 use Rattle.c_meaning.specs.Units.{main_number}
 use Rattle.c_code.specs.Functions.{body, locals, params_in, signature}
 use Rattle.c_code.specs.Limits as limits

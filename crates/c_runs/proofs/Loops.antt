@@ -16,7 +16,7 @@ use Rattle.ms_task.specs.Thread.{Do, Frame, Item, Label, Thread, thread, depth_o
 use Rattle.ms_task.proofs.Items.{branch_past, return_past}
 use Rattle.c_types.specs.declared.integers.IntType.{IntType}
 use Rattle.c_types.specs.Types.{integer}
-use Rattle.c_well_typed.specs.declared.jumps.Jumps.{Jumps}
+use Rattle.c_typed.specs.declared.jumps.Jumps.{Jumps}
 use Rattle.c_meaning.specs.Values.{Value}
 use Rattle.c_meaning.specs.World.{World, Result, gives, ends, Does, after, ◌>>=◌, ◌>>◌, pure, spend}
 use Rattle.c_meaning.specs.Integers.{is_zero}

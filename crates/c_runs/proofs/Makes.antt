@@ -21,7 +21,7 @@ use Rattle.ms_task.specs.Thread.{Do, Frame, Item, Label, Thread, thread, sequenc
 use Rattle.c_types.specs.Layout.{size as type_size}
 use Rattle.c_types.specs.Types.{Ty, void}
 use Rattle.c_typed.specs.declared.ops.Variable.TheVariants.{Local}
-use Rattle.c_well_typed.specs.refinement.Expressions.{is_visible}
+use Rattle.c_typed.specs.refinement.Expressions.{is_visible}
 use Rattle.c_meaning.specs.Shapes.{Shape, shape, size}
 use Rattle.c_meaning.specs.Values.{null}
 use Rattle.c_meaning.specs.Objects.{frame, new_object, to_object}

@@ -16,7 +16,7 @@ use Rattle.c_types.specs.Layout.{IsLaidOut, Layout, Table, layout_at, members_in
 use Rattle.c_types.specs.Types.{Ty, void, struct, pointer, array, is_function}
 use Rattle.c_typed.specs.declared.ops.Variable.TheVariants.{Local}
 use Rattle.c_typed.specs.Tree.{of}
-use Rattle.c_well_typed.specs.refinement.Expressions.{IsMember, is_visible}
+use Rattle.c_typed.specs.refinement.Expressions.{IsMember, is_visible}
 use Rattle.c_meaning.specs.Shapes.{Part, Shape, part_of, shape, size}
 use Rattle.c_meaning.specs.Values.{Value, inside, to_member}
 use Rattle.c_meaning.specs.Objects.{Outcome, to_object, whole_of}

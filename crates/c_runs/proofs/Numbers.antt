@@ -3,7 +3,7 @@ use Rattle.std.proofs.Common.{◌≡◌, ℕ, zero, suc, ◌+◌, ◌<◌, ⊎_e
 use Rattle.std.specs.Prelude.{cond, filter, nat_lt, slice_get, ◌==◌}
 use Rattle.std.proofs.lemmas.Bool.{cases_lt}
 use Rattle.std.proofs.lemmas.Option.{slice_get_within}
-use Rattle.c_well_typed.specs.Units.{numbers}
+use Rattle.c_typed.specs.Units.{numbers}
 
 -- ---- lists
 

@@ -31,7 +31,7 @@ use Rattle.c_typed.specs.declared.ops.BinaryOp.{BinaryOp}
 use Rattle.c_typed.specs.declared.ops.RelOp.{RelOp}
 use Rattle.c_typed.specs.declared.ops.UnaryOp.TheVariants.{Negate, Complement}
 use Rattle.c_typed.specs.declared.ops.Variable.TheVariants.{Local}
-use Rattle.c_well_typed.specs.refinement.Expressions.{IsPromoted}
+use Rattle.c_typed.specs.refinement.Expressions.{IsPromoted}
 use Rattle.c_meaning.specs.Values.{Value, number}
 use Rattle.c_meaning.specs.Accesses.{hold}
 use Rattle.c_meaning.specs.World.{abort, plain, World, Result, gives, ends, Does, after, ◌>>=◌, ◌>>◌, pure, stop, take_byte, took, write_byte}

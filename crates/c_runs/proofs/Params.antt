@@ -14,8 +14,8 @@ use Rattle.c_types.specs.Layout.{Table, size as type_size}
 use Rattle.c_types.specs.Types.{Ty, void, integer, struct, pointer, array, function, Tys, no_types, types, scalar_of}
 use Rattle.c_typed.specs.declared.ops.Variable.TheVariants.{Local}
 use Rattle.c_typed.specs.Tree.{Function, Typed, of}
-use Rattle.c_well_typed.specs.refinement.Expressions.{is_visible}
-use Rattle.c_well_typed.specs.Units.{list_of, numbers}
+use Rattle.c_typed.specs.refinement.Expressions.{is_visible}
+use Rattle.c_typed.specs.Units.{list_of, numbers}
 use Rattle.c_meaning.specs.Values.{Value, zero_value}
 use Rattle.c_meaning.specs.Objects as objects
 use Rattle.c_meaning.specs.Objects.{Object, Outcome, to_object, write}

@@ -18,8 +18,8 @@ use Rattle.c_meaning.specs.Units.{main_number}
 use Rattle.c_types.specs.Types.{Ty, void, integer, pointer, is_function, function, Tys, no_types, types}
 use Rattle.c_typed.specs.Objects.{is_whole}
 use Rattle.c_typed.specs.Tree.{Function, Made, Stmt, Typed}
-use Rattle.c_well_typed.specs.Units.{IsBody, IsFunction, IsWellTyped, list_of}
-use Rattle.c_well_typed.specs.refinement.Types.{IsObject}
+use Rattle.c_typed.specs.Units.{IsBody, IsFunction, IsWellTyped, list_of}
+use Rattle.c_typed.specs.refinement.Types.{IsObject}
 use Rattle.c_typing.proofs.Frames.{sound_with}
 use Rattle.ms_emit.specs.Codes.{total}
 use Rattle.c_code.specs.Functions.{body, held_as, listed, locals, params_in, result_in}

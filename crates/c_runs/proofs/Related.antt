@@ -16,7 +16,7 @@ use Rattle.c_meaning.specs.Objects.{Object}
 use Rattle.c_meaning.specs.World.{Held, plain, World}
 use Rattle.c_meaning.specs.Expressions.{Calls}
 use Rattle.ms_emit.specs.Codes.{total}
-use Rattle.c_well_typed.specs.refinement.Expressions.{is_visible}
+use Rattle.c_typed.specs.refinement.Expressions.{is_visible}
 use Rattle.c_code.specs.Targets.{Target}
 use Rattle.ms_relate.specs.refinement.Homes.{Home}
 use Rattle.ms_relate.specs.refinement.Laid.{Fits}

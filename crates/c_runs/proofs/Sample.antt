@@ -19,10 +19,10 @@ use Rattle.c_typed.specs.declared.ops.Variable.TheVariants.{Local}
 use Rattle.c_typed.specs.Tree as tree
 use Rattle.c_typed.specs.Tree.{Expr, Function, Made, Stmt, Typed}
 use Rattle.c_typed.specs.declared.tree.Case.{Case}
-use Rattle.c_well_typed.specs.refinement.Expressions.{Context, opened}
-use Rattle.c_well_typed.specs.Statements.{IsCase, IsStatement, in_loop}
-use Rattle.c_well_typed.specs.refinement.Types.{IsObject}
-use Rattle.c_well_typed.specs.Units.{HasIdentifier, IsFunction, IsMade, IsWellTyped, context_of}
+use Rattle.c_typed.specs.refinement.Expressions.{Context, opened}
+use Rattle.c_typed.specs.Statements.{IsCase, IsStatement, in_loop}
+use Rattle.c_typed.specs.refinement.Types.{IsObject}
+use Rattle.c_typed.specs.Units.{HasIdentifier, IsFunction, IsMade, IsWellTyped, context_of}
 use Rattle.c_meaning.specs.Units.{means}
 use Rattle.c_meaning.specs.World.{zero_divide}
 use Rattle.c_code.specs.Modules.{compiled}

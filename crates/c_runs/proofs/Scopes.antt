@@ -6,7 +6,7 @@ use Rattle.ms_task.specs.Thread.{Frame, Item, Thread, depth_of}
 use Rattle.c_types.specs.Layout.{Table, size}
 use Rattle.c_types.specs.Types.{Ty, void, scalar_of}
 use Rattle.c_typed.specs.declared.ops.Variable.TheVariants.{Local}
-use Rattle.c_well_typed.specs.refinement.Expressions.{is_visible}
+use Rattle.c_typed.specs.refinement.Expressions.{is_visible}
 use Rattle.c_meaning.specs.Objects.{Object}
 use Rattle.c_meaning.specs.Accesses.{hold}
 use Rattle.c_meaning.specs.Values.{zero_value}

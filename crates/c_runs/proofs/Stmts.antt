@@ -18,11 +18,11 @@ use Rattle.c_typed.specs.declared.ops.Variable.{Variable}
 use Rattle.c_typed.specs.declared.ops.Variable.TheVariants.{Local}
 use Rattle.c_typed.specs.Tree as tree
 use Rattle.c_typed.specs.Tree.{Place, Expr, Stmt, nothing, perform, if_else, loop, scope, return, return_nothing, break, continue, Stmts, done, seq}
-use Rattle.c_well_typed.specs.declared.jumps.Jumps.{Jumps}
-use Rattle.c_well_typed.specs.refinement.Expressions as well
-use Rattle.c_well_typed.specs.refinement.Expressions.{HasType, is_visible}
-use Rattle.c_well_typed.specs.Statements as judged
-use Rattle.c_well_typed.specs.Statements.{AreNew, AreStatements, IsStatement, IsStep, count, in_loop}
+use Rattle.c_typed.specs.declared.jumps.Jumps.{Jumps}
+use Rattle.c_typed.specs.refinement.Expressions as well
+use Rattle.c_typed.specs.refinement.Expressions.{HasType, is_visible}
+use Rattle.c_typed.specs.Statements as judged
+use Rattle.c_typed.specs.Statements.{AreNew, AreStatements, IsStatement, IsStep, count, in_loop}
 use Rattle.c_meaning.specs.Values.{Value, null, no_function, number, zero_value}
 use Rattle.c_meaning.specs.Values as values
 use Rattle.c_meaning.specs.Objects.{write_all}

@@ -24,9 +24,9 @@ use Rattle.c_types.specs.Integers.{bits}
 use Rattle.c_types.specs.Types.{integer}
 use Rattle.c_typed.specs.declared.ops.RelOp.TheVariants.{NotEqual}
 use Rattle.c_typed.specs.declared.tree.Case.{Case}
-use Rattle.c_well_typed.specs.declared.jumps.Jumps.{Jumps}
-use Rattle.c_well_typed.specs.refinement.Expressions.{IsPromoted}
-use Rattle.c_well_typed.specs.Statements.{AreDistinct, IsCase, IsLabel, in_switch}
+use Rattle.c_typed.specs.declared.jumps.Jumps.{Jumps}
+use Rattle.c_typed.specs.refinement.Expressions.{IsPromoted}
+use Rattle.c_typed.specs.Statements.{AreDistinct, IsCase, IsLabel, in_switch}
 use Rattle.c_meaning.specs.Integers.{bits_of, compared, from_truth, value_of}
 use Rattle.c_meaning.specs.Expressions as meaning
 use Rattle.c_meaning.specs.Expressions.{as_number}

@@ -14,7 +14,7 @@ use Rattle.ms_task.specs.declared.func.FuncInst.{FuncInst}
 use Rattle.ms_task.specs.Thread.{Activation, Frame, Item, Thread, result_of, sequence}
 use Rattle.c_types.specs.Types.{Ty, void, integer, function, Tys, no_types}
 use Rattle.c_typed.specs.Tree.{Function, Made, Stmt, Typed}
-use Rattle.c_well_typed.specs.Units.{IsWellTyped}
+use Rattle.c_typed.specs.Units.{IsWellTyped}
 use Rattle.c_meaning.specs.Functions as meaning
 use Rattle.c_meaning.specs.Functions.{back_to, calls_at, called, of_defined, with_body}
 use Rattle.c_meaning.specs.Units.{as_result, closed, first_world, give_each, main_number, make_each, means, run_main}

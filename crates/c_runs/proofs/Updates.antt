@@ -8,7 +8,7 @@ use Rattle.c_types.specs.declared.types.Scalar.{Scalar}
 use Rattle.c_types.specs.declared.types.Scalar.TheVariants as scalars
 use Rattle.c_types.specs.Types.{integer, pointer}
 use Rattle.c_typed.specs.declared.ops.BinaryOp.{BinaryOp}
-use Rattle.c_well_typed.specs.refinement.Expressions.{IsPromoted}
+use Rattle.c_typed.specs.refinement.Expressions.{IsPromoted}
 use Rattle.c_meaning.specs.Values.{Value, number}
 use Rattle.c_meaning.specs.Objects.{read, write}
 use Rattle.c_meaning.specs.World.{World, Does, ◌>>=◌, ◌>>◌, pure, alter, ask}

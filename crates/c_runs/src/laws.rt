@@ -9,7 +9,7 @@ ghost use Rattle.ms_task.specs.Thread.{Thread};
 ghost use Rattle.ms_tasks.specs.Tasks.{crew_of, threads_from};
 ghost use Rattle.c_types.specs.Types.{Ty, function, no_types};
 ghost use Rattle.c_typed.specs.Tree.{Function, Stmt, Typed};
-ghost use Rattle.c_well_typed.specs.Units.{IsWellTyped};
+ghost use Rattle.c_typed.specs.Units.{IsWellTyped};
 ghost use Rattle.c_meaning.specs.Units.{main_number};
 ghost use Rattle.c_code.specs.Limits.{limit_of};
 ghost use Rattle.c_code.specs.Modules.{compiled, imported, index_of};

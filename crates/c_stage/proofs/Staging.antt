@@ -11,10 +11,10 @@ use Rattle.c_typed.specs.declared.tree.Stmt.TheVariants as stmts
 use Rattle.c_typed.specs.declared.unit.Function.{Function}
 use Rattle.c_typed.specs.Parts.{sequence}
 use Rattle.c_typed.specs.Tree as tree
-use Rattle.c_well_typed.specs.Statements.{count}
+use Rattle.c_typed.specs.Statements.{count}
 use Rattle.c_typed.specs.refinement.Views.{body_of, expr_of, function_of, list_of, stmt_of}
 use Rattle.c_typed.proofs.Sequences.{scope_is, switch_is}
-use Rattle.c_well_typed.specs.Units.{list_of as tys_in}
+use Rattle.c_typed.specs.Units.{list_of as tys_in}
 use Rattle.c_code.specs.Functions.{params_in, result_in}
 use Rattle.c_stage.specs.Stage.{are_data, are_slots, in_body, in_expr, in_exprs, in_stmt, in_stmts, is_data, is_plain_function, is_result, is_variable}
 use Rattle.c_place.specs.refinement.Lists.{exprs_in}

@@ -8,7 +8,7 @@ use Rattle.c_types.specs.Types.{Ty, void, integer, struct, pointer, array, funct
 use Rattle.c_typed.specs.declared.ops.Variable.TheVariants.{Local, Global}
 use Rattle.c_typed.specs.Tree as tree
 use Rattle.c_typed.specs.Tree.{Place, of, deref, member, Expr, Exprs, none, more, Stmt, nothing, perform, fill, if_else, loop, do_while, switch, scope, return, return_nothing, break, continue, Stmts, done, seq, Function, Typed}
-use Rattle.c_well_typed.specs.Statements.{count}
+use Rattle.c_typed.specs.Statements.{count}
 
 -- of an integer, or of a pointer that leads to no function
 abbrev pub is_data : Ty → Bool

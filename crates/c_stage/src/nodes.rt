@@ -6,12 +6,12 @@ ghost use Rattle.c_types.specs.Types.{type_of};
 ghost use Rattle.c_typed.specs.Parts.{sequence};
 ghost use Rattle.c_typed.specs.refinement.Views.{body_of, expr_of, function_of, list_of, place_of, sized_of, step_of, stmt_of, typed_of};
 ghost use Rattle.c_stage.specs.Stage as words;
-ghost use Rattle.c_well_typed.specs.Statements.{count};
+ghost use Rattle.c_typed.specs.Statements.{count};
 ghost use Rattle.c_place.specs.refinement.Lists.{exprs_in};
 
 use c_typed::{Expr, Function, Place, Sized, Stmt, Variable};
 use c_types::{CType, Scalar, Signature};
-use c_well_typed::Typed;
+use c_typed::Typed;
 
 /// Whether a unit is one of integers and pointers to objects, variables of such types and arrays and structs, their addresses and
 /// members, strings that initialise arrays, control, and calls of functions by their names.

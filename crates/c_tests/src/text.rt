@@ -7,7 +7,7 @@ use crate::refusal::Refusal;
 use c_check::check;
 use c_lex::lex;
 use c_parse::parse;
-use c_well_typed::Typed;
+use c_typed::Typed;
 use std::alloc::Global;
 
 /// Whether a row is a text: it is neither empty nor a heading, which begins with `// `.

@@ -18,9 +18,9 @@ use Rattle.c_typed.specs.declared.ops.Variable.TheVariants.{Local, Global}
 use Rattle.c_typed.specs.Objects as objects
 use Rattle.c_typed.specs.Tree as tree
 use Rattle.c_typed.specs.Tree.{Function, Made, Stmt}
-use Rattle.c_well_typed.specs.refinement.Expressions as well
-use Rattle.c_well_typed.specs.Statements.{IsStatement, no_jumps}
-use Rattle.c_well_typed.specs.Units.{IsGiven, IsMade, list_of, literals_in, numbers, variables_in}
+use Rattle.c_typed.specs.refinement.Expressions as well
+use Rattle.c_typed.specs.Statements.{IsStatement, no_jumps}
+use Rattle.c_typed.specs.Units.{IsGiven, IsMade, list_of, literals_in, numbers, variables_in}
 use Rattle.c_meaning.specs.Units.{in_made, in_values, string}
 use Rattle.ms_emit.specs.Codes.{Code, inner, no_code, ◌⨾◌}
 use Rattle.c_code.specs.Functions.{body, gives, held_as, makes, param, params, params_from, result, start, values}

@@ -18,7 +18,7 @@ use Rattle.ms_rules.specs.Context.{imported_funcs}
 use Rattle.c_typed.specs.declared.ops.Variable.{Variable}
 use Rattle.c_typed.specs.refinement.Nesting.{body_nesting, deepest, function_nesting, made_nesting, stmt_nesting, unit_nesting}
 use Rattle.c_typed.specs.Tree.{Function, Stmt, Typed}
-use Rattle.c_well_typed.specs.Units.{literals_in}
+use Rattle.c_typed.specs.Units.{literals_in}
 use Rattle.c_code.specs.Functions.{body}
 use Rattle.c_code.specs.Modules.{compiled, defined, imported, func_of, funcs_from, global_of, globals_from, literal_globals, start_func, start_target, target, target_of}
 use Rattle.c_code.specs.Targets.{Target}

@@ -20,8 +20,8 @@ use Rattle.c_typed.specs.refinement.Nesting as nesting
 use Rattle.c_typed.specs.refinement.Nesting.{deepest, expr_nesting, made_nesting, one_if, step_nesting, stmt_nesting, stmts_nesting}
 use Rattle.c_typed.specs.Tree as tree
 use Rattle.c_typed.specs.Tree.{Expr, Stmt, perform, fill, if_else, loop, do_while, switch, scope, return, return_nothing, break, continue, Stmts, done, seq, Function, Made}
-use Rattle.c_well_typed.specs.Statements.{count}
-use Rattle.c_well_typed.specs.Units.{numbers}
+use Rattle.c_typed.specs.Statements.{count}
+use Rattle.c_typed.specs.Units.{numbers}
 use Rattle.c_meaning.specs.Integers.{value_of}
 use Rattle.c_meaning.specs.Statements.{group_at, or_else}
 use Rattle.c_meaning.specs.Units.{string}

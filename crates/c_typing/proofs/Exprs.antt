@@ -24,9 +24,9 @@ use Rattle.c_typed.specs.declared.ops.Variable.TheVariants.{Local, Global}
 use Rattle.c_typed.specs.Objects as objects
 use Rattle.c_typed.specs.Tree as tree
 use Rattle.c_typed.specs.Tree.{Place, of, deref, member, Expr, Exprs, more}
-use Rattle.c_well_typed.specs.refinement.Expressions as well
-use Rattle.c_well_typed.specs.refinement.Expressions.{HasType, HaveTypes, IsNarrow, IsPlace, IsVariable}
-use Rattle.c_well_typed.specs.Units.{list_of}
+use Rattle.c_typed.specs.refinement.Expressions as well
+use Rattle.c_typed.specs.refinement.Expressions.{HasType, HaveTypes, IsNarrow, IsPlace, IsVariable}
+use Rattle.c_typed.specs.Units.{list_of}
 use Rattle.c_meaning.specs.Integers.{value_of}
 use Rattle.ms_emit.specs.Codes.{Code}
 use Rattle.c_code.specs.Expressions.{bytes_in, expr, exprs, is_bit, is_deref, is_null, number_in, part, place}

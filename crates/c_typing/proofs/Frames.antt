@@ -17,8 +17,8 @@ use Rattle.c_types.specs.Types as ty
 use Rattle.c_typed.specs.declared.ops.Variable.{Variable}
 use Rattle.c_typed.specs.declared.ops.Variable.TheVariants.{Local, Global}
 use Rattle.c_typed.specs.Tree.{Function, Stmt, Typed}
-use Rattle.c_well_typed.specs.refinement.Types.{IsObject}
-use Rattle.c_well_typed.specs.Units.{IsFunction, IsWellTyped, list_of, literals_in, numbers}
+use Rattle.c_typed.specs.refinement.Types.{IsObject}
+use Rattle.c_typed.specs.Units.{IsFunction, IsWellTyped, list_of, literals_in, numbers}
 use Rattle.c_code.specs.Functions.{held_as, locals, scratch_locals, signature, slots_from}
 use Rattle.c_code.specs.Modules.{compiled, first_of, global_of, globals_from, imported, is_object_in, literal_globals, no_slots, start_target, index_of, target}
 use Rattle.c_code.specs.Targets.{Target}
@@ -30,7 +30,7 @@ use Rattle.c_typing.proofs.Lists.{numbers_is, slice_left, slice_right, upto}
 use Rattle.c_typing.proofs.Names.{Each, Holds, IsNamed, TypeOf, var}
 use Rattle.c_typing.proofs.Sound.{AreSound, AreSoundNames, HasScalar, IsSoundObject, sized_is, sound_of_type, Sound}
 use Rattle.std.proofs.lemmas.List.{length-map}
-use Rattle.c_well_typed.specs.refinement.Expressions.{IsMember}
+use Rattle.c_typed.specs.refinement.Expressions.{IsMember}
 
 pub each_all : {A : Type 0} (P : A → Type 0) (xs : List A) → Each P xs → All P xs
 each_all P [] h = All-nil P

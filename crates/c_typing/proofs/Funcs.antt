@@ -14,10 +14,10 @@ use Rattle.c_typed.specs.declared.ops.Variable.{Variable}
 use Rattle.c_typed.specs.declared.ops.Variable.TheVariants.{Local, Global}
 use Rattle.c_typed.specs.Objects as objects
 use Rattle.c_typed.specs.Tree.{Function, Stmt, Typed}
-use Rattle.c_well_typed.specs.Statements.{IsStatement, no_jumps}
-use Rattle.c_well_typed.specs.refinement.Types.{IsObject, IsType}
-use Rattle.c_well_typed.specs.Units as units
-use Rattle.c_well_typed.specs.Units.{IsBody, IsFunction, IsMade, IsWellTyped, list_of, literals_in, variables_in}
+use Rattle.c_typed.specs.Statements.{IsStatement, no_jumps}
+use Rattle.c_typed.specs.refinement.Types.{IsObject, IsType}
+use Rattle.c_typed.specs.Units as units
+use Rattle.c_typed.specs.Units.{IsBody, IsFunction, IsMade, IsWellTyped, list_of, literals_in, variables_in}
 use Rattle.c_meaning.specs.Units as meaning
 use Rattle.c_code.specs.Functions.{body, held_as, locals, params_in, listed}
 use Rattle.c_code.specs.Modules.{compiled, func_of, funcs_from, is_object_in, no_slots, start_func, start_target, target_of, waits_made}

@@ -11,7 +11,7 @@ use Rattle.ms_module.specs.declared.module.Func.{Func}
 use Rattle.ms_rules.specs.Context.{imported_funcs, imported_globals, imported_memories, imported_tables, sigs_of_funcs}
 use Rattle.c_types.specs.Types.{Ty}
 use Rattle.c_typed.specs.Tree.{Function, Stmt, Typed}
-use Rattle.c_well_typed.specs.Units.{numbers}
+use Rattle.c_typed.specs.Units.{numbers}
 use Rattle.c_code.specs.Functions.{signature}
 use Rattle.c_code.specs.Modules.{compiled, defined, distinct_behind, func_of, funcs_from, import_from_c, imported, index_of, is_call_of, is_defined_at, place_of, rank_in, sig_of, sigs_through, through_in, start_func, is_defined}
 use Rattle.c_code.specs.Uses.{Use, calls, copies, names, through, uses}

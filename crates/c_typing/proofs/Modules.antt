@@ -17,7 +17,7 @@ use Rattle.ms_rules.specs.Context.{sigs_of_funcs, imported_globals}
 use Rattle.ms_rules.specs.Modules.{AreDistinct, ElementTyped, ExportTyped, FuncTyped, GlobalTyped, Head, ImportTyped, IsNotAmong, SigTyped, StartTyped, TableTyped, WellTyped, ConstantTyped, FillTyped, MemoryTyped}
 use Rattle.c_types.specs.Types.{Ty}
 use Rattle.c_typed.specs.Tree.{Function, Typed}
-use Rattle.c_well_typed.specs.Units.{HaveNames, IsWellTyped, literals_in, numbers}
+use Rattle.c_typed.specs.Units.{HaveNames, IsWellTyped, literals_in, numbers}
 use Rattle.c_code.specs.Functions.{listed, signature}
 use Rattle.c_code.specs.Limits.{Limit, first_true, has_many_slots, is_long_copy, limit_of}
 use Rattle.c_code.specs.Limits as limits

@@ -11,9 +11,9 @@ use Rattle.c_typed.specs.declared.ops.Variable.{Variable}
 use Rattle.c_typed.specs.declared.ops.Variable.TheVariants.{Local, Global}
 use Rattle.c_typed.specs.Tree as tree
 use Rattle.c_typed.specs.Tree.{Place, of, deref, member, Expr}
-use Rattle.c_well_typed.specs.refinement.Expressions as well
-use Rattle.c_well_typed.specs.refinement.Expressions.{HasType, IsPlace, IsMember}
-use Rattle.c_well_typed.specs.refinement.Types.{IsType, AreParameters, IsScalar}
+use Rattle.c_typed.specs.refinement.Expressions as well
+use Rattle.c_typed.specs.refinement.Expressions.{HasType, IsPlace, IsMember}
+use Rattle.c_typed.specs.refinement.Types.{IsType, AreParameters, IsScalar}
 use Rattle.c_typing.proofs.Names.{TypeOf}
 
 abbrev pub HasScalar : Ty → Type 0

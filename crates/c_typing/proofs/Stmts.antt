@@ -23,11 +23,11 @@ use Rattle.c_typed.specs.declared.tree.Case.{Case}
 use Rattle.c_typed.specs.Objects as objects
 use Rattle.c_typed.specs.Tree as tree
 use Rattle.c_typed.specs.Tree.{Place, Expr, Stmt, perform, fill, if_else, loop, do_while, switch, scope, return, return_nothing, break, continue, Stmts, done, seq}
-use Rattle.c_well_typed.specs.declared.jumps.Jumps.{Jumps}
-use Rattle.c_well_typed.specs.refinement.Expressions as well
-use Rattle.c_well_typed.specs.refinement.Expressions.{IsCondition, opened}
-use Rattle.c_well_typed.specs.Statements as well_stmts
-use Rattle.c_well_typed.specs.Statements.{AreNew, AreStatements, IsStatement, IsStep, count}
+use Rattle.c_typed.specs.declared.jumps.Jumps.{Jumps}
+use Rattle.c_typed.specs.refinement.Expressions as well
+use Rattle.c_typed.specs.refinement.Expressions.{IsCondition, opened}
+use Rattle.c_typed.specs.Statements as well_stmts
+use Rattle.c_typed.specs.Statements.{AreNew, AreStatements, IsStatement, IsStep, count}
 use Rattle.c_meaning.specs.Integers.{value_of}
 use Rattle.ms_emit.specs.Codes.{Code}
 use Rattle.c_code.specs.Expressions.{expr, is_deref, step}

@@ -10,7 +10,7 @@ ghost use Rattle.c_types.specs.declared.integers.IntType.TheVariants.{Int};
 ghost use Rattle.c_types.specs.Types.{function, integer, no_types};
 ghost use Rattle.c_typed.specs.refinement.Nesting.{unit_nesting};
 ghost use Rattle.c_typed.specs.Tree.{Function, Stmt, Typed};
-ghost use Rattle.c_well_typed.specs.Units.{IsWellTyped};
+ghost use Rattle.c_typed.specs.Units.{IsWellTyped};
 ghost use Rattle.c_code.specs.Functions.{body, signature};
 ghost use Rattle.c_code.specs.Limits.{limit_of, most_slots};
 ghost use Rattle.c_code.specs.Modules.{compiled, is_exported, target_of};

@@ -8,9 +8,9 @@ use Rattle.c_types.specs.Types.{Ty, void, integer, array}
 use Rattle.c_typed.specs.declared.tree.Case.{Case}
 use Rattle.c_typed.specs.Tree as tree
 use Rattle.c_typed.specs.Tree.{Expr, Place, Stmt, Stmts}
-use Rattle.c_well_typed.specs.declared.jumps.Jumps.{Jumps}
-use Rattle.c_well_typed.specs.refinement.Expressions.{Context, opened, is_visible, HasType, IsPlace, IsCondition, IsPromoted}
-use Rattle.c_well_typed.specs.refinement.Types.{IsScalar}
+use Rattle.c_typed.specs.declared.jumps.Jumps.{Jumps}
+use Rattle.c_typed.specs.refinement.Expressions.{Context, opened, is_visible, HasType, IsPlace, IsCondition, IsPromoted}
+use Rattle.c_typed.specs.refinement.Types.{IsScalar}
 
 -- an expression that is evaluated for what it does (6.8.3)
 abbrev pub IsDone : Context → Expr → Type 0

@@ -6,9 +6,9 @@ use Rattle.c_types.specs.Types.{Ty, function, Tys, no_types, types}
 use Rattle.c_typed.specs.Identifiers.{is_identifier}
 use Rattle.c_typed.specs.Tree as tree
 use Rattle.c_typed.specs.Tree.{Function, Made, Stmt, Typed}
-use Rattle.c_well_typed.specs.refinement.Expressions.{Context}
-use Rattle.c_well_typed.specs.Statements.{IsDone, IsFilled, IsStatement, no_jumps}
-use Rattle.c_well_typed.specs.refinement.Types.{IsObject, IsType}
+use Rattle.c_typed.specs.refinement.Expressions.{Context}
+use Rattle.c_typed.specs.Statements.{IsDone, IsFilled, IsStatement, no_jumps}
+use Rattle.c_typed.specs.refinement.Types.{IsObject, IsType}
 
 -- ---- what is made before `main`
 

@@ -2,7 +2,7 @@
 
 ghost use Rattle.std.specs.Prelude.{◌≡◌};
 ghost use Rattle.c_typed.specs.refinement.Views.{typed_of};
-ghost use Rattle.c_well_typed.specs.Units.{IsWellTyped};
+ghost use Rattle.c_typed.specs.Units.{IsWellTyped};
 
 use c_typed::TypedUnit;
 use std::marker::Model;
@@ -16,7 +16,7 @@ pub struct Typed {
 impl Model for Typed {
     ghost use Rattle.c_typed.specs.refinement.Views.{typed_of};
     ghost use Rattle.c_typed.specs.declared.unit.TypedUnit.{TypedUnit};
-    ghost use Rattle.c_well_typed.specs.Units.{IsWellTyped};
+    ghost use Rattle.c_typed.specs.Units.{IsWellTyped};
     ghost use Rattle.std.specs.Coded.{codes};
     ghost use Rattle.c_types.specs.refinement.Codes.{coded_table};
     ghost use Rattle.c_types.specs.contracts.types.CType as ctype;

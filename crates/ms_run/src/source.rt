@@ -18,7 +18,7 @@ use c_parse::{CParse, parse};
 use c_stage::is_in_stage;
 use c_token::Token;
 use c_tree::Unit;
-use c_well_typed::Typed;
+use c_typed::Typed;
 use ms_module::Module;
 use std::alloc::Global;
 use thiserror::Error;

@@ -8,7 +8,7 @@ use Rattle.c_stage.specs.Stage.{in_stage}
 use Rattle.c_runs.proofs.Executing.{executed_behaves}
 use Rattle.c_runs.specs.Correct.{MeansRun}
 use Rattle.c_typed.specs.Tree.{Typed}
-use Rattle.c_well_typed.specs.Units.{IsWellTyped}
+use Rattle.c_typed.specs.Units.{IsWellTyped}
 use Rattle.ms_job.specs.Jobs.{most_turns}
 use Rattle.ms_machine.specs.Running.{AreBytes}
 use Rattle.ms_machine.specs.Crews.{Input, Run, run_of, turns_from}

@@ -15,7 +15,7 @@ use Rattle.c_check.specs.declared.declaring.Declaring.{Declaring as DeclaringCod
 use Rattle.c_check.specs.declared.fault.CCheck.{CCheck}
 use Rattle.c_check.specs.declared.fault.CCheck.TheVariants.{NoTyping, Memory}
 use Rattle.c_check.specs.Statements.{Declaring, doing, statement, declaration_of, case_label, default_label}
-use Rattle.c_well_typed.specs.declared.jumps.Jumps.{Jumps}
+use Rattle.c_typed.specs.declared.jumps.Jumps.{Jumps}
 use Rattle.c_check.specs.Units.{externals, typed_state, typing_of}
 
 -- ---- statements

@@ -9,7 +9,7 @@ use Rattle.c_typed.specs.declared.tree.Stmt.{Stmt}
 use Rattle.c_typed.specs.declared.unit.TypedUnit.{TypedUnit}
 use Rattle.c_typed.specs.contracts.tree.Stmt as stmt
 use Rattle.c_typed.specs.refinement.Views.{typed_of}
-use Rattle.c_well_typed.specs.contracts.typed.Typed as typed
+use Rattle.c_typed.specs.contracts.typed.Typed as typed
 use Rattle.c_compile.specs.refinement.Sites.{Body, Site, site_in}
 use mathlib.Core.Path.{path_j}
 

@@ -9,7 +9,7 @@ use Rattle.c_typed.specs.declared.ops.Variable.{Variable}
 use Rattle.c_typed.specs.declared.ops.Variable.TheVariants.{Local, Global}
 use Rattle.c_typed.specs.Tree as tree
 use Rattle.c_typed.specs.Tree.{Place, Expr, Exprs}
-use Rattle.c_well_typed.specs.refinement.Types.{IsType}
+use Rattle.c_typed.specs.refinement.Types.{IsType}
 
 -- What a tree may name: structs, variables at file scope, string literals, functions, and of the variables of the function those
 -- of the blocks that stand around it.

@@ -1,5 +1,5 @@
 use Rattle.std.proofs.Common.{◌-◌, reverse, arith}
-use Rattle.c_well_typed.specs.Units.{numbers}
+use Rattle.c_typed.specs.Units.{numbers}
 use Rattle.c_code.specs.Statements.{objects_in}
 use Rattle.c_compile.proofs.Bodies.{objects_step}
 use Rattle.c_compile.proofs.functions.param_objects.Goals as goal

@@ -10,7 +10,7 @@ use Rattle.c_typed.specs.declared.tree.Stmt.{Stmt}
 use Rattle.c_typed.specs.Parts.{sequence}
 use Rattle.c_typed.specs.Tree as tree
 use Rattle.c_typed.specs.refinement.Views.{expr_of, list_of, place_of, step_of, stmt_of}
-use Rattle.c_well_typed.specs.Statements.{count}
+use Rattle.c_typed.specs.Statements.{count}
 use Rattle.c_code.specs.Expressions.{decayed, expr, is_deref, place, step}
 use Rattle.c_code.specs.Operations.{width_of}
 use Rattle.c_code.specs.Statements as words

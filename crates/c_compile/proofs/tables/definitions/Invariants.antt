@@ -1,7 +1,7 @@
 use Rattle.std.proofs.Common.{◌≡◌, map}
 use Rattle.std.specs.Prelude.{filter, slice_get}
 use Rattle.c_typed.specs.refinement.Views.{function_of}
-use Rattle.c_well_typed.specs.Units.{numbers}
+use Rattle.c_typed.specs.Units.{numbers}
 use Rattle.c_code.specs.Modules.{is_defined}
 use Rattle.c_compile.proofs.tables.definitions.Given as goal
 

@@ -1,7 +1,7 @@
 use Rattle.std.proofs.Common.{◌≡◌, false, get_or, map}
 use Rattle.std.specs.Prelude.{◌&&◌, not, filter, slice_get}
 use Rattle.c_typed.specs.refinement.Views.{function_of}
-use Rattle.c_well_typed.specs.Units.{numbers}
+use Rattle.c_typed.specs.Units.{numbers}
 use Rattle.c_code.specs.Modules.{is_defined}
 use Rattle.c_compile.proofs.tables.imports.Given as goal
 

@@ -1,6 +1,6 @@
 use Rattle.std.proofs.Common.{◌≡◌, false, get_or}
 use Rattle.std.specs.Prelude.{filter}
-use Rattle.c_well_typed.specs.Units.{numbers}
+use Rattle.c_typed.specs.Units.{numbers}
 use Rattle.c_compile.proofs.tables.numbers_of.Given as goal
 
 abbrev pub invariant-loop-i : goal.invariant-loop-i

@@ -1,7 +1,7 @@
 use Rattle.std.proofs.Common.{◌≡◌, ◌++◌, ◌∷◌, subst, sym}
 use Rattle.c_typed.specs.refinement.Views.{made_of}
 use Rattle.c_typed.specs.declared.unit.Made.{Made}
-use Rattle.c_well_typed.specs.Units.{literals_in}
+use Rattle.c_typed.specs.Units.{literals_in}
 use Rattle.c_code.specs.Modules.{literal_globals}
 use Rattle.c_compile.proofs.Modules.{literals_step}
 use Rattle.c_compile.proofs.unit.add_literal.Goals as goal

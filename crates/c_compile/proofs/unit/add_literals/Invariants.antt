@@ -1,7 +1,7 @@
 use Rattle.std.proofs.Common.{◌≡◌, ◌++◌, drop, map}
 use Rattle.c_typed.specs.Tree.{Typed}
 use Rattle.c_typed.specs.refinement.Views.{made_of}
-use Rattle.c_well_typed.specs.Units.{literals_in}
+use Rattle.c_typed.specs.Units.{literals_in}
 use Rattle.c_code.specs.Modules.{literal_globals}
 use Rattle.c_compile.proofs.unit.add_literals.Given as goal
 

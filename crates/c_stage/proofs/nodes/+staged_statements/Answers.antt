@@ -1,7 +1,7 @@
 use Rattle.std.proofs.Common.{◌∙◌, nat_lt, ap, refl, sym}
 use Rattle.c_typed.specs.Parts.{sequence}
 use Rattle.c_typed.specs.refinement.Views.{list_of}
-use Rattle.c_well_typed.specs.Statements.{count}
+use Rattle.c_typed.specs.Statements.{count}
 use Rattle.c_stage.specs.Stage.{in_stmts}
 use Rattle.c_stage.proofs.Staging.{first, scope_in, second, switch_in}
 use Rattle.c_stage.proofs.nodes.+staged_statements.Goals as goal
