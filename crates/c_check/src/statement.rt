@@ -18,9 +18,10 @@ use c_declare::{closed, opened};
 use c_tree::{
     Block, Expr as Written, ForFirst, ForFirstNode, Item, Jump, Statement, StatementNode,
 };
-use c_typed::{Expr, Stmt, boxed, do_while, if_else, loop_of, perform, return_value, while_loop};
+use c_typed::{
+    Expr, Jumps, Stmt, boxed, do_while, if_else, loop_of, perform, return_value, while_loop,
+};
 use c_types::{CType, IntType};
-use c_typed::Jumps;
 use std::alloc::{AllocError, Global};
 
 /// The test of a `for`; a missing one holds (C11, 6.8.5.3).

@@ -18,9 +18,8 @@ use c_check_types::{Checker, Names, Scope, Stop};
 use c_declare::outer;
 use c_token::Bytes;
 use c_tree::{External, ExternalForm, OuterSpecifier, SpecifierNode, Unit};
-use c_typed::TypedUnit;
+use c_typed::{Typed, TypedUnit};
 use c_types::{CType, Structs};
-use c_typed::Typed;
 use std::alloc::{AllocError, Global};
 use std::collections::LinkedList;
 

@@ -12,9 +12,8 @@ ghost use Rattle.ms_module.specs.Numbered.{IsPlain};
 
 use crate::operations::width_of;
 use crate::tables::Tables;
-use c_typed::{Place, Stmt, Variable};
+use c_typed::{Place, Stmt, Typed, Variable};
 use c_types::{CType, Scalar, Structs, offset, size};
-use c_typed::Typed;
 use ms_module::{Instr, Width};
 use std::alloc::{AllocError, Global};
 use std::marker::Model;

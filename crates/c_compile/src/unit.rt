@@ -25,9 +25,8 @@ use crate::signatures::signature;
 use crate::tables::{Tables, number as count_of, tables_of};
 use crate::uses::{Uses, uses_of};
 use c_place::{Objects, find_objects};
-use c_typed::{Function, Made, TypedUnit};
+use c_typed::{Function, Made, Typed, TypedUnit};
 use c_types::CType;
-use c_typed::Typed;
 use ms_module::{
     Builder, Code, Element, Export, ExportDesc, Func, Global as GlobalEntry, Import, ImportDesc,
     Instr, Module, Name, Segment,

@@ -8,8 +8,7 @@ ghost use Rattle.c_place.specs.refinement.Marks.{in_one, marked_from};
 
 use crate::marks::Marks;
 use crate::walk::stmt;
-use c_typed::{Function, Made, Stmt};
-use c_typed::Typed;
+use c_typed::{Function, Made, Stmt, Typed};
 use ms_types::Vector;
 use std::alloc::{AllocError, Global};
 use std::marker::Model;

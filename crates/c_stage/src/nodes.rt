@@ -9,9 +9,8 @@ ghost use Rattle.c_stage.specs.Stage as words;
 ghost use Rattle.c_typed.specs.Statements.{count};
 ghost use Rattle.c_place.specs.refinement.Lists.{exprs_in};
 
-use c_typed::{Expr, Function, Place, Sized, Stmt, Variable};
+use c_typed::{Expr, Function, Place, Sized, Stmt, Typed, Variable};
 use c_types::{CType, Scalar, Signature};
-use c_typed::Typed;
 
 /// Whether a unit is one of integers and pointers to objects, variables of such types and arrays and structs, their addresses and
 /// members, strings that initialise arrays, control, and calls of functions by their names.

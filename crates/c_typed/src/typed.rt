@@ -4,7 +4,7 @@ ghost use Rattle.std.specs.Prelude.{◌≡◌};
 ghost use Rattle.c_typed.specs.refinement.Views.{typed_of};
 ghost use Rattle.c_typed.specs.Units.{IsWellTyped};
 
-use c_typed::TypedUnit;
+use crate::unit::TypedUnit;
 use std::marker::Model;
 
 /// A translation unit with its types, which is well typed. Contracts see the unit.

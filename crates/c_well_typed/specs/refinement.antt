@@ -1,3 +1,0 @@
--- What only the proofs need: how the code keeps and does what the definitions beside this folder say.
-pub mod Expressions
-pub mod Types
