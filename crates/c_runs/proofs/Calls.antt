@@ -54,7 +54,7 @@ use Rattle.ms_relate.proofs.Growing.{Extends}
 use Rattle.c_runs.proofs.Held.{AreApart, AreHeld, AreOpen, AreOwn, IsHeld, Lasts, Slot, held_still, held_word, some_is, words, words_still}
 use Rattle.c_runs.proofs.Lasting.{lasts_same, lasts_trans, open_on}
 use Rattle.c_runs.proofs.Related as related
-use Rattle.c_runs.proofs.Related.{AreOf, Env, HasAll, IsValue, Kept, Now, are_still, extends_same, extends_trans, frame_of, front, piled, piled_still, pushes, seeing}
+use Rattle.c_runs.proofs.Related.{AreOf, Env, FiledIn, HasAll, IsValue, Kept, Now, are_still, extends_same, extends_trans, frame_of, front, piled, piled_still, pushes, seeing}
 use Rattle.c_runs.proofs.Ops.{GoodIn, ToIn, at_work, same}
 use Rattle.c_runs.proofs.Operations.{AtHome, Linked, call_is}
 use Rattle.c_runs.proofs.Exprs.{AreScalars, CallsRun}
@@ -119,6 +119,7 @@ at_args p front e = record {
   result = p.result;
   sizes = p.sizes;
   sound = p.sound;
+  names = p.names;
   laid_out = p.laid_out;
   has_members = p.has_members;
   args = front;
@@ -208,7 +209,7 @@ module _ (S : Site) (L : Linked S) (unit : Typed) (all : (f : ℕ) (t : Ty) (ps 
 
     -- what the callee leaves
     abbrev Back : ℕ → Value → World → Mem → Type 0
-    Back below v w1 m1 = IsValue C t m1.homes v × (w1.fuel < below) × AreBytes w1.input × Extends m.homes m1.homes × Related C.unit.structs C.places m1.homes w1.objects m1.segments × Lasts w.objects w1.objects
+    Back below v w1 m1 = IsValue C t m1.homes v × (w1.fuel < below) × AreBytes w1.input × Extends m.homes m1.homes × Related C.unit.structs C.places m1.homes w1.objects m1.segments × Lasts w.objects w1.objects × FiledIn C w1 m1
 
     -- back at the caller, whose variables and depth are as before
     back_runs : (size below : ℕ) (m' : Mem) (ts : Thread) (ws wn : World) → below ≤ now.below → wn.locals ≡ w.locals → wn.depth ≡ w.depth → (x : Result Value)
@@ -241,6 +242,7 @@ module _ (S : Site) (L : Linked S) (unit : Typed) (all : (f : ℕ) (t : Ty) (ps 
               apart = subst AreApart (sym el) k.apart;
               own = subst (AreOwn (length now.objects)) (sym el) k.own;
               lasts = lasts_trans now.objects w.objects w1.objects k.lasts left.5;
+              file = left.6;
             },
           ),
           goes.sized S (size + 0) size ws w2 m' m2 ts (at_work C m2 w2 top r) none_more
@@ -272,7 +274,7 @@ module _ (S : Site) (L : Linked S) (unit : Typed) (all : (f : ℕ) (t : Ty) (ps 
         spent S 1 size q (record w { fuel = suc q }) m (Call (index_of unit f)) fr (piled C ps hs us vs) r started (ToIn C (pushes C t) vs r) (GoodIn C (IsValue C t) now) _
         (call_moves ∙ ap (λ (us' : List Word). step.moved (goes.store S m) (call_on S.funcs (index_of unit f) (thread fr us' r))) piled_same ∙ ap (step.moved (goes.store S m)) (shallow_call C m.homes S.funcs (index_of unit f) p.inst ps us vs fr r p.is_at p.takes ok' lt)) refl (omega (arith, small))
         (back_runs size (suc q) m (exit_ended (callee C m.homes S.funcs (index_of unit f) p.inst ps us vs fr r p.is_at p.takes ok') vs (front (sequence S.funcs (index_of unit f) 0) marked)) wn wn (omega (arith, less)) refl refl (does S L unit i f (suc d) t ps p us (begun_with S L unit i f (suc d) t ps p us wn))
-        (en.2 fr vs r (ap suc dep) (suc q) (omega (arith, less, le)) wn m refl (ap suc k'.deep) (omega arith) k'.bytes k'.related))
+        (en.2 fr vs r (ap suc dep) (suc q) (omega (arith, less, le)) wn m refl (ap suc k'.deep) (omega arith) k'.bytes k'.related k'.file))
 
     by_depth : (b : Bool) → nat_lt w.depth deepest ≡ b → Goal 1 w (if b then (spend >> body_of) w else ends deep w)
     by_depth true e' = by_fuel (let a = ltb-true _ _ e' in let b = k.deep in omega (arith, a, dep, b)) w.fuel k

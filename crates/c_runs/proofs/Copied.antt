@@ -34,7 +34,7 @@ use Rattle.c_runs.proofs.Goes.{Site, Mem, Runs, after_after, behind_goes, bind, 
 use Rattle.c_runs.proofs.Held.{words}
 use Rattle.c_runs.proofs.Ending.{Differ, Disjoint}
 use Rattle.c_runs.proofs.Lasting.{lasts_same}
-use Rattle.c_runs.proofs.Related.{AreOf, Env, HasAll, Kept, Now, depth_front, extends_same, frame_of, front, front_append, has_back, has_front, pushes, seeing}
+use Rattle.c_runs.proofs.Related.{AreOf, Env, FiledIn, HasAll, Kept, Now, depth_front, extends_same, frame_of, front, front_append, has_back, has_front, pushes, seeing}
 use Rattle.c_runs.proofs.Ops.{at_work, same, size_joined}
 use Rattle.c_runs.proofs.Operations.{Linked}
 use Rattle.c_runs.proofs.Updates.{code_assoc}
@@ -136,9 +136,9 @@ module _ (S : Site) (L : Linked S) (unit : Typed) (i f d : ℕ) (t : Ty) (ps : T
           ∙ ap (λ (front : List Word). record { function = index_of unit f; locals = front ++ (words Ec.places (kinds S L unit i f d t ps p) hs (firsts ks) ++ first_temps) }) (sym args_are)
           ∙ ap (λ (gs : List Home). record { function = index_of unit f; locals = p.args ++ (words Ec.places (kinds S L unit i f d t ps p) gs (firsts ks) ++ first_temps) }) (sym e)
 
-      start_kept : (below : ℕ) (w : World) (m : Mem) → suc w.depth ≡ d → w.fuel < below → AreBytes w.input → Related Ec.unit.structs Ec.places m.homes w.objects m.segments
+      start_kept : (below : ℕ) (w : World) (m : Mem) → suc w.depth ≡ d → w.fuel < below → AreBytes w.input → Related Ec.unit.structs Ec.places m.homes w.objects m.segments → FiledIn Ec w m
           → Kept Ec (now_of below m.homes w.objects) (empty w) (record m { temps = first_temps })
-      start_kept below w m dep lt bytes related = record {
+      start_kept below w m dep lt bytes related file = record {
         held = firsts_held Ec m.homes p.stmt_is 0 ks (λ x s e. (locals_as S L unit i f d t ps p x s e).0);
         deep = dep;
         less = lt;
@@ -150,6 +150,7 @@ module _ (S : Site) (L : Linked S) (unit : Typed) (i f d : ℕ) (t : Ty) (ps : T
         apart = first_apart [] ks;
         own = first_own (length w.objects) [] ks;
         lasts = lasts_same w.objects;
+        file = file;
       }
 
     -- ---- the parameters' block
@@ -196,7 +197,7 @@ module _ (S : Site) (L : Linked S) (unit : Typed) (i f d : ℕ) (t : Ty) (ps : T
         stmt_flow : FlowRuns Ein (way no_jumps 0 None (with_off ns no_off)) 0 0 B same flow_is
         stmt_flow =
             same_way Ein off_body (with_off ns no_off) B flow_is refl
-            (stmt_runs Ec L (home S L unit i f d t ps p) (K S L unit i f d t ps p) refl callees_run ints (slots_data S L unit i f d t ps p) refl p.sound (slot_there ks) (omega arith) ns 0 None (at_body vs_of) no_jumps off_body p.stmt_is out (omega arith) p.ready p.well)
+            (stmt_runs Ec L (home S L unit i f d t ps p) (K S L unit i f d t ps p) refl callees_run ints (slots_data S L unit i f d t ps p) refl p.sound p.names (slot_there ks) (omega arith) ns 0 None (at_body vs_of) no_jumps off_body p.stmt_is out (omega arith) p.ready p.well)
 
         module _ (hs : List Home) (us : List Value) (args : AreArgs Ec hs 0 ps us) (numbered : numbers_from 0 us ≡ ns) where
           abbrev copy : Does (Unit {0})
@@ -244,7 +245,7 @@ module _ (S : Site) (L : Linked S) (unit : Typed) (i f d : ℕ) (t : Ty) (ps : T
           -- ---- from the start of the call to the caller
 
           pub copied_enters : (ok : AreOf Ec ps hs us) (args_are : p.args ≡ arg_words Ec hs ps us) → length us ≤ length ks → Enters S L unit i f d t ps p hs us ok (size_of D)
-          copied_enters ok args_are le' caller vs r dep below le w m e deeper lt bytes related =
+          copied_enters ok args_are le' caller vs r dep below le w m e deeper lt bytes related file =
               let m' : Mem = record m { temps = first_temps } in
               let ws = empty w in
               let now = now_of below m.homes w.objects in
@@ -263,4 +264,4 @@ module _ (S : Site) (L : Linked S) (unit : Typed) (i f d : ℕ) (t : Ty) (ps : T
               (goes.shifts S w ws m first_temps ts refl refl (tells_nothing w ws refl refl refl))
               (subst (λ (o : Option ValType). Runs S (size_of D) m' (at_work Ec m' ws vs (front D.instrs (Activation o (length vs) caller ∷ r))) ws to good (copied ws)) (sym p.gives_one)
               (body_runs Ec p.result caller vs r dep whole (copy >> block_of) now (arrives now (record { below = le; grown = grown; seen = λ x s. absurd cc })) 1 has.1 copied_fits (record { below = le; waits = refl; seen = refl }) ws m'
-              (start_kept hs us ok args_are below w m deeper lt bytes related))))))
+              (start_kept hs us ok args_are below w m deeper lt bytes related file))))))

@@ -1,6 +1,7 @@
 pub mod Grants
 pub mod Goes
 pub mod Values
+pub mod Files
 pub mod Held
 pub mod Ending
 pub mod Lasting
@@ -27,6 +28,7 @@ pub mod Tested
 pub mod Allocating
 pub mod Freeing
 pub mod Strings
+pub mod Globals
 pub mod Exprs
 pub mod Ahead
 pub mod Flows

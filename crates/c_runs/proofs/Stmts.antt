@@ -59,6 +59,7 @@ use Rattle.c_runs.proofs.Nodes.{Always, Leaves, Num, gone, remains, set_runs, of
 use Rattle.c_runs.proofs.Operations.{AtHome, Linked}
 use Rattle.c_runs.proofs.Scalars.{IsData, null_runs, zero_in}
 use Rattle.c_runs.proofs.Strings.{char_of, fill_runs, whole_filled}
+use Rattle.c_runs.proofs.Globals.{NamesOf}
 use Rattle.c_runs.proofs.Exprs.{AreScalars, CallsRun, decays_run, expr_runs, narrow_width}
 use Rattle.c_runs.proofs.Flows.{FlowIn, FlowOut, FlowRuns, GoodFlow, Off, ahead, to_flow, flow_none, flow_behind, flow_behind_in, flow_of, flow_seq, flow_return, flow_continue, flow_choice, no_group, Way, way}
 use Rattle.c_runs.proofs.Dos.{do_runs}
@@ -179,7 +180,7 @@ ArePlain E (x ∷ xs) = IsPlain E x × ArePlain E xs
 module _ (E0 : Env) (L : Linked E0.site) (home : AtHome E0) (k : well.Context) (slots_are : k.slots ≡ E0.slots) (calls_run : CallsRun (seeing [] E0) L home k slots_are)
     (scalars_are : (f : ℕ) (t : Ty) (ps : Tys) → slice_get k.functions f ≡ Some (function t ps) → AreScalars (seeing [] E0) L home k slots_are ps)
     (slots_data : (x : ℕ) (t : Ty) → slice_get k.slots x ≡ Some t → E0.target.is_object (Local x) ≡ false → IsData t) (structs_same : k.structs ≡ E0.unit.structs) (sound : AreSoundNames k.structs k.globals k.slots k.functions)
-    (slot_at : (x : ℕ) → x < length k.slots → (t : Ty) × (slice_get k.slots x ≡ Some t)) (wide : E0.bound ≤ E0.turn_bound) where
+    (names : NamesOf E0.unit.structs E0.files E0.reached E0.target k.globals k.literals) (slot_at : (x : ℕ) → x < length k.slots → (t : Ty) × (slice_get k.slots x ≡ Some t)) (wide : E0.bound ≤ E0.turn_bound) where
   -- with these variables visible
   abbrev in_blocks : List ℕ → well.Context
   in_blocks ns = record k { visible = ns }
@@ -198,7 +199,7 @@ module _ (E0 : Env) (L : Linked E0.site) (home : AtHome E0) (k : well.Context) (
       calls_run f t ps e b hs us ok n has now (record { below = le.below; grown = le.grown; seen = sees_none now.visible }) vs r dep w m kp
 
   run_expr : (v : List ℕ) (kept : Bool) (d : ℕ) (e : Expr) (t : Ty) → IsReady E0.target.is_object E0.unit (in_expr e) (uses.in_expr e) (in_expr_of e) → HasType (in_blocks v) e t → OpIn (at v) [] (code.expr E0.target kept d e) same (remains (at v) kept t) (IsValue (at v) t) (value e)
-  run_expr v = expr_runs (at v) L home (in_blocks v) slots_are (calls_at v) scalars_are slots_data refl structs_same sound
+  run_expr v = expr_runs (at v) L home (in_blocks v) slots_are (calls_at v) scalars_are slots_data refl structs_same sound names
 
   -- ---- blocks
 
@@ -316,7 +317,7 @@ module _ (E0 : Env) (L : Linked E0.site) (home : AtHome E0) (k : well.Context) (
       let q = both (nat_lt n 4294967296) (are_bytes bytes) tested in
       let less = ltb→lt n 4294967296 (subst T (sym q.0) tt) in
       let size : n * 1 ≡ n = omega arith in
-      let there = decays_run (at v) L home (in_blocks v) slots_are (calls_at v) scalars_are slots_data refl structs_same sound d p (integer Char) n ready h in
+      let there = decays_run (at v) L home (in_blocks v) slots_are (calls_at v) scalars_are slots_data refl structs_same sound names d p (integer Char) n ready h in
       let x = meaning.pointer (place E0.unit E0.calls p) >>= meaning.further values.inside in
       let code_of : ℕ → Code = λ k. code.decayed (code.is_deref p) k (code.place E0.target d p) in
       flow_of (at v) l b c (scheme.filled E0.target (code_of n) bytes) (λ hs. gone (at v)) (λ hs. Always (at v)) (x >>= (λ a. alter (write_all 1 a 0 (map char_of bytes))))
