@@ -1,6 +1,8 @@
 -- What passes a limit of the compiler, and is refused before any code is made.
-use Rattle.std.specs.Prelude.{ℕ, ◌||◌, Bool, true, false, List, [], ◌∷◌, length, nat_lt, Option, Some, None, is_some, ◌&&◌, if◌then◌else◌}
+use Rattle.std.specs.Prelude.{ℕ, ◌+◌, ◌||◌, Bool, true, false, List, [], ◌∷◌, length, nat_lt, Option, Some, None, is_some, ◌&&◌, if◌then◌else◌}
 use Rattle.std.specs.List.{list_any}
+use Rattle.ms_module.specs.declared.instr.Instr.{Instr}
+use Rattle.ms_module.specs.declared.module.Func.{Func}
 use Rattle.c_types.specs.Layout.{Table}
 use Rattle.c_typed.specs.Tree.{Function, Typed}
 use Rattle.c_code.specs.Leaves.{leaves}
@@ -36,3 +38,17 @@ limit_of u =
     first_true (list_any has_many_slots u.functions) locals
     (first_true (list_any (is_long_copy u.structs) (uses u)) copy
     (first_true (nat_lt most_named (length (named u))) functions None))
+
+-- ---- how much code a module has (WebAssembly 1.0, 2.4.7): past 2^25 instructions it is want of memory
+
+abbrev pub most_instructions : ℕ
+most_instructions = 33554432
+
+-- of a body, by its sequences
+abbrev pub instructions : List (List Instr) → ℕ
+instructions [] = 0
+instructions (is ∷ rest) = length is + instructions rest
+
+abbrev pub instructions_of : List Func → ℕ
+instructions_of [] = 0
+instructions_of (f ∷ fs) = instructions f.body + instructions_of fs

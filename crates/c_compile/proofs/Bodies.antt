@@ -22,7 +22,7 @@ use Rattle.c_code.specs.Modules.{first_of, func_of, is_object_in, target}
 use Rattle.c_code.specs.Statements.{at_body, freed, made, objects_in, stmt}
 use Rattle.c_code.specs.Targets.{Target, get}
 use Rattle.c_code.specs.Uses.{waits_stmt}
-use Rattle.c_compile.specs.refinement.Sites.{Site}
+use Rattle.c_emit.specs.refinement.Sites.{Site}
 
 -- the code of a whole body
 pub whole_body : (st : State) (c : Code) → Adds first_state st c → st.seqs ≡ inner (c 1)

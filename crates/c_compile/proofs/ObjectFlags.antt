@@ -12,7 +12,7 @@ use Rattle.c_meaning.specs.Units.{is_global_object}
 use Rattle.c_place.specs.refinement.Flags.{globals_from, slots_from}
 use Rattle.c_typed.specs.Units.{numbers}
 use Rattle.c_code.specs.Modules.{first_of, is_object_in, no_slots}
-use Rattle.c_compile.specs.refinement.Sites.{AreFlags}
+use Rattle.c_emit.specs.refinement.Sites.{AreFlags}
 
 of_slot : (s : Stmt) (k : ℕ) (ts : List Ty) (n m : ℕ) (b : Bool) → m ≡ k + n → slice_get (slots_from s k ts) n ≡ Some b → b ≡ is_object s m (get_or ts n void)
 of_slot s k [] n m b at e = absurd cc

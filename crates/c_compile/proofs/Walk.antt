@@ -11,7 +11,7 @@ use Rattle.c_typed.specs.Parts.{sequence}
 use Rattle.c_typed.specs.refinement.Views.{list_of, stmt_of}
 use Rattle.c_code.specs.Statements.{Exits, group_from, groups, iterated, stmt}
 use Rattle.c_code.specs.Targets.{Target, waiting}
-use Rattle.c_compile.proofs.Items.{IsLeft, item_at, less_is_left}
+use Rattle.c_emit.proofs.Items.{IsLeft, item_at, less_is_left}
 
 -- a loop whose body has a block of its own, or not
 pub iterated_is : (t : Target) (b : Bool) (body : Bool → Code) (step test : Code)

@@ -22,16 +22,18 @@ ghost use Rattle.c_code.specs.Modules.{func_of, start_func};
 ghost use Rattle.c_code.specs.Statements as statements;
 ghost use Rattle.c_code.specs.Targets as targets;
 ghost use Rattle.c_code.specs.Uses.{waits_stmt};
-ghost use Rattle.c_compile.specs.refinement.Sites.{AreFlags, AreTables};
+ghost use Rattle.c_emit.specs.refinement.Sites.{AreFlags, AreTables};
 
-use crate::adding::{add, add_three, add_two};
-use crate::body::Body;
-use crate::leaves::sum;
-use crate::operations::{store, val_type, zero_of};
-use crate::statements::{Exits, free_last, make, put_bytes, stmt};
-use crate::tables::{Tables, number as count_of};
-use crate::target::Target;
+use crate::statements::stmt;
 use crate::waits::{waits_made, waits_stmt};
+use c_emit::adding::{add, add_three, add_two};
+use c_emit::blocks::{make, put_bytes};
+use c_emit::body::Body;
+use c_emit::exits::{Exits, free_last};
+use c_emit::leaves::sum;
+use c_emit::operations::{store, val_type, zero_of};
+use c_emit::tables::{Tables, number as count_of};
+use c_emit::target::Target;
 use c_typed::{Function, Made, Stmt, Typed, Variable};
 use c_types::CType;
 use ms_module::{Code, Func, Instr, Locals, Segment};
@@ -48,7 +50,7 @@ pub fn func<'u>(
     f: &'u Function,
     flags: &'u [bool],
     s: &'u Stmt,
-    room: &mut u32,
+    room: u32,
 ) -> Result<Func, AllocError>
     requires tables { AreTables (typed_of unit.now) tables.now }
     requires flags { flags.now ≡ slots_from (stmt_of s.now) 0 (function_of f.now).slots }
@@ -76,7 +78,7 @@ fn func_at(
     number: u32,
     f: &Function,
     s: &Stmt,
-    room: &mut u32,
+    room: u32,
 ) -> Result<Func, AllocError>
     requires first { first ≡ t.now.target.first }
     requires slots { t.now.slots ≡ (function_of f.now).slots }
@@ -233,7 +235,7 @@ fn body(
     f: &Function,
     params: &[CType],
     s: &Stmt,
-    room: &mut u32,
+    room: u32,
 ) -> Result<Code, AllocError>
     requires first { first ≡ t.now.target.first }
     requires slots { t.now.slots ≡ (function_of f.now).slots }
@@ -241,7 +243,7 @@ fn body(
     ensures { IfOk result (λ code. code ≡ words.body t.now.target (function_of f.now) (stmt_of s.now)) }
 {
     let mut objects = param_objects(alloc, t, params.len())?;
-    let mut body = Body::new(alloc, *room)?;
+    let mut body = Body::new(alloc, room)?;
     add_body(
         &mut body,
         t,
@@ -251,7 +253,6 @@ fn body(
         s,
         result_in(&f.ty),
     )?;
-    *room = body.room();
     finished(body)
 }
 
@@ -369,7 +370,7 @@ fn copy_param(body: &mut Body, t: &Target, n: u32, ty: &CType) -> Result<u32, Al
     sum(n, 1)
 }
 
-#[tactic(auto, using(crate::proofs::Steps::then))]
+#[tactic(auto, using(c_emit::proofs::Steps::then))]
 fn add_param(body: &mut Body, t: &Target, n: u32, ty: &CType) -> Result<(), AllocError>
     ensures { OnOk result (Adds body.old body.new (words.param t.now.target (t.now.target.is_object (variables.Local n)) n (type_of ty.now))) }
 {
@@ -393,7 +394,7 @@ pub fn start<'u>(
     unit: &'u Typed,
     tables: &'u Tables,
     globals: &'u [bool],
-    room: &mut u32,
+    room: u32,
 ) -> Result<Func, AllocError>
     requires tables { AreTables (typed_of unit.now) tables.now }
     requires globals { globals.now ≡ (unit_flags (typed_of unit.now)).globals }
@@ -404,7 +405,7 @@ pub fn start<'u>(
 }
 
 /// The start function, in which no slot is declared.
-fn start_at(alloc: Global, t: &Target, made: &[Made], room: &mut u32) -> Result<Func, AllocError>
+fn start_at(alloc: Global, t: &Target, made: &[Made], room: u32) -> Result<Func, AllocError>
     requires first { t.now.target.first ≡ 0 }
     requires slots { t.now.slots ≡ [] }
     ensures { (u : tree.Typed) → IfOk result (λ g. g ≡ record { sig = 2; locals = words.locals t.now.target 0 [] (modules.waits_made u (map made_of made.now)); body = words.start t.now.target t.now.globals (map made_of made.now) }) }
@@ -417,7 +418,7 @@ fn start_at(alloc: Global, t: &Target, made: &[Made], room: &mut u32) -> Result<
     })
 }
 
-#[tactic(auto, using(crate::proofs::Steps::then))]
+#[tactic(auto, using(c_emit::proofs::Steps::then))]
 fn add_start(body: &mut Body, t: &Target, made: &[Made]) -> Result<(), AllocError>
     requires { t.now.slots ≡ [] }
     ensures { OnOk result (Adds body.old body.new (words.makes t.now.target t.now.globals 0 (map made_of made.now) ⨾ words.gives t.now.target 0 (map made_of made.now))) }
@@ -426,13 +427,12 @@ fn add_start(body: &mut Body, t: &Target, made: &[Made]) -> Result<(), AllocErro
     give_all(body, t, made)
 }
 
-fn start_body(alloc: Global, t: &Target, made: &[Made], room: &mut u32) -> Result<Code, AllocError>
+fn start_body(alloc: Global, t: &Target, made: &[Made], room: u32) -> Result<Code, AllocError>
     requires { t.now.slots ≡ [] }
     ensures { IfOk result (λ code. code ≡ words.start t.now.target t.now.globals (map made_of made.now)) }
 {
-    let mut body = Body::new(alloc, *room)?;
+    let mut body = Body::new(alloc, room)?;
     add_start(&mut body, t, made)?;
-    *room = body.room();
     finished(body)
 }
 
@@ -513,7 +513,7 @@ fn give_one(body: &mut Body, t: &Target, literals: u32, m: &Made) -> Result<u32,
 }
 
 /// A literal's bytes, into the object of this global.
-#[tactic(auto, using(crate::proofs::Steps::then))]
+#[tactic(auto, using(c_emit::proofs::Steps::then))]
 fn fill_literal(body: &mut Body, t: &Target, n: u32, bytes: &[u8]) -> Result<(), AllocError>
     ensures { OnOk result (Adds body.old body.new (statements.filled t.now.target (one (targets.get t.now.target (variables.Global n))) bytes.now)) }
 {

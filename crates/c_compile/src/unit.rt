@@ -1,6 +1,6 @@
 //! The module of a unit of C (C11, 6.9; WebAssembly 1.0, 2.5).
 
-ghost use Rattle.std.specs.Prelude.{◌≡◌, ◌+◌, ◌∷◌, ◌++◌, List, [], Some, None, bytes_eq, codes, filter, length, map, slice_get, IfErr, IfOk, MatchOption, OnOk};
+ghost use Rattle.std.specs.Prelude.{◌≡◌, ◌≤◌, ◌+◌, ◌∷◌, ◌++◌, List, [], Some, None, bytes_eq, codes, filter, length, map, slice_get, IfErr, IfOk, MatchOption, OnOk};
 ghost use Rattle.std.specs.List.{list_any};
 ghost use Rattle.c_types.specs.Types.{Ty, Tys, function, type_of};
 ghost use Rattle.c_typed.specs.Tree as tree;
@@ -12,18 +12,17 @@ ghost use Rattle.c_code.specs.Limits as bounds;
 ghost use Rattle.c_code.specs.Modules as words;
 ghost use Rattle.c_place.specs.refinement.Flags.{flags};
 ghost use Rattle.c_compile.specs.Refusals.{IsRefused, limit as word_of};
-ghost use Rattle.c_compile.specs.refinement.Sites.{AreTables};
-ghost use Rattle.c_compile.specs.refinement.Used.{AreUses};
+ghost use Rattle.c_emit.specs.refinement.Sites.{AreTables};
+ghost use Rattle.c_emit.specs.refinement.Used.{AreUses};
 ghost use Rattle.ms_module.specs.Numbered.{IsPlain};
 ghost use Rattle.ms_module.specs.declared.module.ImportDesc.TheVariants as descs;
 
-use crate::body::MOST_INSTRUCTIONS;
 use crate::fault::{CFault, Limit};
 use crate::functions::{func, held_as, start};
-use crate::leaves::sum;
-use crate::signatures::signature;
-use crate::tables::{Tables, number as count_of, tables_of};
-use crate::uses::{Uses, uses_of};
+use c_emit::leaves::sum;
+use c_emit::signatures::signature;
+use c_emit::tables::{Tables, number as count_of, tables_of};
+use c_emit::uses::{Uses, uses_of};
 use c_place::{Objects, find_objects};
 use c_typed::{Function, Made, Typed, TypedUnit};
 use c_types::CType;
@@ -40,11 +39,16 @@ const MOST_SLOTS: usize = 10_000;
 /// The most functions that are values.
 const MOST_NAMED: usize = 65_535;
 
+/// The most instructions of a module. Ways out of blocks and copies of structs repeat code, so that a short source may ask for far
+/// more than it has bytes.
+const MOST_INSTRUCTIONS: u32 = 1 << 25;
+
 /// The module of a unit. `Err`: the first limit that the unit passes, which is tested before any code is made, or want of memory, which
 /// a module of more than 2^25 instructions is.
 pub fn compile(alloc: Global, typed: &Typed) -> Result<Module, CFault>
     ensures module { IfOk result (λ m. m ≡ words.compiled (typed_of typed.now)) }
     ensures within { IfOk result (λ m. bounds.limit_of (typed_of typed.now) ≡ None) }
+    ensures small { IfOk result (λ m. bounds.instructions_of m.funcs ≤ bounds.most_instructions) }
     ensures refused { IfErr result (λ fault. IsRefused (typed_of typed.now) fault) }
 {
     let objects = find_objects(alloc, typed)?;
@@ -111,7 +115,8 @@ fn module(alloc: Global, typed: &Typed, uses: Uses, objects: &Objects) -> Result
     requires uses { AreUses (typed_of typed.now) uses }
     requires functions { objects.now.functions.items ≡ (flags (typed_of typed.now)).functions }
     requires globals { objects.now.globals.items ≡ (flags (typed_of typed.now)).globals }
-    ensures { IfOk result (λ m. m ≡ words.compiled (typed_of typed.now)) }
+    ensures module { IfOk result (λ m. m ≡ words.compiled (typed_of typed.now)) }
+    ensures small { IfOk result (λ m. bounds.instructions_of m.funcs ≤ bounds.most_instructions) }
 {
     let tables = tables_of(alloc, typed.unit(), uses)?;
     module_of(alloc, typed, &tables, objects)
@@ -130,7 +135,8 @@ fn module_of(
     requires named { tables.now.named.items ≡ words.named (typed_of typed.now) }
     requires functions { objects.now.functions.items ≡ (flags (typed_of typed.now)).functions }
     requires globals { objects.now.globals.items ≡ (flags (typed_of typed.now)).globals }
-    ensures { IfOk result (λ m. m ≡ words.compiled (typed_of typed.now)) }
+    ensures module { IfOk result (λ m. m ≡ words.compiled (typed_of typed.now)) }
+    ensures small { IfOk result (λ m. bounds.instructions_of m.funcs ≤ bounds.most_instructions) }
 {
     let unit = typed.unit();
     Ok(Module {
@@ -422,13 +428,40 @@ fn funcs(
     requires tables { AreTables (typed_of typed.now) tables.now }
     requires functions { objects.now.functions.items ≡ (flags (typed_of typed.now)).functions }
     requires globals { objects.now.globals.items ≡ (flags (typed_of typed.now)).globals }
-    ensures { IfOk result (λ funcs. funcs ≡ (words.compiled (typed_of typed.now)).funcs) }
+    ensures funcs { IfOk result (λ funcs. funcs ≡ (words.compiled (typed_of typed.now)).funcs) }
+    ensures small { IfOk result (λ funcs. bounds.instructions_of funcs ≤ bounds.most_instructions) }
 {
     let mut room = MOST_INSTRUCTIONS;
     let mut funcs = Vector::new(alloc);
     add_funcs(alloc, &mut funcs, typed, tables, objects, &mut room)?;
-    funcs.push(start(alloc, typed, tables, &objects.globals, &mut room)?)?;
+    let start = start(alloc, typed, tables, &objects.globals, room)?;
+    let _left = room_behind(&start.body, room)?;
+    funcs.push(start)?;
     Ok(funcs)
+}
+
+/// What is left of the room for a module's instructions behind a body.
+fn room_behind(code: &Code, room: u32) -> Result<u32, AllocError>
+    ensures { IfOk result (λ left. left + bounds.instructions code.now ≡ room) }
+{
+    let mut left = room;
+    for n in 0..code.len() {
+        left = room_for(code.sequence(n).len(), left)?;
+    }
+    Ok(left)
+}
+
+/// What is left of it behind so many instructions.
+fn room_for(count: usize, room: u32) -> Result<u32, AllocError>
+    ensures { IfOk result (λ left. left + count ≡ room) }
+{
+    let Ok(count) = u32::try_from(count) else {
+        return Err(AllocError);
+    };
+    match room.checked_sub(count) {
+        Some(left) => Ok(left),
+        None => Err(AllocError),
+    }
 }
 
 /// Those of the unit.
@@ -443,7 +476,8 @@ fn add_funcs(
     requires tables { AreTables (typed_of typed.now) tables.now }
     requires functions { objects.now.functions.items ≡ (flags (typed_of typed.now)).functions }
     requires globals { objects.now.globals.items ≡ (flags (typed_of typed.now)).globals }
-    ensures { OnOk result (funcs.new ≡ funcs.old ++ words.funcs_from (typed_of typed.now) 0 (typed_of typed.now).functions) }
+    ensures funcs { OnOk result (funcs.new ≡ funcs.old ++ words.funcs_from (typed_of typed.now) 0 (typed_of typed.now).functions) }
+    ensures room { OnOk result (bounds.instructions_of funcs.new + room.new ≡ bounds.instructions_of funcs.old + room.old) }
 {
     for n in 0..count_of(typed.unit().functions.len())? {
         add_func(alloc, funcs, typed, tables, objects, n, room)?;
@@ -464,14 +498,15 @@ fn add_func(
     requires tables { AreTables (typed_of typed.now) tables.now }
     requires functions { objects.now.functions.items ≡ (flags (typed_of typed.now)).functions }
     requires globals { objects.now.globals.items ≡ (flags (typed_of typed.now)).globals }
-    ensures { (f : tree.Function) → words.function_at (typed_of typed.now) number ≡ Some f → OnOk result (funcs.new ≡ funcs.old ++ words.func_of (typed_of typed.now) number f f.body) }
+    ensures funcs { (f : tree.Function) → words.function_at (typed_of typed.now) number ≡ Some f → OnOk result (funcs.new ≡ funcs.old ++ words.func_of (typed_of typed.now) number f f.body) }
+    ensures room { OnOk result (bounds.instructions_of funcs.new + room.new ≡ bounds.instructions_of funcs.old + room.old) }
 {
     let f = function_at(typed.unit(), number)?;
     let Some(body) = &f.body else {
         return Ok(());
     };
     let flags = flags_at(objects, number)?;
-    funcs.push(func(
+    let func = func(
         alloc,
         typed,
         tables,
@@ -480,8 +515,10 @@ fn add_func(
         f,
         flags,
         body,
-        room,
-    )?)?;
+        *room,
+    )?;
+    *room = room_behind(&func.body, *room)?;
+    funcs.push(func)?;
     Ok(())
 }
 

@@ -19,22 +19,21 @@ ghost use Rattle.ms_emit.specs.refinement.Parts.{Adds};
 ghost use Rattle.ms_module.specs.declared.access.Segment.TheVariants as segments;
 ghost use Rattle.ms_module.specs.declared.instr.Instr.TheVariants as instrs;
 
-pub use crate::accesses::tee;
-use crate::accesses::{
+use crate::known::{Known, known_of};
+use c_emit::accesses::{
     copy_struct, fetch, fetch_above, fetch_around, free_heap, function, literal, new_heap,
     new_known, new_product, slice, slice_of, variable, variable_twice, write, write_kept,
 };
-use crate::adding::{add, add_two, begin, end, turn};
-use crate::body::Body;
-use crate::conversions::{convert, truth};
-use crate::known::{Known, known_of};
-use crate::leaves::sum;
-use crate::operations::{converted_number, eqz, number};
-use crate::operators::{
+use c_emit::adding::{add, add_two, begin, end, turn};
+use c_emit::body::Body;
+use c_emit::conversions::{convert, truth};
+use c_emit::leaves::sum;
+use c_emit::operations::{converted_number, eqz, number};
+use c_emit::operators::{
     begin_choice, call_function, call_waiting, compare, compare_functions, complement, constant,
     differ, operate, order, step_back, step_by, step_on, subtract, wait, zero,
 };
-use crate::target::Target;
+use c_emit::target::Target;
 use c_typed::{BinaryOp, Expr, Place, RelOp as Relation, UnaryOp};
 use c_types::{CType, IntType, Scalar};
 use ms_module::{Instr, Numeric, Opening, Segment};
@@ -83,7 +82,7 @@ fn part(
 }
 
 #[cycle(values)]
-#[tactic(auto, using(crate::proofs::Steps::then))]
+#[tactic(auto, using(c_emit::proofs::Steps::then))]
 fn part_behind(
     body: &mut Body,
     t: &Target,
@@ -128,7 +127,7 @@ fn read(body: &mut Body, t: &Target, d: u32, s: Scalar, p: &Place) -> Result<(),
 }
 
 #[cycle(values)]
-#[tactic(auto, using(crate::proofs::Steps::then))]
+#[tactic(auto, using(c_emit::proofs::Steps::then))]
 fn read_object(body: &mut Body, t: &Target, d: u32, s: Scalar, p: &Place) -> Result<(), AllocError>
     ensures { OnOk result (Adds body.old body.new (words.place t.now.target d (place_of p.now) ⨾ one (operations.load s))) }
 {
@@ -171,7 +170,7 @@ pub fn decayed(
 }
 
 #[cycle(values)]
-#[tactic(auto, using(crate::proofs::Steps::then))]
+#[tactic(auto, using(c_emit::proofs::Steps::then))]
 fn narrowed(body: &mut Body, t: &Target, d: u32, length: u32, p: &Place) -> Result<(), AllocError>
     ensures { OnOk result (Adds body.old body.new (words.place t.now.target d (place_of p.now) ⨾ operations.slice 0 length)) }
 {
@@ -183,7 +182,7 @@ fn narrowed(body: &mut Body, t: &Target, d: u32, length: u32, p: &Place) -> Resu
 
 /// The value of an expression, if it has one.
 #[cycle(values)]
-#[tactic(auto, using(crate::proofs::Plain::constant_plain))]
+#[tactic(auto, using(c_emit::proofs::Plain::constant_plain))]
 pub fn value(body: &mut Body, t: &Target, d: u32, e: &Expr) -> Result<(), AllocError>
     ensures { OnOk result (Adds body.old body.new (words.expr t.now.target true d (expr_of e.now))) }
 {
@@ -293,7 +292,7 @@ fn left(body: &mut Body, t: &Target, d: u32, s: Option<Scalar>, e: &Expr) -> Res
 }
 
 #[cycle(values)]
-#[tactic(auto, using(crate::proofs::Steps::then))]
+#[tactic(auto, using(c_emit::proofs::Steps::then))]
 fn dropped(body: &mut Body, t: &Target, d: u32, e: &Expr) -> Result<(), AllocError>
     ensures { OnOk result (Adds body.old body.new (words.expr t.now.target true d (expr_of e.now) ⨾ one instrs.Drop)) }
 {
@@ -305,7 +304,7 @@ fn dropped(body: &mut Body, t: &Target, d: u32, e: &Expr) -> Result<(), AllocErr
 
 /// A number of the first type as one of the second: a constant, where it is known.
 #[cycle(values)]
-#[tactic(auto, using(crate::proofs::Plain::constant_plain))]
+#[tactic(auto, using(c_emit::proofs::Plain::constant_plain))]
 fn converted(
     body: &mut Body,
     t: &Target,
@@ -325,7 +324,7 @@ fn converted(
 }
 
 #[cycle(values)]
-#[tactic(auto, using(crate::proofs::Steps::then))]
+#[tactic(auto, using(c_emit::proofs::Steps::then))]
 fn value_converted(
     body: &mut Body,
     t: &Target,
@@ -342,7 +341,7 @@ fn value_converted(
 
 /// Whether a scalar is neither zero nor null.
 #[cycle(values)]
-#[tactic(auto, using(crate::proofs::Steps::then))]
+#[tactic(auto, using(c_emit::proofs::Steps::then))]
 fn true_of(body: &mut Body, t: &Target, d: u32, s: Scalar, a: &Expr) -> Result<(), AllocError>
     ensures { OnOk result (Adds body.old body.new (words.expr t.now.target true d (tree.truth s (expr_of a.now)))) }
 {
@@ -364,7 +363,7 @@ fn as_bit(body: &mut Body, t: &Target, d: u32, a: &Expr) -> Result<(), AllocErro
 }
 
 #[cycle(values)]
-#[tactic(auto, using(crate::proofs::Steps::then))]
+#[tactic(auto, using(c_emit::proofs::Steps::then))]
 fn not(body: &mut Body, t: &Target, d: u32, a: &Expr) -> Result<(), AllocError>
     ensures { OnOk result (Adds body.old body.new (words.expr t.now.target true d (tree.not (expr_of a.now)))) }
 {
@@ -390,7 +389,7 @@ fn unary(
 }
 
 #[cycle(values)]
-#[tactic(auto, using(crate::proofs::Steps::then_two))]
+#[tactic(auto, using(c_emit::proofs::Steps::then_two))]
 fn negated(body: &mut Body, t: &Target, d: u32, u: IntType, a: &Expr) -> Result<(), AllocError>
     ensures { OnOk result (Adds body.old body.new (words.expr t.now.target true d (tree.unary unaries.Negate u (expr_of a.now)))) }
 {
@@ -400,7 +399,7 @@ fn negated(body: &mut Body, t: &Target, d: u32, u: IntType, a: &Expr) -> Result<
 }
 
 #[cycle(values)]
-#[tactic(auto, using(crate::proofs::Steps::then))]
+#[tactic(auto, using(c_emit::proofs::Steps::then))]
 fn complemented(body: &mut Body, t: &Target, d: u32, u: IntType, a: &Expr) -> Result<(), AllocError>
     ensures { OnOk result (Adds body.old body.new (words.expr t.now.target true d (tree.unary unaries.Complement u (expr_of a.now)))) }
 {
@@ -411,7 +410,7 @@ fn complemented(body: &mut Body, t: &Target, d: u32, u: IntType, a: &Expr) -> Re
 // ---- two integers (6.5.5 to 6.5.12)
 
 #[cycle(values)]
-#[tactic(auto, using(crate::proofs::Steps::then_two))]
+#[tactic(auto, using(c_emit::proofs::Steps::then_two))]
 fn binary(
     body: &mut Body,
     t: &Target,
@@ -429,7 +428,7 @@ fn binary(
 }
 
 #[cycle(values)]
-#[tactic(auto, using(crate::proofs::Steps::then_two))]
+#[tactic(auto, using(c_emit::proofs::Steps::then_two))]
 fn compared(
     body: &mut Body,
     t: &Target,
@@ -449,7 +448,7 @@ fn compared(
 // ---- pointers (6.5.6, 6.5.8, 6.5.9)
 
 #[cycle(values)]
-#[tactic(auto, using(crate::proofs::Steps::then_two))]
+#[tactic(auto, using(c_emit::proofs::Steps::then_two))]
 fn functions_compared(
     body: &mut Body,
     t: &Target,
@@ -487,7 +486,7 @@ fn pointers_compared(
 }
 
 #[cycle(values)]
-#[tactic(auto, using(crate::proofs::Steps::then))]
+#[tactic(auto, using(c_emit::proofs::Steps::then))]
 fn pointers_equal(body: &mut Body, t: &Target, d: u32, a: &Expr, b: &Expr) -> Result<(), AllocError>
     ensures { OnOk result (Adds body.old body.new (words.expr t.now.target true d (tree.compare_pointers relations.Equal (expr_of a.now) (expr_of b.now)))) }
 {
@@ -501,7 +500,7 @@ fn pointers_equal(body: &mut Body, t: &Target, d: u32, a: &Expr, b: &Expr) -> Re
 }
 
 #[cycle(values)]
-#[tactic(auto, using(crate::proofs::Steps::then))]
+#[tactic(auto, using(c_emit::proofs::Steps::then))]
 fn equal_to(body: &mut Body, t: &Target, d: u32, b: &Expr) -> Result<(), AllocError>
     ensures { OnOk result (Adds body.old body.new (words.expr t.now.target true d (expr_of b.now) ⨾ one (instrs.Segment segments.Eq))) }
 {
@@ -510,7 +509,7 @@ fn equal_to(body: &mut Body, t: &Target, d: u32, b: &Expr) -> Result<(), AllocEr
 }
 
 #[cycle(values)]
-#[tactic(auto, using(crate::proofs::Steps::then))]
+#[tactic(auto, using(c_emit::proofs::Steps::then))]
 fn pointers_differ(
     body: &mut Body,
     t: &Target,
@@ -530,7 +529,7 @@ fn pointers_differ(
 }
 
 #[cycle(values)]
-#[tactic(auto, using(crate::proofs::Steps::then))]
+#[tactic(auto, using(c_emit::proofs::Steps::then))]
 fn unlike(body: &mut Body, t: &Target, d: u32, b: &Expr) -> Result<(), AllocError>
     ensures { OnOk result (Adds body.old body.new (words.expr t.now.target true d (expr_of b.now) ⨾ plain (instrs.Segment segments.Eq ∷ operations.eqz ∷ []))) }
 {
@@ -539,7 +538,7 @@ fn unlike(body: &mut Body, t: &Target, d: u32, b: &Expr) -> Result<(), AllocErro
 }
 
 #[cycle(values)]
-#[tactic(auto, using(crate::proofs::Steps::then_two))]
+#[tactic(auto, using(c_emit::proofs::Steps::then_two))]
 fn pointers_ordered(
     body: &mut Body,
     t: &Target,
@@ -557,7 +556,7 @@ fn pointers_ordered(
 
 /// In elements of a type.
 #[cycle(values)]
-#[tactic(auto, using(crate::proofs::Steps::then_two))]
+#[tactic(auto, using(c_emit::proofs::Steps::then_two))]
 fn difference(
     body: &mut Body,
     t: &Target,
@@ -575,7 +574,7 @@ fn difference(
 
 /// A pointer goes on by so many elements, or back.
 #[cycle(values)]
-#[tactic(auto, using(crate::proofs::Steps::then))]
+#[tactic(auto, using(c_emit::proofs::Steps::then))]
 fn moved(
     body: &mut Body,
     t: &Target,
@@ -611,7 +610,7 @@ fn step(
 }
 
 #[cycle(values)]
-#[tactic(auto, using(crate::proofs::Steps::then))]
+#[tactic(auto, using(c_emit::proofs::Steps::then))]
 fn on_by(body: &mut Body, t: &Target, d: u32, u: &CType, b: &Expr) -> Result<(), AllocError>
     ensures { OnOk result (Adds body.old body.new (words.moved (size t.now.target.structs (type_of u.now)) false (words.expr t.now.target true d (expr_of b.now)))) }
 {
@@ -620,7 +619,7 @@ fn on_by(body: &mut Body, t: &Target, d: u32, u: &CType, b: &Expr) -> Result<(),
 }
 
 #[cycle(values)]
-#[tactic(auto, using(crate::proofs::Steps::then_two))]
+#[tactic(auto, using(c_emit::proofs::Steps::then_two))]
 fn back_by(body: &mut Body, t: &Target, d: u32, u: &CType, b: &Expr) -> Result<(), AllocError>
     ensures { OnOk result (Adds body.old body.new (words.moved (size t.now.target.structs (type_of u.now)) true (words.expr t.now.target true d (expr_of b.now)))) }
 {
@@ -631,7 +630,7 @@ fn back_by(body: &mut Body, t: &Target, d: u32, u: &CType, b: &Expr) -> Result<(
 
 /// A number in front of a pointer.
 #[cycle(values)]
-#[tactic(auto, using(crate::proofs::Steps::then_two))]
+#[tactic(auto, using(c_emit::proofs::Steps::then_two))]
 fn moved_by(
     body: &mut Body,
     t: &Target,
@@ -650,7 +649,7 @@ fn moved_by(
 // ---- control (6.5.13 to 6.5.15, 6.5.17)
 
 #[cycle(values)]
-#[tactic(auto, using(crate::proofs::Steps::may_turn, crate::proofs::Steps::second_may_end))]
+#[tactic(auto, using(c_emit::proofs::Steps::may_turn, c_emit::proofs::Steps::second_may_end))]
 fn and(body: &mut Body, t: &Target, d: u32, a: &Expr, b: &Expr) -> Result<(), AllocError>
     ensures { OnOk result (Adds body.old body.new (words.expr t.now.target true d (tree.and (expr_of a.now) (expr_of b.now)))) }
 {
@@ -663,7 +662,7 @@ fn and(body: &mut Body, t: &Target, d: u32, a: &Expr, b: &Expr) -> Result<(), Al
 }
 
 #[cycle(values)]
-#[tactic(auto, using(crate::proofs::Steps::may_turn, crate::proofs::Steps::second_may_end))]
+#[tactic(auto, using(c_emit::proofs::Steps::may_turn, c_emit::proofs::Steps::second_may_end))]
 fn or(body: &mut Body, t: &Target, d: u32, a: &Expr, b: &Expr) -> Result<(), AllocError>
     ensures { OnOk result (Adds body.old body.new (words.expr t.now.target true d (tree.or (expr_of a.now) (expr_of b.now)))) }
 {
@@ -676,7 +675,7 @@ fn or(body: &mut Body, t: &Target, d: u32, a: &Expr, b: &Expr) -> Result<(), All
 }
 
 #[cycle(values)]
-#[tactic(auto, using(crate::proofs::Steps::may_turn, crate::proofs::Steps::second_may_end))]
+#[tactic(auto, using(c_emit::proofs::Steps::may_turn, c_emit::proofs::Steps::second_may_end))]
 fn choose(
     body: &mut Body,
     t: &Target,
@@ -697,7 +696,7 @@ fn choose(
 }
 
 #[cycle(values)]
-#[tactic(auto, using(crate::proofs::Steps::then))]
+#[tactic(auto, using(c_emit::proofs::Steps::then))]
 fn comma(
     body: &mut Body,
     t: &Target,
@@ -719,7 +718,7 @@ fn comma(
 // ---- what is written (6.5.16, 6.5.2.4, 6.5.3.1)
 
 #[cycle(values)]
-#[tactic(auto, using(crate::proofs::Steps::then_two))]
+#[tactic(auto, using(c_emit::proofs::Steps::then_two))]
 fn assign(
     body: &mut Body,
     t: &Target,
@@ -738,7 +737,7 @@ fn assign(
 
 /// The place, if it isn't a plain variable.
 #[cycle(values)]
-#[tactic(auto, using(crate::proofs::Steps::nothing_added))]
+#[tactic(auto, using(c_emit::proofs::Steps::nothing_added))]
 fn begin_write(body: &mut Body, t: &Target, d: u32, p: &Place) -> Result<(), AllocError>
     ensures { OnOk result (Adds body.old body.new (words.begun t.now.target (targets.plain_in t.now.target (place_of p.now)) (words.place t.now.target d (place_of p.now)))) }
 {
@@ -766,7 +765,7 @@ fn begin_with_old(
 }
 
 #[cycle(values)]
-#[tactic(auto, using(crate::proofs::Steps::then))]
+#[tactic(auto, using(c_emit::proofs::Steps::then))]
 fn object_with_old(
     body: &mut Body,
     t: &Target,
@@ -798,7 +797,7 @@ fn begin_over_old(
 }
 
 #[cycle(values)]
-#[tactic(auto, using(crate::proofs::Steps::then))]
+#[tactic(auto, using(c_emit::proofs::Steps::then))]
 fn object_over_old(
     body: &mut Body,
     t: &Target,
@@ -835,7 +834,7 @@ fn update(
 }
 
 #[cycle(values)]
-#[tactic(auto, using(crate::proofs::Steps::then_two))]
+#[tactic(auto, using(c_emit::proofs::Steps::then_two))]
 fn update_to_new(
     body: &mut Body,
     t: &Target,
@@ -855,7 +854,7 @@ fn update_to_new(
 }
 
 #[cycle(values)]
-#[tactic(auto, using(crate::proofs::Steps::then_two))]
+#[tactic(auto, using(c_emit::proofs::Steps::then_two))]
 fn update_over_old(
     body: &mut Body,
     t: &Target,
@@ -875,7 +874,7 @@ fn update_over_old(
 
 /// From the old value to the new one.
 #[cycle(values)]
-#[tactic(auto, using(crate::proofs::Steps::then_three))]
+#[tactic(auto, using(c_emit::proofs::Steps::then_three))]
 fn change(
     body: &mut Body,
     t: &Target,
@@ -915,7 +914,7 @@ fn advance(
 }
 
 #[cycle(values)]
-#[tactic(auto, using(crate::proofs::Steps::then_two))]
+#[tactic(auto, using(c_emit::proofs::Steps::then_two))]
 fn advance_to_new(
     body: &mut Body,
     t: &Target,
@@ -934,7 +933,7 @@ fn advance_to_new(
 }
 
 #[cycle(values)]
-#[tactic(auto, using(crate::proofs::Steps::then_two))]
+#[tactic(auto, using(c_emit::proofs::Steps::then_two))]
 fn advance_over_old(
     body: &mut Body,
     t: &Target,
@@ -953,7 +952,7 @@ fn advance_over_old(
 
 /// A struct, from the second place to the first (6.5.16.1).
 #[cycle(values)]
-#[tactic(auto, using(crate::proofs::Steps::then_two))]
+#[tactic(auto, using(c_emit::proofs::Steps::then_two))]
 fn copy(body: &mut Body, t: &Target, d: u32, n: u32, p: &Place, q: &Place) -> Result<(), AllocError>
     ensures { OnOk result (Adds body.old body.new (words.expr t.now.target true d (tree.copy n (place_of p.now) (place_of q.now)))) }
 {
@@ -964,7 +963,7 @@ fn copy(body: &mut Body, t: &Target, d: u32, n: u32, p: &Place, q: &Place) -> Re
 
 /// A struct's place, of which nothing is read.
 #[cycle(values)]
-#[tactic(auto, using(crate::proofs::Steps::then))]
+#[tactic(auto, using(c_emit::proofs::Steps::then))]
 fn visit(body: &mut Body, t: &Target, d: u32, p: &Place) -> Result<(), AllocError>
     ensures { OnOk result (Adds body.old body.new (words.expr t.now.target true d (tree.visit (place_of p.now)))) }
 {
@@ -975,7 +974,7 @@ fn visit(body: &mut Body, t: &Target, d: u32, p: &Place) -> Result<(), AllocErro
 // ---- calls (6.5.2.2)
 
 #[cycle(values)]
-#[tactic(auto, using(crate::proofs::Steps::then))]
+#[tactic(auto, using(c_emit::proofs::Steps::then))]
 fn call(body: &mut Body, t: &Target, d: u32, n: u32, es: &[Expr]) -> Result<(), AllocError>
     ensures { OnOk result (Adds body.old body.new (words.exprs t.now.target d (exprs_in es.now) ⨾ one (instrs.Call (t.now.target.index n)))) }
 {
@@ -985,7 +984,7 @@ fn call(body: &mut Body, t: &Target, d: u32, n: u32, es: &[Expr]) -> Result<(), 
 
 /// The function waits while the arguments are evaluated.
 #[cycle(values)]
-#[tactic(auto, using(crate::proofs::Steps::then_three))]
+#[tactic(auto, using(c_emit::proofs::Steps::then_three))]
 fn call_through(
     body: &mut Body,
     t: &Target,
@@ -1022,7 +1021,7 @@ fn arguments(body: &mut Body, t: &Target, d: u32, es: &[Expr]) -> Result<(), All
 }
 
 #[cycle(values)]
-#[tactic(auto, using(crate::proofs::Steps::then))]
+#[tactic(auto, using(c_emit::proofs::Steps::then))]
 fn putchar(body: &mut Body, t: &Target, d: u32, a: &Expr) -> Result<(), AllocError>
     ensures { OnOk result (Adds body.old body.new (words.expr t.now.target true d (tree.putchar (expr_of a.now)))) }
 {
@@ -1045,7 +1044,7 @@ fn malloc(body: &mut Body, t: &Target, d: u32, u: &CType, e: &Expr) -> Result<()
 }
 
 #[cycle(values)]
-#[tactic(auto, using(crate::proofs::Steps::then))]
+#[tactic(auto, using(c_emit::proofs::Steps::then))]
 fn allocated(body: &mut Body, t: &Target, d: u32, u: &CType, e: &Expr) -> Result<(), AllocError>
     ensures { OnOk result (Adds body.old body.new (words.expr t.now.target true d (expr_of e.now) ⨾ operations.new_heap (size t.now.target.structs (type_of u.now)))) }
 {
@@ -1054,7 +1053,7 @@ fn allocated(body: &mut Body, t: &Target, d: u32, u: &CType, e: &Expr) -> Result
 }
 
 #[cycle(values)]
-#[tactic(auto, using(crate::proofs::Steps::then_three))]
+#[tactic(auto, using(c_emit::proofs::Steps::then_three))]
 fn calloc(
     body: &mut Body,
     t: &Target,
@@ -1072,7 +1071,7 @@ fn calloc(
 }
 
 #[cycle(values)]
-#[tactic(auto, using(crate::proofs::Steps::then))]
+#[tactic(auto, using(c_emit::proofs::Steps::then))]
 fn free(body: &mut Body, t: &Target, d: u32, e: &Expr) -> Result<(), AllocError>
     ensures { OnOk result (Adds body.old body.new (words.expr t.now.target true d (tree.free (expr_of e.now)))) }
 {

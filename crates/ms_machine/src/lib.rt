@@ -2,7 +2,7 @@
 //!
 //! It stands on `ms_task`, `ms_host`, `ms_operate`, `ms_segment`, `ms_rules` and `ms_outside`. Read `specs/Step.antt` first, which says
 //! what a step does, on lists, and `specs/Moves.antt`, which adds the input and the output; then `specs/Typing.antt` for well-typed
-//! tasks, and `specs/Safety.antt` for what ties each handle to the colour monitor. What crates above do is defined here, too:
+//! tasks, and `specs/refinement/Safety.antt` for what ties each handle to the colour monitor. What crates above do is defined here, too:
 //! `specs/Externs.antt` and `specs/Linked.antt` for linking, `specs/Crews.antt` for runs of several tasks.
 #![tactic(auto)]
 

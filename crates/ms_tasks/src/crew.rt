@@ -1,6 +1,6 @@
 //! Crews.
 
-ghost use Rattle.std.specs.Prelude.{◌≡◌, ◌≢◌, ◌+◌, ◌<◌, ◌≤◌, ◌^◌, true, List, [], Some, IfOk, MatchResult, length, slice_get};
+ghost use Rattle.std.specs.Prelude.{◌≡◌, ◌≢◌, ◌+◌, ◌<◌, ◌≤◌, ◌^◌, true, List, [], None, Some, IfOk, MatchResult, length, slice_get};
 ghost use Rattle.ms_event.specs.declared.event.Event.{Event};
 ghost use Rattle.ms_event.specs.Monitor.{Accepts};
 ghost use Rattle.ms_machine.specs.refinement.Accesses.{counted_all};
@@ -11,14 +11,14 @@ ghost use Rattle.ms_machine.specs.refinement.Safety.{Sound};
 ghost use Rattle.ms_machine.specs.Typing.{StoreTyped, outline_of};
 ghost use Rattle.ms_task.specs.refinement.View.{thread_of};
 ghost use Rattle.ms_tasks.specs.refinement.Logs.{CountsUpTo};
-ghost use Rattle.ms_tasks.specs.refinement.Making.{AreAddresses, IsCrewOf, Refuses};
+ghost use Rattle.ms_tasks.specs.refinement.Making.{AreAddresses, IsCrewOf, Refuses, stop_in};
 ghost use Rattle.ms_tasks.specs.refinement.Ready.{IsReady, threads_of};
 ghost use Rattle.ms_tasks.specs.refinement.Runs.{CountsInput, CountsOut, DoesRun, IsOver};
 ghost use Rattle.ms_tasks.specs.refinement.Schedules.{HasTurns, entries_of};
 
 use crate::all::run_all;
 use crate::log::Log;
-use crate::ran::{Ran, ran_of};
+use crate::ran::{Ran, Stop, ran_of, stop_of};
 use crate::refusal::Refusal;
 use crate::schedule::Schedule;
 use crate::starting::{chain_of, tasks_of};
@@ -32,7 +32,7 @@ use std::alloc::Global;
 use std::marker::Model;
 
 /// A store, with its start functions and its tasks. Contracts see the crew of the definition, and beside it the address of each
-/// task's function, which its thread doesn't tell once it has ended.
+/// task's function, which its thread doesn't tell once it has ended, and which step stopped the last run, which no thread tells.
 #[derive(Drop)]
 pub struct Crew<M: SegmentMemory> {
     store: Store<M>,
@@ -40,6 +40,8 @@ pub struct Crew<M: SegmentMemory> {
     tasks: Vec<Task>,
     /// The address of each task's function.
     addresses: Vec<u32>,
+    /// The step that stopped the last run, if one did.
+    trapped: Option<Stop>,
 }
 
 impl<M: SegmentMemory> Model for Crew<M> {
@@ -48,7 +50,7 @@ impl<M: SegmentMemory> Model for Crew<M> {
 
     ghost Value = { Addressed };
 
-    ghost view = { λ c. record { crew = record { store = c.store; chain = threads_in c.store c.chain.items; tasks = threads_in c.store c.tasks.items }; addresses = c.addresses.items } };
+    ghost view = { λ c. record { crew = record { store = c.store; chain = threads_in c.store c.chain.items; tasks = threads_in c.store c.tasks.items }; addresses = c.addresses.items; trapped = c.trapped } };
 }
 
 impl<M: SegmentMemory> Crew<M> {
@@ -62,6 +64,7 @@ impl<M: SegmentMemory> Crew<M> {
         requires few { length tasks.items < 2 ^ 32 }
         ensures new { MatchResult result (λ c. IsCrewOf store tasks.items c.crew) (λ r. Refuses store tasks.items r) }
         ensures addresses { IfOk result (λ c. AreAddresses store tasks.items c.addresses) }
+        ensures trapped { IfOk result (λ c. c.trapped ≡ None) }
         ensures ready { IfOk result (λ c. IsReady c.crew) }
         ensures sound { IfOk result (λ c. (events : List Event) → Sound events store [] → Sound events c.store (threads_of c.crew)) }
     {
@@ -77,6 +80,7 @@ impl<M: SegmentMemory> Crew<M> {
             chain,
             tasks: found.tasks,
             addresses: found.addresses,
+            trapped: None,
         })
     }
 
@@ -101,6 +105,13 @@ impl<M: SegmentMemory> Crew<M> {
         ensures { slice_get self.now.addresses n ≡ Some result }
     {
         self.addresses[n as usize]
+    }
+
+    /// The step that stopped the last run, if one did.
+    pub fn trapped(&self) -> Option<Stop>
+        ensures { result ≡ self.now.trapped }
+    {
+        self.trapped
     }
 
     /// Runs the start functions, and then the tasks by a schedule, for so many entries at most. Where a step stops the program, the
@@ -130,6 +141,7 @@ impl<M: SegmentMemory> Crew<M> {
         ensures input_faults { CountsInput result (I.faults input.old) (I.faults input.new) }
         ensures out_faults { CountsOut result (O.faults out.old) (O.faults out.new) }
         ensures addresses { self.new.addresses ≡ self.old.addresses }
+        ensures trapped { self.new.trapped ≡ stop_in result }
         ensures ready { IsOver result → IsReady self.new.crew }
         ensures made { IsOver result → self.new.store.segments.made ≤ self.old.store.segments.made + budget }
         ensures entries { IsOver result → log.new.entries ≤ log.old.entries + budget }
@@ -143,7 +155,7 @@ impl<M: SegmentMemory> Crew<M> {
         ensures kept { log.old.trace.keep ≡ true → Sound log.old.trace.events self.old.store (threads_of self.old.crew) → Accepts (length self.old.store.segments.bytes) log.new.trace.events }
         ensures sound { IsOver result → log.old.trace.keep ≡ true → Sound log.old.trace.events self.old.store (threads_of self.old.crew) → Sound log.new.trace.events self.new.store (threads_of self.new.crew) }
     {
-        ran_of(run_all(
+        let ran = ran_of(run_all(
             &mut self.store,
             self.chain.as_mut_slice(),
             self.tasks.as_mut_slice(),
@@ -152,6 +164,8 @@ impl<M: SegmentMemory> Crew<M> {
             input,
             out,
             log,
-        ))
+        ));
+        self.trapped = stop_of(ran);
+        ran
     }
 }

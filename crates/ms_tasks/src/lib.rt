@@ -1,8 +1,8 @@
 //! Crews: a store, its start functions and its tasks, and runs of them by a schedule.
 //!
 //! It stands on `ms_machine`. Read `specs/Crews.antt` there first, which says what a run of a crew is, on lists; then here
-//! `specs/Tasks.antt` for the crew of a store, `specs/Ready.antt` for crews that may be run, `specs/Outside.antt` for what a run
-//! leaves outside, and `specs/Logs.antt` for its log.
+//! `specs/Tasks.antt` for the crew of a store, and of `specs/refinement` `Ready.antt` for crews that may be run, `Outside.antt` for
+//! what a run leaves outside, and `Logs.antt` for its log.
 #![tactic(auto)]
 
 mod all;
@@ -24,7 +24,7 @@ mod whose;
 pub use crew::Crew;
 pub use laws::runs_are_safe;
 pub use log::Log;
-pub use ran::Ran;
+pub use ran::{Ran, Stop};
 pub use refusal::Refusal;
 pub use schedule::Schedule;
 pub use whose::Whose;

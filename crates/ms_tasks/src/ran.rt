@@ -2,6 +2,7 @@
 
 ghost use Rattle.std.specs.Prelude.{◌≡◌};
 ghost use Rattle.ms_tasks.specs.refinement.Runs.{answer_of};
+ghost use Rattle.ms_tasks.specs.refinement.Making.{stop_in};
 
 use crate::burst::Halt;
 use crate::whose::Whose;
@@ -35,5 +36,26 @@ pub(crate) fn ran_of(halt: Halt) -> Ran
         Halt::ReadFault => Ran::ReadFault,
         Halt::WriteFault => Ran::WriteFault,
         Halt::Memory => Ran::Memory,
+    }
+}
+
+/// The step that stopped a program: whose it was, and how it trapped.
+#[derive(Clone, Copy, PartialEq, Eq)]
+pub struct Stop {
+    pub whose: Whose,
+    pub kind: TrapKind,
+}
+
+/// The step that stopped the program, if one did.
+pub(crate) fn stop_of(ran: Ran) -> Option<Stop>
+    ensures { result ≡ stop_in ran }
+{
+    match ran {
+        Ran::Trap(whose, kind) => Some(Stop { whose, kind }),
+        Ran::Results => None,
+        Ran::Budget => None,
+        Ran::ReadFault => None,
+        Ran::WriteFault => None,
+        Ran::Memory => None,
     }
 }

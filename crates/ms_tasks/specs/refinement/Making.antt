@@ -7,14 +7,23 @@ use Rattle.ms_machine.specs.Crews.{Crew}
 use Rattle.ms_machine.specs.Running.{func_thread}
 use Rattle.ms_machine.specs.Store.{Store}
 use Rattle.ms_tasks.specs.Tasks.{crew_of, task_address, threads_from}
+use Rattle.ms_tasks.specs.declared.ran.Ran.{Ran}
+use Rattle.ms_tasks.specs.declared.ran.Ran.TheVariants as answers
+use Rattle.ms_tasks.specs.declared.ran.Stop.{Stop}
 use Rattle.ms_tasks.specs.declared.refusal.Refusal.{Refusal}
 use Rattle.ms_tasks.specs.declared.refusal.Refusal.TheVariants as refusals
 
--- a crew, and the address of each task's function
+-- a crew, the address of each task's function, and the step that stopped its last run, if one did
 pub record Addressed : Type 0 where
   pub crew : Crew
   pub open crew use *
   pub addresses : List ℕ
+  pub trapped : Option Stop
+
+-- the step that stopped a run
+abbrev pub stop_in : Ran → Option Stop
+stop_in (answers.Trap whose kind) = Some (record { whose = whose; kind = kind })
+stop_in _ = None
 
 -- they are those of the functions that these tasks name
 abbrev pub AreAddresses : Store → (tasks : List (ℕ × List ℕ)) → (addresses : List ℕ) → Type 0

@@ -6,7 +6,7 @@ use Rattle.c_typed.specs.refinement.Views.{stmt_of}
 use Rattle.c_typed.specs.declared.ops.Variable.{Variable}
 use Rattle.c_code.specs.Functions.{params, result}
 use Rattle.c_code.specs.Statements.{at_body, freed, stmt}
-use Rattle.c_compile.proofs.Steps.{then}
+use Rattle.c_emit.proofs.Steps.{then}
 use Rattle.c_compile.proofs.functions.add_body.Goals as goal
 
 pub returns : goal.returns

@@ -7,7 +7,7 @@ use Rattle.c_typed.specs.declared.unit.Made.{Made}
 use Rattle.c_typed.specs.declared.unit.TypedUnit.{TypedUnit}
 use Rattle.c_code.specs.Functions.{locals, start}
 use Rattle.c_code.specs.Modules.{waits_made}
-use Rattle.c_compile.specs.refinement.Sites.{Site}
+use Rattle.c_emit.specs.refinement.Sites.{Site}
 use Rattle.c_compile.proofs.ObjectFlags.{flags_at_start}
 use Rattle.c_compile.proofs.functions.start.Goals as goal
 

@@ -2,8 +2,8 @@ use Rattle.std.proofs.Common.{◌≡◌, drop, reverse}
 use Rattle.c_typed.specs.Parts.{sequence}
 use Rattle.c_typed.specs.refinement.Views.{list_of}
 use Rattle.c_code.specs.Statements.{groups, stmts}
-use Rattle.c_compile.specs.refinement.Exits.{exits_of}
-use Rattle.c_compile.proofs.Items.{IsLeft}
+use Rattle.c_emit.specs.refinement.Exits.{exits_of}
+use Rattle.c_emit.proofs.Items.{IsLeft}
 use Rattle.c_compile.proofs.statements.+statements.Given as goal
 
 abbrev pub invariant-stmts-loop-s : goal.invariant-stmts-loop-s

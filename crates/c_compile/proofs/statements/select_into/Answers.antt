@@ -1,4 +1,4 @@
-use Rattle.c_compile.proofs.Steps.{then}
+use Rattle.c_emit.proofs.Steps.{then}
 use Rattle.c_compile.proofs.statements.select_into.Goals as goal
 
 pub returns : goal.returns

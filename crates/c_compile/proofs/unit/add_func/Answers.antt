@@ -5,8 +5,8 @@ use Rattle.c_code.specs.Modules.{function_at}
 use Rattle.c_compile.proofs.Modules.{func_added}
 use Rattle.c_compile.proofs.unit.add_func.Goals as goal
 
-pub returns : goal.returns
-returns c = λ f e.
+pub returns-clause-funcs : goal.returns-clause-funcs
+returns-clause-funcs c = λ f e.
     let u = typed_of c.args.typed.now in
     let n = c.args.number in
     let g = function_of c.in_ok-f.f.now in

@@ -2,7 +2,7 @@ use Rattle.std.proofs.Common.{None, Some, subst}
 use Rattle.c_typed.specs.refinement.Views.{typed_of}
 use Rattle.c_typed.specs.declared.unit.TypedUnit.{TypedUnit}
 use Rattle.c_compile.specs.Refusals.{limit}
-use Rattle.c_compile.specs.refinement.Used.{AreUses}
+use Rattle.c_emit.specs.refinement.Used.{AreUses}
 use Rattle.c_compile.proofs.Modules.{refused_by}
 use Rattle.c_compile.proofs.unit.compile.Goals as goal
 

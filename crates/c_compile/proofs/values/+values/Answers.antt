@@ -20,7 +20,7 @@ use Rattle.c_compile.specs.refinement.Known.{bytes_in}
 use Rattle.c_compile.proofs.Arms.{Emits, by_flag, next_argument, of_function, of_left, of_list, of_place, of_places, of_three, of_two, of_unary}
 use Rattle.c_compile.proofs.Nodes.{call_nodes, call_through_nodes, one_falls}
 use Rattle.c_compile.proofs.Sizes.{at_size}
-use Rattle.c_compile.proofs.Steps.{nothing_added, second_may_end, then_if, then_three}
+use Rattle.c_emit.proofs.Steps.{nothing_added, second_may_end, then_if, then_three}
 use Rattle.c_compile.proofs.values.+values.Goals as goal
 
 pub value-returns-in-Binary : goal.value-returns-in-Binary

@@ -23,12 +23,11 @@ fn let_fail(world: &mut Outside, calls: [u64; 5]) -> Result<(), Fail> {
     Ok(())
 }
 
-/// A row, which calls fail in it (see `let_fail`), and whether the file `o` is written all the same.
+/// A row, and which calls fail in it (see `let_fail`).
 #[derive(Clone, Copy)]
 struct Faulty {
     row: Row,
     calls: [u64; 5],
-    written: bool,
 }
 
 const FAULTY: [Faulty; 19] = [
@@ -38,11 +37,9 @@ const FAULTY: [Faulty; 19] = [
             text: SEVEN,
             status: Status::ReadFault,
             report: "read fault a.wat\n",
-            output: "",
-            next: Got::Byte(b'h'),
+            ..QUIET
         },
         calls: [1, 0, 0, 0, 0],
-        written: false,
     },
     Faulty {
         row: Row {
@@ -50,11 +47,9 @@ const FAULTY: [Faulty; 19] = [
             text: SEVEN,
             status: Status::WriteFault,
             report: "",
-            output: "",
-            next: Got::Byte(b'h'),
+            ..QUIET
         },
         calls: [0, 1, 0, 0, 0],
-        written: false,
     },
     Faulty {
         row: Row {
@@ -62,11 +57,10 @@ const FAULTY: [Faulty; 19] = [
             text: SEVEN,
             status: Status::WriteFault,
             report: "",
-            output: "",
-            next: Got::Byte(b'h'),
+            written: Some(SEVEN_BINARY),
+            ..QUIET
         },
         calls: [0, 0, 1, 0, 0],
-        written: true,
     },
     Faulty {
         row: Row {
@@ -74,11 +68,9 @@ const FAULTY: [Faulty; 19] = [
             text: SEVEN,
             status: Status::WriteFault,
             report: "",
-            output: "",
-            next: Got::Byte(b'h'),
+            ..QUIET
         },
         calls: [1, 0, 1, 0, 0],
-        written: false,
     },
     Faulty {
         row: Row {
@@ -86,11 +78,9 @@ const FAULTY: [Faulty; 19] = [
             text: HANDLE,
             status: Status::ReadFault,
             report: "read fault in-order\n",
-            output: "",
-            next: Got::Byte(b'h'),
+            ..QUIET
         },
         calls: [1, 0, 0, 0, 0],
-        written: false,
     },
     Faulty {
         row: Row {
@@ -98,11 +88,9 @@ const FAULTY: [Faulty; 19] = [
             text: HANDLE,
             status: Status::ReadFault,
             report: "read fault a.wat\n",
-            output: "",
-            next: Got::Byte(b'h'),
+            ..QUIET
         },
         calls: [2, 0, 0, 0, 0],
-        written: false,
     },
     Faulty {
         row: Row {
@@ -110,119 +98,108 @@ const FAULTY: [Faulty; 19] = [
             text: HANDLE,
             status: Status::ReadFault,
             report: "read fault 0011\n",
-            output: "",
-            next: Got::Byte(b'h'),
+            ..QUIET
         },
         calls: [3, 0, 0, 0, 0],
-        written: false,
     },
     Faulty {
         row: Row {
-            words: "exec a.wat",
+            words: "exec a.c",
             text: ECHO,
             status: Status::ReadFault,
-            report: "read fault a.wat\n",
-            output: "",
-            next: Got::Byte(b'h'),
+            report: "read fault a.c\n",
+            ..QUIET
         },
         calls: [1, 0, 0, 0, 0],
-        written: false,
     },
     Faulty {
         row: Row {
-            words: "exec a.wat",
+            words: "exec a.c",
             text: ECHO,
             status: Status::ReadFault,
             report: "read fault\n",
-            output: "",
-            next: Got::Byte(b'h'),
+            ..QUIET
         },
         calls: [0, 0, 0, 1, 0],
-        written: false,
     },
     Faulty {
         row: Row {
-            words: "exec a.wat",
+            words: "exec a.c",
             text: ECHO,
             status: Status::ReadFault,
             report: "read fault\n",
             output: "h",
             next: Got::Byte(b'i'),
+            ..QUIET
         },
         calls: [0, 0, 0, 2, 0],
-        written: false,
     },
     Faulty {
         row: Row {
-            words: "exec a.wat",
+            words: "exec a.c",
             text: ECHO,
             status: Status::ReadFault,
             report: "read fault\n",
             output: "hi",
             next: Got::End,
+            ..QUIET
         },
         calls: [0, 0, 0, 3, 0],
-        written: false,
     },
     Faulty {
         row: Row {
-            words: "exec a.wat",
+            words: "exec a.c",
             text: ECHO,
             status: Status::WriteFault,
             report: "",
-            output: "",
             next: Got::Byte(b'i'),
+            ..QUIET
         },
         calls: [0, 0, 0, 0, 1],
-        written: false,
     },
     Faulty {
         row: Row {
-            words: "exec a.wat",
+            words: "exec a.c",
             text: ECHO,
             status: Status::WriteFault,
             report: "",
             output: "h",
             next: Got::End,
+            ..QUIET
         },
         calls: [0, 0, 0, 0, 2],
-        written: false,
     },
     Faulty {
         row: Row {
-            words: "exec a.wat",
+            words: "exec a.c",
             text: ECHO,
             status: Status::WriteFault,
             report: "",
             output: "hi",
             next: Got::End,
+            ..QUIET
         },
         calls: [0, 0, 1, 0, 0],
-        written: false,
     },
     Faulty {
         row: Row {
-            words: "exec a.wat",
+            words: "exec a.c",
             text: ECHO,
             status: Status::WriteFault,
             report: "",
-            output: "",
-            next: Got::Byte(b'h'),
+            ..QUIET
         },
         calls: [0, 0, 1, 1, 0],
-        written: false,
     },
     Faulty {
         row: Row {
-            words: "run traced",
+            words: "run traced-unit",
             text: REMAKES,
             status: Status::WriteFault,
             report: "",
-            output: "",
-            next: Got::Byte(b'h'),
+            ..QUIET
         },
         calls: [0, 1, 0, 0, 0],
-        written: false,
     },
     Faulty {
         row: Row {
@@ -230,23 +207,20 @@ const FAULTY: [Faulty; 19] = [
             text: KEEPS,
             status: Status::WriteFault,
             report: "done\n",
-            output: "",
-            next: Got::Byte(b'h'),
+            ..QUIET
         },
         calls: [0, 0, 2, 0, 0],
-        written: false,
     },
     Faulty {
         row: Row {
             words: "exec a.c",
-            text: "int main(void){int a[4]; int i; for(i=0;i<=4;i=i+1){putchar(48+i); a[i]=i;} return 0;}",
+            text: OVERRUN,
             status: Status::WriteFault,
             report: "",
             output: "01",
-            next: Got::Byte(b'h'),
+            ..QUIET
         },
         calls: [0, 0, 0, 0, 3],
-        written: false,
     },
     Faulty {
         row: Row {
@@ -254,51 +228,28 @@ const FAULTY: [Faulty; 19] = [
             text: "int main(void){return getchar();}",
             status: Status::ReadFault,
             report: "read fault\n",
-            output: "",
-            next: Got::Byte(b'h'),
+            ..QUIET
         },
         calls: [0, 0, 0, 1, 0],
-        written: false,
     },
 ];
 
-/// Whether a row comes out so when its calls fail, of which the file `o` has these bytes, if it is written.
-fn expect_faulty<R: Abort + AllocGlobal>(
-    rt: &R,
-    faulty: &Faulty,
-    bytes: &[u8],
-) -> Result<(), Fail> {
+/// Whether a row comes out so when its calls fail.
+fn expect_faulty<R: Abort + AllocGlobal>(rt: &R, faulty: &Faulty) -> Result<(), Fail> {
     let row = faulty.row;
     let mut world = row_world(rt.alloc(), &row)?;
     let_fail(&mut world, faulty.calls)?;
-    let words = row.words;
-    let line = format!(in rt.alloc(); "mswasm {words}")?;
-    let flow = (row.output, row.next);
-    let written = if faulty.written { Some(bytes) } else { None };
-    expect(
-        rt,
-        line.as_str(),
-        world,
-        row.status,
-        row.report,
-        flow,
-        written,
-    )
+    expect_in(rt, world, &row)
 }
 
-fn expect_all_faulty<R: Abort + AllocGlobal>(
-    rt: &R,
-    rows: &[Faulty],
-    bytes: &[u8],
-) -> Result<(), Fail> {
+fn expect_all_faulty<R: Abort + AllocGlobal>(rt: &R, rows: &[Faulty]) -> Result<(), Fail> {
     for faulty in rows {
-        expect_faulty(rt, faulty, bytes)?;
+        expect_faulty(rt, faulty)?;
     }
     Ok(())
 }
 
 #[test]
 fn scripted_faults(rt: HostRuntime) -> Result<(), Fail> {
-    let binary = bytes_of(rt.alloc(), SEVEN_BINARY)?;
-    expect_all_faulty(&rt, &FAULTY, binary.as_slice())
+    expect_all_faulty(&rt, &FAULTY)
 }

@@ -51,6 +51,7 @@ returns g c =
       input_faults = subst (λ (x : Ran). CountsInput x (g.I.Source.faults c.args.input.now) (g.I.Source.faults r.new.input)) (sym c.ran_of.ensures) (counts_input r.result (g.I.Source.faults c.args.input.now) (g.I.Source.faults r.new.input) e.input_faults);
       out_faults = subst (λ (x : Ran). CountsOut x (g.O.Sink.faults c.args.out.now) (g.O.Sink.faults r.new.out)) (sym c.ran_of.ensures) (counts_out r.result (g.O.Sink.faults c.args.out.now) (g.O.Sink.faults r.new.out) e.out_faults);
       addresses = ap (λ (p : Addressed). p.addresses) c.self.view_is;
+      trapped = c.stop_of.ensures;
       ready = λ over. subst IsReady viewed (e.ready (well_over r.result (subst IsOver c.ran_of.ensures over)));
       made = λ over. subst (λ (x : Crew). r.new.store.segments.made ≤ x.store.segments.made + budget) same (e.made (well_over r.result (subst IsOver c.ran_of.ensures over)));
       entries = λ over. e.entries (well_over r.result (subst IsOver c.ran_of.ensures over));

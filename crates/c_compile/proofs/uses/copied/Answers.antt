@@ -1,6 +1,0 @@
-use Rattle.c_compile.specs.refinement.Found.{found}
-use Rattle.c_compile.proofs.Using.{copy_found}
-use Rattle.c_compile.proofs.uses.copied.Goals as goal
-
-pub returns : goal.returns
-returns c = copy_found c.args.structs.now c.args.number (found c.args.uses.now) c.in_ok-uses.field-0 c.in_ok-uses.ensures

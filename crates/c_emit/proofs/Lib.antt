@@ -1,0 +1,13 @@
+pub mod Blocks
+pub mod Copying
+pub mod Defined
+pub mod Items
+pub mod Keyed
+pub mod Narrowing
+pub mod Plain
+pub mod Ranks
+pub mod Shapes
+pub mod Signing
+pub mod Steps
+pub mod Using
+pub mod Walking
