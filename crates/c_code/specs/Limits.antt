@@ -1,8 +1,8 @@
 -- What passes a limit of the compiler, and is refused before any code is made.
 use Rattle.std.specs.Prelude.{ℕ, ◌+◌, ◌||◌, Bool, true, false, List, [], ◌∷◌, length, nat_lt, Option, Some, None, is_some, ◌&&◌, if◌then◌else◌}
 use Rattle.std.specs.List.{list_any}
-use Rattle.ms_module.specs.declared.instr.Instr.{Instr}
 use Rattle.ms_module.specs.declared.module.Func.{Func}
+use Rattle.ms_emit.specs.Codes.{total}
 use Rattle.c_types.specs.Layout.{Table}
 use Rattle.c_typed.specs.Tree.{Function, Typed}
 use Rattle.c_code.specs.Leaves.{leaves}
@@ -44,11 +44,6 @@ limit_of u =
 abbrev pub most_instructions : ℕ
 most_instructions = 33554432
 
--- of a body, by its sequences
-abbrev pub instructions : List (List Instr) → ℕ
-instructions [] = 0
-instructions (is ∷ rest) = length is + instructions rest
-
 abbrev pub instructions_of : List Func → ℕ
 instructions_of [] = 0
-instructions_of (f ∷ fs) = instructions f.body + instructions_of fs
+instructions_of (f ∷ fs) = total f.body + instructions_of fs

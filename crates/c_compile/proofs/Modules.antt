@@ -10,6 +10,7 @@ use Rattle.ms_module.specs.declared.module.Func.{Func}
 use Rattle.ms_module.specs.declared.module.Global.{Global as GlobalEntry}
 use Rattle.ms_module.specs.declared.instr.Instr.{Instr}
 use Rattle.ms_module.specs.Numbered.{sequence_at}
+use Rattle.ms_emit.specs.Codes.{total}
 use Rattle.c_types.specs.Types.{Ty}
 use Rattle.c_typed.specs.Tree.{Function, Made, Typed, text}
 use Rattle.c_typed.specs.refinement.Views.{typed_of}
@@ -56,12 +57,12 @@ func_added u n f g s h old new ef eg eb eh e =
 
 -- ---- how much code they have
 
-pub instructions-push : (fs : List Func) (f : Func) → words.instructions_of (fs ++ f ∷ []) ≡ words.instructions_of fs + words.instructions f.body
+pub instructions-push : (fs : List Func) (f : Func) → words.instructions_of (fs ++ f ∷ []) ≡ words.instructions_of fs + total f.body
 instructions-push [] f = omega arith
 instructions-push (g ∷ fs) f = let h = instructions-push fs f in omega (arith, h)
 
 -- a sequence, and those behind it
-pub instructions-from : (ss : List (List Instr)) (n : ℕ) → n < length ss → words.instructions (drop n ss) ≡ length (sequence_at ss n) + words.instructions (drop (n + 1) ss)
+pub instructions-from : (ss : List (List Instr)) (n : ℕ) → n < length ss → total (drop n ss) ≡ length (sequence_at ss n) + total (drop (n + 1) ss)
 instructions-from [] n lt = absurd (omega (arith, lt))
 instructions-from (s ∷ ss) zero lt = refl
 instructions-from (s ∷ ss) (suc n) lt = instructions-from ss n (omega (arith, lt))

@@ -14,6 +14,7 @@ ghost use Rattle.c_place.specs.refinement.Flags.{flags};
 ghost use Rattle.c_compile.specs.Refusals.{IsRefused, limit as word_of};
 ghost use Rattle.c_emit.specs.refinement.Sites.{AreTables};
 ghost use Rattle.c_emit.specs.refinement.Used.{AreUses};
+ghost use Rattle.ms_emit.specs.Codes.{total};
 ghost use Rattle.ms_module.specs.Numbered.{IsPlain};
 ghost use Rattle.ms_module.specs.declared.module.ImportDesc.TheVariants as descs;
 
@@ -442,7 +443,7 @@ fn funcs(
 
 /// What is left of the room for a module's instructions behind a body.
 fn room_behind(code: &Code, room: u32) -> Result<u32, AllocError>
-    ensures { IfOk result (λ left. left + bounds.instructions code.now ≡ room) }
+    ensures { IfOk result (λ left. left + total code.now ≡ room) }
 {
     let mut left = room;
     for n in 0..code.len() {
