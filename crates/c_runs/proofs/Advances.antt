@@ -1,13 +1,13 @@
 -- Pointers that are moved where they stand, in a plain variable or where another pointer leads (C11, 6.5.2.4, 6.5.3.1 and 6.5.16.2).
-use Rattle.std.proofs.Common.{◌≡◌, ◌⊎◌, inl, inr, ℕ, List, [], ◌∷◌, Bool, true, false, None, Some, refl, sym, ap, ◌∙◌, subst}
-use Rattle.std.specs.Prelude.{slice_get, if◌then◌else◌}
+use Rattle.std.proofs.Common.{◌≡◌, ◌⊎◌, inl, inr, List, [], ◌∷◌, Bool, true, false, None, Some, refl, sym, ap, ◌∙◌, subst}
+use Rattle.std.specs.Prelude.{if◌then◌else◌}
 use Rattle.ms_linear.specs.declared.value.Value.{Value as Word}
 use Rattle.ms_linear.specs.declared.value.Value.TheVariants.{Handle}
 use Rattle.ms_module.specs.declared.instr.Instr.TheVariants.{LocalGet, LocalTee}
 use Rattle.c_types.specs.declared.integers.IntType.TheVariants.{LongLong}
 use Rattle.c_types.specs.declared.types.Scalar.{Scalar}
 use Rattle.c_types.specs.declared.types.Scalar.TheVariants as scalars
-use Rattle.c_types.specs.Types.{Ty, integer, pointer, is_function, scalar_of}
+use Rattle.c_types.specs.Types.{Ty, integer, pointer, scalar_of}
 use Rattle.c_typed.specs.declared.ops.Variable.{Variable}
 use Rattle.c_meaning.specs.Values.{Value}
 use Rattle.c_meaning.specs.Objects as objects
@@ -23,9 +23,9 @@ use Rattle.c_code.specs.Targets.{get, scratch_of, scratch_place}
 use Rattle.ms_relate.specs.refinement.Homes.{Home, handle}
 use Rattle.ms_relate.proofs.Growing.{Extends, handle_still}
 use Rattle.c_runs.proofs.Goes.{after_after}
-use Rattle.c_runs.proofs.Values.{value_still, word_of, word_still}
+use Rattle.c_runs.proofs.Values.{value_still, word_still}
 use Rattle.c_runs.proofs.Related.{Env, IsSlot, IsValue, extends_trans, pushes}
-use Rattle.c_runs.proofs.Ops.{OpIn, Stack, op_any, op_look_in, op_over_in, op_seen_in, op_then_in, same}
+use Rattle.c_runs.proofs.Ops.{OpIn, Stack, op_look_in, op_over_in, op_seen_in, op_then_in, same}
 use Rattle.c_runs.proofs.Nodes.{Always, Leaves, PlainAt, Spot_of, behind_place, gone, remains, set_gives, write_runs}
 use Rattle.c_runs.proofs.Steps.{op_store}
 use Rattle.c_runs.proofs.Cells.{IsSpot, Leads, LeadsTo, ends_there, lead_still, op_old, op_over_old, spot_pushed}

@@ -28,7 +28,7 @@ use Rattle.c_typed.specs.Tree.{Stmt, Function, Typed}
 use Rattle.c_typed.specs.refinement.Expressions as well
 use Rattle.c_typed.specs.refinement.Expressions.{is_visible}
 use Rattle.c_typed.specs.Statements.{IsStatement, no_jumps}
-use Rattle.c_typed.specs.Units.{context_of, list_of, numbers}
+use Rattle.c_typed.specs.Units.{context_of, list_of, literals_in, numbers}
 use Rattle.c_meaning.specs.Values.{Value, zero_value}
 use Rattle.c_meaning.specs.World.{deep, Held, plain, World, Result, gives, ends, Does, after, ◌>>=◌, ◌>>◌, pure, known, spend}
 use Rattle.c_meaning.specs.Functions as meaning
@@ -60,6 +60,7 @@ use Rattle.c_runs.proofs.Ops.{GoodIn, ToIn, at_work, same}
 use Rattle.c_runs.proofs.Operations.{AtHome, Linked, call_is}
 use Rattle.c_runs.proofs.Exprs.{AreScalars, CallsRun}
 use Rattle.c_runs.proofs.Flows.{FlowRuns, IsAt}
+use Rattle.c_runs.proofs.Globals.{NamesOf, all_reached, file_slots}
 use Rattle.c_runs.proofs.Globals.{NamesOf, all_reached, file_slots}
 use Rattle.c_runs.proofs.Makes.{get_is}
 use Rattle.c_runs.proofs.Scalars.{IsData, IsVariable, data_scalar, data_type, plain_data, small_slot, variable_type, zero_held, zero_word}

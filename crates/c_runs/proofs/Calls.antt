@@ -54,7 +54,7 @@ use Rattle.ms_relate.proofs.Growing.{Extends}
 use Rattle.c_runs.proofs.Held.{AreApart, AreHeld, AreOpen, AreOwn, IsHeld, Lasts, Slot, held_still, held_word, some_is, words, words_still}
 use Rattle.c_runs.proofs.Lasting.{lasts_same, lasts_trans, open_on}
 use Rattle.c_runs.proofs.Related as related
-use Rattle.c_runs.proofs.Related.{AreOf, Env, FiledIn, HasAll, IsValue, Kept, Now, are_still, extends_same, extends_trans, frame_of, front, piled, piled_still, pushes, seeing}
+use Rattle.c_runs.proofs.Related.{AreOf, Env, FiledIn, FiledIn, HasAll, IsValue, Kept, Now, are_still, extends_same, extends_trans, frame_of, front, piled, piled_still, pushes, seeing}
 use Rattle.c_runs.proofs.Ops.{GoodIn, ToIn, at_work, same}
 use Rattle.c_runs.proofs.Operations.{AtHome, Linked, call_is}
 use Rattle.c_runs.proofs.Exprs.{AreScalars, CallsRun}

@@ -34,7 +34,7 @@ use Rattle.c_runs.proofs.Goes.{Site, Mem, Runs, after_after, behind_goes, bind, 
 use Rattle.c_runs.proofs.Held.{words}
 use Rattle.c_runs.proofs.Ending.{Differ, Disjoint}
 use Rattle.c_runs.proofs.Lasting.{lasts_same}
-use Rattle.c_runs.proofs.Related.{AreOf, Env, FiledIn, HasAll, Kept, Now, depth_front, extends_same, frame_of, front, front_append, has_back, has_front, pushes, seeing}
+use Rattle.c_runs.proofs.Related.{AreOf, Env, FiledIn, FiledIn, HasAll, Kept, Now, depth_front, extends_same, frame_of, front, front_append, has_back, has_front, pushes, seeing}
 use Rattle.c_runs.proofs.Ops.{at_work, same, size_joined}
 use Rattle.c_runs.proofs.Operations.{Linked}
 use Rattle.c_runs.proofs.Updates.{code_assoc}

@@ -4,7 +4,7 @@ use Rattle.std.specs.Prelude.{ℤ, pos, ◌&&◌, get_or, not, slice_get, if◌t
 use Rattle.ms_linear.specs.declared.value.Value.{Value as Word}
 use Rattle.ms_types.specs.declared.types.ValType.TheVariants as vals
 use Rattle.ms_module.specs.declared.access.Segment.TheVariants as segment
-use Rattle.ms_module.specs.declared.instr.Instr.TheVariants.{Call, Drop, Segment}
+use Rattle.ms_module.specs.declared.instr.Instr.TheVariants.{Call, Drop, GlobalGet, Segment}
 use Rattle.ms_module.specs.declared.numeric.Width.TheVariants.{W32}
 use Rattle.c_types.specs.declared.integers.IntType.{IntType}
 use Rattle.c_types.specs.declared.integers.IntType.TheVariants.{Char, SignedChar, UnsignedChar, Short, UnsignedShort, Int, UnsignedInt, Long, UnsignedLong, LongLong, UnsignedLongLong}
@@ -48,9 +48,10 @@ use Rattle.ms_relate.proofs.Growing.{Extends}
 use Rattle.c_runs.proofs.Values.{IsOf, pushed_is, value_still, word_of, word_still}
 use Rattle.c_runs.proofs.Related.{AreOf, Env, IsSlot, IsValue, piled, pushes}
 use Rattle.c_runs.proofs.Ops.{AllGiven, OpIn, op_any, op_assoc, op_given, op_look, op_look_in, op_none_in, op_over_in, op_then_in, same}
-use Rattle.c_runs.proofs.Nodes.{Carries, Leaves, assign_runs, chosen_runs, constant_runs, fetch_runs, behind_place, gone, left_runs, remains}
+use Rattle.c_runs.proofs.Nodes.{Carries, Leaves, PlainAt, assign_runs, chosen_runs, constant_runs, behind_place, gone, left_runs, remains, slot_plain}
 use Rattle.c_runs.proofs.Operations.{AtHome, Linked, abort_runs, binary_runs, compare_runs, complement_runs, convert_runs, getchar_runs, narrow_truth_runs, negate_runs, not_runs, putchar_runs, truth_in, truth_runs, update_runs}
-use Rattle.c_runs.proofs.Cells.{Leads, address_runs, assign_there, deref_leads, read_there, variable_leads}
+use Rattle.c_runs.proofs.Cells.{Leads, address_runs, assign_there, deref_leads, read_there}
+use Rattle.c_runs.proofs.Globals.{NamesOf, global_all, global_plain, literal_runs}
 use Rattle.c_runs.proofs.Members.{IsLaid, LeadsAll, Slices, decay_all, decay_slice, laid_member, leads_all, member_all, member_slices, slice_runs, variable_all, visit_runs}
 use Rattle.c_runs.proofs.Scalars.{IsData, null_runs, pointer_type, scalar_type, small_slot, truth_pointer}
 use Rattle.c_runs.proofs.Equal.{equal_runs, unequal_runs}
@@ -210,7 +211,7 @@ module _ (E : Env) (L : Linked E.site) (home : AtHome E) (k : well.Context) (slo
   left_int kept c t u x e h = as_type kept (left kept (of_type u) c) t u x e (left_runs E kept (of_type u) (integer u) c x refl h)
 
   module _ (calls_run : CallsRun) (scalars_are : (f : ℕ) (t : Ty) (ps : Tys) → slice_get k.functions f ≡ Some (function t ps) → AreScalars ps)
-      (slots_data : (x : ℕ) (t : Ty) → slice_get k.slots x ≡ Some t → E.target.is_object (Local x) ≡ false → IsData t) (visible_are : k.visible ≡ E.visible) (structs_same : k.structs ≡ E.unit.structs) (sound : AreSoundNames k.structs k.globals k.slots k.functions) where
+      (slots_data : (x : ℕ) (t : Ty) → slice_get k.slots x ≡ Some t → E.target.is_object (Local x) ≡ false → IsData t) (visible_are : k.visible ≡ E.visible) (structs_same : k.structs ≡ E.unit.structs) (sound : AreSoundNames k.structs k.globals k.slots k.functions) (names : NamesOf E.unit.structs E.files E.reached E.target k.globals k.literals) where
     -- a type with a size
     sized : (t : Ty) → IsSmall k.structs t → IsSlot E.unit.structs t
     sized t h = small_slot E.unit.structs E.laid_out E.has_members t (subst (λ (table : Table). IsSmall table t) structs_same h)
@@ -225,15 +226,26 @@ module _ (E : Env) (L : Linked E.site) (home : AtHome E) (k : well.Context) (slo
     seen_at : (x : ℕ) (t : Ty) → IsPlace k (of (Local x)) t → is_visible E.visible x ≡ true
     seen_at x t h = ap (λ (vs : List ℕ). is_visible vs x) (sym visible_are) ∙ h.1
 
-    leads_at : (x : ℕ) (t : Ty) → IsPlace k (of (Local x)) t → E.target.is_object (Local x) ≡ true → Leads E (one (get E.target (Local x))) t (place E.unit E.calls (of (Local x)))
-    leads_at x t h q = variable_leads E x t (kind_at x t h.0 true q) (seen_at x t h)
+    abbrev variable_in : Bool → Variable → Option Variable
+    variable_in b x = if b then None else Some x
 
-    abbrev variable_in : Bool → ℕ → Option Variable
-    variable_in b x = if b then None else Some (Local x)
+    -- a variable at file scope
+    file_at : (x : ℕ) (t : Ty) → slice_get k.globals x ≡ Some t → (b : Bool) → E.target.is_object (Global x) ≡ b → slice_get E.files x ≡ Some (t, b)
+    file_at x t e b q = names.kinds x t e ∙ ap (λ (c : Bool). Some (t, c)) q
+
+    -- one that is no object is read and written without a handle
+    plain_at : (x : Variable) (t : Ty) → IsScalar t → IsPlace k (of x) t → E.target.is_object x ≡ false → PlainAt E x t
+    plain_at (Local x) t sc h q = slot_plain E x t sc (kind_at x t h.0 false q)
+    plain_at (Global x) t sc h q = global_plain E L home x t sc (file_at x t h false q)
+
+    -- the handle of one that is an object leads to all of it
+    all_at : (x : Variable) (t : Ty) → IsPlace k (of x) t → E.target.is_object x ≡ true → LeadsAll E (one (get E.target x)) t (place E.unit E.calls (of x))
+    all_at (Local x) t h q = variable_all E x t (kind_at x t h.0 true q) (seen_at x t h)
+    all_at (Global x) t h q = global_all E L home x t (file_at x t h true q) (names.seen x t h) (small_slot E.unit.structs E.laid_out E.has_members t (names.sizes x t h))
 
     -- a place that is no plain variable's
     abbrev IsCell : Place → Type 0
-    IsCell (of (Local x)) = E.target.is_object (Local x) ≡ true
+    IsCell (of x) = E.target.is_object x ≡ true
     IsCell _ = Unit {0}
 
     -- its handle is left
@@ -243,16 +255,19 @@ module _ (E : Env) (L : Linked E.site) (home : AtHome E) (k : well.Context) (slo
     is_data : (p : Place) (t : Ty) → IsPlace k p t → is_function t ≡ false
     is_data p t h = (sound_place k sound p t h).0
 
+    variable_data : (x : Variable) (t : Ty) → IsPlace k (of x) t → E.target.is_object x ≡ false → IsData t
+    variable_data (Local x) t h q = slots_data x t h.0 q
+    variable_data (Global x) t h q = names.data_are x t h q
+
     -- an array or a struct is an object
-    whole_slot : (x : ℕ) (t : Ty) → (IsData t → ⊥) → slice_get k.slots x ≡ Some t → E.target.is_object (Local x) ≡ true
-    whole_slot x t never e = by (E.target.is_object (Local x)) refl where
-      by : (b : Bool) → E.target.is_object (Local x) ≡ b → b ≡ true
+    whole_slot : (x : Variable) (t : Ty) → (IsData t → ⊥) → IsPlace k (of x) t → E.target.is_object x ≡ true
+    whole_slot x t never h = by (E.target.is_object x) refl where
+      by : (b : Bool) → E.target.is_object x ≡ b → b ≡ true
       by true q = refl
-      by false q = absurd (never (slots_data x t e q))
+      by false q = absurd (never (variable_data x t h q))
 
     whole_cell : (p : Place) (t : Ty) → (IsData t → ⊥) → IsPlace k p t → IsCell p
-    whole_cell (of (Local x)) t never h = whole_slot x t never h.0
-    whole_cell (of (Global x)) t never h = tt
+    whole_cell (of x) t never h = whole_slot x t never h
     whole_cell (deref a) t never h = tt
     whole_cell (member p n m) t never h = tt
 
@@ -294,22 +309,20 @@ module _ (E : Env) (L : Linked E.site) (home : AtHome E) (k : well.Context) (slo
     pointer_scalar t e = ap (λ (b : Bool). Some (if b then scalars.Function else scalars.Pointer)) e
 
     read_runs : (d : ℕ) (s : Scalar) (p : Place) (t : Ty) → IsScalar t → in_place p ≡ true → scalar_of t ≡ Some s → IsPlace k p t → LeadsIn d p t → Leaves E (fetched E.target (plain_in E.target p) (code.place E.target d p) s) t (place E.unit E.calls p >>= meaning.fetch)
-    read_runs d s (of (Local x)) t sc l e h leads = by (E.target.is_object (Local x)) refl where
-      by : (b : Bool) → E.target.is_object (Local x) ≡ b → Leaves E (fetched E.target (variable_in b x) (one (get E.target (Local x))) s) t (place E.unit E.calls (of (Local x)) >>= meaning.fetch)
-      by true q = read_there E t s sc e (one (get E.target (Local x))) (place E.unit E.calls (of (Local x))) (leads q)
-      by false q = behind_place E x t sc (kind_at x t h.0 false q) (one (get E.target (Local x))) same (pushes E t) (IsValue E t) meaning.fetch (fetch_runs E x t sc (kind_at x t h.0 false q))
-    read_runs d s (of (Global x)) t sc l e h leads = absurd cc
+    read_runs d s (of x) t sc l e h leads = by (E.target.is_object x) refl where
+      by : (b : Bool) → E.target.is_object x ≡ b → Leaves E (fetched E.target (variable_in b x) (one (get E.target x)) s) t (place E.unit E.calls (of x) >>= meaning.fetch)
+      by true q = read_there E t s sc e (one (get E.target x)) (place E.unit E.calls (of x)) (leads q)
+      by false q = let p = plain_at x t sc h q in behind_place E x t p (one (get E.target x)) same (pushes E t) (IsValue E t) meaning.fetch p.fetches
     read_runs d s (deref a) t sc l e h leads = read_there E t s sc e (code.place E.target d (deref a)) (place E.unit E.calls (deref a)) (leads tt)
     read_runs d s (member p n m) t sc l e h leads = read_there E t s sc e (code.place E.target d (member p n m)) (place E.unit E.calls (member p n m)) (leads tt)
 
     assigned : (kept : Bool) (d : ℕ) (s : Scalar) (p : Place) (t : Ty) → IsScalar t → (c : Code) (y : Does Value) → in_place p ≡ true → scalar_of t ≡ Some s → IsPlace k p t → LeadsIn d p t → Leaves E c t y
         → Carries E kept (begun E.target (plain_in E.target p) (code.place E.target d p) ⨾ c ⨾ ended E.target kept (plain_in E.target p) s) t (place E.unit E.calls p >>= (λ q. y >>= (λ v. store q v >> pure v)))
-    assigned kept d s (of (Local x)) t sc c y l e h leads r = by (E.target.is_object (Local x)) refl where
-      by : (b : Bool) → E.target.is_object (Local x) ≡ b
-          → Carries E kept (begun E.target (variable_in b x) (one (get E.target (Local x))) ⨾ c ⨾ ended E.target kept (variable_in b x) s) t (place E.unit E.calls (of (Local x)) >>= (λ q. y >>= (λ v. store q v >> pure v)))
-      by true q = assign_there E t s sc e kept (one (get E.target (Local x))) c (place E.unit E.calls (of (Local x))) y (leads q) r
-      by false q = assign_runs E x t sc (kind_at x t h.0 false q) kept s c y r
-    assigned kept d s (of (Global x)) t sc c y l e h leads r = absurd cc
+    assigned kept d s (of x) t sc c y l e h leads r = by (E.target.is_object x) refl where
+      by : (b : Bool) → E.target.is_object x ≡ b
+          → Carries E kept (begun E.target (variable_in b x) (one (get E.target x)) ⨾ c ⨾ ended E.target kept (variable_in b x) s) t (place E.unit E.calls (of x) >>= (λ q. y >>= (λ v. store q v >> pure v)))
+      by true q = assign_there E t s sc e kept (one (get E.target x)) c (place E.unit E.calls (of x)) y (leads q) r
+      by false q = assign_runs E x t (plain_at x t sc h q) kept s c y r
     assigned kept d s (deref a) t sc c y l e h leads r = assign_there E t s sc e kept (code.place E.target d (deref a)) c (place E.unit E.calls (deref a)) y (leads tt) r
     assigned kept d s (member p n m) t sc c y l e h leads r = assign_there E t s sc e kept (code.place E.target d (member p n m)) c (place E.unit E.calls (member p n m)) y (leads tt) r
 
@@ -321,12 +334,11 @@ module _ (E : Env) (L : Linked E.site) (home : AtHome E) (k : well.Context) (slo
     updates : (kept old : Bool) (d : ℕ) (u v : IntType) (o : BinaryOp) (p : Place) (c : Code) (y : Does Value) → in_place p ≡ true → well.IsPromoted v → IsPlace k p (integer u) → LeadsIn d p (integer u) → Leaves E c (integer v) y
         → Carries E kept (updated E.target kept old (plain_in E.target p) (code.place E.target d p) (scalars.Int u) (convert u v ⨾ c ⨾ one (operated o v) ⨾ convert v u)) (integer u)
         (updating old u v o p y)
-    updates kept old d u v o (of (Local x)) c y l pr h leads r = by (E.target.is_object (Local x)) refl where
-      by : (b : Bool) → E.target.is_object (Local x) ≡ b
-          → Carries E kept (updated E.target kept old (variable_in b x) (one (get E.target (Local x))) (scalars.Int u) (convert u v ⨾ c ⨾ one (operated o v) ⨾ convert v u)) (integer u) (updating old u v o (of (Local x)) y)
-      by true q = update_there E o u v (one (get E.target (Local x))) (place E.unit E.calls (of (Local x))) (leads q) c y pr r kept old
-      by false q = update_runs E o u v x (kind_at x (integer u) h.0 false q) c y pr r kept old (one (get E.target (Local x))) (scalars.Int u)
-    updates kept old d u v o (of (Global x)) c y l pr h leads r = absurd cc
+    updates kept old d u v o (of x) c y l pr h leads r = by (E.target.is_object x) refl where
+      by : (b : Bool) → E.target.is_object x ≡ b
+          → Carries E kept (updated E.target kept old (variable_in b x) (one (get E.target x)) (scalars.Int u) (convert u v ⨾ c ⨾ one (operated o v) ⨾ convert v u)) (integer u) (updating old u v o (of x) y)
+      by true q = update_there E o u v (one (get E.target x)) (place E.unit E.calls (of x)) (leads q) c y pr r kept old
+      by false q = update_runs E o u v x (plain_at x (integer u) tt h q) c y pr r kept old (one (get E.target x)) (scalars.Int u)
     updates kept old d u v o (deref e) c y l pr h leads r = update_there E o u v (code.place E.target d (deref e)) (place E.unit E.calls (deref e)) (leads tt) c y pr r kept old
     updates kept old d u v o (member p n m) c y l pr h leads r = update_there E o u v (code.place E.target d (member p n m)) (place E.unit E.calls (member p n m)) (leads tt) c y pr r kept old
 
@@ -337,12 +349,11 @@ module _ (E : Env) (L : Linked E.site) (home : AtHome E) (k : well.Context) (slo
 
     advances : (kept old : Bool) (d : ℕ) (u : Ty) (back : Bool) (p : Place) (c : Code) (y : Does Value) (slot : IsSlot E.unit.structs u) → in_place p ≡ true → IsPlace k p (pointer u) → LeadsIn d p (pointer u) → Leaves E c (integer LongLong) y
         → Carries E kept (updated E.target kept old (plain_in E.target p) (code.place E.target d p) scalars.Pointer (moved (bytes E u slot) back c)) (pointer u) (advancing old (bytes E u slot) back p y)
-    advances kept old d u back (of (Local x)) c y slot l h leads r = by (E.target.is_object (Local x)) refl where
-      by : (b : Bool) → E.target.is_object (Local x) ≡ b
-          → Carries E kept (updated E.target kept old (variable_in b x) (one (get E.target (Local x))) scalars.Pointer (moved (bytes E u slot) back c)) (pointer u) (advancing old (bytes E u slot) back (of (Local x)) y)
-      by true q = advance_there E u slot back c y r (one (get E.target (Local x))) (place E.unit E.calls (of (Local x))) (leads q) kept old
-      by false q = advance_plain E u slot back c y r x (kind_at x (pointer u) h.0 false q) kept old (one (get E.target (Local x)))
-    advances kept old d u back (of (Global x)) c y slot l h leads r = absurd cc
+    advances kept old d u back (of x) c y slot l h leads r = by (E.target.is_object x) refl where
+      by : (b : Bool) → E.target.is_object x ≡ b
+          → Carries E kept (updated E.target kept old (variable_in b x) (one (get E.target x)) scalars.Pointer (moved (bytes E u slot) back c)) (pointer u) (advancing old (bytes E u slot) back (of x) y)
+      by true q = advance_there E u slot back c y r (one (get E.target x)) (place E.unit E.calls (of x)) (leads q) kept old
+      by false q = advance_plain E u slot back c y r x (plain_at x (pointer u) tt h q) kept old (one (get E.target x))
     advances kept old d u back (deref e) c y slot l h leads r = advance_there E u slot back c y r (code.place E.target d (deref e)) (place E.unit E.calls (deref e)) (leads tt) kept old
     advances kept old d u back (member p n m) c y slot l h leads r = advance_there E u slot back c y r (code.place E.target d (member p n m)) (place E.unit E.calls (member p n m)) (leads tt) kept old
 
@@ -371,15 +382,14 @@ module _ (E : Env) (L : Linked E.site) (home : AtHome E) (k : well.Context) (slo
 
     -- what an address is taken of
     cell : (p : Place) → IsReady E.target.is_object E.unit (in_place p) (uses.in_place p) (in_expr_of (tree.address p)) → IsCell p
-    cell (of (Local x)) i = taken E.target.is_object E.unit true [] x i
-    cell (of (Global x)) i = tt
+    cell (of (Local x)) i = taken E.target.is_object E.unit true [] (Local x) i
+    cell (of (Global x)) i = taken E.target.is_object E.unit (in_place (of (Global x))) [] (Global x) i
     cell (deref a) i = tt
     cell (member p n m) i = tt
 
     mutual
       leads_run : (d : ℕ) (p : Place) (t : Ty) → IsReady E.target.is_object E.unit (in_place p) (uses.in_place p) (in_place_of p) → IsPlace k p t → LeadsIn d p t
-      leads_run d (of (Local x)) t i h q = leads_at x t h q
-      leads_run d (of (Global x)) t i h q = absurd (let e = i.in_stage in cc)
+      leads_run d (of x) t i h q = leads_all E (one (get E.target x)) t (place E.unit E.calls (of x)) (all_at x t h q)
       leads_run d (deref a) t i h q = deref_leads E (code_of true d a) t (value_in_E a) h.0 (expr_runs true d a (pointer t) i h.1)
       leads_run d (member p n m) t i h q =
           leads_all E (code.place E.target d (member p n m)) t (place E.unit E.calls (member p n m))
@@ -387,9 +397,10 @@ module _ (E : Env) (L : Linked E.site) (home : AtHome E) (k : well.Context) (slo
 
       -- a part of a struct
       slices_run : (d : ℕ) (p : Place) (n from len : ℕ) → IsReady E.target.is_object E.unit (in_place p) (uses.in_place p) (in_place_of p) → IsPlace k p (struct n) → 0 < len → from + len ≤ size (shape E.unit.structs (struct n)) → SlicesIn d p n from len
-      slices_run d (of (Local x)) n from len i h some within =
-          slice_runs E (one (get E.target (Local x))) (struct n) from len (place E.unit E.calls (of (Local x))) (leads_at x (struct n) h (whole_slot x (struct n) (λ never. never) h.0))
-      slices_run d (of (Global x)) n from len i h some within = absurd (let e = i.in_stage in cc)
+      slices_run d (of x) n from len i h some within =
+          let c = one (get E.target x) in
+          let y = place E.unit E.calls (of x) in
+          slice_runs E c (struct n) from len y (leads_all E c (struct n) y (all_at x (struct n) h (whole_slot x (struct n) (λ never. never) h)))
       slices_run d (deref a) n from len i h some within =
           slice_runs E (code_of true d a) (struct n) from len (place E.unit E.calls (deref a)) (deref_leads E (code_of true d a) (struct n) (value_in_E a) h.0 (expr_runs true d a (pointer (struct n)) i h.1))
       slices_run d (member p n' m) n from len i h some within =
@@ -403,10 +414,8 @@ module _ (E : Env) (L : Linked E.site) (home : AtHome E) (k : well.Context) (slo
           (subst (λ (q : ℕ). Slices E c (struct n') (q + from) len x) is (slices_run d p n' (o + from) len i h.0 some (omega (arith, is, end, within))))
 
       pub decays_run : (d : ℕ) (p : Place) (u : Ty) (n : ℕ) → IsReady E.target.is_object E.unit (in_place p) (uses.in_place p) (in_place_of p) → IsPlace k p (array u n) → DecaysTo d p u n
-      decays_run d (of (Local x)) u n i h =
-          decay_all E u n (sound_place k sound (of (Local x)) (array u n) h).1.0 (one (get E.target (Local x))) (place E.unit E.calls (of (Local x)))
-          (variable_all E x (array u n) (kind_at x (array u n) h.0 true (whole_slot x (array u n) (λ never. never) h.0)) (seen_at x (array u n) h))
-      decays_run d (of (Global x)) u n i h = absurd (let e = i.in_stage in cc)
+      decays_run d (of x) u n i h =
+          decay_all E u n (sound_place k sound (of x) (array u n) h).1.0 (one (get E.target x)) (place E.unit E.calls (of x)) (all_at x (array u n) h (whole_slot x (array u n) (λ never. never) h))
       decays_run d (deref a) u n i h =
           let len = n * type_size E.target.structs u in
           let c = code_of true d a in
@@ -423,6 +432,12 @@ module _ (E : Env) (L : Linked E.site) (home : AtHome E) (k : well.Context) (slo
       expr_runs kept d tree.null t x h =
           subst (λ (r : Ty). Carries E kept (left kept (Some scalars.Pointer) (one (Segment segment.Null))) r (value_in_E tree.null)) (sym h.1)
           (left_runs E kept (Some scalars.Pointer) (pointer h.0) (one (Segment segment.Null)) (value_in_E tree.null) (pointer_scalar h.0 h.2) (null_runs E h.0 h.2))
+      expr_runs kept d (tree.literal n) t x h =
+          let few = h.1 in
+          let all = names.texts in
+          let c = plain (GlobalGet (E.target.globals + n) ∷ Segment segment.Seal ∷ []) in
+          subst (λ (r : Ty). Carries E kept (left kept (Some scalars.Pointer) c) r (value_in_E (tree.literal n))) (sym h.0)
+          (left_runs E kept (Some scalars.Pointer) (pointer (integer Char)) c (value_in_E (tree.literal n)) refl (literal_runs E L home n (omega (arith, few, all)) names.behind))
       expr_runs kept d (tree.read s p) t x h =
           left_runs E kept (Some s) t (fetched E.target (plain_in E.target p) (code.place E.target d p) s) (value_in_E (tree.read s p)) h.0
           (read_runs d s p t (scalar_type t s h.0) x.in_stage h.0 h.1 (leads_run d p t x h.1))

@@ -1,6 +1,6 @@
 -- Variables at file scope and string literals as globals: a plain variable's global has its value, that of an object or of a literal the
 -- handle of its first element. What is known of them goes on holding where more objects have homes, and where a variable is written.
-use Rattle.std.proofs.Common.{◌≡◌, ◌≢◌, ℕ, ◌+◌, ◌^◌, ◌<◌, ◌≤◌, ⊎_elim, zero, suc, List, [], ◌∷◌, length, Bool, true, false, Option, Some, refl, sym, ap, ◌∙◌, arith, subst}
+use Rattle.std.proofs.Common.{◌≡◌, ℕ, ◌+◌, ◌^◌, ◌<◌, ◌≤◌, ⊎_elim, zero, suc, List, [], ◌∷◌, length, Bool, true, false, Option, Some, refl, sym, ap, ◌∙◌, arith}
 use Rattle.std.specs.Prelude.{pos, slice_get, slice_set}
 use Rattle.std.proofs.lemmas.Bool.{cases_eq}
 use Rattle.std.proofs.lemmas.Option.{slice_get_within}
@@ -15,7 +15,7 @@ use Rattle.c_meaning.specs.World.{Held, plain, object}
 use Rattle.c_typed.specs.refinement.Expressions.{is_visible}
 use Rattle.ms_relate.specs.refinement.Homes.{Home, handle, handle_in}
 use Rattle.ms_relate.proofs.Growing.{Extends}
-use Rattle.c_runs.proofs.Held.{AreHeld, IsHeld, IsObjectAt, Slot, held_set, held_still, length_set, length_words, other_kind, set_elsewhere, set_there, some_is, words, words_set, words_still}
+use Rattle.c_runs.proofs.Held.{AreHeld, IsObjectAt, Slot, held_set, held_still, length_set, length_words, other_kind, set_elsewhere, set_there, some_is, words, words_set, words_still}
 use Rattle.c_runs.proofs.Values.{IsValueOf, word_of}
 
 -- How far file scope is made: the variables that may be named, how many literals there are, and how many of them are sealed.

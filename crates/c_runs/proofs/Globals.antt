@@ -1,6 +1,7 @@
 -- Variables at file scope and string literals in code: they are read and written by their globals.
-use Rattle.std.proofs.Common.{◌≡◌, ◌≢◌, ℕ, zero, suc, ◌+◌, ◌*◌, ◌^◌, ◌<◌, ◌≤◌, List, [], ◌∷◌, length, Bool, true, false, Option, Some, None, refl, sym, ap, ◌∙◌, arith, subst}
-use Rattle.std.specs.Prelude.{pos, cond, get_or, map, slice_get, slice_set}
+use Rattle.std.proofs.Common.{◌≡◌, ℕ, zero, suc, ◌+◌, ◌*◌, ◌^◌, ◌<◌, ◌≤◌, List, [], ◌∷◌, length, Bool, true, false, Option, Some, None, refl, sym, ap, ◌∙◌, arith, subst}
+use Rattle.std.specs.Prelude.{pos, cond, slice_get, slice_set}
+use Rattle.std.proofs.lemmas.Bool.{le-leb}
 use Rattle.std.proofs.lemmas.Option.{slice_get_within}
 use Rattle.ms_handle.specs.declared.handle.Handle.{Handle as HandleOf}
 use Rattle.ms_handle.specs.declared.handle.Handle.TheVariants as handles
@@ -17,8 +18,8 @@ use Rattle.ms_module.specs.declared.access.Segment.TheVariants as segment
 use Rattle.ms_module.specs.declared.instr.Instr.TheVariants.{GlobalGet, GlobalSet, Segment}
 use Rattle.ms_task.specs.Thread.{Do, Item, thread}
 use Rattle.c_types.specs.declared.integers.IntType.TheVariants.{Char}
-use Rattle.c_types.specs.Layout.{IsSmall, Table, size as type_size}
-use Rattle.c_types.specs.Types.{Ty, void, integer, pointer, array}
+use Rattle.c_types.specs.Layout.{IsSmall, Table}
+use Rattle.c_types.specs.Types.{Ty, integer, pointer, array}
 use Rattle.c_typed.specs.declared.ops.Variable.TheVariants.{Global}
 use Rattle.c_typed.specs.Tree as tree
 use Rattle.c_typed.specs.Tree.{Typed, of}
@@ -28,14 +29,14 @@ use Rattle.c_meaning.specs.Shapes.{Shape, shape, size}
 use Rattle.c_meaning.specs.Values.{Value, inside, points}
 use Rattle.c_meaning.specs.Objects as objects
 use Rattle.c_meaning.specs.Objects.{Outcome, to_object, whole_of}
-use Rattle.c_meaning.specs.World.{Held, plain, object, World, Result, gives, Does, after, as_done, known, look, ◌>>=◌, ◌>>◌, pure}
+use Rattle.c_meaning.specs.World.{Held, plain, object, World, Result, gives, after, as_done, known, ◌>>◌, pure}
 use Rattle.c_meaning.specs.Accesses.{hold, with_held}
 use Rattle.c_meaning.specs.Expressions as meaning
 use Rattle.c_meaning.specs.Expressions.{Spot, at, variable, expr, fetch, place, plain_value, spot_of, store}
 use Rattle.c_meaning.specs.Units.{is_global_object}
 use Rattle.ms_emit.specs.Codes.{plain as bare, one}
 use Rattle.c_code.specs.Targets.{Target, get, set, tee}
-use Rattle.ms_relate.specs.refinement.Homes.{Home, IsScalar, handle, is_pointer}
+use Rattle.ms_relate.specs.refinement.Homes.{Home, IsScalar, handle, handle_in, is_pointer}
 use Rattle.ms_relate.specs.refinement.Laid.{Fits}
 use Rattle.ms_relate.proofs.Acts.{act_gives}
 use Rattle.ms_relate.proofs.Moving.{is_of_leads, leads_of}
@@ -46,14 +47,13 @@ use Rattle.c_runs.proofs.Goes.{Goes, Mem, RunsTo, goes_on, one as one_step, one_
 use Rattle.c_runs.proofs.Held.{Found, IsObjectAt, Slot, found, object_at, object_word, some_is, words}
 use Rattle.c_runs.proofs.Files.{Filed, Reached, TextAt, filed_set, first_of, global_of, global_there}
 use Rattle.c_runs.proofs.Values.{pushed_is, value_still, word_of, word_still}
-use Rattle.c_runs.proofs.Related.{Env, FiledIn, IsSlot, IsValue, Kept, Now, Starts, extends_trans, frame_of, front, pushes}
+use Rattle.c_runs.proofs.Related.{Env, IsSlot, IsValue, Kept, Now, Starts, extends_trans, frame_of, pushes}
 use Rattle.c_runs.proofs.Ops.{GoodIn, OpIn, ToIn, at_work, same}
 use Rattle.c_runs.proofs.Nodes.{Always, Leaves, PlainAt, Spot_of, gone}
 use Rattle.c_runs.proofs.Operations.{AtHome, Linked}
 use Rattle.c_runs.proofs.Steps.{IsQuiet, event_goes, quiet_tells}
-use Rattle.c_runs.proofs.Scalars.{IsData, small_slot}
-use Rattle.c_runs.proofs.Makes.{get_is}
-use Rattle.c_runs.proofs.Cells.{LeadsTo, Leads, object_near, pointer_word, spot_pushed}
+use Rattle.c_runs.proofs.Scalars.{IsData}
+use Rattle.c_runs.proofs.Cells.{LeadsTo, object_near, spot_pushed}
 use Rattle.c_runs.proofs.Members.{IsAll, LeadsAll}
 
 -- ---- the variables at file scope of a unit, and what is made before `main`
@@ -248,11 +248,24 @@ module _ (E : Env) (L : Linked E.site) (home : AtHome E) where
 
   -- ---- a string literal (6.4.5): the array that its object is one of
 
+  all_of : (b : Bool) (id l : ℕ) → slice (handles.Good b id 0 l (pos 0)) 0 l ≡ handles.Good b id 0 l (pos 0)
+  all_of b id l = ap (λ (c : Bool). cond c (handles.Good b id 0 l (pos 0)) handles.Broken) (le-leb (0 + l) l (omega arith))
+
+  text_handle : (hs : List Home) (n : ℕ) (b : Bool) (h : Home) → slice_get hs n ≡ Some h → handle hs (points (first_of b n)) ≡ handles.Good b h.id 0 (h.count * size h.shape) (pos 0)
+  text_handle hs n b h there = ap (λ (o : Option Home). handle_in o (first_of b n)) there ∙ ap (λ (x : ℕ). handles.Good b h.id 0 (h.count * size h.shape) (pos x)) (omega arith)
+
+  -- its handle is the whole of its array of one
+  text_all : (hs : List Home) (n : ℕ) (b : Bool) (h : Home) → slice_get hs n ≡ Some h → h.count ≡ 1 → slice (handle hs (points (first_of b n))) 0 (size h.shape) ≡ handle hs (points (first_of b n))
+  text_all hs n b h there alone =
+      let length : h.count * size h.shape ≡ size h.shape = ap (λ (c : ℕ). c * size h.shape) alone ∙ omega arith in
+      let good : handle hs (points (first_of b n)) ≡ handles.Good b h.id 0 (size h.shape) (pos 0) = text_handle hs n b h there ∙ ap (λ (l : ℕ). handles.Good b h.id 0 l (pos 0)) length in
+      ap (λ (g : HandleOf). slice g 0 (size h.shape)) good ∙ all_of b h.id (size h.shape) ∙ sym good
+
   module _ (i : ℕ) (few : i < E.reached.texts) (behind : E.target.globals ≡ length E.files) where
     abbrev found_text : World → Option ℕ
     found_text w = slice_get w.literals i
 
-    text_is : (now : Now) (w : World) (m : Mem) → Kept E now w m → (n : ℕ) × (slice_get w.literals i ≡ Some n)
+    pub text_is : (now : Now) (w : World) (m : Mem) → Kept E now w m → (n : ℕ) × (slice_get w.literals i ≡ Some n)
     text_is now w m k = there w.literals i (let e = k.file.as_many in omega (arith, few, e)) where
       there : (ns : List ℕ) (j : ℕ) → j < length ns → (n : ℕ) × (slice_get ns j ≡ Some n)
       there [] j lt = absurd (omega (arith, lt))
@@ -277,7 +290,7 @@ module _ (E : Env) (L : Linked E.site) (home : AtHome E) where
         let near = first_near n.0 [] b (whole_of o.home.shape o.home.count) (omega (arith, all, small)) (subst (λ (s : Shape). size s < 4294967296) (sym o.shape_is) small) in
         let leads : LeadsTo E u m.homes p = is_pointer o.home (whole_of o.home.shape o.home.count) refl o.at refl o.shape_is near in
         let g = inside_part E.unit.structs E.places m.homes w.objects m.segments (shape E.unit.structs (integer Char)) t.count p k.related (leads_of E.unit.structs E.places m.homes u p refl leads) in
-        let whole = subst (λ (s : Shape). slice (handle m.homes p) 0 (size s) ≡ handle m.homes p) o.shape_is (text_all E.unit.structs E.places m.homes n.0 b o.home o.at o.one) in
+        let whole = subst (λ (s : Shape). slice (handle m.homes p) 0 (size s) ≡ handle m.homes p) o.shape_is (text_all m.homes n.0 b o.home o.at o.one) in
         (g.0, g.1, is_of_leads E.unit.structs E.places m.homes (integer Char) g.0 refl g.2, g.3 ∙ whole)
 
     got : (now : Now) (w : World) (m : Mem) (k : Kept E now w m) (vs : List Word) (r : List Item)
@@ -290,7 +303,7 @@ module _ (E : Env) (L : Linked E.site) (home : AtHome E) where
 
     sealed_once : (hs : List Home) (n : ℕ) (b : Bool) → seal (handle hs (points (first_of b n))) ≡ handle hs (points (first_of true n))
     sealed_once hs n b = by (slice_get hs n) where
-      by : (o : Option Home) → seal (Rattle.ms_relate.specs.refinement.Homes.handle_in o (first_of b n)) ≡ Rattle.ms_relate.specs.refinement.Homes.handle_in o (first_of true n)
+      by : (o : Option Home) → seal (handle_in o (first_of b n)) ≡ handle_in o (first_of true n)
       by None = refl
       by (Some h) = refl
 

@@ -40,6 +40,7 @@ pub mod Members
 pub mod Scopes
 pub mod Stmts
 pub mod Bodies
+pub mod Filing
 pub mod Callees
 pub mod Params
 pub mod Copied

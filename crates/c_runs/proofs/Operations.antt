@@ -64,6 +64,7 @@ pub record Linked (S : Site) : Type 0 where
   pub inst : Instance
   pub alone : S.instances ≡ inst ∷ []
   pub all : (x : ℕ) → x < length S.funcs → slice_get inst.funcs x ≡ Some x
+  pub shared : (x : ℕ) → x < S.shared → slice_get inst.globals x ≡ Some x
   pub three : 3 ≤ length S.funcs
   pub putchar : host_in (slice_get S.funcs 0) ≡ Some hosts.Putchar
   pub getchar : host_in (slice_get S.funcs 1) ≡ Some hosts.Getchar

@@ -1,6 +1,6 @@
 -- What a call needs of each function, from what a store has of the unit.
 use Rattle.std.proofs.Common.{◌≡◌, ◌≢◌, ℕ, zero, suc, ◌+◌, ◌<◌, ◌≤◌, List, [], ◌∷◌, length, map, max, Bool, true, false, cond, is_some, Option, Some, None, refl, sym, ap, ◌∙◌, arith, subst}
-use Rattle.std.specs.Prelude.{get_or, nat_lt, not, position, replicate, slice_get, ◌&&◌}
+use Rattle.std.specs.Prelude.{get_or, nat_lt, not, position, replicate, slice_get, ◌&&◌, ◌||◌}
 use Rattle.std.specs.List.{position_or_len}
 use Rattle.std.specs.List.{All, list_any}
 use Rattle.std.proofs.lemmas.Option.{slice_get_within}
@@ -14,8 +14,11 @@ use Rattle.ms_module.specs.Numbered.{sequence_at}
 use Rattle.ms_task.specs.declared.func.FuncInst.{FuncInst}
 use Rattle.ms_task.specs.Thread.{body_in, body_of, sequence}
 use Rattle.ms_linear.specs.declared.value.Value.TheVariants.{I32}
-use Rattle.c_meaning.specs.Units.{main_number}
-use Rattle.c_types.specs.Types.{Ty, void, integer, pointer, is_function, function, Tys, no_types, types}
+use Rattle.c_meaning.specs.Units as file
+use Rattle.c_meaning.specs.Units.{in_made, main_number}
+use Rattle.c_typed.specs.declared.ops.Variable.{Variable}
+use Rattle.c_typed.specs.declared.ops.Variable.TheVariants.{Local, Global}
+use Rattle.c_types.specs.Types.{Ty, void, integer, pointer, is_function, function, Tys, no_types}
 use Rattle.c_typed.specs.Objects.{is_whole}
 use Rattle.c_typed.specs.Tree.{Function, Made, Stmt, Typed}
 use Rattle.c_typed.specs.Units.{IsBody, IsFunction, IsWellTyped, list_of}
@@ -25,7 +28,7 @@ use Rattle.ms_emit.specs.Codes.{total}
 use Rattle.c_code.specs.Functions.{body, held_as, listed, locals, params_in, result_in}
 use Rattle.c_code.specs.Modules.{index_of, is_call_of, is_defined, is_defined_at, target_of}
 use Rattle.c_code.specs.Operations.{val_of}
-use Rattle.c_stage.specs.Stage.{are_data, are_slots, in_body, in_functions, in_stage, in_stmt, is_data, is_empty, is_main, is_plain_function, is_result}
+use Rattle.c_stage.specs.Stage.{are_data, are_slots, in_body, in_functions, in_stage, in_stmt, is_empty, is_main, is_plain_function, is_result}
 use Rattle.c_code.specs.Uses as uses
 use Rattle.c_code.specs.Uses.{waits_stmt}
 use Rattle.c_runs.specs.Placed.{IsPlaced, instructions_in, longest_in, longest_of}
@@ -34,8 +37,10 @@ use Rattle.c_runs.proofs.Operations.{Linked}
 use Rattle.c_runs.proofs.Related.{HasAll}
 use Rattle.c_runs.proofs.Bodies.{IsResult, is_integer_or_void, is_pointer, is_void}
 use Rattle.c_runs.proofs.Callees.{Compiled, slots_of}
+use Rattle.c_runs.proofs.Filing.{names_of}
 use Rattle.c_runs.proofs.Numbers.{never_passes}
-use Rattle.c_runs.proofs.Ready.{AreCallable, IsCallable, any_left, any_right, in_stmt_of, right_of}
+use Rattle.c_runs.proofs.Ready.{AreCallable, IsCallable, any_left, any_right, in_stmt_of, left_of, right_of}
+use Rattle.c_runs.proofs.Scalars.{IsVariable}
 use Rattle.c_runs.proofs.Whole.{both}
 
 -- ---- one of a list
@@ -79,6 +84,13 @@ used_at m (g ∷ fs) zero f b e h used =
     any_left (is_call_of m) (uses.in_body g.body) (uses.in_functions fs)
     (ap (λ (o : Option Stmt). list_any (is_call_of m) (uses.in_body o)) (ap (λ (x : Function). x.body) (same_one g f e) ∙ h) ∙ used)
 used_at m (g ∷ fs) (suc n) f b e h used = any_right (is_call_of m) (uses.in_body g.body) (uses.in_functions fs) (used_at m fs n f b e h used)
+
+-- a variable at file scope whose address a body takes
+taken_at : (x : ℕ) (fs : List Function) (n : ℕ) (f : Function) (b : Stmt) → slice_get fs n ≡ Some f → f.body ≡ Some b → in_stmt_of b (Global x) ≡ true → file.in_functions x fs ≡ true
+taken_at x [] n f b at has e = absurd cc
+taken_at x (g ∷ fs) zero f b at has e =
+    left_of (file.in_body x g.body) (file.in_functions x fs) (ap (λ (o : Option Stmt). file.in_body x o) (ap (λ (h : Function). h.body) (same_one g f at) ∙ has) ∙ e)
+taken_at x (g ∷ fs) (suc n) f b at has e = right_of (file.in_body x g.body) (file.in_functions x fs) (taken_at x fs n f b at has e)
 
 defined_or : (d used : Bool) → (not d && used) ≡ false → used ≡ true → d ≡ true
 defined_or true used e h = refl
@@ -165,14 +177,14 @@ named_main fs n f e h = by (nat_lt (position_or_len is_main fs) (length fs)) e w
 -- ---- the site of a store
 
 abbrev pub site_of : Typed → Store → Site
-site_of u s = record { funcs = s.funcs; instances = s.instances; tables = s.tables; memories = s.memories; most = longest_of u }
+site_of u s = record { funcs = s.funcs; instances = s.instances; tables = s.tables; memories = s.memories; shared = length s.globals; most = longest_of u }
 
 abbrev pub mem_of : Store → Mem
 mem_of s = record { globals = s.globals; segments = s.segments; homes = []; temps = [] }
 
 module _ (u : Typed) (s : Store) (well : IsWellTyped u) (staged : in_stage u ≡ true) (placed : IsPlaced u s) where
   pub linked : Linked (site_of u s)
-  linked = record { inst = placed.inst; alone = placed.alone; all = placed.all; three = placed.three; putchar = placed.putchar; getchar = placed.getchar; abort = placed.abort }
+  linked = record { inst = placed.inst; alone = placed.alone; all = placed.all; shared = placed.shared; three = placed.three; putchar = placed.putchar; getchar = placed.getchar; abort = placed.abort }
 
   split : (is_empty u.made ≡ true) × (in_functions u.functions ≡ true)
   split = let q = both (is_empty u.made) (is_empty u.globals && in_functions u.functions) staged in (q.0, (both (is_empty u.globals) (in_functions u.functions) q.1).1)
@@ -182,6 +194,19 @@ module _ (u : Typed) (s : Store) (well : IsWellTyped u) (staged : in_stage u ≡
     by : (ms : List Made) → is_empty ms ≡ true → ms ≡ []
     by [] e = refl
     by (m ∷ ms) e = absurd cc
+
+  -- no variable stands at file scope
+  pub file_types : (x : ℕ) (t : Ty) → slice_get u.globals x ≡ Some t → IsVariable t
+  file_types x t e = by u.globals (both (is_empty u.globals) (in_functions u.functions) (both (is_empty u.made) (is_empty u.globals && in_functions u.functions) staged).1).0 e where
+    by : (ts : List Ty) → is_empty ts ≡ true → slice_get ts x ≡ Some t → IsVariable t
+    by [] q e = absurd cc
+    by (s ∷ ts) q e = absurd cc
+
+  -- a variable whose address a body takes is an object
+  objects_taken : (f : Function) (n : ℕ) (b : Stmt) → slice_get u.functions n ≡ Some f → f.body ≡ Some b → (x : Variable) → in_stmt_of b x ≡ true → (target_of u f b).is_object x ≡ true
+  objects_taken f n b at has (Local x) e = right_of (is_whole (get_or f.slots x void)) (in_stmt_of b (Local x)) e
+  objects_taken f n b at has (Global x) e =
+      right_of (is_whole (get_or u.globals x void)) (in_made x u.made || file.in_functions x u.functions) (right_of (in_made x u.made) (file.in_functions x u.functions) (taken_at x u.functions n f b at has e))
 
   module _ (n : ℕ) (t : Ty) (ps : Tys) (e : slice_get (map (λ (g : Function). g.ty) u.functions) n ≡ Some (function t ps)) where
     found : (f : Function) × (slice_get u.functions n ≡ Some f) × (f.ty ≡ function t ps)
@@ -234,7 +259,7 @@ module _ (u : Typed) (s : Store) (well : IsWellTyped u) (staged : in_stage u ≡
           begins = bd.0.1;
           well = bd.2;
           slots_are = slots_of f.slots st.0;
-          ready = record { in_stage = st.1; callable = callable b.0 b.1; objects = λ x e. right_of (is_whole (get_or f.slots x void)) (in_stmt_of b.0 x) e };
+          ready = record { in_stage = st.1; callable = callable b.0 b.1; objects = objects_taken f n b.0 found.1 b.1 };
           result = result_kind f t plain_here.0;
           args = replicate (target_of u f b.0).first (I32 0);
           first_is = sym (length-replicate (target_of u f b.0).first (I32 0));
@@ -242,6 +267,7 @@ module _ (u : Typed) (s : Store) (well : IsWellTyped u) (staged : in_stage u ≡
           has_members = λ n l e. not_empty l.members (well.structs n l e).0;
           sizes = λ x s' e'. (all_at (IsObject u.structs) f.slots x s' e' bd.1).1;
           sound = sound_with u well f.slots bd.1;
+          names = names_of u well file_types (target_of u f b.0) refl (λ x. refl) (λ x q e. all_at (IsObject u.structs) u.globals x q e well.globals);
         }
 
     -- of `main`

@@ -70,7 +70,7 @@ same_variable : (v : Variable) → (addresses.is_variable v v || false) ≡ true
 same_variable (Local n) = same_number n false
 same_variable (Global n) = same_number n false
 
-left_of : (a b : Bool) → a ≡ true → (a || b) ≡ true
+pub left_of : (a b : Bool) → a ≡ true → (a || b) ≡ true
 left_of true b e = refl
 left_of false b e = absurd cc
 
@@ -100,7 +100,7 @@ module _ (is_object : Variable → Bool) (u : Typed) where
 
   -- the place of an address
   pub addressed : (b : Bool) (us : List Use) (p : Place) → IsReady is_object u b us (in_expr_of (address p)) → IsReady is_object u b us (in_place_of p)
-  addressed b us p h = record { in_stage = h.in_stage; callable = h.callable; objects = λ x e. h.objects x (right_of (addresses.is_of (Local x) p) (in_place_of p x) e) }
+  addressed b us p h = record { in_stage = h.in_stage; callable = h.callable; objects = λ x e. h.objects x (right_of (addresses.is_of x p) (in_place_of p x) e) }
 
   -- of a variable
   pub taken : (b : Bool) (us : List Use) (x : Variable) → IsReady is_object u b us (in_expr_of (address (of x))) → is_object x ≡ true

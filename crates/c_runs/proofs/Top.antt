@@ -1,10 +1,9 @@
 -- The run of a unit that was compiled against its meaning.
-use Rattle.std.proofs.Common.{◌≡◌, ◌≢◌, ℕ, zero, suc, ◌+◌, ◌*◌, ◌<◌, ◌≤◌, List, [], ◌∷◌, ◌++◌, map, Bool, true, is_some, Option, Some, None, refl, sym, ap, ◌∙◌, arith, subst}
+use Rattle.std.proofs.Common.{◌≡◌, ◌≢◌, ℕ, zero, suc, ◌+◌, ◌*◌, ◌<◌, ◌≤◌, List, [], ◌∷◌, ◌++◌, length, map, Bool, true, is_some, Option, Some, None, refl, sym, ap, ◌∙◌, arith, subst}
 use Rattle.std.specs.Prelude.{option_and_then, slice_get}
 use Rattle.std.proofs.Math.Nat.{mul-suc}
 use Rattle.ms_event.specs.Monitor.{grants, sizes_of}
 use Rattle.ms_linear.specs.Values.{default_of}
-use Rattle.ms_module.specs.declared.instr.Instr.{Instr}
 use Rattle.ms_machine.specs.Crews as crews
 use Rattle.ms_machine.specs.Crews.{Input, Run, bytes_of, events_of}
 use Rattle.ms_machine.specs.Running.{AreBytes, func_thread, start_of}
@@ -14,14 +13,14 @@ use Rattle.ms_task.specs.declared.func.FuncInst.{FuncInst}
 use Rattle.ms_task.specs.Thread.{Activation, Frame, Item, Thread, result_of, sequence}
 use Rattle.c_types.specs.Types.{Ty, void, integer, function, Tys, no_types}
 use Rattle.c_typed.specs.Tree.{Function, Made, Stmt, Typed}
-use Rattle.c_typed.specs.Units.{IsWellTyped}
+use Rattle.c_typed.specs.Units.{IsWellTyped, literals_in, variables_in}
 use Rattle.c_meaning.specs.Functions as meaning
 use Rattle.c_meaning.specs.Functions.{back_to, calls_at, called, of_defined, with_body}
 use Rattle.c_meaning.specs.Units.{as_result, closed, first_world, give_each, main_number, make_each, means, run_main}
-use Rattle.c_meaning.specs.Values.{Value}
+use Rattle.c_meaning.specs.Values.{Value, zero_value}
 use Rattle.c_meaning.specs.World as world
-use Rattle.c_meaning.specs.World.{End, World, Result, gives, ends, Does, after, ◌>>=◌, ◌>>◌, pure}
-use Rattle.c_code.specs.Modules.{index_of, is_defined, is_defined_at}
+use Rattle.c_meaning.specs.World.{End, World, Result, gives, ends, Does, after, plain, ◌>>=◌, ◌>>◌, pure}
+use Rattle.c_code.specs.Modules.{index_of, is_defined, is_defined_at, named, rank_in}
 use Rattle.c_stage.specs.Stage.{are_data, in_stage}
 use Rattle.c_runs.proofs.Bodies.{is_integer_or_void}
 use Rattle.c_runs.specs.Correct.{Behaves, IsPrefix, Reports, main_result, meant, result_in, run_at}
@@ -32,6 +31,9 @@ use Rattle.c_runs.specs.Threads.{Ended, Trapped, Paused, Stuck, Stop, behind, ra
 use Rattle.c_runs.specs.Words.{pushed}
 use Rattle.c_runs.proofs.Callees.{Compiled, E, Left, begun_with, does, start_now}
 use Rattle.c_runs.proofs.Calls.{Callees, Entered, calls_run, enters}
+use Rattle.c_runs.proofs.Files.{Filed}
+use Rattle.c_runs.proofs.Filing.{first_filed}
+use Rattle.c_runs.proofs.Globals.{all_reached, file_slots}
 use Rattle.c_runs.proofs.Goes.{Asks, IsEnd, Mem, Runs, RunsTo, Site, Stops, store, weaker}
 use Rattle.c_runs.proofs.Grants.{Agrees}
 use Rattle.c_runs.proofs.Longer.{same_run}
@@ -44,13 +46,13 @@ use Rattle.ms_linear.specs.declared.value.Value.{Value as Word}
 use Rattle.ms_segment.specs.Memory.{Placed}
 use Rattle.ms_relate.specs.refinement.Homes.{Home}
 use Rattle.ms_relate.specs.refinement.Relation.{Related}
-use Rattle.c_runs.proofs.Related.{Env, IsValue, Now, frame_of, front, pushes}
+use Rattle.c_runs.proofs.Related.{Env, IsValue, Now, front, pushes}
 
 -- ---- the meaning of the unit is that of main's body
 
 module _ (S : Site) (L : Linked S) (unit : Typed) (all : (f : ℕ) (t : Ty) (ps : Tys) → slice_get (map (λ (g : Function). g.ty) unit.functions) f ≡ Some (function t ps) → IsCallable unit f → Compiled S unit f t ps)
     (par_ints : (f : ℕ) (t : Ty) (ps : Tys) → slice_get (map (λ (g : Function). g.ty) unit.functions) f ≡ Some (function t ps) → are_data ps ≡ true)
-    (m0 : Mem) (new : m0.homes ≡ []) (placed : Placed m0.segments) (f : ℕ) (t : Ty) (p : Compiled S unit f t no_types) (is_main : main_number unit ≡ Some f) (none_made : unit.made ≡ []) (longest_is : S.most ≡ longest_of unit) (numeric : is_integer_or_void t ≡ true) where
+    (m0 : Mem) (new : m0.homes ≡ []) (placed : Placed m0.segments) (filed : Filed unit.structs (λ n. rank_in (named unit) n) (file_slots unit) (all_reached unit) S.shared m0.homes (map (λ t. plain (zero_value t)) unit.globals) [] m0.globals) (f : ℕ) (t : Ty) (p : Compiled S unit f t no_types) (is_main : main_number unit ≡ Some f) (none_made : unit.made ≡ []) (longest_is : S.most ≡ longest_of unit) (numeric : is_integer_or_void t ≡ true) where
   abbrev pub here_store : Store
   here_store = store S m0
 
@@ -119,7 +121,7 @@ module _ (S : Site) (L : Linked S) (unit : Typed) (all : (f : ℕ) (t : Ty) (ps 
     main_runs =
         subst (λ (t0 : Thread). Runs S size m0 t0 w to_end AtEnd (body ws)) (sym start_is)
         (weaker S size m0 (exit_ended (record { function = index_of unit f; locals = [] ++ map default_of p.inst.locals }) [] (front (sequence S.funcs (index_of unit f) 0) marked)) w to_end (Left S L unit (suc fuel) f 1 t no_types p now) AtEnd (body ws) (λ v w1 m1 q. (q.0, q.1, q.2))
-        (entered.2 nobody' [] [] refl (suc fuel) (omega arith) w m0 new refl (omega arith) are_bytes related))
+        (entered.2 nobody' [] [] refl (suc fuel) (omega arith) w m0 new refl (omega arith) are_bytes related filed))
 
     abbrev ending : Result Value → End × World
     ending x = closed unit (after (back_to w x) (λ v. pure (as_result unit t v)))
@@ -278,13 +280,21 @@ module _ (S : Site) (L : Linked S) (unit : Typed) (all : (f : ℕ) (t : Ty) (ps 
 
 -- ---- a unit that a store has
 
+-- nothing is made before `main`
+nothing_filed : (u : Typed) (s : Store) (well : IsWellTyped u) (staged : in_stage u ≡ true) (placed : IsPlaced u s)
+    → Filed u.structs (λ n. rank_in (named u) n) (file_slots u) (all_reached u) (length s.globals) [] (map (λ t. plain (zero_value t)) u.globals) [] s.globals
+nothing_filed u s well staged placed =
+    let first = first_filed u well (stands.file_types u s well staged placed) (λ n. rank_in (named u) n) [] s.globals placed.globals in
+    subst (λ (ms : List Made). Filed u.structs (λ n. rank_in (named u) n) (file_slots u) (record { named = variables_in ms; texts = literals_in ms; sealed = literals_in ms }) (length s.globals) [] (map (λ t. plain (zero_value t)) u.globals) [] s.globals)
+    (sym (stands.none_made u s well staged placed)) first
+
 pub compiled_behaves : (u : Typed) (s : Store) (n : ℕ) (f : Function) (b : Stmt) (t : Ty) → IsWellTyped u → in_stage u ≡ true
     → main_number u ≡ Some n → slice_get u.functions n ≡ Some f → f.body ≡ Some b
     → f.ty ≡ function t no_types → IsPlaced u s → Behaves u s (index_of u n)
 compiled_behaves u s n f b t well staged is_main at has_body ty_is placed =
     let all = stands.compiled u s well staged placed in
     let there : is_defined_at u n ≡ true = ap is_defined at ∙ ap (λ (o : Option Stmt). is_some o) has_body in
-    behaves (site_of u s) (stands.linked u s well staged placed) u all (stands.params_are u s well staged placed) (mem_of s) refl placed.segments n t
+    behaves (site_of u s) (stands.linked u s well staged placed) u all (stands.params_are u s well staged placed) (mem_of s) refl placed.segments (nothing_filed u s well staged placed) n t
     (all n t no_types (typed_at u.functions n at) (λ lt. there)) is_main (stands.none_made u s well staged placed) refl
     (stands.main_result u s well staged placed n t no_types (typed_at u.functions n at) is_main)
   where

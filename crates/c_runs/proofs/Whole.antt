@@ -176,19 +176,20 @@ module _ (t : Target) where
   mutual
     whole_place : (d : ℕ) (p : Place) → in_place p ≡ true → IsWhole (place t d p)
     whole_place d (of (Local n)) e = whole_plain _
-    whole_place d (of (Global n)) e = absurd cc
+    whole_place d (of (Global n)) e = whole_plain _
     whole_place d (tree.deref a) e = whole_expr true d a e
     whole_place d (tree.member p n m) e = whole_part d p _ _ e
 
     whole_part : (d : ℕ) (p : Place) (from n : ℕ) → in_place p ≡ true → IsWhole (part t d p from n)
     whole_part d (of (Local v)) from n e = whole_then (one _) _ (whole_plain _) (whole_plain _)
-    whole_part d (of (Global v)) from n e = absurd cc
+    whole_part d (of (Global v)) from n e = whole_then (one _) _ (whole_plain _) (whole_plain _)
     whole_part d (tree.deref a) from n e = whole_then (expr t true d a) _ (whole_expr true d a e) (whole_plain _)
     whole_part d (tree.member p k m) from n e = whole_part d p _ n e
 
     pub whole_expr : (k : Bool) (d : ℕ) (e : Expr) → in_expr e ≡ true → IsWhole (expr t k d e)
     whole_expr k d (tree.number u n) h = whole_left k _ _ (whole_plain _)
     whole_expr k d tree.null h = whole_left k _ _ (whole_plain _)
+    whole_expr k d (tree.literal n) h = whole_left k _ _ (whole_plain _)
     whole_expr k d (tree.read s p) h = whole_left k _ _ (whole_fetched (plain_in t p) (place t d p) s (whole_place d p h))
     whole_expr k d (tree.decay u n p) h = whole_left k _ _ (whole_decayed (is_deref p) _ (place t d p) (whole_place d p h))
     whole_expr k d (tree.address p) h = whole_left k _ _ (whole_place d p h)
