@@ -1,4 +1,4 @@
-pub mod Blocks
+pub mod BlockObjects
 pub mod Copying
 pub mod Defined
 pub mod Items

@@ -144,6 +144,9 @@ module _ (table : Table) (laid : IsLaidOut table) (some : (n : ℕ) (l : Layout)
   member_at (u ∷ us) zero t P at all = let same : u ≡ t = cc in subst P same (All-head P u us all)
   member_at (u ∷ us) (suc m) t P at all = member_at us m t P at (All-tail P u us all)
 
+  part_at : (d n m : ℕ) (l : Layout) (t : Ty) → layout_at table n ≡ Some l → slice_get l.members m ≡ Some t → shape table (struct n) ≡ shape_in (struct_shape table d) (layout_at table n) → l.offsets ≡ offsets_from table 0 l.members → shape_with (struct_shape table d) t ≡ shape table t → part_of (shape table (struct n)) m ≡ Some (record { offset = offset table (struct n) m; shape = shape table t })
+  part_at d n m l t is at deeper offsets same = rw (deeper, is, offsets, sym same) (nth_with table (struct_shape table d) l.members 0 m t at)
+
   -- a member's part is the shape of its type, at its offset
   pub part_is : (n m : ℕ) (l : Layout) (t : Ty) → layout_at table n ≡ Some l → slice_get l.members m ≡ Some t → part_of (shape table (struct n)) m ≡ Some (record { offset = offset table (struct n) m; shape = shape table t })
   part_is n m l t is at =
@@ -155,4 +158,4 @@ module _ (table : Table) (laid : IsLaidOut table) (some : (n : ℕ) (l : Layout)
       let has : HasSize table t = member_at l.members m t (HasSize table) at (laid.sized n l is) in
       let less : IsBelow rank (rank n) t = member_at l.members m t (IsBelow rank (rank n)) at (ranked_below table laid n l is) in
       let same : shape_with (struct_shape table (rank n)) t ≡ shape table t = type_same (rank n) (depth table t) t has less (below_all t has) in
-      rw (deeper, is, offsets, sym same) (nth_with table (struct_shape table (rank n)) l.members 0 m t at)
+      part_at (rank n) n m l t is at deeper offsets same

@@ -17,7 +17,7 @@ use Rattle.c_code.specs.Statements as words
 use Rattle.c_code.specs.Statements.{Exits, stmt, stmts}
 use Rattle.c_code.specs.Targets.{scratch_of_width, waiting}
 use Rattle.c_emit.specs.refinement.Exits.{exits_of}
-use Rattle.c_emit.proofs.Blocks.{are_in_front}
+use Rattle.c_emit.proofs.BlockObjects.{are_in_front}
 use Rattle.c_emit.proofs.Items.{item_is_added, items_are_added}
 use Rattle.c_emit.proofs.Steps.{then as behind, then_block, then_choice, then_only, then_repeat}
 use Rattle.c_place.proofs.Lists.{count_is}

@@ -2,7 +2,7 @@ use Rattle.std.proofs.Common.{length, reverse, arith}
 use Rattle.std.proofs.lemmas.Iterator.Adapters.{YieldsList-from_rev_slice}
 use Rattle.std.proofs.lemmas.Iterator.Consumers.{YieldsList-end, YieldsList-turn}
 use Rattle.std.proofs.lemmas.List.{length_push}
-use Rattle.c_emit.proofs.Blocks.{all_pushed, object_pushed}
+use Rattle.c_emit.proofs.BlockObjects.{all_pushed, object_pushed}
 use Rattle.c_emit.proofs.blocks.push_objects.Goals as goal
 
 pub loop-slot-preserved : goal.loop-slot-preserved
