@@ -1,5 +1,5 @@
 -- Variables at file scope and string literals of a well-typed unit, and how its module's globals begin: all zero or null.
-use Rattle.std.proofs.Common.{◌≡◌, ℕ, zero, suc, ◌+◌, ◌<◌, ⊎_elim, List, [], ◌∷◌, ◌++◌, length, map, Bool, true, false, Some, refl, sym, ap, ◌∙◌, arith}
+use Rattle.std.proofs.Common.{◌≡◌, ℕ, zero, suc, ◌+◌, ◌<◌, ⊎_elim, List, [], ◌∷◌, ◌++◌, length, map, Bool, true, false, Some, refl, sym, ap, ◌∙◌, arith, subst}
 use Rattle.std.specs.Prelude.{get_or, slice_get, ◌||◌}
 use Rattle.std.proofs.lemmas.Bool.{cases_lt}
 use Rattle.std.proofs.lemmas.Option.{slice_get_within}
@@ -22,7 +22,7 @@ use Rattle.c_code.specs.Targets.{Target}
 use Rattle.ms_relate.specs.refinement.Homes.{Home}
 use Rattle.c_runs.specs.Placed.{begun_as, first_globals}
 use Rattle.c_runs.proofs.Held.{AreHeld, IsHeld, held_word, some_is, words}
-use Rattle.c_runs.proofs.Files.{Filed, Reached, global_of}
+use Rattle.c_runs.proofs.Files.{AreGlobals, Filed, Reached, global_of}
 use Rattle.c_runs.proofs.Globals.{NamesOf, all_reached, file_slots, files_from}
 use Rattle.c_runs.proofs.Ending.{visible_left, visible_right}
 use Rattle.c_runs.proofs.Makes.{get_is}
@@ -115,6 +115,14 @@ module _ (u : Typed) where
           ∙ ap (λ (w : Word). Some (global_of w)) (zero_is t (is_global_object u n t) (λ q. files_data n t at q) ∙ some_is (held_word places (t, is_global_object u n t) hs (plain (zero_value t))) v e)
       zero_globals n (t ∷ ts) more h (suc x) v e = zero_globals (suc n) ts more (rest_of n t ts h) x v e
 
+      begun_at : (es : List GlobalEntry) (x : ℕ) → x < length (map begun_as es) → (v : Word) × (slice_get (map begun_as es) x ≡ Some (global_of v))
+      begun_at [] x lt = absurd (omega (arith, lt))
+      begun_at (e ∷ es) zero lt = (default_of e.ty.ty, refl)
+      begun_at (e ∷ es) (suc x) lt = begun_at es x (omega (arith, lt))
+
+      all_begin : (gs : List GlobalInst) → gs ≡ first_globals u → AreGlobals (length gs) gs
+      all_begin gs is = subst (λ (l : List GlobalInst). AreGlobals (length l) l) (sym is) (begun_at (globals_from u 0 u.globals ++ literal_globals u (literals_in u.made)))
+
       pub first_filed : (gs : List GlobalInst) → gs ≡ first_globals u → Filed u.structs places (file_slots u) nothing_reached (length gs) hs (first_held u.globals) [] gs
       first_filed gs is =
           let rest : IsRest 0 u.globals = λ i. let z : i ≡ 0 + i = omega arith in ap (slice_get u.globals) z in
@@ -122,6 +130,7 @@ module _ (u : Typed) where
             held = zeros_held 0 u.globals rest;
             named = λ x t seen e. absurd cc;
             long = refl;
+            all_are = all_begin gs is;
             words_are = λ x v e. ap (λ (l : List GlobalInst). slice_get l x) is ∙ zero_globals 0 u.globals (literal_globals u (literals_in u.made)) rest x v e;
             as_many = refl;
             texts_are = λ k n e. absurd cc;

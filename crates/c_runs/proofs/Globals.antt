@@ -186,7 +186,7 @@ module _ (E : Env) (L : Linked E.site) (home : AtHome E) where
       sets_one : (now : Now) (w : World) (m : Mem) → Kept E now w m → (vs : List Word) (r : List Item)
           → Goes E.site 1 w (written w) m (at_work E m w (top ∷ vs) (Do (GlobalSet x) ∷ r)) (after_set m) (at_work E (after_set m) (written w) vs r)
       sets_one now w m k vs r =
-          let old = global_there E.unit.structs E.places E.files E.reached E.site.shared m.homes w.globals w.literals m.globals k.file x t v at_x in
+          let old = global_there E.unit.structs E.places E.files E.reached E.site.shared m.homes w.globals w.literals m.globals k.file x (t, false) (plain v) at_x in
           one_step E.site w (written w) m (after_set m) (GlobalSet x) (frame_of E m w) (top ∷ vs) r (thread (frame_of E m w) vs r) refl refl (tells_nothing w (written w) refl refl refl)
           (set_global w m x old.0 top vs r (shared_is now w m k x (global_of old.0) old.1) old.1)
 
@@ -272,7 +272,7 @@ module _ (E : Env) (L : Linked E.site) (home : AtHome E) where
       there (n ∷ ns) zero lt = (n, refl)
       there (n ∷ ns) (suc j) lt = there ns j (omega (arith, lt))
 
-    abbrev at_text : (now : Now) (w : World) (m : Mem) (k : Kept E now w m) → TextAt E.unit.structs (length E.files) E.reached.sealed m.homes m.globals i (text_is now w m k).0
+    abbrev pub at_text : (now : Now) (w : World) (m : Mem) (k : Kept E now w m) → TextAt E.unit.structs (length E.files) E.reached.sealed m.homes m.globals i (text_is now w m k).0
     at_text now w m k = let n = text_is now w m k in k.file.texts_are i n.0 n.1
 
     -- the pointer to its first char
@@ -293,7 +293,7 @@ module _ (E : Env) (L : Linked E.site) (home : AtHome E) where
         let whole = subst (λ (s : Shape). slice (handle m.homes p) 0 (size s) ≡ handle m.homes p) o.shape_is (text_all m.homes n.0 b o.home o.at o.one) in
         (g.0, g.1, is_of_leads E.unit.structs E.places m.homes (integer Char) g.0 refl g.2, g.3 ∙ whole)
 
-    got : (now : Now) (w : World) (m : Mem) (k : Kept E now w m) (vs : List Word) (r : List Item)
+    pub got : (now : Now) (w : World) (m : Mem) (k : Kept E now w m) (vs : List Word) (r : List Item)
         → Goes E.site 1 w w m (at_work E m w vs (Do (GlobalGet (E.target.globals + i)) ∷ r)) m (at_work E m w (Handle (handle m.homes (points (first_of (at_text now w m k).is_sealed (text_is now w m k).0))) ∷ vs) r)
     got now w m k vs r =
         let t = at_text now w m k in
@@ -301,7 +301,7 @@ module _ (E : Env) (L : Linked E.site) (home : AtHome E) where
         let e : slice_get m.globals (E.target.globals + i) ≡ Some (global_of H) = ap (λ (a : ℕ). slice_get m.globals (a + i)) behind ∙ t.word_is in
         one_here E.site w m m (GlobalGet (E.target.globals + i)) (frame_of E m w) vs r (thread (frame_of E m w) (H ∷ vs) r) (get_global w m (E.target.globals + i) H vs r (shared_is now w m k (E.target.globals + i) (global_of H) e) e)
 
-    sealed_once : (hs : List Home) (n : ℕ) (b : Bool) → seal (handle hs (points (first_of b n))) ≡ handle hs (points (first_of true n))
+    pub sealed_once : (hs : List Home) (n : ℕ) (b : Bool) → seal (handle hs (points (first_of b n))) ≡ handle hs (points (first_of true n))
     sealed_once hs n b = by (slice_get hs n) where
       by : (o : Option Home) → seal (handle_in o (first_of b n)) ≡ handle_in o (first_of true n)
       by None = refl

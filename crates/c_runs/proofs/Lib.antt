@@ -41,6 +41,8 @@ pub mod Scopes
 pub mod Stmts
 pub mod Bodies
 pub mod Filing
+pub mod Starting
+pub mod Giving
 pub mod Callees
 pub mod Params
 pub mod Copied

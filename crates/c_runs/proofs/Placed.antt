@@ -31,6 +31,7 @@ use Rattle.c_code.specs.Operations.{val_of}
 use Rattle.c_stage.specs.Stage.{are_data, are_slots, in_body, in_functions, in_stage, in_stmt, is_empty, is_main, is_plain_function, is_result}
 use Rattle.c_code.specs.Uses as uses
 use Rattle.c_code.specs.Uses.{waits_stmt}
+use Rattle.c_runs.specs.Threads.{over}
 use Rattle.c_runs.specs.Placed.{IsPlaced, instructions_in, longest_in, longest_of}
 use Rattle.c_runs.proofs.Goes.{Mem, Site}
 use Rattle.c_runs.proofs.Operations.{Linked}
@@ -177,7 +178,7 @@ named_main fs n f e h = by (nat_lt (position_or_len is_main fs) (length fs)) e w
 -- ---- the site of a store
 
 abbrev pub site_of : Typed → Store → Site
-site_of u s = record { funcs = s.funcs; instances = s.instances; tables = s.tables; memories = s.memories; shared = length s.globals; most = longest_of u }
+site_of u s = record { funcs = s.funcs; instances = s.instances; tables = s.tables; memories = s.memories; shared = length s.globals; last = over; still = λ t v input. refl; most = longest_of u }
 
 abbrev pub mem_of : Store → Mem
 mem_of s = record { globals = s.globals; segments = s.segments; homes = []; temps = [] }

@@ -1,5 +1,5 @@
 -- What a store has of a unit that was compiled: its functions, and three of the host.
-use Rattle.std.specs.Prelude.{◌≡◌, ℕ, ◌<◌, ◌≤◌, max, true, List, [], ◌∷◌, length, map, Option, Some, None, slice_get}
+use Rattle.std.specs.Prelude.{◌≡◌, ℕ, ◌+◌, ◌<◌, ◌≤◌, max, true, List, [], ◌∷◌, length, map, Option, Some, None, slice_get}
 use Rattle.ms_host.specs.declared.host.Host.TheVariants as hosts
 use Rattle.ms_linear.specs.declared.global.GlobalInst.{GlobalInst}
 use Rattle.ms_linear.specs.Values.{default_of}
@@ -12,7 +12,7 @@ use Rattle.ms_task.specs.declared.func.FuncInst.{FuncInst}
 use Rattle.c_typed.specs.Tree.{Function, Stmt, Typed}
 use Rattle.ms_emit.specs.Codes.{total}
 use Rattle.c_code.specs.Functions.{body, locals, params_in, signature}
-use Rattle.c_code.specs.Modules.{compiled, imported, index_of, target_of}
+use Rattle.c_code.specs.Modules.{compiled, defined, imported, index_of, target_of}
 use Rattle.c_code.specs.Uses.{waits_stmt}
 
 -- at the address that is its index, the function of this number, with this body
@@ -24,6 +24,10 @@ pub record IsFunctionAt (u : Typed) (s : Store) (n : ℕ) (f : Function) (b : St
   pub type_is : inst.ty ≡ signature f.ty
   pub locals_are : inst.locals ≡ locals (target_of u f b) (length (params_in f.ty)) f.slots (waits_stmt b)
   pub body_is : inst.body ≡ body (target_of u f b) f b
+
+-- the index of the start function
+abbrev pub start_index : Typed → ℕ
+start_index u = 3 + length (imported u) + length (defined u)
 
 -- a global as it begins: zero, or null
 abbrev pub begun_as : Global → GlobalInst
