@@ -1,6 +1,6 @@
 -- A body, and what stands behind it: a result that is missing is 0, and the caller goes on with the result.
 use Rattle.ms_machine.specs.Running.{AreBytes}
-use Rattle.std.proofs.Common.{◌≡◌, ℕ, suc, ◌+◌, ◌<◌, ◌≤◌, List, [], ◌∷◌, ◌++◌, length, Bool, true, false, Option, Some, None, sym, ap, ◌∙◌, arith, subst}
+use Rattle.std.proofs.Common.{◌≡◌, ℕ, suc, ◌+◌, ◌<◌, ◌≤◌, List, [], ◌∷◌, ◌++◌, length, Bool, true, false, Option, Some, None, refl, sym, ap, ◌∙◌, arith, subst}
 use Rattle.std.specs.Prelude.{pos, if◌then◌else◌}
 use Rattle.ms_linear.specs.declared.value.Value.{Value as Word}
 use Rattle.ms_task.specs.Control.{To, exit_ended, keep, kept, over}
@@ -26,17 +26,18 @@ use Rattle.ms_relate.proofs.Growing.{Extends}
 use Rattle.c_runs.specs.Words.{pushed, value_word}
 use Rattle.c_runs.proofs.Held.{Lasts}
 use Rattle.c_runs.proofs.Values.{IsOf, word_of}
-use Rattle.c_runs.proofs.Related.{Env, FiledIn, HasAll, IsValue, Kept, Now, pushes, depth_front, front, front_append, has_front}
+use Rattle.c_runs.proofs.Related.{Env, FiledIn, HasAll, IsValue, Kept, Now, pushes, depth_front, front, front_append, has_front, beside}
 use Rattle.c_runs.proofs.Ops.{Op, at_work, op_carried, same, size_joined}
 use Rattle.c_runs.proofs.Flows.{Around, FlowAt, GoodFlow, IsAt, Way, lowest_all, starts, to_flow, way}
+use Rattle.c_runs.proofs.Functions.{no_function_runs}
 use Rattle.c_runs.proofs.Scalars.{null_runs, zero_in}
 use Rattle.c_runs.proofs.Stmts.{no_off}
 
--- no value, an integer, or a pointer that leads to no function
+-- no value, an integer, or a pointer
 pub data IsResult (t : Ty) : Type 0 where
   is_void : t ≡ void → IsResult t
   is_integer : (u : IntType) → t ≡ integer u → IsResult t
-  is_pointer : (s : Ty) → t ≡ pointer s → is_function s ≡ false → IsResult t
+  is_pointer : (s : Ty) → t ≡ pointer s → IsResult t
 
 -- a result without a pointer
 abbrev pub is_integer_or_void : Ty → Bool
@@ -72,7 +73,7 @@ module _ (E : Env) (is_result : IsResult E.result) (caller : Frame) (vs : List W
     go : IsResult t → Kept_at t hs v
     go (is_void e) = subst (λ (s : Ty). Kept_at s hs v) (sym e) (ap (λ (o : Option (List Word)). kept o caller r) (lowest_all vs))
     go (is_integer u e) = subst (λ (s : Ty). Kept_at s hs v) (sym e) (ap (λ (o : Option (List Word)). kept (over (value_word (integer u) v) o) caller r) (lowest_all vs))
-    go (is_pointer q e d) = subst (λ (s : Ty). Kept_at s hs v) (sym e) (ap (λ (o : Option (List Word)). kept (over (word_of E.places (pointer q) hs v) o) caller r) (lowest_all vs))
+    go (is_pointer q e) = subst (λ (s : Ty). Kept_at s hs v) (sym e) (ap (λ (o : Option (List Word)). kept (over (word_of E.places (pointer q) hs v) o) caller r) (lowest_all vs))
 
   around : (n : ℕ) → Around E vs (front (R n).instrs after_body) 0 0 at_top [] [] r caller
   around n = record {
@@ -94,18 +95,20 @@ module _ (E : Env) (is_result : IsResult E.result) (caller : Frame) (vs : List W
       Runs E.site (size_of (result E.target (Some s) n)) m (at_work E m w vs (front (result E.target (Some s) n).instrs after_body)) w
       (λ v w1 m1. exit_ended caller (pushes E (pointer q) m1.homes v vs) r) (Given now (pointer q)) (gives v w)
 
-  zero_steps : (u : IntType) → Op E (one (constant (width_of u) (pos 0))) same (pushed (integer u)) (IsOf (integer u)) (pure (number (pos 0)))
-  zero_steps u = op_carried E (constant (width_of u) (pos 0)) same (pushed (integer u)) (IsOf (integer u)) (number (pos 0)) (zero_in u) (λ us. constant_is (width_of u) (pos 0) us)
+  zero_steps : (u : IntType) → Op (beside 0 E) (one (constant (width_of u) (pos 0))) same (pushed (integer u)) (IsOf (integer u)) (pure (number (pos 0)))
+  zero_steps u = op_carried (beside 0 E) (constant (width_of u) (pos 0)) same (pushed (integer u)) (IsOf (integer u)) (number (pos 0)) (zero_in u) (λ us. constant_is (width_of u) (pos 0) us)
 
   -- a missing result is 0
   result_runs : (n : ℕ) (now : Now) → IsAt E 0 now → (w : World) (m : Mem) → Kept E now w m → Results n now w m t
   result_runs n now le w m k = go is_result where
+    by : (q : Ty) (b : Bool) → is_function q ≡ b → Gives_zero n now w m q (if b then scalars.Function else scalars.Pointer) (if b then no_function else null)
+    by q true d = λ ag. let z = no_function_runs (beside 0 E) q d n tt now (starts E 0 now le) vs after_body dep w m k ag in let k' = z.1.1 in (z.0, (z.1.0, k'.less, k'.bytes, k'.grown, k'.related, k'.lasts, k'.file), z.2)
+    by q false d = λ ag. let z = null_runs (beside 0 E) q d n tt now (starts E 0 now le) vs after_body dep w m k ag in let k' = z.1.1 in (z.0, (z.1.0, k'.less, k'.bytes, k'.grown, k'.related, k'.lasts, k'.file), z.2)
+
     go : IsResult t → Results n now w m t
     go (is_void e) = subst (Results n now w m) (sym e) (here E.site 0 w m (λ v w1 m1. exit_ended caller (pushes E void m1.homes v vs) r) (Given now void) (zero_value void) (tt, k.less, k.bytes, k.grown, k.related, k.lasts, k.file))
     go (is_integer u e) = subst (Results n now w m) (sym e) (λ ag. let q = zero_steps u n tt now (starts E 0 now le) vs after_body dep w m k ag in let k' = q.1.1 in (q.0, (q.1.0, k'.less, k'.bytes, k'.grown, k'.related, k'.lasts, k'.file), q.2))
-    go (is_pointer q e d) = subst (Results n now w m) (sym e)
-        (subst (λ (b : Bool). Gives_zero n now w m q (if b then scalars.Function else scalars.Pointer) (if b then no_function else null)) (sym d)
-        (λ ag. let z = null_runs E q d n tt now (starts E 0 now le) vs after_body dep w m k ag in let k' = z.1.1 in (z.0, (z.1.0, k'.less, k'.bytes, k'.grown, k'.related, k'.lasts, k'.file), z.2)))
+    go (is_pointer q e) = subst (Results n now w m) (sym e) (by q (is_function q) refl)
 
   ends_runs : (n : ℕ) (now : Now) → IsAt E 0 now → (flow : Flow) (w : World) (m : Mem) → GoodFlow E at_top now flow w m
       → Runs E.site (size_of (R n)) m (to_flow E vs (front (R n).instrs after_body) [] [] r caller flow w m) w to_caller (Returned now) (gives (given t flow) w)

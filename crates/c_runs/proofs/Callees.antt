@@ -1,24 +1,18 @@
 -- Calls of defined functions do what is meant, by induction on the bound that stands above the fuel.
 use Rattle.std.proofs.Common.{◌≡◌, ◌≢◌, ℕ, zero, suc, ◌+◌, ◌<◌, ◌≤◌, List, [], ◌∷◌, ◌++◌, length, length-append, map, drop, Bool, true, false, Option, Some, None, refl, sym, ap, ◌∙◌, arith, subst, append_assoc, T, eqb→eq}
-use Rattle.std.specs.Prelude.{replicate, slice_get, not, ◌==◌, ◌||◌, ◌&&◌, nat_lt, if◌then◌else◌}
+use Rattle.std.specs.Prelude.{replicate, slice_get, ◌==◌, ◌||◌, if◌then◌else◌}
 use Rattle.std.specs.List.{list_any}
-use Rattle.std.proofs.lemmas.Bool.{lt-ltb, ltb-true, ltb-false}
 use Rattle.std.proofs.lemmas.List.{length-map, length-replicate}
 use Rattle.ms_types.specs.declared.types.ValType.{ValType}
 use Rattle.ms_types.specs.declared.types.ValType.TheVariants.{I32}
 use Rattle.ms_linear.specs.declared.value.Value.{Value as Word}
 use Rattle.ms_linear.specs.Values.{default_of}
-use Rattle.ms_host.specs.declared.host.Host.{Host}
-use Rattle.ms_host.specs.declared.trap.TrapKind.TheVariants as traps
 use Rattle.ms_machine.specs.Running.{AreBytes}
-use Rattle.ms_machine.specs.Step as step
-use Rattle.ms_machine.specs.Step.{act, called, host_in}
 use Rattle.ms_machine.specs.Store.{number_of_instance}
 use Rattle.ms_module.specs.declared.instr.Instr.{Instr}
-use Rattle.ms_module.specs.declared.instr.Instr.TheVariants.{Call}
-use Rattle.ms_task.specs.Control.{call_on, deepest, exit_ended}
+use Rattle.ms_task.specs.Control.{exit_ended}
 use Rattle.ms_task.specs.declared.func.FuncInst.{FuncInst}
-use Rattle.ms_task.specs.Thread.{Activation, Do, Frame, Item, Thread, thread, depth_of, result_of, sequence}
+use Rattle.ms_task.specs.Thread.{Activation, Frame, Item, Thread, depth_of, result_of, sequence}
 use Rattle.c_types.specs.Layout.{IsLaidOut, IsSmall, Layout, layout_at}
 use Rattle.c_types.specs.Types.{Ty, function, Tys, no_types, types, scalar_of}
 use Rattle.c_typed.specs.declared.ops.Variable.{Variable}
@@ -30,44 +24,45 @@ use Rattle.c_typed.specs.refinement.Expressions.{is_visible}
 use Rattle.c_typed.specs.Statements.{IsStatement, no_jumps}
 use Rattle.c_typed.specs.Units.{context_of, list_of, literals_in, numbers}
 use Rattle.c_meaning.specs.Values.{Value, zero_value}
-use Rattle.c_meaning.specs.World.{deep, Held, plain, World, Result, gives, ends, Does, after, ◌>>=◌, ◌>>◌, pure, known, spend}
+use Rattle.c_meaning.specs.World.{plain, World, Result, gives, Does, after, ◌>>=◌, ◌>>◌, pure, known}
 use Rattle.c_meaning.specs.Functions as meaning
 use Rattle.c_meaning.specs.Functions.{back_to, calls_at, first_locals, given, if_shallow, make_param, make_params, numbers_from, of_defined, run_body, with_body}
 use Rattle.c_meaning.specs.Statements.{Flow, leave, stmt}
 use Rattle.ms_emit.specs.Codes.{Code, Coded, no_code, ◌⨾◌, inner, joined, size_of, total}
 use Rattle.c_code.specs.Functions as code
 use Rattle.c_code.specs.Functions.{body, held_as, locals, params_from, params_in, result, result_in, scratch_locals, slots_from}
-use Rattle.c_code.specs.Modules.{index_of, named, rank_in, target_of}
+use Rattle.c_code.specs.Modules.{index_of, target_of}
 use Rattle.c_code.specs.Operations.{val_of}
-use Rattle.c_stage.specs.Stage.{are_data, are_slots, in_stmt, is_data, is_variable}
+use Rattle.c_stage.specs.Stage.{are_slots, in_stmt, is_variable}
 use Rattle.c_code.specs.Statements as scheme
 use Rattle.c_code.specs.Statements.{at_body, freed, objects_in}
 use Rattle.c_code.specs.Targets.{Target}
 use Rattle.c_code.specs.Uses as uses
 use Rattle.c_code.specs.Uses.{waits_stmt}
 use Rattle.c_typing.proofs.Sound.{AreSoundNames}
+use Rattle.c_runs.proofs.Entries.{IsTable, places_of}
 use Rattle.c_runs.proofs.Goes as goes
 use Rattle.c_runs.proofs.Goes.{Site, Mem, Runs, Goes, after_after, behind_goes, resize, spent, tells_nothing, trapped, unspent}
 use Rattle.c_meaning.specs.Objects.{Object}
 use Rattle.ms_relate.specs.refinement.Homes.{Home}
 use Rattle.ms_relate.specs.refinement.Relation.{Related}
 use Rattle.ms_relate.proofs.Growing.{Extends}
-use Rattle.c_runs.proofs.Held.{AreApart, AreHeld, AreOpen, AreOwn, IsHeld, Lasts, Slot, get_behind, held_still, held_word, some_is, words, words_still}
-use Rattle.c_runs.proofs.Lasting.{lasts_same, lasts_trans, open_on}
+use Rattle.c_runs.proofs.Held.{AreHeld, IsHeld, Lasts, Slot, get_behind, held_word, some_is, words}
+use Rattle.c_runs.proofs.Lasting.{lasts_same}
 use Rattle.c_runs.proofs.Related as related
 use Rattle.c_runs.proofs.Related.{AreOf, Env, FiledIn, HasAll, IsValue, Kept, Now, are_still, extends_same, extends_trans, frame_of, front, piled, piled_still, pushes, seeing}
-use Rattle.c_runs.proofs.Ops.{GoodIn, ToIn, at_work, same}
-use Rattle.c_runs.proofs.Operations.{AtHome, Linked, call_is}
+use Rattle.c_runs.proofs.Ops.{at_work, same}
+use Rattle.c_runs.proofs.Operations.{AtHome, Linked}
 use Rattle.c_runs.proofs.Exprs.{AreScalars, CallsRun}
 use Rattle.c_runs.proofs.Flows.{FlowRuns, IsAt}
 use Rattle.c_runs.proofs.Globals.{NamesOf, all_reached, file_slots}
 use Rattle.c_runs.proofs.Globals.{NamesOf, all_reached, file_slots}
 use Rattle.c_runs.proofs.Makes.{get_is}
-use Rattle.c_runs.proofs.Scalars.{IsData, IsVariable, data_scalar, data_type, plain_data, small_slot, variable_type, zero_held, zero_word}
+use Rattle.c_runs.proofs.Scalars.{IsData, IsVariable, plain_data, small_slot, variable_type, zero_held, zero_word}
 use Rattle.c_runs.proofs.Stmts.{ArePlain, IsPlain, left_runs, neither, no_objects, no_off, out_none, stmt_runs}
 use Rattle.c_runs.proofs.Bodies.{IsResult, at_top, body_runs}
-use Rattle.c_runs.proofs.Entering.{arg_words, args_held, args_words, callee, deep_call, first_apart, first_own, firsts, flat, length_us, others_are, shallow_call}
-use Rattle.c_runs.proofs.Ready.{IsCallable, IsReady, in_stmt_of}
+use Rattle.c_runs.proofs.Entering.{arg_words, args_held, args_words, callee, first_apart, first_own, firsts, flat, length_us, others_are}
+use Rattle.c_runs.proofs.Ready.{IsReady, in_stmt_of}
 use Rattle.c_runs.proofs.Whole.{both}
 
 -- ---- slots that are integers, and no objects
@@ -174,7 +169,7 @@ module _ (tg : Target) (body : Stmt) where
   behind_one : (n : ℕ) (t : Ty) (ts : List Ty) → AreLocals n (t ∷ ts) → AreLocals (suc n) ts
   behind_one n t ts h x s e = let q = h (suc x) s e in let z : n + suc x ≡ suc n + x = omega arith in (subst (λ (k : ℕ). is_object body k s ≡ false → IsData s) z q.0, subst (λ (k : ℕ). tg.is_object (Local k) ≡ is_object body k s) z q.1)
 
-  module _ (places : ℕ → ℕ) (hs : List Home) where
+  module _ (places : Ty → ℕ → ℕ) (hs : List Home) where
     first_word : (t : Ty) (b : Bool) → (b ≡ false → IsData t) → default_of (held_as b t) ≡ held_word places (t, b) hs (plain (zero_value t))
     first_word t true u = refl
     first_word t false u = zero_word places t (u refl) hs
@@ -232,8 +227,9 @@ pub record Compiled (S : Site) (unit : Typed) (f : ℕ) (t : Ty) (ps : Tys) : Ty
   pub begins : function_is.slots ≡ list_of ps ++ others
   pub well : IsStatement (context_of unit function_is.slots (length (list_of ps))) t no_jumps stmt_is
   pub slots_are : AreSlots function_is.slots
-  pub ready : IsReady (target_of unit function_is stmt_is).is_object unit (in_stmt stmt_is) (uses.in_stmt stmt_is) (in_stmt_of stmt_is)
+  pub ready : IsReady true (target_of unit function_is stmt_is).is_object unit (in_stmt stmt_is) (uses.in_stmt stmt_is) (in_stmt_of stmt_is)
   pub result : IsResult t
+  pub table : IsTable S unit
   pub laid_out : IsLaidOut unit.structs
   pub has_members : (n : ℕ) (l : Layout) → layout_at unit.structs n ≡ Some l → l.members ≢ []
   pub sizes : (x : ℕ) (s : Ty) → slice_get function_is.slots x ≡ Some s → IsSmall unit.structs s
@@ -286,14 +282,20 @@ module _ (S : Site) (L : Linked S) (unit : Typed) (i f d : ℕ) (t : Ty) (ps : T
   E = record {
     site = S;
     unit = unit;
-    places = λ n. rank_in (named unit) n;
+    places = places_of unit;
+    places_are = refl;
+    table = p.table;
     target = tg;
     structs_are = refl;
+    entries_are = refl;
+    indices_are = refl;
+    sigs_are = refl;
     laid_out = p.laid_out;
     has_members = p.has_members;
     args = p.args;
     first_is = p.first_is;
     calls = calls_at unit i;
+    may_call = true;
     bound = i;
     turn_bound = suc i;
     fn = index_of unit f;
@@ -306,6 +308,7 @@ module _ (S : Site) (L : Linked S) (unit : Typed) (i f d : ℕ) (t : Ty) (ps : T
     files = file_slots unit;
     reached = all_reached unit;
     waits = waits_stmt p.stmt_is;
+    pending = 0;
     result = t;
     depth = d;
     level = d;
@@ -468,7 +471,7 @@ module _ (S : Site) (L : Linked S) (unit : Typed) (i f d : ℕ) (t : Ty) (ps : T
       code_is : body tg p.function_is p.stmt_is ≡ inner D
       code_is =
           let coded : (us : List Ty) → Ty → Coded = λ us r. let vs = objects_in tg slots (numbers (length us)) in (code.params tg us ⨾ scheme.stmt tg slots 0 (at_body vs) p.stmt_is ⨾ freed tg vs ⨾ result tg (scalar_of r)) 1 in
-          let nothing = no_objects E L home K refl callees ints slots_data refl p.sound p.names (slot_there slots) (omega arith) (numbers k) (plain_numbers k (omega arith)) in
+          let nothing = no_objects E L home K refl callees ints slots_data refl refl p.sound p.names (slot_there slots) (omega arith) (numbers k) (plain_numbers k (omega arith)) in
           ap (λ (ty : Ty). inner (coded (params_in ty) (result_in ty))) p.typed
           ∙ ap (λ (n : ℕ). let vs = objects_in tg slots (numbers k) in inner (((if n == 0 then no_code else params_from tg 0 (list_of ps)) ⨾ scheme.stmt tg slots 0 (at_body vs) p.stmt_is ⨾ freed tg vs ⨾ R) 1)) first_zero
           ∙ ap (λ (vs : List Variable). inner ((no_code ⨾ scheme.stmt tg slots 0 (at_body vs) p.stmt_is ⨾ freed tg vs ⨾ R) 1)) nothing
@@ -500,8 +503,8 @@ module _ (S : Site) (L : Linked S) (unit : Typed) (i f d : ℕ) (t : Ty) (ps : T
 
       flow_runs : (hs : List Home) (us : List Value) → AreOf E ps hs us → FlowRuns Ep at_top 0 0 B same (flow >>= (λ g. leaves us >> pure g))
       flow_runs hs us ok =
-          left_runs E L home K refl callees ints slots_data refl p.sound p.names (slot_there slots) (omega arith) (numbers k) at_top 0 0 B flow (numbers_from 0 us) (plain_from us 0 (few hs us ok))
-          (stmt_runs E L home K refl callees ints slots_data refl p.sound p.names (slot_there slots) (omega arith) (numbers k) 0 None (at_body []) no_jumps no_off p.stmt_is (out_none E (numbers k)) (omega arith) p.ready p.well)
+          left_runs E L home K refl callees ints slots_data refl refl p.sound p.names (slot_there slots) (omega arith) (numbers k) at_top 0 0 B flow (numbers_from 0 us) (plain_from us 0 (few hs us ok))
+          (stmt_runs E L home K refl callees ints slots_data refl refl p.sound p.names (slot_there slots) (omega arith) (numbers k) 0 None (at_body []) no_jumps no_off p.stmt_is (out_none E (numbers k)) (omega arith) p.ready p.well)
 
       callee_runs : (hs : List Home) (us : List Value) → AreOf E ps hs us → (caller : Frame) (vs : List Word) (r : List Item) → suc (depth_of r) ≡ d → (now : Now) → IsAt Ep 0 now → (w : World) (m : Mem) → Kept Ep now w m
           → Runs S (size_of D) m (at_work E m w vs (front D.instrs (Activation (result_of p.inst) (length vs) caller ∷ r))) w (λ v w1 m1. exit_ended caller (pushes E t m1.homes v vs) r) (Left now) (does us w)

@@ -27,7 +27,7 @@ use Rattle.c_runs.proofs.Ahead.{Leads, leads_first, leads_further, leads_out, le
 use Rattle.c_runs.proofs.Goes as goes
 use Rattle.c_runs.proofs.Goes.{Mem, Runs, RunsTo, after_after, agrees_after, behind_goes, given, goes_on, one_here, resize, resize_to, stops_behind}
 use Rattle.c_runs.proofs.Grants.{Agrees}
-use Rattle.c_runs.proofs.Related.{Env, HasAll, IsValue, Kept, Now, kept_fuel, pushes, frame_of, front, front_append, has_back, has_front}
+use Rattle.c_runs.proofs.Related.{Env, HasAll, IsValue, Kept, Now, kept_fuel, pushes, frame_of, front, front_append, has_back, has_front, beside}
 use Rattle.c_runs.proofs.Ops.{GoodIn, IsTest, Op, ToIn, at_work, into, is_no, is_yes, op_none, same, size_joined}
 use Rattle.c_runs.proofs.Nodes.{Always, Leaves, gone, test_is}
 use Rattle.c_runs.proofs.Flows.{Around, FlowRuns, GoodFlow, IsAt, Off, Way, starts, to_flow, way}
@@ -45,20 +45,20 @@ part_sizes T C body x =
     let c = size_joined (T p2) (one (BrIf 0) (p2 + length (T p2).seqs)) in
     omega (arith, a, b, c)
 
-module _ (E : Env) (u : IntType) (narrow : width_of u ≡ W32) (T : Code) (test : Does Value) (rt : Leaves E T (integer u) test)
-    (C : Bool) (body : Code) (mx : Does Flow) (d : ℕ) (off : Off) (rx : FlowRuns E (body_way d C off) (if C then 2 else 1) 0 body same mx) (N : ℕ)
+module _ (E : Env) (u : IntType) (narrow : width_of u ≡ W32) (T : Code) (test : Does Value) (d : ℕ) (rt : Leaves (beside d E) T (integer u) test)
+    (C : Bool) (body : Code) (mx : Does Flow) (off : Off) (rx : FlowRuns E (body_way d C off) (if C then 2 else 1) 0 body same mx) (N : ℕ)
     (vs : List Word) (r br cr rr : List Item) (caller : Frame) (b c : ℕ) (js : Jumps) (lo : Option ℕ) (a : Around E vs r b c (way js d lo off) br cr rr caller) (dep : depth_of r ≡ E.depth) where
   abbrev l : Way
   l = way js d lo off
 
-  no_step : Op E no_code same (gone E) (Always E) (pure tt)
-  no_step = op_none E same (gone E) (Always E) tt tt (λ us. refl)
+  no_step : Op (beside d E) no_code same (gone E) (Always E) (pure tt)
+  no_step = op_none (beside d E) same (gone E) (Always E) tt tt (λ us. refl)
 
   abbrev R : Code
   R = bodied body C ⨾ no_code ⨾ T ⨾ one (BrIf 0)
 
   abbrev ring : List Item
-  ring = loops.ring E u narrow T test rt no_code (pure tt) no_step C body mx d off rx N vs r br cr rr caller b c js lo a dep
+  ring = loops.ring E u narrow T test d rt no_code (pure tt) no_step C body mx off rx N vs r br cr rr caller b c js lo a dep
 
   abbrev outer : List Item
   outer = Label None (length vs) None ∷ r
@@ -123,7 +123,7 @@ module _ (E : Env) (u : IntType) (narrow : width_of u ≡ W32) (T : Code) (test 
       decide z t (is_yes q ez et) w2 m2 k ld ag =
           let t2 = thread (frame_of E m2 w2) (I32 z ∷ vs) (Do (BrIf 0) ∷ ring) in
           let g = one_here E.site w2 m2 m2 (BrIf 0) (frame_of E m2 w2) (I32 z ∷ vs) ring (head m2 w2)
-          (ap (λ (y : ℕ). step.act (goes.store E.site m2) (BrIf 0) (thread (frame_of E m2 w2) (I32 y ∷ vs) ring)) ez ∙ ap (step.moved (goes.store E.site m2)) (loops.to_head E u narrow T test rt no_code (pure tt) no_step C body mx d off rx N vs r br cr rr caller b c js lo a dep (frame_of E m2 w2))) in
+          (ap (λ (y : ℕ). step.act (goes.store E.site m2) (BrIf 0) (thread (frame_of E m2 w2) (I32 y ∷ vs) ring)) ez ∙ ap (step.moved (goes.store E.site m2)) (loops.to_head E u narrow T test d rt no_code (pure tt) no_step C body mx off rx N vs r br cr rr caller b c js lo a dep (frame_of E m2 w2))) in
           subst (λ (x : Bool). RunsTo E.site turn m (head m w) w to (GoodFlow E l now) (behind_test n x w2)) (sym et)
           (paid_runs w2 m2 w2.fuel k (leads_further E.site ((1 + sB) + sT) 1 w w2 w2 m m2 m2 (head m w) t2 (head m2 w2) ld g) (agrees_after E.site 1 w2 w2 m2 m2 t2 (head m2 w2) g ag))
       decide z t (is_no ez et) w2 m2 k ld ag =
@@ -186,7 +186,7 @@ module _ (E : Env) (u : IntType) (narrow : width_of u ≡ W32) (T : Code) (test 
       iterates : Kept E now w m → Runs E.site turn m (head m w) w to (GoodFlow E l now) (again (suc n) w)
       iterates k ag =
           let ag0 = agrees_after E.site 1 w w m m (head m w) t0 first.goes ag in
-          body_by ag0 (mx w) (loops.body_runs E u narrow T test rt no_code (pure tt) no_step C body mx d off rx N vs r br cr rr caller b c js lo a dep hasB (omega (arith, room)) now le w m k ag0)
+          body_by ag0 (mx w) (loops.body_runs E u narrow T test d rt no_code (pure tt) no_step C body mx off rx N vs r br cr rr caller b c js lo a dep hasB (omega (arith, room)) now le w m k ag0)
 
     pub all_iterate : (n : ℕ) → Iterates n
     all_iterate zero now le le' w m k = absurd (let lt = k.less in omega (arith, lt, le'))
@@ -195,16 +195,16 @@ module _ (E : Env) (u : IntType) (narrow : width_of u ≡ W32) (T : Code) (test 
 -- ---- the loop, in its block
 
 module _ (E : Env) where
-  pub do_runs : (u : IntType) → width_of u ≡ W32 → (T : Code) (test : Does Value) → Leaves E T (integer u) test
-      → (C : Bool) (body : Code) (mx : Does Flow) (d : ℕ) (off : Off) → FlowRuns E (body_way d C off) (if C then 2 else 1) 0 body same mx → (js : Jumps) (lo : Option ℕ) → (b c bound : ℕ) → E.bound ≤ bound
+  pub do_runs : (u : IntType) → width_of u ≡ W32 → (T : Code) (test : Does Value) (d : ℕ) → Leaves (beside d E) T (integer u) test
+      → (C : Bool) (body : Code) (mx : Does Flow) (off : Off) → FlowRuns E (body_way d C off) (if C then 2 else 1) 0 body same mx → (js : Jumps) (lo : Option ℕ) → (b c bound : ℕ) → E.bound ≤ bound
       → FlowRuns E (way js d lo off) b c (block None (repeat None (bodied body C ⨾ no_code ⨾ T ⨾ one (BrIf 0)))) same (do_loops bound (meaning.test test) mx)
-  do_runs u narrow T test rt C body mx d off rx js lo b c bound wide n has small now le vs r br cr rr caller a dep w m k =
+  do_runs u narrow T test d rt C body mx off rx js lo b c bound wide n has small now le vs r br cr rr caller a dep w m k =
       let N = suc n in
       let loop = repeat None (bodied body C ⨾ no_code ⨾ T ⨾ one (BrIf 0)) in
       let to' = to_flow E vs r br cr rr caller in
-      let size = turn E u narrow T test rt C body mx d off rx N vs r br cr rr caller b c js lo a dep in
+      let size = turn E u narrow T test d rt C body mx off rx N vs r br cr rr caller b c js lo a dep in
       let parts = part_sizes T C body N in
       resize E.site (1 + size) (size_of (block None loop n)) m (at_work E m w vs (Do (Block None n) ∷ r)) w to' (GoodFlow E (way js d lo off) now) (do_loops bound (meaning.test test) mx w) (omega (arith, parts))
       (into E (Block None n) vs None size (Loop None N ∷ []) to' (GoodFlow E (way js d lo off) now) (do_loops bound (meaning.test test) mx w) vs r w m
       (ap (λ (is : List Instr). step.Next (goes.store E.site m) (thread (frame_of E m w) vs (front is (Label None (length vs) None ∷ r))) None) has.0)
-      (all_iterate E u narrow T test rt C body mx d off rx N vs r br cr rr caller b c js lo a dep has.1.0 has.1.1 (omega (arith, parts, small)) bound now le (omega (arith, le.below, wide)) w m k))
+      (all_iterate E u narrow T test d rt C body mx off rx N vs r br cr rr caller b c js lo a dep has.1.0 has.1.1 (omega (arith, parts, small)) bound now le (omega (arith, le.below, wide)) w m k))

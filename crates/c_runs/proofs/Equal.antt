@@ -50,7 +50,7 @@ turned false vs = refl
 abbrev IsNothing : List Home → Value → Type 0
 IsNothing hs v = (r : Bool) × (is_no_handle (handle hs v) ≡ r) × ((os : List Object) → same_place os v null ≡ objects.gives r)
 
-nothing_is : (table : Table) (places : ℕ → ℕ) (hs : List Home) (t : Ty) (v : Value) → is_function t ≡ false → homes.IsOf table places hs (pointer t) v → IsNothing hs v
+nothing_is : (table : Table) (places : Ty → ℕ → ℕ) (hs : List Home) (t : Ty) (v : Value) → is_function t ≡ false → homes.IsOf table places hs (pointer t) v → IsNothing hs v
 nothing_is table places hs t v d (homes.is_null e) = (true, refl, λ os. refl)
 nothing_is table places hs t v d (homes.is_invalid e) = (false, refl, λ os. refl)
 nothing_is table places hs t v d (homes.is_pointer {p = p} h s e at span shape near) = (false, no_null (slice_get hs p.object) p, λ os. refl)

@@ -27,12 +27,12 @@ use Rattle.c_typed.specs.Tree.{Function, Made, Stmt, Typed}
 use Rattle.c_typed.specs.Units.{HaveNames, IsFunction, IsWellTyped, list_of, numbers}
 use Rattle.c_meaning.specs.Units.{main_number}
 use Rattle.c_code.specs.Functions.{held_as, params_in, start}
-use Rattle.c_code.specs.Modules.{compiled, defined, export_of, exports_of, funcs_from, function_at, imported, index_of, is_defined, is_defined_at, is_exported, start_func, start_target}
+use Rattle.c_code.specs.Modules.{compiled, defined, export_of, exports_of, funcs_from, function_at, imported, index_of, is_defined, is_defined_at, is_exported, named, start_func, start_target}
 use Rattle.c_stage.specs.Stage.{in_stage}
 use Rattle.c_runs.specs.Correct.{Behaves, MeansRun}
 use Rattle.c_runs.specs.Crews.{crew_of_one}
 use Rattle.c_runs.specs.Placed.{IsFunctionAt, IsPlaced}
-use Rattle.c_runs.proofs.Linking.{address_at, defined_are, is_made, none_imported, own_funcs, placed, st, three_hosts}
+use Rattle.c_runs.proofs.Linking.{address_at, defined_are, few_named_in, is_made, none_imported, own_funcs, placed, st, three_hosts}
 use Rattle.c_runs.proofs.Numbers.{is_below}
 use Rattle.c_runs.proofs.Placed.{all_at, none_made, same_one, seq_is}
 use Rattle.c_runs.proofs.Related.{front}
@@ -137,12 +137,12 @@ if_true x a false e = absurd cc
 
 -- ---- the store of a unit that was linked alone
 
-module _ (u : Typed) (name : List ℕ) (c : ℕ) (well : IsWellTyped u) (staged : in_stage u ≡ true) (none : imported u ≡ []) where
+module _ (u : Typed) (name : List ℕ) (c : ℕ) (well : IsWellTyped u) (staged : in_stage u ≡ true) (none : imported u ≡ []) (few : length (named u) < 4294967295) where
   abbrev s : Store
   s = st u name c none
 
   abbrev there : IsPlaced u s
-  there = placed u name c none
+  there = placed u name c none few
 
   abbrev i : Instance
   i = instance_in nothing_made (compiled u) three_hosts
@@ -243,4 +243,4 @@ pub executed_behaves : (u : Typed) (c turns budget : ℕ) (s : Store) (threads :
 executed_behaves u c turns budget s threads input well staged e tasks bytes =
     let none = none_imported u [] c s e in
     subst (λ (t : Store). threads_from t ((0, codes "main") ∷ []) 0 ≡ Ok threads → MeansRun u input budget (run_of (turns_from turns 1 0 budget) (crew_of t threads) input))
-    (is_made u [] c none s e) (λ tasks'. executed u [] c well staged none turns budget threads input tasks' bytes) tasks
+    (is_made u [] c none s e) (λ tasks'. executed u [] c well staged none (few_named_in u [] c s e) turns budget threads input tasks' bytes) tasks

@@ -60,7 +60,7 @@ set_all gs x v all i lt =
     (cases_eq i x)
 
 -- so many globals have these variables and literals
-pub record Filed (structs : Table) (places : ℕ → ℕ) (kinds : List Slot) (reached : Reached) (count : ℕ) (hs : List Home) (xs : List Held) (texts : List ℕ) (gs : List GlobalInst) : Type 0 where
+pub record Filed (structs : Table) (places : Ty → ℕ → ℕ) (kinds : List Slot) (reached : Reached) (count : ℕ) (hs : List Home) (xs : List Held) (texts : List ℕ) (gs : List GlobalInst) : Type 0 where
   pub held : AreHeld structs places kinds hs xs
   pub named : (x : ℕ) (t : Ty) → is_visible reached.named x ≡ true → slice_get kinds x ≡ Some (t, true) → (n : ℕ) × (slice_get xs x ≡ Some (object n))
   pub long : length gs ≡ count
@@ -69,7 +69,7 @@ pub record Filed (structs : Table) (places : ℕ → ℕ) (kinds : List Slot) (r
   pub as_many : length texts ≡ reached.texts
   pub texts_are : (k n : ℕ) → slice_get texts k ≡ Some n → TextAt structs (length kinds) reached.sealed hs gs k n
 
-module _ (structs : Table) (places : ℕ → ℕ) (kinds : List Slot) (reached : Reached) (count : ℕ) where
+module _ (structs : Table) (places : Ty → ℕ → ℕ) (kinds : List Slot) (reached : Reached) (count : ℕ) where
   -- ---- more homes
 
   module _ (old new : List Home) (more : Extends old new) where
@@ -162,7 +162,7 @@ module _ (structs : Table) (places : ℕ → ℕ) (kinds : List Slot) (reached :
 
 -- ---- before `main`: variables and literals are made, and literals are sealed
 
-module _ (structs : Table) (places : ℕ → ℕ) (kinds : List Slot) (named : List ℕ) (made sealed count : ℕ) (hs : List Home) (xs : List Held) (texts : List ℕ) (gs : List GlobalInst)
+module _ (structs : Table) (places : Ty → ℕ → ℕ) (kinds : List Slot) (named : List ℕ) (made sealed count : ℕ) (hs : List Home) (xs : List Held) (texts : List ℕ) (gs : List GlobalInst)
     (f : Filed structs places kinds (record { named = named; texts = made; sealed = sealed }) count hs xs texts gs) where
   abbrev old : Reached
   old = record { named = named; texts = made; sealed = sealed }

@@ -83,7 +83,7 @@ module _ (u : Typed) where
     abbrev pub first_held : List Ty → List Held
     first_held = map (λ t. plain (zero_value t))
 
-    module _ (places : ℕ → ℕ) (hs : List Home) where
+    module _ (places : Ty → ℕ → ℕ) (hs : List Home) where
       -- the types from the n-th on
       abbrev IsRest : ℕ → List Ty → Type 0
       IsRest n ts = (i : ℕ) → slice_get ts i ≡ slice_get u.globals (n + i)

@@ -23,7 +23,7 @@ use Rattle.ms_relate.specs.refinement.Homes.{Home}
 use Rattle.ms_relate.proofs.Growing.{Extends}
 use Rattle.c_runs.proofs.Values.{pushed_still, value_still}
 use Rattle.c_runs.proofs.Held.{ending}
-use Rattle.c_runs.proofs.Related.{Env, IsValue, Kept, KeptAs, Now, Starts, extends_none, extends_same, pushes, frame_of, front, front_append, depth_front, HasAll, has_front, has_back, total_append}
+use Rattle.c_runs.proofs.Related.{Env, IsValue, beside, Kept, KeptAs, Now, Starts, extends_none, extends_same, pushes, frame_of, front, front_append, depth_front, HasAll, has_front, has_back, total_append}
 use Rattle.c_runs.proofs.Ops.{Stack, same, Op, OpIn, GoodIn, ToIn, at_work, IsTest, runs_choice, choice_at, second_size, size_joined}
 use Rattle.c_runs.proofs.Whole.{IsWhole}
 
@@ -84,8 +84,8 @@ module _ (E : Env) where
     pub waits : now.waits ≡ depth
     pub seen : now.visible ≡ E.visible
 
-  pub starts : (d : ℕ) (now : Now) → IsAt d now → Starts E [] now
-  starts d now le = record { below = le.below; grown = extends_none now.homes; seen = λ x e. ap (λ (vs : List ℕ). is_visible vs x) le.seen ∙ e }
+  pub starts : (d : ℕ) (now : Now) → IsAt d now → Starts (beside d E) [] now
+  starts d now le = record { below = le.below; grown = extends_none now.homes; seen = λ x e. ap (λ (vs : List ℕ). is_visible vs x) le.seen ∙ e; few = (let waits = le.waits in omega (arith, waits)) }
 
   -- where break, continue and return lead
   pub record Around (vs : List Word) (r : List Item) (b c : ℕ) (j : Way) (br cr rr : List Item) (caller : Frame) : Type 0 where
@@ -161,7 +161,7 @@ module _ (E : Env) where
 
   -- an expression, and what follows
   pub flow_behind_in : {A : Type 0} (l : Way) (b c : ℕ) (x y : Code) (pre : Stack) (mid : List Home → A → Stack) (Ok : List Home → A → Type 0) (e : Does A) (f : A → Does Flow)
-      → OpIn E [] x pre mid Ok e → ((hs : List Home) (v : A) → Ok hs v → FlowIn l hs b c y (mid hs v) (f v)) → FlowRuns l b c (x ⨾ y) pre (e >>= f)
+      → OpIn (beside l.depth E) [] x pre mid Ok e → ((hs : List Home) (v : A) → Ok hs v → FlowIn l hs b c y (mid hs v) (f v)) → FlowRuns l b c (x ⨾ y) pre (e >>= f)
   flow_behind_in l b c x y pre mid Ok e f rx ry n has small now le vs r br cr rr caller a dep w m k =
       let cx = x n in
       let n' = n + length cx.seqs in
@@ -174,12 +174,12 @@ module _ (E : Env) where
       (λ v w1 m1 g. ry m1.homes v g.0 n' (has_back E.site.funcs E.fn n cx.seqs cy.seqs has) (let s = size_joined cx cy in omega (arith, s, small)) now le vs r br cr rr caller a dep w1 m1 (extends_same m1.homes) g.1)))
 
   pub flow_behind : {A : Type 0} (l : Way) (b c : ℕ) (x y : Code) (pre : Stack) (mid : A → Stack) (Ok : A → Type 0) (e : Does A) (f : A → Does Flow)
-      → Op E x pre mid Ok e → ((v : A) → Ok v → FlowRuns l b c y (mid v) (f v)) → FlowRuns l b c (x ⨾ y) pre (e >>= f)
+      → Op (beside l.depth E) x pre mid Ok e → ((v : A) → Ok v → FlowRuns l b c y (mid v) (f v)) → FlowRuns l b c (x ⨾ y) pre (e >>= f)
   flow_behind l b c x y pre mid Ok e f rx ry =
       flow_behind_in l b c x y pre (λ hs. mid) (λ hs. Ok) e f rx (λ hs v ok n has small now le vs r br cr rr caller a dep w m more k. ry v ok n has small now le vs r br cr rr caller a dep w m k)
 
   -- a statement that is an expression
-  pub flow_of : {A : Type 0} (l : Way) (b c : ℕ) (x : Code) (post : List Home → A → Stack) (Ok : List Home → A → Type 0) (e : Does A) → OpIn E [] x same post Ok e → ((hs : List Home) (v : A) (vs : List Word) → post hs v vs ≡ vs) → FlowRuns l b c x same (e >> pure next)
+  pub flow_of : {A : Type 0} (l : Way) (b c : ℕ) (x : Code) (post : List Home → A → Stack) (Ok : List Home → A → Type 0) (e : Does A) → OpIn (beside l.depth E) [] x same post Ok e → ((hs : List Home) (v : A) (vs : List Word) → post hs v vs ≡ vs) → FlowRuns l b c x same (e >> pure next)
   flow_of l b c x post Ok e rx p n has small now le vs r br cr rr caller a dep w m k =
       let to = to_flow vs r br cr rr caller in
       let s = size_of (x n) in

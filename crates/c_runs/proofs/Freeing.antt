@@ -56,7 +56,7 @@ some_invalid e = absurd cc
 some_pointer : (p : Pointer) → points p ≡ null → ⊥
 some_pointer p e = absurd cc
 
-passed : (table : Table) (places : ℕ → ℕ) (hs : List Home) (t : Ty) (v : Value) → is_function t ≡ false → homes.IsOf table places hs (pointer t) v → IsPassed hs v
+passed : (table : Table) (places : Ty → ℕ → ℕ) (hs : List Home) (t : Ty) (v : Value) → is_function t ≡ false → homes.IsOf table places hs (pointer t) v → IsPassed hs v
 passed table places hs t v d (homes.is_null e) = inl (refl, refl)
 passed table places hs t v d (homes.is_invalid e) = inr (some_invalid, refl)
 passed table places hs t v d (homes.is_pointer {p = p} h s e at span shape near) = inr (some_pointer p, no_null (slice_get hs p.object) p)

@@ -60,7 +60,7 @@ module _ {A : Type 0} where
 
 -- ---- locals
 
-module _ (places : ℕ → ℕ) where
+module _ (places : Ty → ℕ → ℕ) where
   abbrev pub held_word : Slot → List Home → Held → Word
   held_word (t, false) hs (plain v) = word_of places t hs v
   held_word (t, false) hs (object n) = I32 0
@@ -87,7 +87,7 @@ pub record IsObjectAt (table : Table) (t : Ty) (hs : List Home) (n : ℕ) : Type
   pub shape_is : home.shape ≡ shape table t
   pub one : home.count ≡ 1
 
-module _ (table : Table) (places : ℕ → ℕ) where
+module _ (table : Table) (places : Ty → ℕ → ℕ) where
   abbrev pub IsHeld : Slot → List Home → Held → Type 0
   IsHeld (t, false) hs (plain v) = IsValueOf table places t hs v
   IsHeld (t, false) hs (object n) = ⊥

@@ -10,6 +10,7 @@ pub mod Outcomes
 pub mod Related
 pub mod Entering
 pub mod Whole
+pub mod Entries
 pub mod Ready
 pub mod Ops
 pub mod Nodes
@@ -18,6 +19,7 @@ pub mod Creating
 pub mod Blocks
 pub mod Makes
 pub mod Operations
+pub mod Functions
 pub mod Updates
 pub mod Moves
 pub mod Advances
@@ -29,6 +31,10 @@ pub mod Allocating
 pub mod Freeing
 pub mod Strings
 pub mod Globals
+pub mod Rooms
+pub mod Through
+pub mod LeafHandles
+pub mod StructCopies
 pub mod Exprs
 pub mod Ahead
 pub mod Flows

@@ -1,13 +1,13 @@
 -- Linking a unit that was compiled alone gives a store that has its functions, if each that it uses is defined.
 use Rattle.std.proofs.Common.{◌≡◌, ℕ, zero, suc, ◌+◌, ◌<◌, ◌≤◌, List, [], ◌∷◌, ◌++◌, length, map, Bool, true, false, Option, Some, None, Ok, Err, refl, sym, ap, ◌∙◌, arith, subst}
-use Rattle.std.specs.Prelude.{Result, cond, filter, get_or, is_some, nat_le, nat_lt, not, option_map, replicate, slice_get, ◌==◌}
+use Rattle.std.specs.Prelude.{Result, cond, drop, filter, get_or, is_some, nat_le, nat_lt, not, option_map, replicate, slice_get, take, ◌==◌}
 use Rattle.std.specs.List.{list_any, position_or_len}
 use Rattle.std.proofs.lemmas.List.{length-map, length-replicate}
 use Rattle.std.proofs.lemmas.Option.{get_or_from_slice_get, slice_get-map, slice_get_within}
 use Rattle.ms_host.specs.declared.host.Host.TheVariants as hosts
 use Rattle.ms_linear.specs.declared.global.GlobalInst.{GlobalInst}
 use Rattle.ms_linear.specs.declared.table.Entry.{Entry}
-use Rattle.ms_linear.specs.Table.{most_entries}
+use Rattle.ms_linear.specs.Table.{Table, most_entries}
 use Rattle.ms_module.specs.declared.module.Func.{Func as ModuleFunc}
 use Rattle.ms_module.specs.declared.module.Global.{Global as ModuleGlobal}
 use Rattle.ms_types.specs.declared.types.Limits.{Limits}
@@ -15,8 +15,12 @@ use Rattle.ms_types.specs.declared.types.ValType.{ValType}
 use Rattle.ms_types.specs.declared.types.ValType.TheVariants as vals
 use Rattle.ms_machine.specs.Externs.{Fault, Made, externs, fault_at, with_rest}
 use Rattle.ms_machine.specs.Linked as linking
-use Rattle.ms_machine.specs.Linked.{all_more, and_then, if_small, globals_in, instance_in, linked, no_type, nothing_made, or_next, outside, own_func, own_global, sizes_fit, store_of, stored, too_large, unless, values_at, with_externs, with_module}
+use Rattle.ms_machine.specs.Linked.{all_more, and_then, if_small, globals_in, instance_in, linked, no_type, nothing_made, or_next, outside, own_func, own_global, sizes_fit, store_of, stored, too_large, unless, values_at, with_externs, with_module, entry_in}
 use Rattle.ms_machine.specs.Store.{Store}
+use Rattle.ms_machine.specs.declared.store.Instance.{Instance}
+use Rattle.ms_machine.specs.Writing.{empty_table, with_entries}
+use Rattle.ms_machine.specs.Writing.{entry_at as entry_at_of}
+use Rattle.ms_types.specs.declared.types.FuncType.{FuncType}
 use Rattle.ms_machine.specs.declared.externs.Extern.{Extern}
 use Rattle.ms_machine.specs.declared.externs.Extern.TheVariants.{Host}
 use Rattle.ms_machine.specs.declared.externs.Why.TheVariants.{Fit, TooLarge}
@@ -29,9 +33,10 @@ use Rattle.c_meaning.specs.Units.{main_number}
 use Rattle.c_code.specs.Functions.{body, held_as, locals, params_in, signature}
 use Rattle.c_code.specs.Limits as limits
 use Rattle.c_code.specs.Limits.{first_true, has_many_slots, is_long_copy, limit_of, most_named}
-use Rattle.c_code.specs.Modules.{compiled, defined, func_of, funcs_from, global_of, globals_from, import_from_c, imported, index_of, is_defined, is_defined_at, literal_globals, named, no_slots, rank_in, sigs_through, start_func, target_of}
+use Rattle.c_code.specs.Modules.{compiled, defined, func_of, funcs_from, global_of, globals_from, import_from_c, imported, index_of, is_defined, is_defined_at, literal_globals, named, no_slots, rank_in, sigs_through, start_func, target_of, entry_of}
 use Rattle.c_stage.specs.Stage.{in_stage}
 use Rattle.c_code.specs.Uses.{uses, waits_stmt}
+use Rattle.c_typing.proofs.Indices.{rank_is}
 use Rattle.c_runs.specs.Correct.{Behaves}
 use Rattle.c_runs.specs.Placed.{IsFunctionAt, IsPlaced, begun_as, first_globals}
 use Rattle.c_runs.proofs.Numbers.{from, is_below, numbers_are, or_zero, other, same, slice_left}
@@ -163,6 +168,9 @@ is_stored c s None None made e = ap (λ (r : Result Store Fault). or r) e where
 is_stored c s None (Some f) made e = absurd cc
 is_stored c s (Some f) b made e = absurd cc
 
+abbrev no_entry : Option Entry
+no_entry = None
+
 module _ (u : Typed) (name : List ℕ) (c : ℕ) (none : imported u ≡ []) where
   abbrev pub made : Made
   made = with_module nothing_made name (compiled u) three_hosts
@@ -222,8 +230,39 @@ module _ (u : Typed) (name : List ℕ) (c : ℕ) (none : imported u ≡ []) wher
       let z : 0 + x ≡ x = omega arith in
       number_at 0 (length (compiled u).globals) x (omega (arith, l, lt)) ∙ ap Some z
 
-  pub placed : IsPlaced u st
-  placed = record {
+  -- ---- the table: behind the first entry, which is empty, those that are values
+
+  abbrev inst : Instance
+  inst = instance_in nothing_made (compiled u) three_hosts
+
+  abbrev written_entries : List (Option Entry)
+  written_entries = map (λ (x : ℕ). entry_in st.funcs (slice_get inst.funcs x)) (map (index_of u) (named u))
+
+  abbrev the_table : Table
+  the_table = with_entries (empty_table (record { min = suc (length (named u)); max = Some (suc (length (named u))) })) 1 written_entries
+
+  taken_none : {A : Type 0} (xs : List A) → take 0 xs ≡ []
+  taken_none [] = refl
+  taken_none (x ∷ xs) = refl
+
+  entry_at : (n : ℕ) (f : Function) (b : Stmt) → slice_get u.functions n ≡ Some f → f.body ≡ Some b → list_any (λ m. m == n) (named u) ≡ true
+      → slice_get the_table.entries (entry_of u n) ≡ Some (Some (record { func = record { address = index_of u n }; sig = signature f.ty }))
+  entry_at n f b e h among =
+      let r = rank_in (named u) n in
+      let at = function_at n f b e h in
+      let old = replicate (length (named u)) no_entry in
+      let rest = drop (1 + length written_entries) (no_entry ∷ old) in
+      let own : entry_in st.funcs (slice_get inst.funcs (index_of u n)) ≡ Some (record { func = record { address = index_of u n }; sig = signature f.ty }) =
+      ap (entry_in st.funcs) (address_at (compiled u).funcs (own_func (compiled u) 0) (index_of u n) (slice_get_within st.funcs (index_of u n) at.inst at.is_at))
+      ∙ ap (entry_at_of st.funcs (index_of u n)) at.is_at ∙ ap (λ (t : FuncType). Some (record { func = record { address = index_of u n }; sig = t })) at.type_is in
+      ap (λ (l : List (Option Entry)). slice_get (l ++ (written_entries ++ rest)) r) (taken_none old)
+      ∙ slice_left written_entries rest r (Some (record { func = record { address = index_of u n }; sig = signature f.ty }))
+      (slice_get-map (λ (x : ℕ). entry_in st.funcs (slice_get inst.funcs x)) (map (index_of u) (named u)) r
+      ∙ ap (option_map (λ (x : ℕ). entry_in st.funcs (slice_get inst.funcs x))) (slice_get-map (index_of u) (named u) r ∙ ap (option_map (index_of u)) (rank_is (named u) n among))
+      ∙ ap Some own)
+
+  pub placed : length (named u) < 4294967295 → IsPlaced u st
+  placed few = record {
     none_imported = none;
     inst = instance_in nothing_made (compiled u) three_hosts;
     alone = refl;
@@ -235,7 +274,14 @@ module _ (u : Typed) (name : List ℕ) (c : ℕ) (none : imported u ≡ []) wher
     getchar = refl;
     abort = refl;
     functions = function_at;
-    segments = (related_new [] (λ n. n) c).placed;
+    few = few;
+    types = refl;
+    has_table = refl;
+    table = the_table;
+    tables = refl;
+    empty = refl;
+    entries = entry_at;
+    segments = (related_new [] (λ t n. n) c).placed;
   }
 
   pub is_made : (s : Store) → linked ((name, compiled u) ∷ []) c ≡ Ok s → st ≡ s
@@ -264,9 +310,6 @@ is_within m n le = grind (arith, le)
 
 fits_most : (l : Limits) (most : ℕ) → l.min ≤ most → sizes_fit 0 0 most (l ∷ []) ≡ None
 fits_most l most le = ap (λ (b : Bool). cond b None (Some (fault_at 0 0 TooLarge))) (is_within l.min most le)
-
-abbrev no_entry : Option Entry
-no_entry = None
 
 module _ (u : Typed) (name : List ℕ) (c : ℕ) (none : imported u ≡ []) (limited : limit_of u ≡ None) where
   few_named : length (named u) ≤ most_named
@@ -317,6 +360,32 @@ none_imported u name c s e = by (imported u) e where
   by [] e = refl
   by (n ∷ ns) e = absurd cc
 
+-- ---- the table isn't too large
+
+small_made : (c : ℕ) (s : Store) (a b : Option Fault) (made : Made) → stored c (and_then (if_small a (unless b made)) (all_more [])) ≡ Ok s → a ≡ None
+small_made c s None b made e = refl
+small_made c s (Some f) b made e = absurd cc
+
+is_at_most : (m n : ℕ) → nat_le m n ≡ true → m ≤ n
+is_at_most m n e = grind (arith, e)
+
+below_most : (k : ℕ) (f : Fault) → or_next (cond (nat_le k most_entries) None (Some f)) None ≡ None → k ≤ most_entries
+below_most k f e = by (nat_le k most_entries) refl e where
+  by : (b : Bool) → nat_le k most_entries ≡ b → or_next (cond b None (Some f)) None ≡ None → k ≤ most_entries
+  by true q e' = is_at_most k most_entries q
+  by false q e' = absurd cc
+
+pub few_named_in : (u : Typed) (name : List ℕ) (c : ℕ) (s : Store) → linked ((name, compiled u) ∷ []) c ≡ Ok s → length (named u) < 4294967295
+few_named_in u name c s e =
+    let none = none_imported u name c s e in
+    let made' = made u name c none in
+    let a = too_large 0 (compiled u).tables (compiled u).memories in
+    let b = outside 0 made'.globals made'.tables made'.memories (instance_in nothing_made (compiled u) three_hosts) (compiled u).elements (compiled u).fills in
+    let small = small_made c s a b made'
+    (sym (ap (λ (r : Result (List Extern) Fault). stored c (and_then (with_externs nothing_made name (compiled u) r) (all_more []))) (imports_are u name c none)) ∙ e) in
+    let le = below_most (suc (length (named u))) (fault_at 0 0 TooLarge) small in
+    omega (arith, le)
+
 -- ---- the laws
 
 pub compiled_links : (u : Typed) (name : List ℕ) (c : ℕ) → imported u ≡ [] → limit_of u ≡ None → (s : Store) × (linked ((name, compiled u) ∷ []) c ≡ Ok s)
@@ -325,7 +394,7 @@ compiled_links u name c none limited = (store_of c (made u name c none), links u
 pub compiled_is_placed : (u : Typed) (name : List ℕ) (c : ℕ) (s : Store) → linked ((name, compiled u) ∷ []) c ≡ Ok s → IsPlaced u s
 compiled_is_placed u name c s e =
     let none = none_imported u name c s e in
-    subst (λ (t : Store). IsPlaced u t) (is_made u name c none s e) (placed u name c none)
+    subst (λ (t : Store). IsPlaced u t) (is_made u name c none s e) (placed u name c none (few_named_in u name c s e))
 
 pub linked_behaves : (u : Typed) (name : List ℕ) (c : ℕ) (s : Store) (n : ℕ) (f : Function) (b : Stmt) (t : Ty)
     → IsWellTyped u → in_stage u ≡ true → main_number u ≡ Some n

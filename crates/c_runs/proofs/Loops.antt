@@ -36,7 +36,7 @@ use Rattle.c_runs.proofs.Goes.{Mem, Runs, RunsTo, after_after, agrees_after, beh
 use Rattle.c_meaning.specs.Objects.{Object}
 use Rattle.ms_relate.specs.refinement.Homes.{Home}
 use Rattle.c_runs.proofs.Held.{ending}
-use Rattle.c_runs.proofs.Related.{Env, HasAll, IsValue, Kept, KeptAs, Now, kept_below, kept_fuel, pushes, depth_front, frame_of, front, front_append, has_back, has_front, total_append}
+use Rattle.c_runs.proofs.Related.{Env, HasAll, IsValue, Kept, KeptAs, Now, kept_below, kept_fuel, pushes, depth_front, frame_of, front, front_append, has_back, has_front, total_append, beside}
 use Rattle.c_runs.proofs.Ops.{GoodIn, IsTest, Op, ToIn, To_, Good, at_work, choice_at, into, is_no, is_yes, runs_choice, same, size_joined}
 use Rattle.c_runs.proofs.Nodes.{Always, Leaves, gone, of_number, test_is}
 use Rattle.c_runs.proofs.Flows.{Around, FlowRuns, GoodFlow, IsAt, Off, Way, after_flow, ahead, starts, in_label, lowest_all, to_flow, way}
@@ -74,8 +74,8 @@ module _ (E : Env) where
   weaken l now below size m t w to (gives f w1) le q = (q.0, (q.1.0, kept_on (after_flow l f now) below (ending w1.locals (ahead l.off f) w1.objects) w1 q.0 le q.1.1), q.2)
   weaken l now below size m t w to (ends e w1) le q = q
 
-  module _ (u : IntType) (narrow : width_of u ≡ W32) (T : Code) (test : Does Value) (rt : Leaves E T (integer u) test) (S : Code) (step' : Does (Unit {0})) (rs : Op E S same (gone E) (Always E) step')
-      (C : Bool) (body : Code) (mx : Does Flow) (d : ℕ) (off : Off) (rx : FlowRuns E (body_way d C off) (if C then 2 else 1) 0 body same mx) (N : ℕ)
+  module _ (u : IntType) (narrow : width_of u ≡ W32) (T : Code) (test : Does Value) (d : ℕ) (rt : Leaves (beside d E) T (integer u) test) (S : Code) (step' : Does (Unit {0})) (rs : Op (beside d E) S same (gone E) (Always E) step')
+      (C : Bool) (body : Code) (mx : Does Flow) (off : Off) (rx : FlowRuns E (body_way d C off) (if C then 2 else 1) 0 body same mx) (N : ℕ)
       (vs : List Word) (r br cr rr : List Item) (caller : Frame) (b c : ℕ) (js : Jumps) (lo : Option ℕ) (a : Around E vs r b c (way js d lo off) br cr rr caller) (dep : depth_of r ≡ E.depth) where
     abbrev l : Way
     l = way js d lo off
@@ -299,18 +299,18 @@ module _ (E : Env) where
 
   -- ---- the loop: the test, and the iterations where it holds
 
-  pub while_runs : (u : IntType) → width_of u ≡ W32 → (T : Code) (test : Does Value) → Leaves E T (integer u) test → (S : Code) (step' : Does (Unit {0})) → Op E S same (gone E) (Always E) step'
-      → (C : Bool) (body : Code) (mx : Does Flow) (d : ℕ) (off : Off) → FlowRuns E (body_way d C off) (if C then 2 else 1) 0 body same mx → (js : Jumps) (lo : Option ℕ) → (b c bound : ℕ) → E.bound ≤ bound
+  pub while_runs : (u : IntType) → width_of u ≡ W32 → (T : Code) (test : Does Value) (d : ℕ) → Leaves (beside d E) T (integer u) test → (S : Code) (step' : Does (Unit {0})) → Op (beside d E) S same (gone E) (Always E) step'
+      → (C : Bool) (body : Code) (mx : Does Flow) (off : Off) → FlowRuns E (body_way d C off) (if C then 2 else 1) 0 body same mx → (js : Jumps) (lo : Option ℕ) → (b c bound : ℕ) → E.bound ≤ bound
       → FlowRuns E (way js d lo off) b c (T ⨾ choice None (repeat None (bodied body C ⨾ S ⨾ T ⨾ one (BrIf 0))) no_code) same (loops bound (meaning.test test) step' mx)
-  while_runs u narrow T test rt S step' rs C body mx d off rx js lo b c zero wide n has small now le vs r br cr rr caller a dep w m k = absurd (let lt = k.less in omega (arith, lt, le.below, wide))
-  while_runs u narrow T test rt S step' rs C body mx d off rx js lo b c (suc bound) wide n has small now le vs r br cr rr caller a dep w m k =
+  while_runs u narrow T test d rt S step' rs C body mx off rx js lo b c zero wide n has small now le vs r br cr rr caller a dep w m k = absurd (let lt = k.less in omega (arith, lt, le.below, wide))
+  while_runs u narrow T test d rt S step' rs C body mx off rx js lo b c (suc bound) wide n has small now le vs r br cr rr caller a dep w m k =
       let to' = to_flow E vs r br cr rr caller in
       let loop = repeat None (bodied body C ⨾ S ⨾ T ⨾ one (BrIf 0)) in
       let pick = choice None loop no_code in
       let ct = T n in
       let j = n + length ct.seqs in
       let cp = pick j in
-      let K = iteration u narrow T test rt S step' rs C body mx d off rx (suc j) vs r br cr rr caller b c js lo a dep bound in
+      let K = iteration u narrow T test d rt S step' rs C body mx off rx (suc j) vs r br cr rr caller b c js lo a dep bound in
       let f = λ (t : Bool). if t then K else pure next in
       let sizes = size_joined ct cp in
       let hasP = has_back E.site.funcs E.fn n ct.seqs cp.seqs has in
@@ -344,7 +344,7 @@ module _ (E : Env) where
       enters : HasAll E.site.funcs E.fn (suc (n + length (T n).seqs)) (repeat None (bodied body C ⨾ S ⨾ T ⨾ one (BrIf 0)) (suc (n + length (T n).seqs))).seqs → (w1 : World) (m1 : Mem) → Kept E now w1 m1
           → Runs E.site (size_of (repeat None (bodied body C ⨾ S ⨾ T ⨾ one (BrIf 0)) (suc (n + length (T n).seqs)))) m1
           (at_work E m1 w1 vs (front (repeat None (bodied body C ⨾ S ⨾ T ⨾ one (BrIf 0)) (suc (n + length (T n).seqs))).instrs (Label None (length vs) None ∷ r))) w1 (to_flow E vs r br cr rr caller) (GoodFlow E (way js d lo off) now)
-          (iteration u narrow T test rt S step' rs C body mx d off rx (suc (n + length (T n).seqs)) vs r br cr rr caller b c js lo a dep bound w1)
+          (iteration u narrow T test d rt S step' rs C body mx off rx (suc (n + length (T n).seqs)) vs r br cr rr caller b c js lo a dep bound w1)
       enters h w1 m1 k1 =
           let j = n + length (T n).seqs in
           let N = suc j in
@@ -352,6 +352,6 @@ module _ (E : Env) where
           let parts = part_sizes N in
           let all = size_joined (T n) (choice None loop no_code j) in
           let inside = total_append (inner (loop (suc j))) [] in
-          resize E.site (turn u narrow T test rt S step' rs C body mx d off rx N vs r br cr rr caller b c js lo a dep) (size_of (loop N)) m1 (at_work E m1 w1 vs (Do (Loop None N) ∷ Label None (length vs) None ∷ r)) w1 (to_flow E vs r br cr rr caller) (GoodFlow E (way js d lo off) now)
-          (iteration u narrow T test rt S step' rs C body mx d off rx N vs r br cr rr caller b c js lo a dep bound w1) (omega (arith, parts))
-          (all_iterate u narrow T test rt S step' rs C body mx d off rx N vs r br cr rr caller b c js lo a dep h.0 h.1 (omega (arith, parts, all, inside, small)) bound now le (omega (arith, le.below, wide)) w1 m1 k1)
+          resize E.site (turn u narrow T test d rt S step' rs C body mx off rx N vs r br cr rr caller b c js lo a dep) (size_of (loop N)) m1 (at_work E m1 w1 vs (Do (Loop None N) ∷ Label None (length vs) None ∷ r)) w1 (to_flow E vs r br cr rr caller) (GoodFlow E (way js d lo off) now)
+          (iteration u narrow T test d rt S step' rs C body mx off rx N vs r br cr rr caller b c js lo a dep bound w1) (omega (arith, parts))
+          (all_iterate u narrow T test d rt S step' rs C body mx off rx N vs r br cr rr caller b c js lo a dep h.0 h.1 (omega (arith, parts, all, inside, small)) bound now le (omega (arith, le.below, wide)) w1 m1 k1)

@@ -142,7 +142,7 @@ module _ (E : Env) where
 
   -- ---- a handle is sliced
 
-  slice_goes : (from n : ℕ) (h : HandleOf) (vs : List Word) (r : List Item) (w : World) (m : Mem)
+  pub slice_goes : (from n : ℕ) (h : HandleOf) (vs : List Word) (r : List Item) (w : World) (m : Mem)
       → Goes E.site (1 + (1 + 1)) w w m (at_work E m w (Handle h ∷ vs) (Do (i32 from) ∷ Do (i32 n) ∷ Do (Segment segment.Slice) ∷ r)) m (at_work E m w (Handle (slice h (low from) (low n)) ∷ vs) r)
   slice_goes from n h vs r w m =
       let fr = frame_of E m w in

@@ -58,7 +58,7 @@ IsBack n v i = objects.moved n (wrap LongLong (neg_ℤ i)) v ≡ objects.moved n
 least_negated : wrap LongLong (pos 9223372036854775808) ≡ negsuc 9223372036854775807
 least_negated = high_is W64 9223372036854775808 (omega arith) (omega arith)
 
-module _ (table : Table) (places : ℕ → ℕ) (hs : List Home) (t : Ty) (v : Value) (data_is : is_function t ≡ false) (some : 0 < size (shape table t)) (of : homes.IsOf table places hs (pointer t) v) where
+module _ (table : Table) (places : Ty → ℕ → ℕ) (hs : List Home) (t : Ty) (v : Value) (data_is : is_function t ≡ false) (some : 0 < size (shape table t)) (of : homes.IsOf table places hs (pointer t) v) where
   abbrev n : ℕ
   n = size (shape table t)
 

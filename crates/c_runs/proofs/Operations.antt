@@ -57,6 +57,7 @@ use Rattle.c_runs.proofs.Related.{Env, IsValue, Kept, Now, frame_of, kept_world}
 use Rattle.c_runs.proofs.Ops.{Good, Op, OpIn, Stack, To_, at_work, op_agree, op_assoc, op_bare, op_carried, op_look, op_over, op_seen, op_then, op_trap_in, same}
 use Rattle.c_runs.proofs.Nodes.{Always, Leaves, Num, PlainAt, Spot_of, behind_place, gone, of_number, op_integer, op_integer_then, op_number_then, remains, set_gives, two_run, write_runs}
 use Rattle.c_runs.proofs.Whole.{bare_convert}
+use Rattle.ms_module.specs.declared.instr.Instr.{Instr}
 
 -- ---- one instance, in which each function has its address as its index; the first three are the host's
 
@@ -264,6 +265,14 @@ module _ (E : Env) where
     update_runs true false pl s = one_value true false (ended E.target true (Some x) s) (end_runs true false s (inr refl))
     update_runs false true pl s = one_value false true (ended E.target false (Some x) s) (end_runs false true s (inl refl))
     update_runs false false pl s = one_value false false (ended E.target false (Some x) s) (end_runs false false s (inl refl))
+
+  -- ---- calls
+
+  -- an instruction that calls the function of this index, with what is above its arguments
+  abbrev pub Reaches : Instr → Stack → ℕ → Type 0
+  Reaches i above x =
+      x < length E.site.funcs → (m : Mem) (w : World) (vs : List Word) (r : List Item)
+      → act (goes.store E.site m) i (thread (frame_of E m w) (above vs) r) ≡ called (goes.store E.site m) x (thread (frame_of E m w) vs r) (host_in (slice_get E.site.funcs x))
 
   -- ---- the host
 

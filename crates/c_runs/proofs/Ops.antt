@@ -76,7 +76,7 @@ module _ (E : Env) where
   kept_here now os w m k = record { held = k.held; deep = k.deep; less = k.less; bytes = k.bytes; temps = k.temps; grown = extends_same m.homes; related = k.related; open' = k.open'; apart = k.apart; own = k.own; lasts = k.lasts; file = k.file }
 
   pub op_more : {A : Type 0} (hs hs' : List Home) (c : Code) (pre : Stack) (post : List Home → A → Stack) (Ok : List Home → A → Type 0) (x : Does A) → Extends hs hs' → OpIn hs c pre post Ok x → OpIn hs' c pre post Ok x
-  op_more hs hs' c pre post Ok x more h n has now le = h n has now (record { below = le.below; grown = extends_trans hs hs' now.homes more le.grown; seen = le.seen })
+  op_more hs hs' c pre post Ok x more h n has now le = h n has now (record { below = le.below; grown = extends_trans hs hs' now.homes more le.grown; seen = le.seen; few = le.few })
 
   pub op_any : {A : Type 0} (hs : List Home) (c : Code) (pre : Stack) (post : List Home → A → Stack) (Ok : List Home → A → Type 0) (x : Does A) → OpIn [] c pre post Ok x → OpIn hs c pre post Ok x
   op_any hs c pre post Ok x h = op_more [] hs c pre post Ok x (extends_none hs) h
@@ -113,7 +113,7 @@ module _ (E : Env) where
       let now1 = with_homes m1.homes now in
       weaker E.site (size_of xb) m1 (at_work m1 w1 (mid m1.homes v vs) (front xb.instrs r)) w1 (ToIn post vs r) (GoodIn Ok2 now1) (GoodIn Ok2 now) (f v w1)
       (λ c w2 m2 q. (q.0, kept_from now m1.homes w2.objects w2 m2 g.1.grown q.1))
-      (rb m1.homes (extends_trans hs now.homes m1.homes le.grown g.1.grown) v g.0 n' (has_back E.site.funcs E.fn n xa.seqs xb.seqs has) now1 (record { below = le.below; grown = extends_same m1.homes; seen = le.seen }) vs r dep w1 m1 (kept_here now w1.objects w1 m1 g.1)))))
+      (rb m1.homes (extends_trans hs now.homes m1.homes le.grown g.1.grown) v g.0 n' (has_back E.site.funcs E.fn n xa.seqs xb.seqs has) now1 (record { below = le.below; grown = extends_same m1.homes; seen = le.seen; few = le.few }) vs r dep w1 m1 (kept_here now w1.objects w1 m1 g.1)))))
 
   pub op_then : {A B : Type 0} (a b : Code) (pre : Stack) (mid : A → Stack) (post : B → Stack) (Ok1 : A → Type 0) (Ok2 : B → Type 0) (x : Does A) (f : A → Does B)
       → Op a pre mid Ok1 x → ((v : A) → Ok1 v → Op b (mid v) post Ok2 (f v)) → Op (a ⨾ b) pre post Ok2 (x >>= f)

@@ -238,7 +238,7 @@ module _ (E : Env) (hs : List Home) where
       (ra n (has_front E.site.funcs E.fn n ca.seqs cb.seqs has) now le vs R (depth_front cb.instrs r ∙ dep) w m k)
       (λ u w1 m1 g.
       subst (λ (us : List ℕ). Runs E.site (size_of cb) m1 (at_work E m1 w1 vs R) w1 to (λ u w2 m2. Kept E (record now { visible = us }) w2 m2) (y w1)) (append_assoc now.visible xs ys)
-      (rb n' (has_back E.site.funcs E.fn n ca.seqs cb.seqs has) now1 (record { below = le.below; grown = le.grown; seen = λ z e. visible_left now.visible xs z (le.seen z e) }) vs r dep w1 m1 g))))
+      (rb n' (has_back E.site.funcs E.fn n ca.seqs cb.seqs has) now1 (record { below = le.below; grown = le.grown; seen = λ z e. visible_left now.visible xs z (le.seen z e); few = le.few }) vs r dep w1 m1 g))))
 
   module _ (x : ℕ) (t : Ty) (scalar : IsScalar t) (u : Value) (ok : IsValue E t hs u) (arg : slice_get E.args x ≡ Some (word_of E.places t hs u)) where
     -- the argument is on top
@@ -330,7 +330,7 @@ module _ (E : Env) (hs : List Home) where
               (enters_object E x t at_x (E.objects_are x t at_x) now w m k vs n R (has_front E.site.funcs E.fn n ca.seqs cb.seqs has))
               (λ q w1 m1 g.
               weaker E.site (size_of cb) m1 (at_work E m1 w1 vs R) w1 to (GoodIn Ex (λ gs. Always E) now1) all (puts w1) (λ z w2 m2 h. h.1)
-              (puts_runs n' (has_back E.site.funcs E.fn n ca.seqs cb.seqs has) now1 (record { below = le.below; grown = le.grown; seen = λ z e. visible_right now.visible (x ∷ []) z e }) vs r dep w1 m1 g.0)))))
+              (puts_runs n' (has_back E.site.funcs E.fn n ca.seqs cb.seqs has) now1 (record { below = le.below; grown = le.grown; seen = λ z e. visible_right now.visible (x ∷ []) z e; few = le.few }) vs r dep w1 m1 g.0)))))
 
   -- these parameters, from the n-th on, have these arguments
   abbrev pub AreArgs : ℕ → Tys → List Value → Type 0

@@ -1,6 +1,6 @@
 -- What a call needs of each function, from what a store has of the unit.
-use Rattle.std.proofs.Common.{◌≡◌, ◌≢◌, ℕ, zero, suc, ◌+◌, ◌<◌, ◌≤◌, List, [], ◌∷◌, length, map, max, Bool, true, false, cond, is_some, Option, Some, None, refl, sym, ap, ◌∙◌, arith, subst}
-use Rattle.std.specs.Prelude.{get_or, nat_lt, not, position, replicate, slice_get, ◌&&◌, ◌||◌}
+use Rattle.std.proofs.Common.{◌≡◌, ◌≢◌, ℕ, zero, suc, ◌+◌, ◌<◌, ◌≤◌, List, [], ◌∷◌, length, map, max, Bool, true, false, cond, is_some, Option, Some, None, refl, sym, ap, ◌∙◌, arith, subst, ◌++◌, append_assoc, Ok, Err}
+use Rattle.std.specs.Prelude.{get_or, nat_lt, not, position, replicate, slice_get, ◌&&◌, ◌||◌, filter, ◌==◌}
 use Rattle.std.specs.List.{position_or_len}
 use Rattle.std.specs.List.{All, list_any}
 use Rattle.std.proofs.lemmas.Option.{slice_get_within}
@@ -8,6 +8,9 @@ use Rattle.std.proofs.lemmas.List.{length-map, length-replicate}
 use Rattle.std.proofs.lemmas.List.Elements.{All-head, All-tail}
 use Rattle.ms_types.specs.declared.types.FuncType.{FuncType}
 use Rattle.ms_types.specs.declared.types.ValType.{ValType}
+use Rattle.ms_linear.specs.Table.{target_in, target_of as target_at}
+use Rattle.ms_linear.specs.declared.table.CallTrap.TheVariants.{Signature}
+use Rattle.ms_linear.proofs.Targets.{same_sig-refl}
 use Rattle.ms_machine.specs.Store.{Store}
 use Rattle.ms_module.specs.declared.instr.Instr.{Instr}
 use Rattle.ms_module.specs.Numbered.{sequence_at}
@@ -18,15 +21,18 @@ use Rattle.c_meaning.specs.Units as file
 use Rattle.c_meaning.specs.Units.{in_made, main_number}
 use Rattle.c_typed.specs.declared.ops.Variable.{Variable}
 use Rattle.c_typed.specs.declared.ops.Variable.TheVariants.{Local, Global}
-use Rattle.c_types.specs.Types.{Ty, void, integer, pointer, is_function, function, Tys, no_types}
+use Rattle.c_types.specs.Types.{Ty, void, integer, pointer, function, Tys, no_types}
 use Rattle.c_typed.specs.Objects.{is_whole}
 use Rattle.c_typed.specs.Tree.{Function, Made, Stmt, Typed}
 use Rattle.c_typed.specs.Units.{IsBody, IsFunction, IsWellTyped, list_of}
 use Rattle.c_typed.specs.refinement.Types.{IsObject}
 use Rattle.c_typing.proofs.Frames.{sound_with}
+use Rattle.c_typing.proofs.Indices.{sig_through}
+use Rattle.c_typing.proofs.Lists.{equal_is}
+use Rattle.c_typing.proofs.Names.{Each, each_back, each_front}
 use Rattle.ms_emit.specs.Codes.{total}
-use Rattle.c_code.specs.Functions.{body, held_as, listed, locals, params_in, result_in}
-use Rattle.c_code.specs.Modules.{index_of, is_call_of, is_defined, is_defined_at, target_of}
+use Rattle.c_code.specs.Functions.{body, held_as, listed, locals, params_in, result_in, signature}
+use Rattle.c_code.specs.Modules.{index_of, is_call_of, is_defined, is_defined_at, is_name_of, target_of, all_functions, named, rank_in}
 use Rattle.c_code.specs.Operations.{val_of}
 use Rattle.c_stage.specs.Stage.{are_data, are_slots, in_body, in_functions, in_stage, in_stmt, is_empty, is_main, is_plain_function, is_result}
 use Rattle.c_code.specs.Uses as uses
@@ -40,8 +46,9 @@ use Rattle.c_runs.proofs.Bodies.{IsResult, is_integer_or_void, is_pointer, is_vo
 use Rattle.c_runs.proofs.Callees.{Compiled, slots_of}
 use Rattle.c_runs.proofs.Filing.{names_of}
 use Rattle.c_runs.proofs.Numbers.{never_passes}
-use Rattle.c_runs.proofs.Ready.{AreCallable, IsCallable, any_left, any_right, in_stmt_of, left_of, right_of}
+use Rattle.c_runs.proofs.Ready.{AreCallable, IsCallable, any_left, any_right, in_stmt_of, left_of, right_of, IsKnown, same_number}
 use Rattle.c_runs.proofs.Scalars.{IsVariable}
+use Rattle.c_runs.proofs.Entries.{IsTable, IsEntry}
 use Rattle.c_runs.proofs.Whole.{both}
 
 -- ---- one of a list
@@ -92,6 +99,47 @@ taken_at x [] n f b at has e = absurd cc
 taken_at x (g ∷ fs) zero f b at has e =
     left_of (file.in_body x g.body) (file.in_functions x fs) (ap (λ (o : Option Stmt). file.in_body x o) (ap (λ (h : Function). h.body) (same_one g f at) ∙ has) ∙ e)
 taken_at x (g ∷ fs) (suc n) f b at has e = right_of (file.in_body x g.body) (file.in_functions x fs) (taken_at x fs n f b at has e)
+
+-- what holds of all uses holds of those of a body
+known_at : (P : uses.Use → Type 0) (fs : List Function) (n : ℕ) (f : Function) (b : Stmt) → slice_get fs n ≡ Some f → f.body ≡ Some b → Each P (uses.in_functions fs) → Each P (uses.in_stmt b)
+known_at P [] n f b e h all = absurd cc
+known_at P (g ∷ fs) zero f b e h all =
+    subst (λ (o : Option Stmt). Each P (uses.in_body o)) (ap (λ (x : Function). x.body) (same_one g f e) ∙ h) (each_front P (uses.in_body g.body) (uses.in_functions fs) all)
+known_at P (g ∷ fs) (suc n) f b e h all = known_at P fs n f b e h (each_back P (uses.in_body g.body) (uses.in_functions fs) all)
+
+-- each use is known to the unit
+known_use : (u : Typed) (pre rest : List uses.Use) (x : uses.Use) → uses.uses u ≡ pre ++ x ∷ rest → IsKnown true u x
+known_use u pre rest (uses.names n) e = ap (list_any (is_name_of n)) e ∙ any_right (is_name_of n) pre (uses.names n ∷ rest) (same_number n (list_any (is_name_of n) rest))
+known_use u pre rest (uses.calls n) e = refl
+known_use u pre rest (uses.through t) e = (refl, sig_through u t pre rest e)
+known_use u pre rest (uses.copies n) e = tt
+
+all_known : (u : Typed) (pre rest : List uses.Use) → uses.uses u ≡ pre ++ rest → Each (IsKnown true u) rest
+all_known u pre [] e = tt
+all_known u pre (x ∷ rest) e = (known_use u pre rest x e, all_known u (pre ++ x ∷ []) rest (e ∙ sym (append_assoc pre (x ∷ []) rest)))
+
+-- a name is a use of the function
+name_is_call : (n : ℕ) (us : List uses.Use) → list_any (is_name_of n) us ≡ true → list_any (is_call_of n) us ≡ true
+name_is_call n [] e = absurd cc
+name_is_call n (uses.names m ∷ us) e = by (m == n) e (name_is_call n us) where
+  by : (b : Bool) → (b || list_any (is_name_of n) us) ≡ true → (list_any (is_name_of n) us ≡ true → list_any (is_call_of n) us ≡ true) → (b || list_any (is_call_of n) us) ≡ true
+  by true e h = refl
+  by false e h = h e
+name_is_call n (uses.calls m ∷ us) e = right_of (m == n) (list_any (is_call_of n) us) (name_is_call n us e)
+name_is_call n (uses.through t ∷ us) e = name_is_call n us e
+name_is_call n (uses.copies m ∷ us) e = name_is_call n us e
+
+-- what is among those that pass passes
+passes : (p : ℕ → Bool) (n : ℕ) (xs : List ℕ) → list_any (λ m. m == n) (filter p xs) ≡ true → p n ≡ true
+passes p n [] e = absurd cc
+passes p n (x ∷ xs) e = by (p x) refl e (passes p n xs) where
+  of_first : (b : Bool) → (x == n) ≡ b → p x ≡ true → (b || list_any (λ m. m == n) (filter p xs)) ≡ true → (list_any (λ m. m == n) (filter p xs) ≡ true → p n ≡ true) → p n ≡ true
+  of_first true q h e' rest = ap p (sym (equal_is x n q)) ∙ h
+  of_first false q h e' rest = rest e'
+
+  by : (b : Bool) → p x ≡ b → list_any (λ m. m == n) (cond b (x ∷ filter p xs) (filter p xs)) ≡ true → (list_any (λ m. m == n) (filter p xs) ≡ true → p n ≡ true) → p n ≡ true
+  by true q e' rest = of_first (x == n) refl q e' rest
+  by false q e' rest = rest e'
 
 defined_or : (d used : Bool) → (not d && used) ≡ false → used ≡ true → d ≡ true
 defined_or true used e h = refl
@@ -145,21 +193,17 @@ not_empty : (ts : List Ty) → 0 < length ts → ts ≢ []
 not_empty [] lt e = absurd (omega (arith, lt))
 not_empty (t ∷ ts) lt e = absurd cc
 
-not_true : (b : Bool) → not b ≡ true → b ≡ false
-not_true true e = absurd cc
-not_true false e = refl
-
 result_kind : (f : Function) (t : Ty) → is_result f t ≡ true → IsResult t
 result_kind f void e = is_void refl
 result_kind f (integer u) e = Rattle.c_runs.proofs.Bodies.is_integer u refl
-result_kind f (pointer s) e = is_pointer s refl (not_true (is_function s) (both (not (is_function s)) (not (is_main f)) e).0)
+result_kind f (pointer s) e = is_pointer s refl
 result_kind f _ e = absurd cc
 
 -- `main` gives no pointer
 main_kind : (f : Function) (t : Ty) → is_main f ≡ true → is_result f t ≡ true → is_integer_or_void t ≡ true
 main_kind f void m e = refl
 main_kind f (integer u) m e = refl
-main_kind f (pointer s) m e = absurd (let q = (both (not (is_function s)) (not (is_main f)) e).1 in let z : not (is_main f) ≡ false = ap not m in let w : true ≡ false = sym q ∙ z in cc)
+main_kind f (pointer s) m e = absurd (let z : not (is_main f) ≡ false = ap not m in let w : true ≡ false = sym e ∙ z in cc)
 main_kind f _ m e = absurd cc
 
 at_first : (p : Function → Bool) (fs : List Function) (f : Function) → slice_get fs (position_or_len p fs) ≡ Some f → p f ≡ true
@@ -186,6 +230,35 @@ mem_of s = record { globals = s.globals; segments = s.segments; homes = []; temp
 module _ (u : Typed) (s : Store) (well : IsWellTyped u) (staged : in_stage u ≡ true) (placed : IsPlaced u s) where
   pub linked : Linked (site_of u s)
   linked = record { inst = placed.inst; alone = placed.alone; all = placed.all; shared = placed.shared; three = placed.three; putchar = placed.putchar; getchar = placed.getchar; abort = placed.abort }
+
+  -- a function that is a value is defined
+  named_callable : (n : ℕ) → list_any (λ m. m == n) (named u) ≡ true → IsCallable u n
+  named_callable n e lt =
+      defined_or (is_defined_at u n) (list_any (is_call_of n) (uses.uses u))
+      (never_passes (λ k. not (is_defined_at u k) && list_any (is_call_of k) (uses.uses u)) (length u.functions) placed.none_imported n lt)
+      (name_is_call n (uses.uses u) (passes (λ k. list_any (is_name_of k) (uses.uses u)) n (all_functions u) e))
+
+  table_entries : (n : ℕ) (t : Ty) → IsEntry u t n → target_at placed.table.entries (suc (rank_in (named u) n)) (signature t) ≡ Ok (record { address = index_of u n })
+  table_entries n t e =
+      let f = get_mapped u.functions n t e.typed in
+      let b = defined_by f.0.body (ap is_defined (sym f.1) ∙ named_callable n e.among (slice_get_within u.functions n f.0 f.1)) in
+      ap (target_in (signature t)) (placed.entries n f.0 b.0 f.1 b.1 e.among)
+      ∙ ap (λ (q : Ty). target_in (signature t) (Some (Some (record { func = record { address = index_of u n }; sig = signature q })))) f.2
+      ∙ ap (λ (x : Bool). cond x (Ok (record { address = index_of u n })) (Err Signature)) (same_sig-refl (signature t))
+
+  pub table : IsTable (site_of u s) u
+  table = record {
+    few = placed.few;
+    inst = placed.inst;
+    alone = placed.alone;
+    has_table = placed.has_table;
+    types = placed.types;
+    table = placed.table;
+    tables = placed.tables;
+    empty = placed.empty;
+    entries = table_entries;
+    callable = named_callable;
+  }
 
   split : (is_empty u.made ≡ true) × (in_functions u.functions ≡ true)
   split = let q = both (is_empty u.made) (is_empty u.globals && in_functions u.functions) staged in (q.0, (both (is_empty u.globals) (in_functions u.functions) q.1).1)
@@ -228,6 +301,11 @@ module _ (u : Typed) (s : Store) (well : IsWellTyped u) (staged : in_stage u ≡
         (never_passes (λ k. not (is_defined_at u k) && list_any (is_call_of k) (uses.uses u)) (length u.functions) placed.none_imported m lt)
         (any_right (is_call_of m) (uses.in_made u.made) (uses.in_functions u.functions) (used_at m u.functions n found.0 b found.1 e' used))
 
+    known : (b : Stmt) → found.0.body ≡ Some b → Each (IsKnown true u) (uses.in_stmt b)
+    known b e' =
+        known_at (IsKnown true u) u.functions n found.0 b found.1 e'
+        (each_back (IsKnown true u) (uses.in_made u.made) (uses.in_functions u.functions) (all_known u [] (uses.uses u) refl))
+
     pub compiled : IsCallable u n → Compiled (site_of u s) u n t ps
     compiled is_callable =
         let f = found.0 in
@@ -260,8 +338,9 @@ module _ (u : Typed) (s : Store) (well : IsWellTyped u) (staged : in_stage u ≡
           begins = bd.0.1;
           well = bd.2;
           slots_are = slots_of f.slots st.0;
-          ready = record { in_stage = st.1; callable = callable b.0 b.1; objects = objects_taken f n b.0 found.1 b.1 };
+          ready = record { in_stage = st.1; callable = callable b.0 b.1; known = known b.0 b.1; objects = objects_taken f n b.0 found.1 b.1 };
           result = result_kind f t plain_here.0;
+          table = table;
           args = replicate (target_of u f b.0).first (I32 0);
           first_is = sym (length-replicate (target_of u f b.0).first (I32 0));
           laid_out = well.laid_out;

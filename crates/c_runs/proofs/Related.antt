@@ -1,6 +1,6 @@
 -- Variables and locals; and what is known of a function that is carried out.
 use Rattle.ms_machine.specs.Running.{AreBytes}
-use Rattle.std.proofs.Common.{◌≡◌, ◌≢◌, ℕ, zero, suc, ◌+◌, ◌^◌, ◌<◌, ◌≤◌, List, [], ◌∷◌, ◌++◌, length, true, false, Some, refl, sym, ap, ◌∙◌, arith, subst}
+use Rattle.std.proofs.Common.{◌≡◌, ◌≢◌, ℕ, zero, suc, ◌+◌, ◌^◌, ◌<◌, ◌≤◌, List, [], ◌∷◌, ◌++◌, length, Bool, true, false, Some, refl, sym, ap, ◌∙◌, arith, subst}
 use Rattle.std.specs.Prelude.{slice_get, slice_set}
 use Rattle.ms_linear.specs.declared.value.Value.{Value as Word}
 use Rattle.ms_module.specs.declared.instr.Instr.{Instr}
@@ -17,11 +17,13 @@ use Rattle.c_meaning.specs.World.{Held, plain, World}
 use Rattle.c_meaning.specs.Expressions.{Calls}
 use Rattle.ms_emit.specs.Codes.{total}
 use Rattle.c_typed.specs.refinement.Expressions.{is_visible}
+use Rattle.c_code.specs.Modules.{entry_of, index_of, sig_of}
 use Rattle.c_code.specs.Targets.{Target}
 use Rattle.ms_relate.specs.refinement.Homes.{Home}
 use Rattle.ms_relate.specs.refinement.Laid.{Fits}
 use Rattle.ms_relate.specs.refinement.Relation.{Related}
 use Rattle.ms_relate.proofs.Growing.{Extends}
+use Rattle.c_runs.proofs.Entries.{IsTable, places_of}
 use Rattle.c_runs.proofs.Goes.{Site, Mem}
 use Rattle.c_runs.proofs.Held.{AreApart, AreHeld, AreOpen, AreOwn, IsHeld, Lasts, Slot, words}
 use Rattle.c_runs.proofs.Files.{Filed, Reached}
@@ -39,17 +41,24 @@ pub record IsSlot (table : Table) (t : Ty) : Type 0 where
 pub record Env : Type 0 where
   pub site : Site
   pub unit : Typed
-  -- the entry of a function in the table, but for one
-  pub places : ℕ → ℕ
+  -- the entry of a function in the table, but for one, by the type of a pointer to it
+  pub places : Ty → ℕ → ℕ
+  pub places_are : places ≡ places_of unit
+  pub table : IsTable site unit
   pub target : Target
   pub structs_are : target.structs ≡ unit.structs
+  pub entries_are : target.entry ≡ entry_of unit
+  pub indices_are : target.index ≡ index_of unit
+  pub sigs_are : target.sig ≡ sig_of unit
   -- structs are laid out, each with a member
   pub laid_out : IsLaidOut unit.structs
   pub has_members : (n : ℕ) (l : Layout) → layout_at unit.structs n ≡ Some l → l.members ≢ []
   -- the locals in front of the slots
   pub args : List Word
   pub first_is : target.first ≡ length args
+  -- what calls do, and whether any may stand here
   pub calls : Calls
+  pub may_call : Bool
   -- fuel is below it; of loops, too
   pub bound : ℕ
   pub turn_bound : ℕ
@@ -66,6 +75,8 @@ pub record Env : Type 0 where
   -- behind them are the scratch locals, and those of so many values that wait
   pub scratch_is : target.scratch ≡ length args + length slots
   pub waits : ℕ
+  -- so many of them wait at most where a piece of code begins
+  pub pending : ℕ
   pub result : Ty
   -- how many calls are open: of the machine, and of C
   pub depth : ℕ
@@ -102,7 +113,7 @@ pub record Temps (all waits : ℕ) (before after : List Word) : Type 0 where
   pub stay : (j : ℕ) → j < waits → slice_get after (4 + j) ≡ slice_get before (4 + j)
 
 -- what is kept, where the segments are those of these objects
-pub record Keeps (structs : Table) (places : ℕ → ℕ) (kinds files : List Slot) (reached : Reached) (shared depth all : ℕ) (now : Now) (os : List Object) (w : World) (m : Mem) : Type 0 where
+pub record Keeps (structs : Table) (places : Ty → ℕ → ℕ) (kinds files : List Slot) (reached : Reached) (shared depth all : ℕ) (now : Now) (os : List Object) (w : World) (m : Mem) : Type 0 where
   pub held : AreHeld structs places kinds m.homes w.locals
   pub deep : w.depth ≡ depth
   pub less : w.fuel < now.below
@@ -129,14 +140,15 @@ Sees vs us = (x : ℕ) → is_visible vs x ≡ true → is_visible us x ≡ true
 pub sees_none : (us : List ℕ) → Sees [] us
 sees_none us x e = absurd cc
 
--- objects have these homes at least, these variables may be named, and the calls' bound is above
-pub record StartsIn (bound : ℕ) (visible : List ℕ) (hs : List Home) (now : Now) : Type 0 where
+-- objects have these homes at least, these variables may be named, no more values wait, and the calls' bound is above
+pub record StartsIn (bound pending : ℕ) (visible : List ℕ) (hs : List Home) (now : Now) : Type 0 where
   pub below : now.below ≤ bound
   pub grown : Extends hs now.homes
   pub seen : Sees visible now.visible
+  pub few : now.waits ≤ pending
 
 abbrev pub Starts : Env → List Home → Now → Type 0
-Starts E hs now = StartsIn E.bound E.visible hs now
+Starts E hs now = StartsIn E.bound E.pending E.visible hs now
 
 -- the same with other homes at the start
 abbrev pub with_homes : List Home → Now → Now
@@ -149,6 +161,10 @@ seeing vs E = record E { visible = vs }
 -- the variables at file scope are held so
 abbrev pub FiledIn : Env → World → Mem → Type 0
 FiledIn E w m = Filed E.unit.structs E.places E.files E.reached E.site.shared m.homes w.globals w.literals m.globals
+
+-- where so many values wait
+abbrev pub beside : ℕ → Env → Env
+beside d E = record E { pending = d }
 
 -- the variables are held so
 abbrev pub Holds : Env → Mem → World → Type 0

@@ -64,19 +64,30 @@ point = tree.assign scalars.Pointer (tree.of (Local 1)) (tree.address (tree.of (
 abbrev set_there : Expr
 set_there = tree.assign (scalars.Int Int) (tree.deref (tree.read scalars.Pointer (tree.of (Local 1)))) (number 3)
 
--- int main(void){int x; int *p; p=&x; *p=3; while(x){switch(x){..} x=x+-1;} return f(x);}
+abbrev takes_one : Ty
+takes_one = function i (types i no_types)
+
+-- g=f
+abbrev set_g : Expr
+set_g = tree.assign scalars.Function (tree.of (Local 2)) (tree.function 2)
+
+-- g(x)
+abbrev of_x : Expr
+of_x = tree.call_through takes_one (Some (scalars.Int Int)) (tree.read scalars.Function (tree.of (Local 2))) (tree.more x tree.none)
+
+-- int main(void){int x; int *p; int (*g)(int); p=&x; *p=3; g=f; while(x){switch(x){..} x=x+-1;} return g(x);}
 abbrev main_body : Stmt
 main_body =
-    tree.scope (0 ∷ 1 ∷ []) (tree.seq (tree.perform point) (tree.seq (tree.perform set_there) (tree.seq
+    tree.scope (0 ∷ 1 ∷ 2 ∷ []) (tree.seq (tree.perform point) (tree.seq (tree.perform set_there) (tree.seq (tree.perform set_g) (tree.seq
     (tree.loop x None (tree.scope [] (tree.seq digit (tree.seq (tree.perform (set_x (more_than_x 4294967295))) tree.done))))
-    (tree.seq (tree.return (tree.call 2 (Some (scalars.Int Int)) (tree.more x tree.none))) tree.done))))
+    (tree.seq (tree.return of_x) tree.done)))))
 
 -- int f(int n){return 7/n;}
 abbrev f_body : Stmt
 f_body = tree.return (tree.binary ops.Div Int (number 7) x)
 
 abbrev main_is : Function
-main_is = record { name = codes "main"; ty = function i no_types; slots = i ∷ pointer i ∷ []; body = Some main_body }
+main_is = record { name = codes "main"; ty = function i no_types; slots = i ∷ pointer i ∷ pointer takes_one ∷ []; body = Some main_body }
 
 abbrev f_is : Function
 f_is = record { name = codes "f"; ty = function i (types i no_types); slots = i ∷ []; body = Some f_body }
@@ -97,10 +108,10 @@ abbrev Other : Function → Function → Type 0
 Other f g = g.name ≡ f.name → ⊥
 
 abbrev context : Context
-context = context_of unit (i ∷ pointer i ∷ []) 0
+context = context_of unit (i ∷ pointer i ∷ pointer takes_one ∷ []) 0
 
 -- where its variables are visible
-digit_typed : IsStatement (opened context (0 ∷ 1 ∷ [])) i in_loop digit
+digit_typed : IsStatement (opened context (0 ∷ 1 ∷ 2 ∷ [])) i in_loop digit
 digit_typed = (
   refl,
   (refl, (refl, refl)),
@@ -117,21 +128,25 @@ main_typed = (
   refl,
   (tt, tt, tt),
   (
-    (i ∷ pointer i ∷ [], refl),
-    All-cons (IsObject []) i (pointer i ∷ []) (tt, (tt, omega arith)) (All-cons (IsObject []) (pointer i) [] ((tt, tt), (tt, omega arith)) (All-nil (IsObject []))),
+    (i ∷ pointer i ∷ pointer takes_one ∷ [], refl),
+    All-cons (IsObject []) i (pointer i ∷ pointer takes_one ∷ []) (tt, (tt, omega arith)) (All-cons (IsObject []) (pointer i) (pointer takes_one ∷ []) ((tt, tt), (tt, omega arith))
+        (All-cons (IsObject []) (pointer takes_one) [] ((tt, (tt, tt, (tt, tt, tt))), (tt, omega arith)) (All-nil (IsObject [])))),
     (
-      (omega arith, refl, (omega arith, refl, tt)),
+      (omega arith, refl, (omega arith, refl, (omega arith, refl, tt))),
       (
         (pointer i, (refl, (refl, refl), (i, refl, (refl, refl)))),
         (
           (i, (refl, (refl, (refl, (refl, refl))), (refl, omega arith))),
           (
+            (pointer takes_one, (refl, (refl, refl), (takes_one, refl, refl))),
             (
-              (Int, omega arith, (refl, (refl, refl))),
-              tt,
-              (tt, (digit_typed, ((i, (refl, (refl, refl), (refl, refl, (refl, (refl, refl)), (refl, omega arith)))), tt))),
+              (
+                (Int, omega arith, (refl, (refl, refl))),
+                tt,
+                (tt, (digit_typed, ((i, (refl, (refl, refl), (refl, refl, (refl, (refl, refl)), (refl, omega arith)))), tt))),
+              ),
+              ((tt, (types i no_types, refl, refl, (refl, (refl, refl)), ((refl, (refl, refl)), tt))), tt),
             ),
-            ((tt, (types i no_types, refl, refl, ((refl, (refl, refl)), tt))), tt),
           ),
         ),
       ),
@@ -194,11 +209,11 @@ sample_executed : (input : Input) → AreBytes input → (budget : ℕ) → Mean
 sample_executed input bytes budget =
     executed_behaves unit 64 1000 budget st (func_thread st 3 ∷ []) input well refl linked_is tasks_are bytes
 
-sample_run : bytes_of (run_at st 3 [] 200).deeds ≡ codes "321"
+sample_run : bytes_of (run_at st 3 [] 300).deeds ≡ codes "321"
 unfolding sequence
 sample_run = refl
 
-sample_end : (run_at st 3 [] 200).end ≡ Trap (Task 0) traps.Zero
+sample_end : (run_at st 3 [] 300).end ≡ Trap (Task 0) traps.Zero
 unfolding sequence
 sample_end = refl
 

@@ -1,4 +1,4 @@
--- Types of variables, integer types and those of pointers that lead to no function, and what a variable of one begins with: zero, or null.
+-- Types of variables of one value, integer types and those of pointers, and what a variable of one begins with: zero, or null.
 use Rattle.std.proofs.Common.{◌≡◌, ◌≢◌, ℕ, List, [], ◌∷◌, Bool, true, false, Option, Some, None, refl, sym, ap, ◌∙◌, arith, subst}
 use Rattle.std.specs.Prelude.{ℤ, pos, not, cond, slice_get, if◌then◌else◌}
 use Rattle.ms_num.specs.Integers.{truth as bit}
@@ -35,7 +35,7 @@ use Rattle.c_code.specs.Operations.{eqz, integer_type, truth, val_type, width_of
 use Rattle.c_stage.specs.Stage.{is_data, is_variable}
 use Rattle.c_numbers.specs.Operands.{IsIn, carried, operand, word}
 use Rattle.ms_relate.specs.refinement.Homes as homes
-use Rattle.ms_relate.specs.refinement.Homes.{Home, IsScalar, handle, handle_in, handle_to, is_null, span_of}
+use Rattle.ms_relate.specs.refinement.Homes.{Home, IsScalar, handle, handle_in, handle_to, is_no_function, is_null, span_of}
 use Rattle.ms_relate.proofs.Acts.{act_gives}
 use Rattle.ms_relate.proofs.Shapes.{shape_good}
 use Rattle.c_typing.proofs.Sound.{sized_is}
@@ -51,16 +51,12 @@ use Rattle.c_runs.proofs.Cells.{pointer_word}
 
 abbrev pub IsData : Ty → Type 0
 IsData (integer u) = Unit {0}
-IsData (pointer t) = is_function t ≡ false
+IsData (pointer t) = Unit {0}
 IsData _ = ⊥
-
-not_true : (b : Bool) → not b ≡ true → b ≡ false
-not_true true e = absurd cc
-not_true false e = refl
 
 pub data_type : (t : Ty) → is_data t ≡ true → IsData t
 data_type (integer u) e = tt
-data_type (pointer t) e = not_true (is_function t) e
+data_type (pointer t) e = tt
 data_type _ e = absurd cc
 
 -- a variable that is an array or a struct is an object
@@ -71,7 +67,7 @@ IsVariable t = IsData t
 
 pub variable_type : (t : Ty) → is_variable t ≡ true → IsVariable t
 variable_type (integer u) e = tt
-variable_type (pointer t) e = not_true (is_function t) e
+variable_type (pointer t) e = tt
 variable_type (array t n) e = tt
 variable_type (struct n) e = tt
 variable_type _ e = absurd cc
@@ -129,20 +125,26 @@ zero_number W32 = refl
 zero_number W64 = refl
 
 -- the local of a plain variable begins so
-pub zero_word : (places : ℕ → ℕ) (t : Ty) → IsData t → (hs : List Home) → default_of (held_as false t) ≡ word_of places t hs (zero_value t)
+pub zero_word : (places : Ty → ℕ → ℕ) (t : Ty) → IsData t → (hs : List Home) → default_of (held_as false t) ≡ word_of places t hs (zero_value t)
 zero_word places (integer u) d hs = zero_number (width_of u)
-zero_word places (pointer t) d hs =
-    ap (λ (b : Bool). default_of (val_or_handle (Some (val_type (if b then scalars.Function else scalars.Pointer))))) d
-    ∙ sym (ap (λ (b : Bool). cond (cond b false true) (Handle (handle hs null)) (I32 (homes.word places (pointer t) null))) d)
-    ∙ ap (λ (b : Bool). word_of places (pointer t) hs (if b then no_function else null)) (sym d)
+zero_word places (pointer t) d hs = by (is_function t) where
+  zero : Bool → Value
+  zero b = if b then no_function else null
+
+  by : (b : Bool) → default_of (val_or_handle (Some (val_type (if b then scalars.Function else scalars.Pointer)))) ≡ cond (cond b false true) (Handle (handle hs (zero b))) (I32 (homes.word places (pointer t) (zero b)))
+  by true = refl
+  by false = refl
 zero_word places void d hs = absurd d
 zero_word places (struct n) d hs = absurd d
 zero_word places (array t n) d hs = absurd d
 zero_word places (function r ps) d hs = absurd d
 
-pub zero_held : (table : Table) (places : ℕ → ℕ) (t : Ty) → IsData t → (hs : List Home) → IsValueOf table places t hs (zero_value t)
+pub zero_held : (table : Table) (places : Ty → ℕ → ℕ) (t : Ty) → IsData t → (hs : List Home) → IsValueOf table places t hs (zero_value t)
 zero_held table places (integer u) d hs = zero_in u
-zero_held table places (pointer t) d hs = subst (λ (b : Bool). homes.IsOf table places hs (pointer t) (if b then no_function else null)) (sym d) (is_null d)
+zero_held table places (pointer t) d hs = by (is_function t) refl where
+  by : (b : Bool) → is_function t ≡ b → homes.IsOf table places hs (pointer t) (if b then no_function else null)
+  by true e = is_no_function e
+  by false e = is_null e
 zero_held table places void d hs = absurd d
 zero_held table places (struct n) d hs = absurd d
 zero_held table places (array t n) d hs = absurd d
@@ -161,6 +163,22 @@ module _ (E : Env) (t : Ty) (data_is : is_function t ≡ false) where
   )
 
 -- ---- a pointer as a condition
+
+-- the scalar of a type of pointers, by where they lead
+abbrev pub pointer_by : Bool → Scalar
+pointer_by b = if b then scalars.Function else scalars.Pointer
+
+-- a type whose scalar is that of functions is one of pointers to functions
+pub function_type : (t : Ty) → scalar_of t ≡ Some scalars.Function → (u : Ty) × (t ≡ pointer u) × (is_function u ≡ true)
+function_type (pointer u) e = (u, refl, by (is_function u) e) where
+  by : (b : Bool) → Some (pointer_by b) ≡ Some scalars.Function → b ≡ true
+  by true f = refl
+  by false f = absurd cc
+function_type (integer v) e = absurd cc
+function_type void e = absurd cc
+function_type (struct n) e = absurd cc
+function_type (array v n) e = absurd cc
+function_type (function r ps) e = absurd cc
 
 pub pointer_type : (t : Ty) → scalar_of t ≡ Some scalars.Pointer → (u : Ty) × (t ≡ pointer u) × (is_function u ≡ false)
 pointer_type (pointer u) e = (u, refl, by (is_function u) e) where
@@ -185,7 +203,7 @@ no_null (Some h) p = leads_on p.sealed h.id (span_of h p.path) p.index
 abbrev IsTrue : List Home → Value → Type 0
 IsTrue hs v = (b : Bool) × (is_no_handle (handle hs v) ≡ not b) × (is_true v ≡ pure b)
 
-pointer_truth : (table : Table) (places : ℕ → ℕ) (hs : List Home) (t : Ty) (v : Value) → is_function t ≡ false → homes.IsOf table places hs (pointer t) v → IsTrue hs v
+pointer_truth : (table : Table) (places : Ty → ℕ → ℕ) (hs : List Home) (t : Ty) (v : Value) → is_function t ≡ false → homes.IsOf table places hs (pointer t) v → IsTrue hs v
 pointer_truth table places hs t v d (is_null e) = (false, refl, refl)
 pointer_truth table places hs t v d (homes.is_invalid e) = (true, refl, refl)
 pointer_truth table places hs t v d (homes.is_pointer {p = p} h s e at span shape near) = (true, no_null (slice_get hs p.object) p, refl)

@@ -18,7 +18,7 @@ use Rattle.ms_relate.specs.refinement.Homes.{Home}
 use Rattle.c_runs.proofs.Goes.{Goes, Mem, Runs, RunsTo, behind_goes, bind, goes_on, here, shifts, sized, tells_nothing, weaker}
 use Rattle.c_runs.proofs.Held.{AreOpen, Slot, ending, found, other_kind}
 use Rattle.c_runs.proofs.Ending.{Differ, Disjoint, ending_both, ending_lasts, ending_lives, leave_is, visible_either, visible_first, visible_left, visible_rest, visible_right}
-use Rattle.c_runs.proofs.Related.{Env, HasAll, Kept, Starts, KeptAs, Now, depth_front, front, front_append, has_back, has_front, kept_seen, kept_temps, seeing}
+use Rattle.c_runs.proofs.Related.{Env, HasAll, Kept, Starts, KeptAs, Now, depth_front, front, front_append, has_back, has_front, kept_seen, kept_temps, seeing, beside}
 use Rattle.c_runs.proofs.Ops.{Op, at_work, same, size_joined}
 use Rattle.c_runs.proofs.Nodes.{Always, gone}
 use Rattle.c_runs.proofs.Flows.{Around, FlowIn, FlowOut, FlowRuns, GoodFlow, IsAt, Off, Way, after_flow, ahead, around_front, starts, to_flow, way}
@@ -196,10 +196,10 @@ pub open_plain_too : (E : Env) (now : Now) (w : World) (x : ℕ) (t : Ty) → sl
 open_plain_too E now w x t at h i u seen at' =
     visible_either now.visible (x ∷ []) i seen (λ old. h i u old at') (λ new. absurd (other_kind E.kinds x i t u at at' (only_one x i new)))
 
-module _ (E : Env) (zeros : (x : ℕ) (t : Ty) → slice_get E.kinds x ≡ Some (t, false) → Op E (zeroed E.target (Local x) (scalar_of t)) same (gone E) (Always E) (hold (Local x) (plain (zero_value t)))) where
+module _ (E : Env) (zeros : (d x : ℕ) (t : Ty) → slice_get E.kinds x ≡ Some (t, false) → Op (beside d E) (zeroed E.target (Local x) (scalar_of t)) same (gone E) (Always E) (hold (Local x) (plain (zero_value t)))) where
   abbrev Enters : Code → List ℕ → Does (Unit {0}) → Type 0
   Enters c ns x =
-      (n : ℕ) → HasAll E.site.funcs E.fn n (c n).seqs → (now : Now) → Starts E [] now → (vs : List Word) (r : List Item) → depth_of r ≡ E.depth → (w : World) (m : Mem) → Kept E now w m
+      (n : ℕ) → HasAll E.site.funcs E.fn n (c n).seqs → (now : Now) → Starts (beside now.waits E) [] now → (vs : List Word) (r : List Item) → depth_of r ≡ E.depth → (w : World) (m : Mem) → Kept E now w m
       → Runs E.site (size_of (c n)) m (at_work E m w vs (front (c n).instrs r)) w (λ u w1 m1. at_work E m1 w1 vs r) (λ u w1 m1. Kept E (record now { visible = now.visible ++ ns }) w1 m1) (x w)
 
   abbrev enters_slot : ℕ → Slot → Does (Unit {0})
@@ -209,7 +209,7 @@ module _ (E : Env) (zeros : (x : ℕ) (t : Ty) → slice_get E.kinds x ≡ Some 
   enters_plain x t at n has now le vs r dep w m k =
       weaker E.site (size_of (entered E.target false (Local x) t n)) m (at_work E m w vs (front (entered E.target false (Local x) t n).instrs r)) w (λ u w1 m1. at_work E m1 w1 vs r) (λ u w1 m1. Always E u × Kept E now w1 m1) (λ u w1 m1. Kept E (record now { visible = now.visible ++ x ∷ [] }) w1 m1) (enters_slot x (t, false) w)
       (λ u w1 m1 g. kept_seen E now (now.visible ++ x ∷ []) w1.objects w1 m1 (open_plain_too E now w1 x t at g.1.open') g.1)
-      (zeros x t at n has now le vs r dep w m k)
+      (zeros now.waits x t at n has now le vs r dep w m k)
 
   enters_made : (x : ℕ) (t : Ty) → slice_get E.kinds x ≡ Some (t, true) → Enters (made E.target (Local x) (size E.unit.structs t)) (x ∷ []) (enters_slot x (t, true))
   enters_made x t at n has now le vs r dep w m k =
@@ -253,7 +253,7 @@ module _ (E : Env) (zeros : (x : ℕ) (t : Ty) → slice_get E.kinds x ≡ Some 
       (λ u w1 m1 g.
       subst (λ (us : List ℕ). Runs E.site (size_of cb) m1 (at_work E m1 w1 vs R) w1 to (λ u w2 m2. Kept E (record now { visible = us }) w2 m2) (rest u w1)) (append_assoc now.visible (x ∷ []) ns)
       (enters_all ns (λ y e. among y (visible_rest x y ns e)) n' (has_back E.site.funcs E.fn n ca.seqs cb.seqs has) now1
-      (record { below = le.below; grown = le.grown; seen = λ y e. visible_left now.visible (x ∷ []) y (le.seen y e) }) vs r dep w1 m1 g))))
+      (record { below = le.below; grown = le.grown; seen = λ y e. visible_left now.visible (x ∷ []) y (le.seen y e); few = le.few }) vs r dep w1 m1 g))))
 
   -- ---- a block, and a switch's
 
@@ -274,7 +274,7 @@ module _ (E : Env) (zeros : (x : ℕ) (t : Ty) → slice_get E.kinds x ≡ Some 
     abbrev opened_by : Now → Now
     opened_by now = record now { visible = now.visible ++ ns }
 
-    entered_then : (l : Way) (b c : ℕ) (B : Code) (y : Does Flow) (n : ℕ) → HasAll E.site.funcs E.fn n (whole B n).seqs → (now now' : Now) → IsAt E l.depth now → Starts E [] now' → (vs : List Word) (r br cr rr : List Item) (caller : Frame) → Around E vs r b c l br cr rr caller → depth_of r ≡ E.depth
+    entered_then : (l : Way) (b c : ℕ) (B : Code) (y : Does Flow) (n : ℕ) → HasAll E.site.funcs E.fn n (whole B n).seqs → (now now' : Now) → IsAt E l.depth now → Starts (beside now'.waits E) [] now' → (vs : List Word) (r br cr rr : List Item) (caller : Frame) → Around E vs r b c l br cr rr caller → depth_of r ≡ E.depth
         → (w : World) (m : Mem) → Kept E now' w m
         → ((n' : ℕ) (R : List Item) → Around E vs R b c l br cr rr caller → depth_of R ≡ E.depth → HasAll E.site.funcs E.fn n' (B n').seqs → size_of (B n') ≤ size_of (whole B n) → (w1 : World) (m1 : Mem) → Kept E (opened_by now') w1 m1
         → Runs E.site (size_of (B n')) m1 (at_work E m1 w1 vs (front (B n').instrs R)) w1 (to_flow within_block vs R br cr rr caller) (GoodFlow within_block (in_it l) (opened_by now)) (y w1))
@@ -298,7 +298,7 @@ module _ (E : Env) (zeros : (x : ℕ) (t : Ty) → slice_get E.kinds x ≡ Some 
 
     pub scope_runs : (l : Way) (b c : ℕ) (B : Code) (y : Does Flow) → FlowRuns within_block (in_it l) b c B same y → FlowRuns E l b c (whole B) same (enter E.unit E.calls E.turn_bound E.kinds ns >> block_of y)
     scope_runs l b c B y h n has small now le vs r br cr rr caller a dep w m k =
-        entered_then l b c B y n has now now le (starts E l.depth now le) vs r br cr rr caller a dep w m k
+        entered_then l b c B y n has now now le (starts E now.waits now (record { below = le.below; waits = refl; seen = le.seen })) vs r br cr rr caller a dep w m k
         (λ n' R a' dep' has' fits w1 m1 k1.
         h n' has' (omega (arith, small, fits)) (opened_by now) (record { below = le.below; waits = le.waits; seen = ap (λ (us : List ℕ). us ++ ns) le.seen }) vs R br cr rr caller
         (record { breaks = a'.breaks; continues = a'.continues; returns = a'.returns }) dep' w1 m1 k1)

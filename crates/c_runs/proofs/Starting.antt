@@ -1,7 +1,7 @@
 -- Before `main`: the objects of variables at file scope and of string literals are made, in the order of their tokens. One that is
 -- refused ends the program.
-use Rattle.std.proofs.Common.{◌≡◌, ◌≢◌, ℕ, zero, suc, ◌+◌, ◌*◌, ◌^◌, ◌<◌, ◌≤◌, List, [], ◌∷◌, ◌++◌, length, append-nil, append_assoc, Bool, true, false, Option, Some, None, refl, sym, ap, ◌∙◌, arith, subst, T, ltb→lt}
-use Rattle.std.specs.Prelude.{pos, cond, get_or, nat_lt, slice_get, slice_set, ◌&&◌}
+use Rattle.std.proofs.Common.{◌≡◌, ◌≢◌, ℕ, suc, ◌+◌, ◌*◌, ◌^◌, ◌<◌, ◌≤◌, List, [], ◌∷◌, ◌++◌, length, append-nil, append_assoc, Bool, true, false, Option, Some, None, refl, sym, ap, ◌∙◌, arith, subst}
+use Rattle.std.specs.Prelude.{pos, cond, get_or, slice_get, slice_set}
 use Rattle.std.proofs.lemmas.Option.{slice_get_within}
 use Rattle.ms_handle.specs.declared.handle.Handle.{Handle as HandleOf}
 use Rattle.ms_handle.specs.declared.handle.Handle.TheVariants as handles
@@ -27,13 +27,12 @@ use Rattle.c_typed.specs.Tree.{Made as IsMade, Stmt, Typed}
 use Rattle.c_typed.specs.Units.{IsWellTyped, literals_in, variables_in}
 use Rattle.c_meaning.specs.Shapes.{Shape, shape, size}
 use Rattle.c_meaning.specs.Objects.{frame, to_object}
-use Rattle.c_meaning.specs.World.{exhausted, ungranted, Held, object, World, Result, gives, ends, Does, after, ◌>>=◌, ◌>>◌, pure, known}
+use Rattle.c_meaning.specs.World.{exhausted, ungranted, Held, object, World, Result, gives, ends, Does, after, ◌>>=◌, pure, known}
 use Rattle.c_meaning.specs.Accesses.{hold, make_frame}
-use Rattle.c_meaning.specs.Units as meaning
 use Rattle.c_meaning.specs.Units.{is_global_object, make_each, make_global, no_calls, remember, string}
 use Rattle.ms_emit.specs.Codes.{Code, no_code, ◌⨾◌, size_of}
 use Rattle.c_code.specs.Functions.{makes, start}
-use Rattle.c_code.specs.Modules.{defined, imported, named, rank_in, start_target, waits_made}
+use Rattle.c_code.specs.Modules.{start_target, waits_made}
 use Rattle.c_code.specs.Operations.{i32}
 use Rattle.c_code.specs.Statements.{made}
 use Rattle.c_code.specs.Targets.{Target}
@@ -44,8 +43,9 @@ use Rattle.c_runs.specs.Placed.{start_index}
 use Rattle.c_runs.proofs.Goes as goes
 use Rattle.c_runs.proofs.Goes.{Goes, Mem, Runs, RunsTo, Site, Stops, Tells, agrees_after, bind, goes_on, here, one_here, resize_to, sized, stops_behind, tells_nothing, trapped}
 use Rattle.c_runs.proofs.Held.{IsObjectAt, set_there}
+use Rattle.c_runs.proofs.Entries.{IsTable, places_of}
 use Rattle.c_runs.proofs.Files.{Filed, Reached, filed_named, filed_object, filed_text, global_of}
-use Rattle.c_runs.proofs.Related.{Env, FiledIn, HasAll, IsSlot, Kept, Now, front, front_append, frame_of, has_back, has_front}
+use Rattle.c_runs.proofs.Related.{Env, HasAll, IsSlot, Kept, Now, front, front_append, frame_of, has_back, has_front}
 use Rattle.c_runs.proofs.Ops.{at_work, carried_is, size_joined}
 use Rattle.c_runs.proofs.Operations.{AtHome, Linked}
 use Rattle.c_runs.proofs.Makes.{get_is, once, wrapped_small}
@@ -58,6 +58,7 @@ pub record HasStart (S : Site) (u : Typed) : Type 0 where
   pub at_home : Rattle.ms_machine.specs.Store.number_of_instance (slice_get S.funcs (start_index u)) ≡ Some 0
   pub code : HasAll S.funcs (start_index u) 0 (start (start_target u) u.globals u.made)
   pub room : S.shared ≡ length u.globals + literals_in u.made
+  pub table : IsTable S u
 
 pub not_empty : (ts : List Ty) → 0 < length ts → ts ≢ []
 not_empty [] lt e = absurd (omega (arith, lt))
@@ -81,14 +82,20 @@ module _ (S : Site) (L : Linked S) (u : Typed) (well : IsWellTyped u) (bound : �
   Es q = record {
     site = S;
     unit = u;
-    places = λ n. rank_in (named u) n;
+    places = places_of u;
+    places_are = refl;
+    table = p.table;
     target = tg;
     structs_are = refl;
+    entries_are = refl;
+    indices_are = refl;
+    sigs_are = refl;
     laid_out = well.laid_out;
     has_members = λ n l e. not_empty l.members (well.structs n l e).0;
     args = [];
     first_is = refl;
     calls = no_calls;
+    may_call = false;
     bound = bound;
     turn_bound = bound;
     fn = start_index u;
@@ -101,6 +108,7 @@ module _ (S : Site) (L : Linked S) (u : Typed) (well : IsWellTyped u) (bound : �
     reached = q;
     scratch_is = refl;
     waits = waits_made u u.made;
+    pending = 0;
     result = void;
     depth = 1;
     level = 0;
@@ -121,7 +129,7 @@ module _ (S : Site) (L : Linked S) (u : Typed) (well : IsWellTyped u) (bound : �
 
   -- other globals of other variables and literals
   pub refiled : (q q' : Reached) (now : Now) (w : World) (m : Mem) (xs : List Held) (ts : List ℕ) (gs : List GlobalInst) → Kept (Es q) now w m
-      → Filed u.structs (λ n. rank_in (named u) n) (file_slots u) q' S.shared m.homes xs ts gs → Kept (Es q') now (record w { globals = xs; literals = ts }) (record m { globals = gs })
+      → Filed u.structs (places_of u) (file_slots u) q' S.shared m.homes xs ts gs → Kept (Es q') now (record w { globals = xs; literals = ts }) (record m { globals = gs })
   refiled q q' now w m xs ts gs k f = record {
     held = k.held;
     deep = k.deep;
@@ -343,14 +351,14 @@ module _ (S : Site) (L : Linked S) (u : Typed) (well : IsWellTyped u) (bound : �
         input = refl;
         tells = tells_nothing w1 (record w1 { globals = slice_set w1.globals n (object o) }) refl refl refl;
         keeps = refiled (making ns k) (making (ns ++ n ∷ []) k) now w1 m1 (slice_set w1.globals n (object o)) w1.literals (slice_set m1.globals n (global_of (Handle (handle m1.homes (to_object o))))) k1
-            (filed_object u.structs (λ i. rank_in (named u) i) (file_slots u) ns k 0 S.shared m1.homes w1.globals w1.literals m1.globals k1.file n t o kind obj);
+            (filed_object u.structs (places_of u) (file_slots u) ns k 0 S.shared m1.homes w1.globals w1.literals m1.globals k1.file n t o kind obj);
       })
       j vs r w m kept has
   variable_made ns k n t at slot false is j now vs r w m kept has =
       let z : 0 + n ≡ n = omega arith in
       let kind : slice_get (file_slots u) n ≡ Some (t, false) = file_kind u 0 u.globals n t at ∙ ap (λ (i : ℕ). Some (t, is_global_object u i t)) z ∙ ap (λ (b : Bool). Some (t, b)) is in
       here S 0 w m (To (making (ns ++ n ∷ []) k) vs r) (Good (making (ns ++ n ∷ []) k) now) tt
-      (refiled (making ns k) (making (ns ++ n ∷ []) k) now w m w.globals w.literals m.globals kept (filed_named u.structs (λ i. rank_in (named u) i) (file_slots u) ns k 0 S.shared m.homes w.globals w.literals m.globals kept.file n t kind))
+      (refiled (making ns k) (making (ns ++ n ∷ []) k) now w m w.globals w.literals m.globals kept (filed_named u.structs (places_of u) (file_slots u) ns k 0 S.shared m.homes w.globals w.literals m.globals kept.file n t kind))
 
   -- the object of a literal
   text_made : (ns : List ℕ) (k : ℕ) (bytes : List ℕ) → length bytes < 4294967295 → k < literals_in u.made → (j : ℕ) (now : Now) (vs : List Word) (r : List Item) (w : World) (m : Mem) → Kept (Es (making ns k)) now w m
@@ -371,8 +379,8 @@ module _ (S : Site) (L : Linked S) (u : Typed) (well : IsWellTyped u) (bound : �
         input = refl;
         tells = tells_nothing w1 (record w1 { literals = w1.literals ++ o ∷ [] }) refl refl refl;
         keeps = refiled (making ns k) (making ns (suc k)) now w1 m1 w1.globals (w1.literals ++ o ∷ []) (slice_set m1.globals g (global_of (Handle (handle m1.homes (to_object o))))) k1
-            (subst (λ (i : ℕ). Filed u.structs (λ i. rank_in (named u) i) (file_slots u) (making ns (suc k)) S.shared m1.homes w1.globals (w1.literals ++ o ∷ []) (slice_set m1.globals i (global_of (Handle (handle m1.homes (to_object o)))))) same
-            (filed_text u.structs (λ i. rank_in (named u) i) (file_slots u) ns k 0 S.shared m1.homes w1.globals w1.literals m1.globals k1.file (suc (length bytes)) o (omega arith) (omega (arith, few)) obj (omega (arith, less, room, long))));
+            (subst (λ (i : ℕ). Filed u.structs (places_of u) (file_slots u) (making ns (suc k)) S.shared m1.homes w1.globals (w1.literals ++ o ∷ []) (slice_set m1.globals i (global_of (Handle (handle m1.homes (to_object o)))))) same
+            (filed_text u.structs (places_of u) (file_slots u) ns k 0 S.shared m1.homes w1.globals w1.literals m1.globals k1.file (suc (length bytes)) o (omega arith) (omega (arith, few)) obj (omega (arith, less, room, long))));
       })
       j vs r w m kept has
 

@@ -222,7 +222,7 @@ store_is (struct n) s e = absurd cc
 store_is (array t n) s e = absurd cc
 store_is (function r ps) s e = absurd cc
 
-quiet_read : (t : Ty) (m : Memory) (h : HandleOf) (rest : List Word) → IsScalar t → Quiet (segment_on (load_instr t) m (Handle h ∷ rest))
+pub quiet_read : (t : Ty) (m : Memory) (h : HandleOf) (rest : List Word) → IsScalar t → Quiet (segment_on (load_instr t) m (Handle h ∷ rest))
 quiet_read (integer u) m h rest s = quiet_load (acts.load_of u) m h rest
 quiet_read (pointer u) m h rest s = by (is_handle (pointer u)) where
   by : (b : Bool) → Quiet (segment_on (Rattle.std.specs.Prelude.cond b segment.LoadHandle (segment.Load loads.I32Load)) m (Handle h ∷ rest))
@@ -233,7 +233,7 @@ quiet_read (struct n) m h rest s = absurd s
 quiet_read (array t n) m h rest s = absurd s
 quiet_read (function r ps) m h rest s = absurd s
 
-quiet_write : (t : Ty) (places : ℕ → ℕ) (hs : List Home) (v : Value) (m : Memory) (h : HandleOf) (rest : List Word) → IsScalar t → Quiet (segment_on (store_instr t) m (acts.operand places hs t v ∷ Handle h ∷ rest))
+pub quiet_write : (t : Ty) (places : Ty → ℕ → ℕ) (hs : List Home) (v : Value) (m : Memory) (h : HandleOf) (rest : List Word) → IsScalar t → Quiet (segment_on (store_instr t) m (acts.operand places hs t v ∷ Handle h ∷ rest))
 quiet_write (integer u) places hs v m h rest s = quiet_store (acts.store_of u) m (acts.operand places hs (integer u) v) h rest
 quiet_write (pointer u) places hs v m h rest s = by (is_handle (pointer u)) where
   by : (b : Bool) → Quiet (segment_on (Rattle.std.specs.Prelude.cond b segment.StoreHandle (segment.Store stores.I32Store)) m (Rattle.std.specs.Prelude.cond b (Handle (handle hs v)) (I32 (Rattle.ms_relate.specs.refinement.Homes.word places (pointer u) v)) ∷ Handle h ∷ rest))

@@ -35,13 +35,13 @@ use Rattle.c_meaning.specs.Statements as meant
 use Rattle.c_meaning.specs.Statements.{Flow, next, broken, continued, returned, behind_switch, goes_to, enter, enter_slot, leave, leave_held, loops, step_of, stmts_from}
 use Rattle.ms_emit.specs.Codes.{Code, one, no_code, ◌⨾◌, block, choice, size_of}
 use Rattle.c_code.specs.Expressions as code
-use Rattle.c_code.specs.Operations.{constant, width_of}
+use Rattle.c_code.specs.Operations.{constant, i32, width_of}
 use Rattle.c_stage.specs.Stage.{are_bytes, in_expr, in_place, in_step, in_stmt, in_stmts}
 use Rattle.c_code.specs.Statements as scheme
 use Rattle.c_code.specs.Statements.{Exits, any_continues, continues, entered, enters, freed, iterated, objects_in, with_objects, within}
 use Rattle.c_code.specs.Targets.{Target, set, waiting}
 use Rattle.c_code.specs.Uses as uses
-use Rattle.c_code.specs.Uses.{waits_stmt, waits_stmts}
+use Rattle.c_code.specs.Uses.{waits, waits_place, waits_step, waits_stmt, waits_stmts}
 use Rattle.c_numbers.specs.Operands.{operand}
 use Rattle.c_numbers.proofs.Conversions.{constant_is}
 use Rattle.ms_relate.specs.refinement.Homes.{Home}
@@ -53,14 +53,17 @@ use Rattle.c_runs.proofs.Held.{some_is, Slot, found}
 use Rattle.c_runs.proofs.Values.{IsOf}
 use Rattle.c_runs.specs.Words.{pushed}
 use Rattle.c_runs.proofs.Switches.{HeldRuns, flow_leave, from_group, goes_small, group_then, leaves, switch_runs, switched}
-use Rattle.c_runs.proofs.Related.{Env, Holds, IsValue, Now, extends_none, front, pushes, seeing, sees_none}
+use Rattle.c_runs.proofs.Related.{Env, beside, Holds, IsValue, Now, extends_none, front, pushes, seeing, sees_none}
 use Rattle.c_runs.proofs.Ops.{Op, OpIn, Stack, at_work, op_carried, op_look_in, op_none, op_then, op_then_in, same}
 use Rattle.c_runs.proofs.Nodes.{Always, Leaves, Num, gone, remains, set_runs, of_number, test_is}
 use Rattle.c_runs.proofs.Operations.{AtHome, Linked}
 use Rattle.c_runs.proofs.Scalars.{IsData, null_runs, zero_in}
+use Rattle.c_runs.proofs.Entries.{types_of}
+use Rattle.c_runs.proofs.Functions.{no_function_runs}
 use Rattle.c_runs.proofs.Strings.{char_of, fill_runs, whole_filled}
 use Rattle.c_runs.proofs.Globals.{NamesOf}
-use Rattle.c_runs.proofs.Exprs.{AreScalars, CallsRun, decays_run, expr_runs, narrow_width}
+use Rattle.c_runs.proofs.Exprs.{AreScalars, CallsRun, decays_run, expr_runs, narrow_width, ArgsRun, args_all}
+use Rattle.c_runs.proofs.Rooms.{ready_at}
 use Rattle.c_runs.proofs.Flows.{FlowIn, FlowOut, FlowRuns, GoodFlow, Off, ahead, to_flow, flow_none, flow_behind, flow_behind_in, flow_of, flow_seq, flow_return, flow_continue, flow_choice, no_group, Way, way}
 use Rattle.c_runs.proofs.Dos.{do_runs}
 use Rattle.c_runs.proofs.Loops.{inside, iterated_is, jumps_in, while_runs}
@@ -179,7 +182,7 @@ ArePlain E (x ∷ xs) = IsPlain E x × ArePlain E xs
 
 module _ (E0 : Env) (L : Linked E0.site) (home : AtHome E0) (k : well.Context) (slots_are : k.slots ≡ E0.slots) (calls_run : CallsRun (seeing [] E0) L home k slots_are)
     (scalars_are : (f : ℕ) (t : Ty) (ps : Tys) → slice_get k.functions f ≡ Some (function t ps) → AreScalars (seeing [] E0) L home k slots_are ps)
-    (slots_data : (x : ℕ) (t : Ty) → slice_get k.slots x ≡ Some t → E0.target.is_object (Local x) ≡ false → IsData t) (structs_same : k.structs ≡ E0.unit.structs) (sound : AreSoundNames k.structs k.globals k.slots k.functions)
+    (slots_data : (x : ℕ) (t : Ty) → slice_get k.slots x ≡ Some t → E0.target.is_object (Local x) ≡ false → IsData t) (structs_same : k.structs ≡ E0.unit.structs) (functions_are : k.functions ≡ types_of E0.unit) (sound : AreSoundNames k.structs k.globals k.slots k.functions)
     (names : NamesOf E0.unit.structs E0.files E0.reached E0.target k.globals k.literals) (slot_at : (x : ℕ) → x < length k.slots → (t : Ty) × (slice_get k.slots x ≡ Some t)) (wide : E0.bound ≤ E0.turn_bound) where
   -- with these variables visible
   abbrev in_blocks : List ℕ → well.Context
@@ -195,36 +198,55 @@ module _ (E0 : Env) (L : Linked E0.site) (home : AtHome E0) (k : well.Context) (
   value e = expr E0.unit E0.calls e
 
   calls_at : (v : List ℕ) → CallsRun (at v) L home (in_blocks v) slots_are
-  calls_at v f t ps e b hs us ok n has now le vs r dep w m kp =
-      calls_run f t ps e b hs us ok n has now (record { below = le.below; grown = le.grown; seen = sees_none now.visible }) vs r dep w m kp
+  calls_at v may d f t ps e b i above reach hs us ok n has now le vs r dep w m kp =
+      calls_run may d f t ps e b i above reach hs us ok n has now (record { below = le.below; grown = le.grown; seen = sees_none now.visible; few = le.few }) vs r dep w m kp
 
-  run_expr : (v : List ℕ) (kept : Bool) (d : ℕ) (e : Expr) (t : Ty) → IsReady E0.target.is_object E0.unit (in_expr e) (uses.in_expr e) (in_expr_of e) → HasType (in_blocks v) e t → OpIn (at v) [] (code.expr E0.target kept d e) same (remains (at v) kept t) (IsValue (at v) t) (value e)
-  run_expr v = expr_runs (at v) L home (in_blocks v) slots_are (calls_at v) scalars_are slots_data refl structs_same sound names
+  -- beside d values that wait
+  abbrev at_depth : List ℕ → ℕ → Env
+  at_depth v d = beside d (at v)
+
+  args_at : (v : List ℕ) (d : ℕ) → ArgsRun (at_depth v d) L home (in_blocks v) slots_are
+  args_at v d = args_all E0.waits (at_depth v d) L home (in_blocks v) slots_are (calls_at v) scalars_are slots_data refl structs_same functions_are sound names (omega arith)
+
+  run_expr : (v : List ℕ) (kept : Bool) (d : ℕ) (e : Expr) (t : Ty) → d + waits e ≤ E0.waits → IsReady E0.may_call E0.target.is_object E0.unit (in_expr e) (uses.in_expr e) (in_expr_of e) → HasType (in_blocks v) e t → OpIn (at_depth v d) [] (code.expr E0.target kept d e) same (remains (at v) kept t) (IsValue (at v) t) (value e)
+  run_expr v kept d e t room x h =
+      expr_runs (at_depth v d) L home (in_blocks v) slots_are (calls_at v) (args_at v d) scalars_are slots_data refl structs_same functions_are sound names kept d e t
+      (ready_at E0.may_call E0.target.is_object E0.unit d d E0.waits (in_expr e) (uses.in_expr e) (in_expr_of e) (waits e) (omega arith) room x) h
 
   -- ---- blocks
 
   abbrev kinds : List Slot
   kinds = E0.kinds
 
-  zero_runs : (v : List ℕ) (x : ℕ) (u : IntType) → slice_get E0.kinds x ≡ Some (integer u, false) → Op (at v) (scheme.zeroed E0.target (Local x) (scalar_of (integer u))) same (gone (at v)) (Always (at v)) (hold (Local x) (plain (number (pos 0))))
-  zero_runs v x u e =
-      op_then (at v) (one (constant (width_of u) (pos 0))) (one (set E0.target (Local x))) same (λ (q : Unit {0}). Num (at v) u (pos 0)) (gone (at v)) (Always (at v)) (Always (at v)) (pure tt) (λ q. hold (Local x) (plain (number (pos 0))))
-      (op_carried (at v) (constant (width_of u) (pos 0)) same (λ (q : Unit {0}). Num (at v) u (pos 0)) (Always (at v)) tt tt (λ vs. constant_is (width_of u) (pos 0) vs))
-      (λ q ok. set_runs (at v) x (integer u) tt e [] (number (pos 0)) (zero_in u))
+  zero_runs : (v : List ℕ) (z x : ℕ) (u : IntType) → slice_get E0.kinds x ≡ Some (integer u, false) → Op (at_depth v z) (scheme.zeroed E0.target (Local x) (scalar_of (integer u))) same (gone (at_depth v z)) (Always (at_depth v z)) (hold (Local x) (plain (number (pos 0))))
+  zero_runs v z x u e =
+      op_then (at_depth v z) (one (constant (width_of u) (pos 0))) (one (set E0.target (Local x))) same (λ (q : Unit {0}). Num (at_depth v z) u (pos 0)) (gone (at_depth v z)) (Always (at_depth v z)) (Always (at_depth v z)) (pure tt) (λ q. hold (Local x) (plain (number (pos 0))))
+      (op_carried (at_depth v z) (constant (width_of u) (pos 0)) same (λ (q : Unit {0}). Num (at_depth v z) u (pos 0)) (Always (at_depth v z)) tt tt (λ vs. constant_is (width_of u) (pos 0) vs))
+      (λ q ok. set_runs (at_depth v z) x (integer u) tt e [] (number (pos 0)) (zero_in u))
 
-  null_zero : (v : List ℕ) (x : ℕ) (t : Ty) → is_function t ≡ false → slice_get E0.kinds x ≡ Some (pointer t, false) → Op (at v) (scheme.zeroed E0.target (Local x) (Some scalars.Pointer)) same (gone (at v)) (Always (at v)) (hold (Local x) (plain null))
-  null_zero v x t d e =
-      op_then_in (at v) [] (one (Segment segment.Null)) (one (set E0.target (Local x))) same (pushes (at v) (pointer t)) (λ hs. gone (at v)) (IsValue (at v) (pointer t)) (λ hs. Always (at v)) (pure null) (λ q. hold (Local x) (plain q)) (null_runs (at v) t d)
-      (λ gs grown q ok. set_runs (at v) x (pointer t) tt e gs q ok)
+  none_zero : (v : List ℕ) (z x : ℕ) (t : Ty) → is_function t ≡ true → slice_get E0.kinds x ≡ Some (pointer t, false) → Op (at_depth v z) (scheme.zeroed E0.target (Local x) (Some scalars.Function)) same (gone (at_depth v z)) (Always (at_depth v z)) (hold (Local x) (plain no_function))
+  none_zero v z x t d e =
+      op_then_in (at_depth v z) [] (one (i32 0)) (one (set E0.target (Local x))) same (pushes (at_depth v z) (pointer t)) (λ hs. gone (at_depth v z)) (IsValue (at_depth v z) (pointer t)) (λ hs. Always (at_depth v z)) (pure no_function) (λ q. hold (Local x) (plain q)) (no_function_runs (at_depth v z) t d)
+      (λ gs grown q ok. set_runs (at_depth v z) x (pointer t) tt e gs q ok)
 
-  zero_of : (v : List ℕ) (x : ℕ) (t : Ty) → IsData t → slice_get E0.kinds x ≡ Some (t, false) → Op (at v) (scheme.zeroed E0.target (Local x) (scalar_of t)) same (gone (at v)) (Always (at v)) (hold (Local x) (plain (zero_value t)))
-  zero_of v x (integer u) d e = zero_runs v x u e
-  zero_of v x (pointer t) d e =
-      subst (λ (b : Bool). Op (at v) (scheme.zeroed E0.target (Local x) (Some (if b then scalars.Function else scalars.Pointer))) same (gone (at v)) (Always (at v)) (hold (Local x) (plain (if b then no_function else null)))) (sym d) (null_zero v x t d e)
-  zero_of v x void d e = absurd d
-  zero_of v x (struct n) d e = absurd d
-  zero_of v x (array t n) d e = absurd d
-  zero_of v x (function r ps) d e = absurd d
+  null_zero : (v : List ℕ) (z x : ℕ) (t : Ty) → is_function t ≡ false → slice_get E0.kinds x ≡ Some (pointer t, false) → Op (at_depth v z) (scheme.zeroed E0.target (Local x) (Some scalars.Pointer)) same (gone (at_depth v z)) (Always (at_depth v z)) (hold (Local x) (plain null))
+  null_zero v z x t d e =
+      op_then_in (at_depth v z) [] (one (Segment segment.Null)) (one (set E0.target (Local x))) same (pushes (at_depth v z) (pointer t)) (λ hs. gone (at_depth v z)) (IsValue (at_depth v z) (pointer t)) (λ hs. Always (at_depth v z)) (pure null) (λ q. hold (Local x) (plain q)) (null_runs (at_depth v z) t d)
+      (λ gs grown q ok. set_runs (at_depth v z) x (pointer t) tt e gs q ok)
+
+  zero_of : (v : List ℕ) (z x : ℕ) (t : Ty) → IsData t → slice_get E0.kinds x ≡ Some (t, false) → Op (at_depth v z) (scheme.zeroed E0.target (Local x) (scalar_of t)) same (gone (at_depth v z)) (Always (at_depth v z)) (hold (Local x) (plain (zero_value t)))
+  zero_of v z x (integer u) d e = zero_runs v z x u e
+  zero_of v z x (pointer t) d e = by (is_function t) refl where
+    Zeroes : Bool → Type 0
+    Zeroes b = Op (at_depth v z) (scheme.zeroed E0.target (Local x) (Some (if b then scalars.Function else scalars.Pointer))) same (gone (at_depth v z)) (Always (at_depth v z)) (hold (Local x) (plain (if b then no_function else null)))
+
+    by : (b : Bool) → is_function t ≡ b → Zeroes b
+    by true q = none_zero v z x t q e
+    by false q = null_zero v z x t q e
+  zero_of v z x void d e = absurd d
+  zero_of v z x (struct n) d e = absurd d
+  zero_of v z x (array t n) d e = absurd d
+  zero_of v z x (function r ps) d e = absurd d
 
   -- plain variables are left as they are
   pub leave_is : (ns : List ℕ) → ArePlain E0 ns → (w : World) (m : Mem) → Holds E0 m w → leave E0.unit E0.calls E0.turn_bound kinds ns w ≡ gives tt w
@@ -301,38 +323,40 @@ module _ (E0 : Env) (L : Linked E0.site) (home : AtHome E0) (k : well.Context) (
 
   -- ---- what is evaluated for what it does
 
-  perform_runs : (v : List ℕ) (l : Way) (b c d : ℕ) (e : Expr) (t : Ty) → IsReady E0.target.is_object E0.unit (in_expr e) (uses.in_expr e) (in_expr_of e) → HasType (in_blocks v) e t → FlowRuns (at v) l b c (code.expr E0.target false d e) same (value e >> pure next)
-  perform_runs v l b c d e t x h = flow_of (at v) l b c (code.expr E0.target false d e) (λ hs. gone (at v)) (IsValue (at v) t) (value e) (run_expr v false d e t x h) (λ hs a vs. refl)
+  perform_runs : (v : List ℕ) (l : Way) (b c : ℕ) (e : Expr) (t : Ty) → l.depth + waits e ≤ E0.waits → IsReady E0.may_call E0.target.is_object E0.unit (in_expr e) (uses.in_expr e) (in_expr_of e) → HasType (in_blocks v) e t → FlowRuns (at v) l b c (code.expr E0.target false l.depth e) same (value e >> pure next)
+  perform_runs v l b c e t room x h = flow_of (at v) l b c (code.expr E0.target false l.depth e) (λ hs. gone (at v)) (IsValue (at v) t) (value e) (run_expr v false l.depth e t room x h) (λ hs a vs. refl)
 
-  step_runs : (v : List ℕ) (d : ℕ) (s : Option Expr) → IsReady E0.target.is_object E0.unit (in_step s) (uses.in_step s) (in_step_of s) → IsStep (in_blocks v) s → Op (at v) (code.step E0.target d s) same (gone (at v)) (Always (at v)) (step_of E0.unit E0.calls E0.turn_bound s)
-  step_runs v d None x h = op_none (at v) same (gone (at v)) (Always (at v)) tt tt (λ vs. refl)
-  step_runs v d (Some e) x h =
-      op_look_in (at v) [] (code.expr E0.target false d e) same (λ hs. gone (at v)) (λ hs. gone (at v)) (IsValue (at v) h.0) (λ hs. Always (at v)) (value e) (λ q. pure tt) (run_expr v false d e h.0 x h.1) (λ gs more q ok. (tt, refl, λ vs. refl, tt))
+  step_runs : (v : List ℕ) (d : ℕ) (s : Option Expr) → d + waits_step s ≤ E0.waits → IsReady E0.may_call E0.target.is_object E0.unit (in_step s) (uses.in_step s) (in_step_of s) → IsStep (in_blocks v) s → Op (at_depth v d) (code.step E0.target d s) same (gone (at v)) (Always (at v)) (step_of E0.unit E0.calls E0.turn_bound s)
+  step_runs v d None room x h = op_none (at_depth v d) same (gone (at v)) (Always (at v)) tt tt (λ vs. refl)
+  step_runs v d (Some e) room x h =
+      op_look_in (at_depth v d) [] (code.expr E0.target false d e) same (λ hs. gone (at v)) (λ hs. gone (at v)) (IsValue (at v) h.0) (λ hs. Always (at v)) (value e) (λ q. pure tt) (run_expr v false d e h.0 room x h.1) (λ gs more q ok. (tt, refl, λ vs. refl, tt))
 
   -- ---- a string that initialises an array
 
-  string_runs : (v : List ℕ) (l : Way) (b c d : ℕ) (p : Place) (n : ℕ) (bytes : List ℕ) → (nat_lt n 4294967296 && are_bytes bytes) ≡ true → IsReady E0.target.is_object E0.unit (in_place p) (uses.in_place p) (in_place_of p) → length bytes ≤ n → well.IsPlace (in_blocks v) p (array (integer Char) n)
-      → FlowRuns (at v) l b c (scheme.filled E0.target (code.decayed (code.is_deref p) n (code.place E0.target d p)) bytes) same (meant.stmt E0.unit E0.calls E0.turn_bound E0.kinds (tree.fill p n bytes))
-  string_runs v l b c d p n bytes tested ready few h =
+  string_runs : (v : List ℕ) (l : Way) (b c : ℕ) (p : Place) (n : ℕ) (bytes : List ℕ) → l.depth + waits_place p ≤ E0.waits → (nat_lt n 4294967296 && are_bytes bytes) ≡ true → IsReady E0.may_call E0.target.is_object E0.unit (in_place p) (uses.in_place p) (in_place_of p) → length bytes ≤ n → well.IsPlace (in_blocks v) p (array (integer Char) n)
+      → FlowRuns (at v) l b c (scheme.filled E0.target (code.decayed (code.is_deref p) n (code.place E0.target l.depth p)) bytes) same (meant.stmt E0.unit E0.calls E0.turn_bound E0.kinds (tree.fill p n bytes))
+  string_runs v l b c p n bytes room tested ready few h =
+      let d = l.depth in
       let q = both (nat_lt n 4294967296) (are_bytes bytes) tested in
       let less = ltb→lt n 4294967296 (subst T (sym q.0) tt) in
       let size : n * 1 ≡ n = omega arith in
-      let there = decays_run (at v) L home (in_blocks v) slots_are (calls_at v) scalars_are slots_data refl structs_same sound names d p (integer Char) n ready h in
+      let there = decays_run (at_depth v d) L home (in_blocks v) slots_are (calls_at v) (args_at v d) scalars_are slots_data refl structs_same functions_are sound names d p (integer Char) n
+      (ready_at E0.may_call E0.target.is_object E0.unit d d E0.waits (in_place p) (uses.in_place p) (in_place_of p) (waits_place p) (omega arith) room ready) h in
       let x = meaning.pointer (place E0.unit E0.calls p) >>= meaning.further values.inside in
       let code_of : ℕ → Code = λ k. code.decayed (code.is_deref p) k (code.place E0.target d p) in
       flow_of (at v) l b c (scheme.filled E0.target (code_of n) bytes) (λ hs. gone (at v)) (λ hs. Always (at v)) (x >>= (λ a. alter (write_all 1 a 0 (map char_of bytes))))
-      (fill_runs (at v) bytes q.1 (omega (arith, few, less)) (code_of n) x (subst (λ (k : ℕ). Leaves (at v) (code_of k) (pointer (integer Char)) x) size there)) (λ hs a vs. refl)
+      (fill_runs (at_depth v d) bytes q.1 (omega (arith, few, less)) (code_of n) x (subst (λ (k : ℕ). Leaves (at_depth v d) (code_of k) (pointer (integer Char)) x) size there)) (λ hs a vs. refl)
 
   -- ---- if
 
-  if_runs : (v : List ℕ) (l : Way) (b c d : ℕ) (e : Expr) (u : IntType) (x y : Code) (f g : Does Flow) → IsReady E0.target.is_object E0.unit (in_expr e) (uses.in_expr e) (in_expr_of e) → well.IsNarrow u → HasType (in_blocks v) e (integer u) → IsWhole y → FlowRuns (at v) l (suc b) (suc c) x same f → FlowRuns (at v) l (suc b) (suc c) y same g
-      → FlowRuns (at v) l b c (code.expr E0.target true d e ⨾ choice None x y) same (meaning.test (value e) >>= (λ t. if t then f else g))
-  if_runs v l b c d e u x y f g s narrow h whole rx ry n has small now le vs r br cr rr caller a dep w m kp =
-      let ce = code.expr E0.target true d e in
+  if_runs : (v : List ℕ) (l : Way) (b c : ℕ) (e : Expr) (u : IntType) (x y : Code) (f g : Does Flow) → l.depth + waits e ≤ E0.waits → IsReady E0.may_call E0.target.is_object E0.unit (in_expr e) (uses.in_expr e) (in_expr_of e) → well.IsNarrow u → HasType (in_blocks v) e (integer u) → IsWhole y → FlowRuns (at v) l (suc b) (suc c) x same f → FlowRuns (at v) l (suc b) (suc c) y same g
+      → FlowRuns (at v) l b c (code.expr E0.target true l.depth e ⨾ choice None x y) same (meaning.test (value e) >>= (λ t. if t then f else g))
+  if_runs v l b c e u x y f g room s narrow h whole rx ry n has small now le vs r br cr rr caller a dep w m kp =
+      let ce = code.expr E0.target true l.depth e in
       let all = (ce ⨾ choice None x y) n in
       let q = λ (t : Bool). if t then f else g in
       subst (λ (p : Result Flow). Runs E0.site (size_of all) m (at_work (at v) m w vs (front all.instrs r)) w (to_flow (at v) vs r br cr rr caller) (GoodFlow (at v) l now) p) (sym (after_after (value e w) is_true q))
-      (flow_behind (at v) l b c ce (choice None x y) same (pushed (integer u)) (IsOf (integer u)) (value e) (λ z. is_true z >>= q) (run_expr v true d e (integer u) s h)
+      (flow_behind (at v) l b c ce (choice None x y) same (pushed (integer u)) (IsOf (integer u)) (value e) (λ z. is_true z >>= q) (run_expr v true l.depth e (integer u) room s h)
       (λ z ok.
       of_number (at v) u (λ z. FlowRuns (at v) l b c (choice None x y) (pushed (integer u) z) (is_true z >>= q))
       (λ z i.
@@ -379,15 +403,15 @@ module _ (E0 : Env) (L : Linked E0.site) (home : AtHome E0) (k : well.Context) (
   off_at : (v is : List ℕ) → IsOff E0 v is → IsOff (at v) v is
   off_at v is o = record { differ = o.differ; among = o.among }
 
-  zeros : (v : List ℕ) (x : ℕ) (t : Ty) → slice_get E0.kinds x ≡ Some (t, false) → Op (at v) (scheme.zeroed E0.target (Local x) (scalar_of t)) same (gone (at v)) (Always (at v)) (hold (Local x) (plain (zero_value t)))
-  zeros v x t e =
+  zeros : (v : List ℕ) (z x : ℕ) (t : Ty) → slice_get E0.kinds x ≡ Some (t, false) → Op (at_depth v z) (scheme.zeroed E0.target (Local x) (scalar_of t)) same (gone (at_depth v z)) (Always (at_depth v z)) (hold (Local x) (plain (zero_value t)))
+  zeros v z x t e =
       let lt = slice_get_within E0.kinds x (t, false) e in
       let long = E0.as_long in
       let s = slot_at x (subst (λ (ts : List Ty). x < length ts) (sym slots_are) (omega (arith, lt, long))) in
       let at_kind = E0.kinds_are x s.0 (at_slot x s.0 s.1) in
       let same_slot = some_is (s.0, E0.target.is_object (Local x)) (t, false) (sym at_kind ∙ e) in
       let same_type : s.0 ≡ t = ap (λ (q : Slot). q.0) same_slot in
-      zero_of v x t (subst IsData same_type (slots_data x s.0 s.1 (ap (λ (q : Slot). q.1) same_slot))) e
+      zero_of v z x t (subst IsData same_type (slots_data x s.0 s.1 (ap (λ (q : Slot). q.1) same_slot))) e
 
   mutual
     whole_stmt : (v : List ℕ) (d : ℕ) (x : Exits) (l : Jumps) (s : Stmt) → in_stmt s ≡ true → IsStatement (in_blocks v) E0.result l s → IsWhole (codes d x s)
@@ -463,32 +487,32 @@ module _ (E0 : Env) (L : Linked E0.site) (home : AtHome E0) (k : well.Context) (
       (h n has small now le vs r br cr rr caller a dep w m kp held)
 
   mutual
-    pub stmt_runs : (v : List ℕ) (d : ℕ) (o : Option ℕ) (x : Exits) (j : Jumps) (off : Off) (s : Stmt) → IsOut E0 v d o x off → d + waits_stmt s ≤ E0.waits → IsReady E0.target.is_object E0.unit (in_stmt s) (uses.in_stmt s) (in_stmt_of s)
+    pub stmt_runs : (v : List ℕ) (d : ℕ) (o : Option ℕ) (x : Exits) (j : Jumps) (off : Off) (s : Stmt) → IsOut E0 v d o x off → d + waits_stmt s ≤ E0.waits → IsReady E0.may_call E0.target.is_object E0.unit (in_stmt s) (uses.in_stmt s) (in_stmt_of s)
         → IsStatement (in_blocks v) E0.result j s → FlowRuns (at v) (way j d o off) x.break_label x.continue_label (codes d x s) same (does s)
     stmt_runs v d o x j off nothing out room i h = flow_none (at v) (way j d o off) x.break_label x.continue_label
-    stmt_runs v d o x j off (perform e) out room i h = perform_runs v (way j d o off) x.break_label x.continue_label d e h.0 i h.1
+    stmt_runs v d o x j off (perform e) out room i h = perform_runs v (way j d o off) x.break_label x.continue_label e h.0 (omega (arith, room)) i h.1
     stmt_runs v d o x j off (if_else e s t) out room i h =
-        let q = parts E0.target.is_object E0.unit (in_expr e) (in_stmt s && in_stmt t) (uses.in_expr e) (uses.in_stmt s ++ uses.in_stmt t) (in_expr_of e) (either (in_stmt_of s) (in_stmt_of t)) i in
-        let q' = parts E0.target.is_object E0.unit (in_stmt s) (in_stmt t) (uses.in_stmt s) (uses.in_stmt t) (in_stmt_of s) (in_stmt_of t) q.1 in
+        let q = parts E0.may_call E0.target.is_object E0.unit (in_expr e) (in_stmt s && in_stmt t) (uses.in_expr e) (uses.in_stmt s ++ uses.in_stmt t) (in_expr_of e) (either (in_stmt_of s) (in_stmt_of t)) i in
+        let q' = parts E0.may_call E0.target.is_object E0.unit (in_stmt s) (in_stmt t) (uses.in_stmt s) (uses.in_stmt t) (in_stmt_of s) (in_stmt_of t) q.1 in
         let out' : IsOut E0 v d o (within x) off = record { objects = out.objects; by_break = out.by_break; by_continue = out.by_continue; leaving = out.leaving; around = out.around; returned' = out.returned'; broken' = out.broken'; continued' = out.continued' } in
-        if_runs v (way j d o off) x.break_label x.continue_label d e h.0.0 (codes d (within x) s) (codes d (within x) t) (does s) (does t) q.0 h.0.1 h.0.2 (whole_stmt v d (within x) j t q'.1.in_stage h.2)
+        if_runs v (way j d o off) x.break_label x.continue_label e h.0.0 (codes d (within x) s) (codes d (within x) t) (does s) (does t) (omega (arith, room)) q.0 h.0.1 h.0.2 (whole_stmt v d (within x) j t q'.1.in_stage h.2)
         (stmt_runs v d o (within x) j off s out' (omega (arith, room)) q'.0 h.1) (stmt_runs v d o (within x) j off t out' (omega (arith, room)) q'.1 h.2)
     stmt_runs v d o x j off (loop e after' s) out room i h =
-        let i' = looped E0.target.is_object E0.unit (in_stmt (loop e after' s)) (uses.in_stmt (loop e after' s)) e after' s i in
-        let q = parts E0.target.is_object E0.unit (in_expr e) (in_step after' && in_stmt s) (uses.in_expr e) (uses.in_step after' ++ uses.in_stmt s) (in_expr_of e) (either (in_step_of after') (in_stmt_of s)) i' in
-        let q' = parts E0.target.is_object E0.unit (in_step after') (in_stmt s) (uses.in_step after') (uses.in_stmt s) (in_step_of after') (in_stmt_of s) q.1 in
+        let i' = looped E0.may_call E0.target.is_object E0.unit (in_stmt (loop e after' s)) (uses.in_stmt (loop e after' s)) e after' s i in
+        let q = parts E0.may_call E0.target.is_object E0.unit (in_expr e) (in_step after' && in_stmt s) (uses.in_expr e) (uses.in_step after' ++ uses.in_stmt s) (in_expr_of e) (either (in_step_of after') (in_stmt_of s)) i' in
+        let q' = parts E0.may_call E0.target.is_object E0.unit (in_step after') (in_stmt s) (uses.in_step after') (uses.in_stmt s) (in_step_of after') (in_stmt_of s) q.1 in
         let T = code.expr E0.target true d e in
         let S = code.step E0.target d after' in
         let body = codes d (scheme.in_loop (continues s) x) s in
         subst (λ (y : Code). FlowRuns (at v) (way j d o off) x.break_label x.continue_label (T ⨾ choice None y no_code) same (does (loop e after' s))) (iterated_is E0.target (continues s) body S T)
-        (while_runs (at v) h.0.0 (narrow_width h.0.0 h.0.1) T (value e) (run_expr v true d e (integer h.0.0) q.0 h.0.2) S (step_of E0.unit E0.calls E0.turn_bound after') (step_runs v d after' q'.0 h.1)
-        (continues s) body (does s) d off (stmt_runs v d None (scheme.in_loop (continues s) x) (jumps_in (continues s)) (inside off) s (loop_out v d o x off (continues s) out) (omega (arith, room)) q'.1 (jumps_of (in_blocks v) E0.result s (continues s) refl h.2))
+        (while_runs (at v) h.0.0 (narrow_width h.0.0 h.0.1) T (value e) d (run_expr v true d e (integer h.0.0) (omega (arith, room)) q.0 h.0.2) S (step_of E0.unit E0.calls E0.turn_bound after') (step_runs v d after' (omega (arith, room)) q'.0 h.1)
+        (continues s) body (does s) off (stmt_runs v d None (scheme.in_loop (continues s) x) (jumps_in (continues s)) (inside off) s (loop_out v d o x off (continues s) out) (omega (arith, room)) q'.1 (jumps_of (in_blocks v) E0.result s (continues s) refl h.2))
         j o x.break_label x.continue_label E0.turn_bound wide)
     stmt_runs v d o x j off (scope ns ss) out room i h =
         scope_runs (at v) (zeros v) ns (new_differ (in_blocks v) ns h.0) (among_of v ns h.0) (none_new (in_blocks v) ns h.0) (way j d o off) x.break_label x.continue_label (all_codes d (with_objects (objects_in E0.target E0.slots ns) x) ss) (do_all ss)
         (stmts_run (v ++ ns) d o (with_objects (objects_in E0.target E0.slots ns) x) j (with_off ns off) ss (out_more v ns d o x off h.0 out) room i h.1)
     stmt_runs v d o x j off (return e) out room i h =
-        flow_behind_in (at v) (way j d o off) x.break_label x.continue_label (code.expr E0.target true d e) (freed E0.target x.objects ⨾ one Return) same (pushes (at v) E0.result) (IsValue (at v) E0.result) (value e) (λ z. pure (returned z)) (run_expr v true d e E0.result i h.1)
+        flow_behind_in (at v) (way j d o off) x.break_label x.continue_label (code.expr E0.target true d e) (freed E0.target x.objects ⨾ one Return) same (pushes (at v) E0.result) (IsValue (at v) E0.result) (value e) (λ z. pure (returned z)) (run_expr v true d e E0.result (omega (arith, room)) i h.1)
         (λ hs z ok. out_frees v (way j d o off) hs (returned z) x.break_label x.continue_label (one Return) (pushes (at v) E0.result hs z) x.objects out.objects (off_at v off.returned out.returned') (flow_return (at v) (way j d o off) hs x.break_label x.continue_label z ok))
     stmt_runs v d o x j off return_nothing out room i h =
         out_here v (way j d o off) x.break_label x.continue_label (freed E0.target x.objects ⨾ one Return) same (pure (returned meaning.nothing_given))
@@ -502,23 +526,23 @@ module _ (E0 : Env) (L : Linked E0.site) (home : AtHome E0) (k : well.Context) (
         out_here v (way j d o off) x.break_label x.continue_label (freed E0.target (take x.left_by_continue x.objects) ⨾ one (Br x.continue_label)) same (pure continued)
         (out_frees v (way j d o off) [] continued x.break_label x.continue_label (one (Br x.continue_label)) same (take x.left_by_continue x.objects) out.by_continue (off_at v off.continued out.continued') (flow_continue (at v) (way j d o off) x.break_label x.continue_label h))
     stmt_runs v d o x j off (tree.fill q n bytes) out room i h =
-        let tested = behind_test E0.target.is_object E0.unit (nat_lt n 4294967296 && are_bytes bytes) (in_place q) (uses.in_place q) (in_place_of q) i in
-        string_runs v (way j d o off) x.break_label x.continue_label d q n bytes tested.0 tested.1 h.0 h.1
+        let tested = behind_test E0.may_call E0.target.is_object E0.unit (nat_lt n 4294967296 && are_bytes bytes) (in_place q) (uses.in_place q) (in_place_of q) i in
+        string_runs v (way j d o off) x.break_label x.continue_label q n bytes (omega (arith, room)) tested.0 tested.1 h.0 h.1
     stmt_runs v d o x j off (tree.do_while s e) out room i h =
-        let q = parts E0.target.is_object E0.unit (in_stmt s) (in_expr e) (uses.in_stmt s) (uses.in_expr e) (in_stmt_of s) (in_expr_of e) i in
+        let q = parts E0.may_call E0.target.is_object E0.unit (in_stmt s) (in_expr e) (uses.in_stmt s) (uses.in_expr e) (in_stmt_of s) (in_expr_of e) i in
         let T = code.expr E0.target true d e in
         let body = codes d (scheme.in_loop (continues s) x) s in
         subst (λ (y : Code). FlowRuns (at v) (way j d o off) x.break_label x.continue_label (block None y) same (does (tree.do_while s e))) (iterated_is E0.target (continues s) body no_code T)
-        (do_runs (at v) h.1.0 (narrow_width h.1.0 h.1.1) T (value e) (run_expr v true d e (integer h.1.0) q.1 h.1.2) (continues s) body (does s) d off (stmt_runs v d None (scheme.in_loop (continues s) x) (jumps_in (continues s)) (inside off) s (loop_out v d o x off (continues s) out) (omega (arith, room)) q.0 (jumps_of (in_blocks v) E0.result s (continues s) refl h.0))
+        (do_runs (at v) h.1.0 (narrow_width h.1.0 h.1.1) T (value e) d (run_expr v true d e (integer h.1.0) (omega (arith, room)) q.1 h.1.2) (continues s) body (does s) off (stmt_runs v d None (scheme.in_loop (continues s) x) (jumps_in (continues s)) (inside off) s (loop_out v d o x off (continues s) out) (omega (arith, room)) q.0 (jumps_of (in_blocks v) E0.result s (continues s) refl h.0))
         j o x.break_label x.continue_label E0.turn_bound wide)
     stmt_runs v d o x j off (tree.switch t e ns cases ss) out room i h =
         let l = way j d o off in
         let vs = objects_in E0.target E0.slots ns in
-        let counted = behind_test E0.target.is_object E0.unit (nat_lt (count ss) no_group) (in_expr e && in_stmts ss) (uses.in_expr e ++ uses.in_stmts ss) (either (in_expr_of e) (in_stmts_of ss)) i in
-        let q = parts E0.target.is_object E0.unit (in_expr e) (in_stmts ss) (uses.in_expr e) (uses.in_stmts ss) (in_expr_of e) (in_stmts_of ss) counted.1 in
+        let counted = behind_test E0.may_call E0.target.is_object E0.unit (nat_lt (count ss) no_group) (in_expr e && in_stmts ss) (uses.in_expr e ++ uses.in_stmts ss) (either (in_expr_of e) (in_stmts_of ss)) i in
+        let q = parts E0.may_call E0.target.is_object E0.unit (in_expr e) (in_stmts ss) (uses.in_expr e) (uses.in_stmts ss) (in_expr_of e) (in_stmts_of ss) counted.1 in
         let few = ltb→lt (count ss) no_group (subst T (sym counted.0) tt) in
         let gs = all_groups d (scheme.in_group (waiting E0.target d) (with_objects vs x)) 0 ss in
-        switch_runs (at v) t h.0 (count ss) cases h.3 h.4 (omega (arith, few)) d (omega (arith, room)) (code.expr E0.target true d e) (value e) (run_expr v true d e (integer t) q.0 h.1) j o off x.break_label x.continue_label
+        switch_runs (at v) t h.0 (count ss) cases h.3 h.4 (omega (arith, few)) d (omega (arith, room)) (code.expr E0.target true d e) (value e) (run_expr v true d e (integer t) (omega (arith, room)) q.0 h.1) j o off x.break_label x.continue_label
         (enters E0.target E0.slots ns ⨾ (gs ⨾ freed E0.target vs))
         (λ z. enter E0.unit E0.calls E0.turn_bound kinds ns >> (do_from (goes_to cases (bits_of t z) (count ss)) ss >>= (λ f. leave E0.unit E0.calls E0.turn_bound kinds ns >> pure (behind_switch f))))
         (λ z iz.
@@ -529,20 +553,20 @@ module _ (E0 : Env) (L : Linked E0.site) (home : AtHome E0) (k : well.Context) (
         (subst (λ (n : ℕ). HeldRuns (at (v ++ ns)) g (way j d o (with_off ns off)) x.break_label x.continue_label gs (switched (do_from n ss))) (let y : g - 0 ≡ g = omega arith in y)
         (groups_run (v ++ ns) d o (with_objects vs x) j (with_off ns off) ss 0 (out_more v ns d o x off h.2 out) (omega (arith, few)) (omega (arith, room)) q.1 h.5 x.break_label g (omega (arith, small, few))))))
 
-    pub stmts_run : (v : List ℕ) (d : ℕ) (o : Option ℕ) (x : Exits) (j : Jumps) (off : Off) (ss : Stmts) → IsOut E0 v d o x off → d + waits_stmts ss ≤ E0.waits → IsReady E0.target.is_object E0.unit (in_stmts ss) (uses.in_stmts ss) (in_stmts_of ss)
+    pub stmts_run : (v : List ℕ) (d : ℕ) (o : Option ℕ) (x : Exits) (j : Jumps) (off : Off) (ss : Stmts) → IsOut E0 v d o x off → d + waits_stmts ss ≤ E0.waits → IsReady E0.may_call E0.target.is_object E0.unit (in_stmts ss) (uses.in_stmts ss) (in_stmts_of ss)
         → AreStatements (in_blocks v) E0.result j ss → FlowRuns (at v) (way j d o off) x.break_label x.continue_label (all_codes d x ss) same (do_all ss)
     stmts_run v d o x j off done out room i h = flow_none (at v) (way j d o off) x.break_label x.continue_label
     stmts_run v d o x j off (seq s ss) out room i h =
-        let q = parts E0.target.is_object E0.unit (in_stmt s) (in_stmts ss) (uses.in_stmt s) (uses.in_stmts ss) (in_stmt_of s) (in_stmts_of ss) i in
+        let q = parts E0.may_call E0.target.is_object E0.unit (in_stmt s) (in_stmts ss) (uses.in_stmt s) (uses.in_stmts ss) (in_stmt_of s) (in_stmts_of ss) i in
         flow_seq (at v) (way j d o off) x.break_label x.continue_label (codes d x s) (all_codes d x ss) (does s) (do_all ss) (stmt_runs v d o x j off s out (omega (arith, room)) q.0 h.0) (stmts_run v d o x j off ss out (omega (arith, room)) q.1 h.1)
 
     -- the groups of a switch, from the i-th on
     groups_run : (v : List ℕ) (d : ℕ) (o : Option ℕ) (x : Exits) (j : Jumps) (off : Off) (ss : Stmts) (i : ℕ) → IsOut E0 v d o x off → i + count ss ≤ no_group → suc d + waits_stmts ss ≤ E0.waits
-        → IsReady E0.target.is_object E0.unit (in_stmts ss) (uses.in_stmts ss) (in_stmts_of ss) → AreStatements (in_blocks v) E0.result (judged.in_switch j) ss → (b g : ℕ) → g ≤ no_group
+        → IsReady E0.may_call E0.target.is_object E0.unit (in_stmts ss) (uses.in_stmts ss) (in_stmts_of ss) → AreStatements (in_blocks v) E0.result (judged.in_switch j) ss → (b g : ℕ) → g ≤ no_group
         → HeldRuns (at v) g (way j d o off) b x.continue_label (all_groups d (scheme.in_group (waiting E0.target d) x) i ss) (switched (do_from (g - i) ss))
     groups_run v d o x j off done i out few room ready h b g le = no_groups v (way j d o off) b x.continue_label g
     groups_run v d o x j off (seq s ss) i out few room ready h b g le =
-        let q = parts E0.target.is_object E0.unit (in_stmt s) (in_stmts ss) (uses.in_stmt s) (uses.in_stmts ss) (in_stmt_of s) (in_stmts_of ss) ready in
+        let q = parts E0.may_call E0.target.is_object E0.unit (in_stmt s) (in_stmts ss) (uses.in_stmt s) (uses.in_stmts ss) (in_stmt_of s) (in_stmts_of ss) ready in
         let xg = scheme.in_group (waiting E0.target d) x in
         let out' : IsOut E0 v (suc d) (Some d) xg (record off { broken = [] }) = record { objects = out.objects; by_break = take_zero x.objects; by_continue = out.by_continue; leaving = refl; around = λ k e. same_below d k e; returned' = out.returned'; broken' = off_none E0 v; continued' = out.continued' } in
         subst (λ (y : Does Flow). HeldRuns (at v) g (way j d o off) b x.continue_label (all_groups d xg i (seq s ss)) (switched y)) (from_group_is s ss (g - i))

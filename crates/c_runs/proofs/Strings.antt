@@ -61,11 +61,11 @@ abbrev pub char_of : ℕ → Value
 char_of b = number (value_of Char b)
 
 -- the objects are these now
-abbrev changed : List Object → World → Result (Unit {0})
+abbrev pub changed : List Object → World → Result (Unit {0})
 changed os w = gives tt (record w { objects = os })
 
 -- an unsafe end is one also where the objects differ
-unsafe_as : (S : Site) (size : ℕ) (w w' : World) (os : List Object) (m : Mem) (t : Thread) (u : Unsafe) → Stops S size w (record w' { objects = os }) m t (unsafe u) → Stops S size w w' m t (unsafe u)
+pub unsafe_as : (S : Site) (size : ℕ) (w w' : World) (os : List Object) (m : Mem) (t : Thread) (u : Unsafe) → Stops S size w (record w' { objects = os }) m t (unsafe u) → Stops S size w w' m t (unsafe u)
 unsafe_as S size w w' os m t u h = record {
   puts = h.puts;
   events = h.events;

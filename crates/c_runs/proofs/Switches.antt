@@ -46,7 +46,7 @@ use Rattle.c_runs.proofs.Goes as goes
 use Rattle.c_runs.proofs.Goes.{Goes, Mem, Runs, after_after, behind_goes, bind, goes_on, here, one_here, resize, sized, stays}
 use Rattle.c_meaning.specs.Objects.{Object}
 use Rattle.c_runs.proofs.Held.{ending, get_behind, length_set, length_words, set_behind, set_elsewhere, set_there}
-use Rattle.c_runs.proofs.Related.{Env, HasAll, Holds, IsValue, Kept, KeptAs, Now, Temps, kept_temps, locals_of, pushes, depth_front, frame_of, front, front_append, has_back, has_front, total_append}
+use Rattle.c_runs.proofs.Related.{Env, HasAll, Holds, IsValue, Kept, KeptAs, Now, Temps, kept_temps, locals_of, pushes, depth_front, frame_of, front, front_append, has_back, has_front, total_append, beside}
 use Rattle.c_runs.proofs.Ops.{Good, GoodIn, IsTest, Op, ToIn, To_, at_work, carried_is, choice_at, is_no, is_yes, runs_choice, same, size_joined}
 use Rattle.c_runs.proofs.Nodes.{Leaves, gone, of_number}
 use Rattle.c_runs.proofs.Flows.{Around, FlowRuns, GoodFlow, IsAt, Off, Way, around_front, FlowOut, flow_break, in_label, lowest_all, starts, no_group, to_flow, way}
@@ -325,7 +325,7 @@ module _ (E : Env) where
       kept_temps E (inner n m now) now.waits now.temps os w1 m1 m1.temps (record { long = k.temps.long; stay = λ j lt. k.temps.stay j (omega (arith, lt, le)) ∙ t.stay j lt }) k
 
   pub held_behind : {A : Type 0} (g : ℕ) (l : Way) (b c : ℕ) (x y : Code) (Ok : A → Type 0) (e : Does A) (f : A → Does Flow)
-      → Op E x same (gone E) Ok e → ((v : A) → Ok v → HeldRuns g l b c y (f v)) → HeldRuns g l b c (x ⨾ y) (e >>= f)
+      → Op (beside (suc l.depth) E) x same (gone E) Ok e → ((v : A) → Ok v → HeldRuns g l b c y (f v)) → HeldRuns g l b c (x ⨾ y) (e >>= f)
   held_behind g l b c x y Ok e f rx ry n has small now le vs r br cr rr caller a dep w m k held =
       let cx = x n in
       let n' = n + length cx.seqs in
@@ -508,7 +508,7 @@ module _ (E : Env) where
           set_there m1.temps (4 + d) (I32 (wrapped 32 (pos g))) waits_inside
           ∙ ap (λ (q : ℕ). Some (I32 q)) (wrapped_small g (omega (arith, is, small, few)) ∙ is)
 
-    pub switch_runs : (ce : Code) (ev : Does Value) → Leaves E ce (integer u) ev → (j : Jumps) (o : Option ℕ) (off : Off) (b c : ℕ) (rest : Code) (M : ℤ → Does Flow)
+    pub switch_runs : (ce : Code) (ev : Does Value) → Leaves (beside d E) ce (integer u) ev → (j : Jumps) (o : Option ℕ) (off : Off) (b c : ℕ) (rest : Code) (M : ℤ → Does Flow)
         → ((z : ℤ) → IsIn u z → HeldRuns (goes_to cases (bits_of u z) k) (way j d o off) b c rest (M z))
         → FlowRuns E (way j d o off) b c (selected E.target u x y cases k ce ⨾ rest) same (meaning.integer ev >>= M)
     switch_runs ce ev re j o off b c rest M ry n has small now le vs r br cr rr caller a dep w m kp =

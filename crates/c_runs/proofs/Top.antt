@@ -20,7 +20,7 @@ use Rattle.c_meaning.specs.Units.{as_result, closed, first_world, give_each, mai
 use Rattle.c_meaning.specs.Values.{Value, zero_value}
 use Rattle.c_meaning.specs.World as world
 use Rattle.c_meaning.specs.World.{End, World, Result, gives, ends, Does, after, plain, ◌>>=◌, ◌>>◌, pure}
-use Rattle.c_code.specs.Modules.{index_of, is_defined, is_defined_at, named, rank_in}
+use Rattle.c_code.specs.Modules.{index_of, is_defined, is_defined_at}
 use Rattle.c_stage.specs.Stage.{are_data, in_stage}
 use Rattle.c_runs.proofs.Bodies.{is_integer_or_void}
 use Rattle.c_runs.specs.Correct.{Behaves, IsPrefix, Reports, main_result, meant, result_in, run_at}
@@ -33,6 +33,7 @@ use Rattle.c_runs.specs.Words.{pushed}
 use Rattle.c_runs.proofs.Callees.{Compiled, E, Left, begun_with, does, start_now}
 use Rattle.c_runs.proofs.Calls.{Callees, Entered, calls_run, enters}
 use Rattle.c_runs.proofs.Files.{Filed}
+use Rattle.c_runs.proofs.Entries.{places_of}
 use Rattle.c_runs.proofs.Filing.{first_filed}
 use Rattle.c_runs.proofs.Globals.{all_reached, file_slots}
 use Rattle.c_runs.proofs.Goes.{Asks, IsEnd, Mem, Runs, RunsTo, Site, Stops, store, weaker}
@@ -57,7 +58,7 @@ by_itself S = record S { last = threads.over; still = λ t v input. refl }
 
 module _ (S0 : Site) (L : Linked (by_itself S0)) (unit : Typed) (all : (f : ℕ) (t : Ty) (ps : Tys) → slice_get (map (λ (g : Function). g.ty) unit.functions) f ≡ Some (function t ps) → IsCallable unit f → Compiled (by_itself S0) unit f t ps)
     (par_ints : (f : ℕ) (t : Ty) (ps : Tys) → slice_get (map (λ (g : Function). g.ty) unit.functions) f ≡ Some (function t ps) → are_data ps ≡ true)
-    (m0 : Mem) (new : m0.homes ≡ []) (placed : Placed m0.segments) (filed : Filed unit.structs (λ n. rank_in (named unit) n) (file_slots unit) (all_reached unit) (by_itself S0).shared m0.homes (map (λ t. plain (zero_value t)) unit.globals) [] m0.globals) (f : ℕ) (t : Ty) (p : Compiled (by_itself S0) unit f t no_types) (is_main : main_number unit ≡ Some f) (none_made : unit.made ≡ []) (longest_is : (by_itself S0).most ≡ longest_of unit) (numeric : is_integer_or_void t ≡ true) where
+    (m0 : Mem) (new : m0.homes ≡ []) (placed : Placed m0.segments) (filed : Filed unit.structs (places_of unit) (file_slots unit) (all_reached unit) (by_itself S0).shared m0.homes (map (λ t. plain (zero_value t)) unit.globals) [] m0.globals) (f : ℕ) (t : Ty) (p : Compiled (by_itself S0) unit f t no_types) (is_main : main_number unit ≡ Some f) (none_made : unit.made ≡ []) (longest_is : (by_itself S0).most ≡ longest_of unit) (numeric : is_integer_or_void t ≡ true) where
   abbrev pub here_store : Store
   here_store = store (by_itself S0) m0
 
@@ -287,10 +288,10 @@ module _ (S0 : Site) (L : Linked (by_itself S0)) (unit : Typed) (all : (f : ℕ)
 
 -- nothing is made before `main`
 nothing_filed : (u : Typed) (s : Store) (well : IsWellTyped u) (staged : in_stage u ≡ true) (placed : IsPlaced u s)
-    → Filed u.structs (λ n. rank_in (named u) n) (file_slots u) (all_reached u) (length s.globals) [] (map (λ t. plain (zero_value t)) u.globals) [] s.globals
+    → Filed u.structs (places_of u) (file_slots u) (all_reached u) (length s.globals) [] (map (λ t. plain (zero_value t)) u.globals) [] s.globals
 nothing_filed u s well staged placed =
-    let first = first_filed u well (stands.file_types u s well staged placed) (λ n. rank_in (named u) n) [] s.globals placed.globals in
-    subst (λ (ms : List Made). Filed u.structs (λ n. rank_in (named u) n) (file_slots u) (record { named = variables_in ms; texts = literals_in ms; sealed = literals_in ms }) (length s.globals) [] (map (λ t. plain (zero_value t)) u.globals) [] s.globals)
+    let first = first_filed u well (stands.file_types u s well staged placed) (places_of u) [] s.globals placed.globals in
+    subst (λ (ms : List Made). Filed u.structs (places_of u) (file_slots u) (record { named = variables_in ms; texts = literals_in ms; sealed = literals_in ms }) (length s.globals) [] (map (λ t. plain (zero_value t)) u.globals) [] s.globals)
     (sym (stands.none_made u s well staged placed)) first
 
 pub compiled_behaves : (u : Typed) (s : Store) (n : ℕ) (f : Function) (b : Stmt) (t : Ty) → IsWellTyped u → in_stage u ≡ true

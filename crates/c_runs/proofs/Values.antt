@@ -27,7 +27,7 @@ IsOf _ _ = ⊥
 -- ---- any values
 
 -- what stands on the operands, or in the local of a plain variable
-module _ (places : ℕ → ℕ) where
+module _ (places : Ty → ℕ → ℕ) where
   abbrev pub word_of : Ty → List Home → Value → Word
   word_of (pointer t) hs v = operand places hs (pointer t) v
   word_of t hs v = value_word t v
@@ -37,7 +37,7 @@ module _ (places : ℕ → ℕ) where
   pushed_of void hs v vs = vs
   pushed_of t hs v vs = word_of t hs v ∷ vs
 
-module _ (table : Table) (places : ℕ → ℕ) where
+module _ (table : Table) (places : Ty → ℕ → ℕ) where
   abbrev pub IsValueOf : Ty → List Home → Value → Type 0
   IsValueOf (pointer t) hs v = homes.IsOf table places hs (pointer t) v
   IsValueOf t hs v = IsOf t v

@@ -1,10 +1,10 @@
 -- Code without instructions has no sequences: the code of all expressions of the stage.
-use Rattle.std.proofs.Common.{◌≡◌, ℕ, ◌+◌, List, [], ◌∷◌, ◌++◌, length, Bool, true, false, Option, Some, None, refl, ap, ◌∙◌, cond}
+use Rattle.std.proofs.Common.{◌≡◌, ℕ, suc, ◌+◌, List, [], ◌∷◌, ◌++◌, length, Bool, true, false, Option, Some, None, refl, ap, ◌∙◌, cond}
 use Rattle.std.specs.Prelude.{ℤ, ◌&&◌, nat_lt}
 use Rattle.ms_types.specs.declared.types.ValType.{ValType}
 use Rattle.ms_types.specs.declared.types.ValType.TheVariants as vals
 use Rattle.ms_module.specs.declared.instr.Instr.{Instr}
-use Rattle.ms_module.specs.declared.instr.Instr.TheVariants.{Drop}
+use Rattle.ms_module.specs.declared.instr.Instr.TheVariants.{Drop, LocalSet}
 use Rattle.ms_module.specs.declared.numeric.Width.{Width}
 use Rattle.ms_module.specs.declared.numeric.Width.TheVariants.{W32, W64}
 use Rattle.c_types.specs.declared.integers.IntType.{IntType}
@@ -20,10 +20,11 @@ use Rattle.c_typed.specs.declared.ops.Variable.TheVariants.{Local, Global}
 use Rattle.c_typed.specs.Tree as tree
 use Rattle.c_typed.specs.Tree.{Place, of, Expr, Exprs, none, more}
 use Rattle.ms_emit.specs.Codes.{Code, plain, one, no_code, ◌⨾◌, choice}
-use Rattle.c_code.specs.Expressions.{allocated, as_bit, begun, begun_with_old, begun_over_old, bytes_in, converted, ended, expr, exprs, fetched, freed, int, is_bit, is_null, left, number_in, place, pointers_compared, product_allocated, put, updated, moved, decayed, is_deref, part}
+use Rattle.c_code.specs.Expressions.{allocated, as_bit, begun, begun_with_old, begun_over_old, bytes_in, converted, copied, ended, expr, exprs, fetched, freed, int, is_bit, is_null, leaves_copied, left, number_in, place, pointers_compared, product_allocated, put, updated, moved, decayed, is_deref, part}
 use Rattle.c_code.specs.Operations.{by_width, convert, i32, narrow, to_type, truth, val_option, width_of}
-use Rattle.c_stage.specs.Stage.{in_expr, in_exprs, in_place, is_value}
-use Rattle.c_code.specs.Targets.{Target, plain_in, scratch_i64, tee}
+use Rattle.c_stage.specs.Stage.{in_expr, in_exprs, in_place}
+use Rattle.c_code.specs.Leaves.{leaves}
+use Rattle.c_code.specs.Targets.{Target, plain_in, scratch_handle, scratch_i64, scratch_place, tee}
 
 -- both of two
 pub both : (a b : Bool) → (a && b) ≡ true → (a ≡ true) × (b ≡ true)
@@ -126,6 +127,9 @@ whole_product x n a b j e = absurd (never_empty (a j).instrs _ _ e)
 whole_freed : (t : Target) (a : Code) → IsWhole (freed t a)
 whole_freed t a j e = absurd (never_empty (a j).instrs _ _ e)
 
+whole_set : (x : ℕ) (is : List Instr) (c : Code) → IsWhole (plain (LocalSet x ∷ is) ⨾ c)
+whole_set x is c n e = absurd (never_empty [] (is ++ (c (n + 0)).instrs) (LocalSet x) e)
+
 whole_moved : (n : ℕ) (back : Bool) (i : Code) → IsWhole i → IsWhole (moved n back i)
 whole_moved n true i h = whole_then (one _) _ (whole_plain _) (whole_then i _ h (whole_plain _))
 whole_moved n false i h = whole_then i _ h (whole_plain _)
@@ -171,6 +175,10 @@ module _ (t : Target) where
   whole_updated false true v p s c hp hc = whole_then (begun_with_old t v p s) _ (whole_with_old v p s hp) (whole_then c _ hc (whole_ended false v s))
   whole_updated false false v p s c hp hc = whole_then (begun_with_old t v p s) _ (whole_with_old v p s hp) (whole_then c _ hc (whole_ended false v s))
 
+  whole_copied : (n : ℕ) (p q : Code) → IsWhole p → IsWhole q → IsWhole (copied t n p q)
+  whole_copied n p q hp hq =
+      whole_then p _ hp (whole_then q _ hq (whole_set (scratch_handle t) (LocalSet (scratch_place t) ∷ []) (leaves_copied t (leaves t.structs n))))
+
   -- ---- of expressions
 
   mutual
@@ -190,11 +198,14 @@ module _ (t : Target) where
     whole_expr k d (tree.number u n) h = whole_left k _ _ (whole_plain _)
     whole_expr k d tree.null h = whole_left k _ _ (whole_plain _)
     whole_expr k d (tree.literal n) h = whole_left k _ _ (whole_plain _)
+    whole_expr k d tree.no_function h = whole_left k _ _ (whole_plain _)
+    whole_expr k d (tree.function n) h = whole_left k _ _ (whole_plain _)
+    whole_expr k d (tree.same_function is a b) h = let q = both (in_expr a) (in_expr b) h in whole_left k _ _ (whole_two (expr t true d a) (expr t true d b) _ (whole_expr true d a q.0) (whole_expr true d b q.1))
     whole_expr k d (tree.read s p) h = whole_left k _ _ (whole_fetched (plain_in t p) (place t d p) s (whole_place d p h))
     whole_expr k d (tree.decay u n p) h = whole_left k _ _ (whole_decayed (is_deref p) _ (place t d p) (whole_place d p h))
     whole_expr k d (tree.address p) h = whole_left k _ _ (whole_place d p h)
     whole_expr k d (tree.convert u v a) h = whole_left k _ _ (whole_converted u v (number_in a) (expr t true d a) (whole_expr true d a h))
-    whole_expr k d (tree.truth s a) h = let q = both (is_value s) (in_expr a) h in whole_left k _ _ (whole_then (expr t true d a) (truth s) (whole_expr true d a q.1) (whole_truth s))
+    whole_expr k d (tree.truth s a) h = whole_left k _ _ (whole_then (expr t true d a) (truth s) (whole_expr true d a h) (whole_truth s))
     whole_expr k d (tree.not a) h = whole_left k _ _ (whole_then (expr t true d a) _ (whole_expr true d a h) (whole_plain _))
     whole_expr k d (tree.unary signs.Negate u a) h = whole_left k _ _ (whole_then (one _) _ (whole_plain _) (whole_then (expr t true d a) _ (whole_expr true d a h) (whole_plain _)))
     whole_expr k d (tree.unary signs.Complement u a) h = whole_left k _ _ (whole_then (expr t true d a) _ (whole_expr true d a h) (whole_plain _))
@@ -230,6 +241,9 @@ module _ (t : Target) where
         let q = both (in_place p) (in_expr e) h in
         whole_updated k old (plain_in t p) (place t d p) scalars.Pointer _ (whole_place d p q.0) (whole_moved _ back (expr t true d e) (whole_expr true d e q.1))
     whole_expr k d (tree.call n s es) h = whole_left k _ _ (whole_then (exprs t d es) _ (whole_exprs d es h) (whole_plain _))
+    whole_expr k d (tree.call_through u s e es) h =
+        let q = both (in_expr e) (in_exprs es) h in
+        whole_left k _ _ (whole_then (expr t true d e) _ (whole_expr true d e q.0) (whole_then (one _) _ (whole_plain _) (whole_then (exprs t (suc d) es) _ (whole_exprs (suc d) es q.1) (whole_plain _))))
     whole_expr k d (tree.putchar e) h = whole_left k _ _ (whole_then (expr t true d e) _ (whole_expr true d e h) (whole_plain _))
     whole_expr k d tree.getchar h = whole_left k _ _ (whole_plain _)
     whole_expr k d tree.abort h = whole_plain _
@@ -237,11 +251,11 @@ module _ (t : Target) where
     whole_expr k d (tree.calloc u a b) h = whole_left k _ _ (whole_product (scratch_i64 t) (size t.structs u) (expr t true d a) (expr t true d b))
     whole_expr k d (tree.free e) h = whole_freed t (expr t true d e)
     whole_expr k d (tree.discard e) h = whole_expr false d e h
+    whole_expr k d (tree.copy n p q) h = let r = both (in_place p) (in_place q) h in whole_copied n (place t d p) (place t d q) (whole_place d p r.0) (whole_place d q r.1)
     whole_expr k d (tree.visit p) h = whole_then (place t d p) _ (whole_place d p h) (whole_plain _)
     whole_expr k d (tree.size_of_place n p) h = whole_left k _ _ (whole_plain _)
     whole_expr k d (tree.size_of_value n e) h = whole_left k _ _ (whole_plain _)
     whole_expr k d (tree.size_of_type n) h = whole_left k _ _ (whole_plain _)
-    whole_expr k d _ h = absurd cc
 
     pub whole_exprs : (d : ℕ) (es : Exprs) → in_exprs es ≡ true → IsWhole (exprs t d es)
     whole_exprs d none h = whole_plain []

@@ -1,7 +1,9 @@
 -- What a store has of a unit that was compiled: its functions, and three of the host.
-use Rattle.std.specs.Prelude.{◌≡◌, ℕ, ◌+◌, ◌<◌, ◌≤◌, max, true, List, [], ◌∷◌, length, map, Option, Some, None, slice_get}
+use Rattle.std.specs.Prelude.{◌≡◌, ◌==◌, ℕ, ◌+◌, ◌<◌, ◌≤◌, max, true, List, [], ◌∷◌, length, map, Option, Some, None, slice_get}
+use Rattle.std.specs.List.{list_any}
 use Rattle.ms_host.specs.declared.host.Host.TheVariants as hosts
 use Rattle.ms_linear.specs.declared.global.GlobalInst.{GlobalInst}
+use Rattle.ms_linear.specs.Table.{Table}
 use Rattle.ms_linear.specs.Values.{default_of}
 use Rattle.ms_machine.specs.Step.{host_in}
 use Rattle.ms_machine.specs.Store.{Store}
@@ -12,7 +14,7 @@ use Rattle.ms_task.specs.declared.func.FuncInst.{FuncInst}
 use Rattle.c_typed.specs.Tree.{Function, Stmt, Typed}
 use Rattle.ms_emit.specs.Codes.{total}
 use Rattle.c_code.specs.Functions.{body, locals, params_in, signature}
-use Rattle.c_code.specs.Modules.{compiled, defined, imported, index_of, target_of}
+use Rattle.c_code.specs.Modules.{compiled, defined, entry_of, imported, index_of, named, target_of}
 use Rattle.c_code.specs.Uses.{waits_stmt}
 
 -- at the address that is its index, the function of this number, with this body
@@ -49,6 +51,15 @@ pub record IsPlaced (u : Typed) (s : Store) : Type 0 where
   pub getchar : host_in (slice_get s.funcs 1) ≡ Some hosts.Getchar
   pub abort : host_in (slice_get s.funcs 2) ≡ Some hosts.Abort
   pub functions : (n : ℕ) (f : Function) (b : Stmt) → slice_get u.functions n ≡ Some f → f.body ≡ Some b → IsFunctionAt u s n f b
+  -- its one table: at first it has no function, and behind that those that are values, which an i32 counts
+  pub few : length (named u) < 4294967295
+  pub types : inst.types ≡ (compiled u).sigs
+  pub has_table : inst.table ≡ Some 0
+  pub table : Table
+  pub tables : s.tables ≡ table ∷ []
+  pub empty : slice_get table.entries 0 ≡ Some None
+  pub entries : (n : ℕ) (f : Function) (b : Stmt) → slice_get u.functions n ≡ Some f → f.body ≡ Some b → list_any (λ m. m == n) (named u) ≡ true
+      → slice_get table.entries (entry_of u n) ≡ Some (Some (record { func = record { address = index_of u n }; sig = signature f.ty }))
   -- the live segments lie within the memory and apart
   pub segments : Placed s.segments
 

@@ -1,5 +1,5 @@
 -- Units that are in the stage: what the tests on lists in the code say of the definition's own recursions.
-use Rattle.std.proofs.Common.{◌≡◌, ◌∙◌, ◌&&◌, ◌<◌, get_or, length, nat_lt, Bool, true, false, ℕ, suc, List, [], ◌∷◌, map, Some, Vec, Global, refl, sym, ap}
+use Rattle.std.proofs.Common.{◌≡◌, ◌∙◌, ◌&&◌, ◌<◌, get_or, length, nat_lt, Bool, true, false, ℕ, suc, List, [], ◌∷◌, map, Some, Box, Vec, Global, refl, sym, ap}
 use Rattle.std.proofs.lemmas.List.{get_or-map, length-map}
 use Rattle.std.specs.List.{list_all}
 use Rattle.c_types.specs.declared.types.CType.TheVariants as code
@@ -18,7 +18,7 @@ use Rattle.c_typed.specs.Units.{list_of as tys_in}
 use Rattle.c_code.specs.Functions.{params_in, result_in}
 use Rattle.c_stage.specs.Stage.{are_data, are_slots, in_body, in_expr, in_exprs, in_stmt, in_stmts, is_data, is_plain_function, is_result, is_variable}
 use Rattle.c_place.specs.refinement.Lists.{exprs_in}
-use Rattle.c_place.proofs.Lists.{call_is}
+use Rattle.c_place.proofs.Lists.{call_is, call_through_is}
 use Rattle.c_code.proofs.ParameterTypes.{params_are}
 use Rattle.c_place.proofs.Lists.{count_is}
 
@@ -58,6 +58,9 @@ body_in f s is = ap (λ b. in_body (function_of f) (body_of b)) is ∙ ap (λ b.
 
 pub call_in : (e : Expr) (n : ℕ) (s : _) (es : Vec Expr Global) → e ≡ exprs.Call n s es → in_expr (expr_of e) ≡ in_exprs (exprs_in es.items)
 call_in e n s es is = ap (λ x. in_expr (expr_of x)) is ∙ ap in_expr (call_is n s es)
+
+pub through_in : (e : Expr) (t : _) (s : _) (a : Box Expr Global) (es : Vec Expr Global) → e ≡ exprs.CallThrough t s a es → in_expr (expr_of e) ≡ (in_expr (expr_of a.value) && in_exprs (exprs_in es.items))
+through_in e t s a es is = ap (λ x. in_expr (expr_of x)) is ∙ ap in_expr (call_through_is t s a es)
 
 -- groups are counted by their list
 pub counted : (ss : List Stmt) → nat_lt (length ss) 4294967295 ≡ nat_lt (count (sequence (list_of ss))) 4294967295

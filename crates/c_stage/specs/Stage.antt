@@ -1,19 +1,17 @@
--- The units of which it is shown so far that their code does what they mean: those of integers and pointers to objects, variables of
--- such types and arrays and structs, their addresses and members, strings that initialise arrays, control, and calls of functions by
--- their names. An i32 counts the groups of a switch, but for one number.
+-- The units of which it is shown so far that their code does what they mean: those of integers and pointers, variables of such types
+-- and arrays and structs, their addresses and members, structs that are copied, strings that initialise arrays, functions as values,
+-- control, and calls of functions by their names and through pointers. An i32 counts the groups of a switch, but for one number.
 use Rattle.std.specs.Prelude.{ℕ, nat_lt, ◌&&◌, not, Bool, true, false, List, [], ◌∷◌, bytes_eq, codes, Option, Some, None}
-use Rattle.c_types.specs.declared.types.Scalar.{Scalar}
-use Rattle.c_types.specs.declared.types.Scalar.TheVariants as scalars
-use Rattle.c_types.specs.Types.{Ty, void, integer, struct, pointer, array, function, is_function, Tys, no_types, types}
+use Rattle.c_types.specs.Types.{Ty, void, integer, struct, pointer, array, function, Tys, no_types, types}
 use Rattle.c_typed.specs.declared.ops.Variable.TheVariants.{Local, Global}
 use Rattle.c_typed.specs.Tree as tree
 use Rattle.c_typed.specs.Tree.{Place, of, deref, member, Expr, Exprs, none, more, Stmt, nothing, perform, fill, if_else, loop, do_while, switch, scope, return, return_nothing, break, continue, Stmts, done, seq, Function, Typed}
 use Rattle.c_typed.specs.Statements.{count}
 
--- of an integer, or of a pointer that leads to no function
+-- of an integer, or of a pointer
 abbrev pub is_data : Ty → Bool
 is_data (integer t) = true
-is_data (pointer t) = not (is_function t)
+is_data (pointer t) = true
 is_data _ = false
 
 -- a variable that is no parameter may be an array or a struct, too
@@ -21,11 +19,6 @@ abbrev pub is_variable : Ty → Bool
 is_variable (array t n) = true
 is_variable (struct n) = true
 is_variable t = is_data t
-
-abbrev pub is_value : Scalar → Bool
-is_value (scalars.Int t) = true
-is_value scalars.Pointer = true
-is_value scalars.Function = false
 
 abbrev mutual
   -- a variable of a function, what a pointer points to, or a member of these
@@ -38,16 +31,19 @@ abbrev mutual
   pub in_expr : Expr → Bool
   in_expr (tree.number t n) = true
   in_expr tree.null = true
+  in_expr tree.no_function = true
+  in_expr (tree.function n) = true
   in_expr (tree.read s p) = in_place p
   in_expr (tree.decay t n p) = in_place p
   in_expr (tree.address p) = in_place p
   in_expr (tree.convert t u a) = in_expr a
-  in_expr (tree.truth s a) = is_value s && in_expr a
+  in_expr (tree.truth s a) = in_expr a
   in_expr (tree.not a) = in_expr a
   in_expr (tree.unary o t a) = in_expr a
   in_expr (tree.binary o t a b) = in_expr a && in_expr b
   in_expr (tree.compare o t a b) = in_expr a && in_expr b
   in_expr (tree.compare_pointers o a b) = in_expr a && in_expr b
+  in_expr (tree.same_function is a b) = in_expr a && in_expr b
   in_expr (tree.move t back a b) = in_expr a && in_expr b
   in_expr (tree.move_by t a b) = in_expr a && in_expr b
   in_expr (tree.difference t a b) = in_expr a && in_expr b
@@ -58,7 +54,9 @@ abbrev mutual
   in_expr (tree.assign s p e) = in_place p && in_expr e
   in_expr (tree.update old t o u p e) = in_place p && in_expr e
   in_expr (tree.advance old t back p e) = in_place p && in_expr e
+  in_expr (tree.copy n p q) = in_place p && in_place q
   in_expr (tree.call n s es) = in_exprs es
+  in_expr (tree.call_through t s e es) = in_expr e && in_exprs es
   in_expr (tree.putchar e) = in_expr e
   in_expr tree.getchar = true
   in_expr tree.abort = true
@@ -119,7 +117,7 @@ is_main f = bytes_eq (codes "main") f.name
 abbrev pub is_result : Function → Ty → Bool
 is_result f void = true
 is_result f (integer t) = true
-is_result f (pointer t) = not (is_function t) && not (is_main f)
+is_result f (pointer t) = not (is_main f)
 is_result f _ = false
 
 abbrev pub is_plain_function : Function → Ty → Bool

@@ -1,6 +1,6 @@
 //! The units of which it is shown that their code does what they mean.
 
-ghost use Rattle.std.specs.Prelude.{◌≡◌, ◌&&◌, map, nat_lt, not};
+ghost use Rattle.std.specs.Prelude.{◌≡◌, ◌&&◌, map, nat_lt};
 ghost use Rattle.std.specs.List.{list_all};
 ghost use Rattle.c_types.specs.Types.{type_of};
 ghost use Rattle.c_typed.specs.Parts.{sequence};
@@ -12,8 +12,9 @@ ghost use Rattle.c_place.specs.refinement.Lists.{exprs_in};
 use c_typed::{Expr, Function, Place, Sized, Stmt, Typed, Variable};
 use c_types::{CType, Scalar, Signature};
 
-/// Whether a unit is one of integers and pointers to objects, variables of such types and arrays and structs, their addresses and
-/// members, strings that initialise arrays, control, and calls of functions by their names.
+/// Whether a unit is one of integers and pointers, variables of such types and arrays and structs, their addresses and members,
+/// structs that are copied, strings that initialise arrays, functions as values, control, and calls of functions by their names and
+/// through pointers.
 pub fn is_in_stage(typed: &Typed) -> bool
     ensures { result ≡ words.in_stage (typed_of typed.now) }
 {
@@ -21,13 +22,13 @@ pub fn is_in_stage(typed: &Typed) -> bool
     unit.made.is_empty() && unit.globals.is_empty() && in_functions(&unit.functions)
 }
 
-/// Whether it is an integer, or a pointer that leads to no function.
+/// Whether it is an integer, or a pointer.
 fn is_data(t: &CType) -> bool
     ensures { result ≡ words.is_data (type_of t.now) }
 {
     match t {
         CType::Int(_) => true,
-        CType::Pointer(t) => !t.is_function(),
+        CType::Pointer(_) => true,
         CType::Void => false,
         CType::Struct(_) => false,
         CType::Array(_, _) => false,
@@ -46,7 +47,7 @@ fn are_data(ts: &[CType]) -> bool
     true
 }
 
-/// Whether it is an array, a struct, an integer, or a pointer that leads to no function.
+/// Whether it is an array, a struct, an integer, or a pointer.
 fn is_variable(t: &CType) -> bool
     ensures { result ≡ words.is_variable (type_of t.now) }
 {
@@ -54,7 +55,7 @@ fn is_variable(t: &CType) -> bool
         CType::Array(_, _) => true,
         CType::Struct(_) => true,
         CType::Int(_) => true,
-        CType::Pointer(t) => !t.is_function(),
+        CType::Pointer(_) => true,
         CType::Void => false,
         CType::Function(_) => false,
     }
@@ -84,7 +85,7 @@ fn is_result(f: &Function, t: &CType) -> bool
     match t {
         CType::Void => true,
         CType::Int(_) => true,
-        CType::Pointer(t) => !t.is_function() && !is_main(f),
+        CType::Pointer(_) => !is_main(f),
         CType::Struct(_) => false,
         CType::Array(_, _) => false,
         CType::Function(_) => false,
@@ -107,16 +108,6 @@ fn is_plain_function(f: &Function) -> bool
         CType::Struct(_) => false,
         CType::Pointer(_) => false,
         CType::Array(_, _) => false,
-    }
-}
-
-fn is_value(s: Scalar) -> bool
-    ensures { result ≡ words.is_value s }
-{
-    match s {
-        Scalar::Int(_) => true,
-        Scalar::Pointer => true,
-        Scalar::Function => false,
     }
 }
 
@@ -151,6 +142,8 @@ fn in_expr(e: &Expr) -> bool
     match e {
         Expr::Number(_, _) => true,
         Expr::Null => true,
+        Expr::NoFunction => true,
+        Expr::Function(_) => true,
         Expr::Getchar => true,
         Expr::Abort => true,
         Expr::SizeOf(n, operand) => in_size(*n, operand),
@@ -158,12 +151,13 @@ fn in_expr(e: &Expr) -> bool
         Expr::Decay(_, _, p) => in_place(p),
         Expr::Address(p) => in_place(p),
         Expr::Convert(_, _, a) => in_expr(a),
-        Expr::Truth(s, a) => is_value(*s) && in_expr(a),
+        Expr::Truth(_, a) => in_expr(a),
         Expr::Not(a) => in_expr(a),
         Expr::Unary(_, _, a) => in_expr(a),
         Expr::Binary(_, _, a, b) => in_expr(a) && in_expr(b),
         Expr::Compare(_, _, a, b) => in_expr(a) && in_expr(b),
         Expr::ComparePointers(_, a, b) => in_expr(a) && in_expr(b),
+        Expr::SameFunction(_, a, b) => in_expr(a) && in_expr(b),
         Expr::Difference(_, a, b) => in_expr(a) && in_expr(b),
         Expr::Move(_, _, a, b) => in_expr(a) && in_expr(b),
         Expr::MoveBy(_, a, b) => in_expr(a) && in_expr(b),
@@ -174,19 +168,16 @@ fn in_expr(e: &Expr) -> bool
         Expr::Assign(_, p, a) => in_place(p) && in_expr(a),
         Expr::Update(_, _, _, _, p, a) => in_place(p) && in_expr(a),
         Expr::Advance(_, _, _, p, a) => in_place(p) && in_expr(a),
+        Expr::Copy(_, p, q) => in_place(p) && in_place(q),
         Expr::Call(_, _, es) => in_exprs(es),
+        Expr::CallThrough(_, _, a, es) => in_expr(a) && in_exprs(es),
         Expr::Putchar(a) => in_expr(a),
         Expr::Malloc(_, a) => in_expr(a),
         Expr::Calloc(_, a, b) => in_expr(a) && in_expr(b),
         Expr::Free(a) => in_expr(a),
         Expr::Discard(a) => in_expr(a),
         Expr::Visit(p) => in_place(p),
-        Expr::NoFunction => false,
-        Expr::Function(_) => false,
         Expr::Literal(_) => false,
-        Expr::SameFunction(_, _, _) => false,
-        Expr::Copy(_, _, _) => false,
-        Expr::CallThrough(_, _, _, _) => false,
     }
 }
 

@@ -59,7 +59,7 @@ trap_from u e readonly_ends = readonly_traps
 plain_flag : (u : Ty) (b : Bool) → is_function u ≡ b → is_handle (pointer u) ≡ cond b false true
 plain_flag u b e = ap (λ (x : Bool). cond x false true) e
 
-module _ (table : Table) (places : ℕ → ℕ) (homes : List Home) (m : Memory) where
+module _ (table : Table) (places : Ty → ℕ → ℕ) (homes : List Home) (m : Memory) where
   -- ---- loads
 
   integer_loaded : (t : IntType) (o : Outcome Value) (r : Result (ℕ × Event) SegTrap) → Reads table places homes (integer t) o r → LoadActs table places homes (integer t) m (λ rest. number_read (load_of t) m rest r) o

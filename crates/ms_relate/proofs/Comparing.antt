@@ -19,7 +19,7 @@ pub data Differs : Outcome ℤ → Result ℤ Apart → Type 0 where
   differs : {z : ℤ} → Differs (gives z) (Ok z)
   are_apart : Differs (stops apart) (Err (record {}))
 
-module _ (table : Table) (places : ℕ → ℕ) (homes : List Home) where
+module _ (table : Table) (places : Ty → ℕ → ℕ) (homes : List Home) where
   -- where a pointer is in its object
   pub place_is : (objects : List Object) (m : Memory) (o : Object) (h : Home) (p : Pointer) (s : Span) → IsAt table places homes m o h → span_of h p.path ≡ Some s → span_in o p.path ≡ Some s
   place_is objects m o h p s there span = rw (there.shape, there.count) span

@@ -29,7 +29,7 @@ plain_scalar : (t : Ty) (b : Bool) → IsScalar t → is_function t ≡ b → is
 plain_scalar t true is e = absurd (no_function_scalar t is e)
 plain_scalar t false is e = e
 
-module _ (table : Table) (places : ℕ → ℕ) (homes : List Home) where
+module _ (table : Table) (places : Ty → ℕ → ℕ) (homes : List Home) where
   -- one behind the other
   pub copies_after : (o : Outcome (List Object)) (r : Result Memory SegTrap) (f : List Object → Outcome (List Object)) (g : Memory → Result Memory SegTrap) → Copies table places homes o r → ((objects : List Object) (m : Memory) → Related table places homes objects m → Copies table places homes (f objects) (g m)) → Copies table places homes (after o f) (next r g)
   copies_after o r f g (copied {objects} {m} related) rest = rest objects m related

@@ -44,7 +44,7 @@ given_same y z e = ap (λ (o : Outcome ℤ). number_in o) e where
   number_in (gives x) = x
   number_in _ = z
 
-module _ (table : Table) (places : ℕ → ℕ) (homes : List Home) where
+module _ (table : Table) (places : Ty → ℕ → ℕ) (homes : List Home) where
   far_points : (objects : List Object) (m : Memory) (p q : Pointer) (h j : Home) (s r : Span) → Related table places homes objects m → slice_get homes p.object ≡ Some h → slice_get homes q.object ≡ Some j → span_of h p.path ≡ Some s → span_of j q.path ≡ Some r → IsNear p s → IsNear q r
       → (z : ℤ) (b : Bool) → (p.object == q.object) ≡ b → cond b (distance_in (slice_get objects p.object) p q) (stops apart) ≡ gives z → IsShort z
   far_points objects m p q h j s r related at at' span span' near near' z false other is = absurd cc
@@ -100,7 +100,7 @@ far_down x n some near =
 far_moved : (p : Pointer) (n : ℕ) (d : ℤ) → is_near (p.index *ℤ pos n +ℤ d *ℤ pos n) ≡ false → moved_to n p (p.index +ℤ d) ≡ invalid
 far_moved p n d far = ap (λ (y : ℤ). cond (is_near y) (points (record p { index = p.index +ℤ d })) invalid) (times_sum p.index d n) ∙ ap (λ (b : Bool). cond b (points (record p { index = p.index +ℤ d })) invalid) far
 
-module _ (table : Table) (places : ℕ → ℕ) (homes : List Home) where
+module _ (table : Table) (places : Ty → ℕ → ℕ) (homes : List Home) where
   pub farthest_back : (t : Ty) (v : Value) → is_function t ≡ false → 0 < size (shape table t) → IsOf table places homes (pointer t) v → moved (size (shape table t)) (negsuc 9223372036854775807) v ≡ moved (size (shape table t)) (pos 9223372036854775808) v
   farthest_back t v plain some (is_null f) = refl
   farthest_back t v plain some (is_invalid f) = refl

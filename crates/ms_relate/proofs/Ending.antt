@@ -66,7 +66,7 @@ placed_ended m id placed =
       ids = All-filter (λ (t : Live). not (t.id == id)) (λ (t : Live). (1 ≤ t.id) × (t.id ≤ m.made)) m.live placed.ids;
     }
 
-module _ (table : Table) (places : ℕ → ℕ) (homes : List Home) where
+module _ (table : Table) (places : Ty → ℕ → ℕ) (homes : List Home) where
   -- the object n ends
   ended_each : (objects : List Object) (m : Memory) (n : ℕ) (o : Object) (h : Home) → Related table places homes objects m → slice_get objects n ≡ Some o → slice_get homes n ≡ Some h → (i : ℕ) (u : Object) (j : Home) → slice_get (set objects n (ended o)) i ≡ Some u → slice_get homes i ≡ Some j → IsAt table places homes (with_ended m h.id) u j
   ended_each objects m n o h related at at' i u j there there' =

@@ -37,7 +37,7 @@ push_cases (z ∷ zs) y (suc n) x at =
 abbrev pub Extends : List Home → List Home → Type 0
 Extends old new = (n : ℕ) (h : Home) → slice_get old n ≡ Some h → slice_get new n ≡ Some h
 
-module _ (table : Table) (places : ℕ → ℕ) (old new : List Home) (more : Extends old new) where
+module _ (table : Table) (places : Ty → ℕ → ℕ) (old new : List Home) (more : Extends old new) where
   pub is_of_still : (t : Ty) (v : Value) → IsOf table places old t v → IsOf table places new t v
   is_of_still t v (is_number in_range) = is_number in_range
   is_of_still t v (is_null f) = is_null f
@@ -64,7 +64,7 @@ module _ (table : Table) (places : ℕ → ℕ) (old new : List Home) (more : Ex
 
 -- ---- accesses are no change
 
-module _ (table : Table) (places : ℕ → ℕ) (homes : List Home) where
+module _ (table : Table) (places : Ty → ℕ → ℕ) (homes : List Home) where
   at_once_more : (m : Memory) (o : Object) (h : Home) → IsAt table places homes m o h → IsAt table places homes (once_more m) o h
   at_once_more m o h here = record { shape = here.shape; count = here.count; fits = here.fits; state = here.state }
 
@@ -79,7 +79,7 @@ module _ (table : Table) (places : ℕ → ℕ) (homes : List Home) where
       }
 
 -- no objects, and no segments
-pub related_new : (table : Table) (places : ℕ → ℕ) (capacity : ℕ) → Related table places [] [] (record { bytes = replicate capacity (Data 0); live = []; made = 0; accesses = 0 })
+pub related_new : (table : Table) (places : Ty → ℕ → ℕ) (capacity : ℕ) → Related table places [] [] (record { bytes = replicate capacity (Data 0); live = []; made = 0; accesses = 0 })
 related_new table places capacity =
     record {
       long = refl;

@@ -66,7 +66,7 @@ pub handle_at-pieces : (bs : List Byte) (h : Handle) → ArePieces bs h → hand
 handle_at-pieces bs h (whole e) = rw e (sym (handle_at_is (pieces h) h refl (bytes'.whole refl)))
 handle_at-pieces bs h (cleared e) = rw e refl
 
-module _ (table : Table) (places : ℕ → ℕ) (homes : List Home) where
+module _ (table : Table) (places : Ty → ℕ → ℕ) (homes : List Home) where
   pub width_positive : (t : Ty) (v : Value) → IsOf table places homes t v → 0 < width t
   width_positive (integer t) v of = integer_width t
   width_positive (pointer t) v of = pointer_width (is_function t)

@@ -54,7 +54,7 @@ zero_in UnsignedLong = refl
 zero_in LongLong = refl
 zero_in UnsignedLongLong = refl
 
-zero_word : (t : IntType) (places : ℕ → ℕ) → word places (integer t) (zero_value (integer t)) ≡ 0
+zero_word : (t : IntType) (places : Ty → ℕ → ℕ) → word places (integer t) (zero_value (integer t)) ≡ 0
 zero_word Char places = refl
 zero_word SignedChar places = refl
 zero_word UnsignedChar places = refl
@@ -71,7 +71,7 @@ zero_data : (w : ℕ) → data_of w 0 ≡ replicate w (Data 0)
 zero_data zero = refl
 zero_data (suc w) = ap (λ bs. Data 0 ∷ bs) (zero_data w)
 
-module _ (table : Table) (places : ℕ → ℕ) (homes : List Home) where
+module _ (table : Table) (places : Ty → ℕ → ℕ) (homes : List Home) where
   null_is_of : (t : Ty) (b : Bool) → is_function t ≡ b → IsOf table places homes (pointer t) (cond b no_function null)
   null_is_of t true f = is_no_function f
   null_is_of t false f = is_null f
@@ -115,7 +115,7 @@ cleared_range at w base n old low high within =
 zero_times : (w : ℕ) → pos 0 ≡ pos 0 *ℤ pos w
 zero_times w = ap (λ (x : ℕ). pos x) (omega arith)
 
-module _ (table : Table) (places : ℕ → ℕ) (homes : List Home) (objects : List Object) (m : Memory) (k : Kind) (s : Shape) (n base : ℕ) (related : Related table places homes objects m) (fits : Fits s) (placed : IsPlace m.live (length m.bytes) (n * size s) (Some base)) where
+module _ (table : Table) (places : Ty → ℕ → ℕ) (homes : List Home) (objects : List Object) (m : Memory) (k : Kind) (s : Shape) (n base : ℕ) (related : Related table places homes objects m) (fits : Fits s) (placed : IsPlace m.live (length m.bytes) (n * size s) (Some base)) where
   abbrev home : Home
   home = record { id = m.made + 1; shape = s; count = n }
 
@@ -225,7 +225,7 @@ module _ (table : Table) (places : ℕ → ℕ) (homes : List Home) (objects : L
 pub new_leads : (homes : List Home) (id : ℕ) (s : Shape) (n i : ℕ) → i ≡ length homes → n * size s < 4294967296 → size s < 4294967296 → Leads (homes ++ record { id = id; shape = s; count = n } ∷ []) s (points (record { object = i; path = []; index = pos 0; sealed = false }))
 new_leads homes id s n i is low small = leads_to (record { id = id; shape = s; count = n }) (whole_of s n) (rw is (slice_get-push_new homes (record { id = id; shape = s; count = n }))) refl refl (first_near i [] false (whole_of s n) (omega (arith, low)) small)
 
-made_at_creates : (table : Table) (places : ℕ → ℕ) (homes : List Home) (objects : List Object) (m : Memory) (k : Kind) (s : Shape) (n : ℕ) (o : Option ℕ) → Related table places homes objects m → Fits s → ((base : ℕ) → o ≡ Some base → IsPlace m.live (length m.bytes) (n * size s) (Some base)) → Creates table places homes objects m k s n (n * size s) (made_at m (n * size s) (kind_of k) o).handle (made_at m (n * size s) (kind_of k) o).event (made_at m (n * size s) (kind_of k) o).memory
+made_at_creates : (table : Table) (places : Ty → ℕ → ℕ) (homes : List Home) (objects : List Object) (m : Memory) (k : Kind) (s : Shape) (n : ℕ) (o : Option ℕ) → Related table places homes objects m → Fits s → ((base : ℕ) → o ≡ Some base → IsPlace m.live (length m.bytes) (n * size s) (Some base)) → Creates table places homes objects m k s n (n * size s) (made_at m (n * size s) (kind_of k) o).handle (made_at m (n * size s) (kind_of k) o).event (made_at m (n * size s) (kind_of k) o).memory
 made_at_creates table places homes objects m k s n None related fits placed = refused
 made_at_creates table places homes objects m k s n (Some base) related fits placed =
     created (related_made table places homes objects m k s n base related fits (placed base refl)) (new_handle table places homes objects m k s n base related fits (placed base refl))
@@ -234,6 +234,6 @@ place_found : (m : Memory) (size base : ℕ) (b : Bool) → cond b (place_of m.l
 place_found m size base true is = subst (IsPlace m.live (length m.bytes) size) is (IsPlace-place_of m.live (length m.bytes) size)
 place_found m size base false is = absurd (cc)
 
-pub creates : (table : Table) (places : ℕ → ℕ) (homes : List Home) (objects : List Object) (m : Memory) (k : Kind) (s : Shape) (n : ℕ) → Related table places homes objects m → Fits s → Creates table places homes objects m k s n (n * size s) (make m (n * size s) (kind_of k)).handle (make m (n * size s) (kind_of k)).event (make m (n * size s) (kind_of k)).memory
+pub creates : (table : Table) (places : Ty → ℕ → ℕ) (homes : List Home) (objects : List Object) (m : Memory) (k : Kind) (s : Shape) (n : ℕ) → Related table places homes objects m → Fits s → Creates table places homes objects m k s n (n * size s) (make m (n * size s) (kind_of k)).handle (make m (n * size s) (kind_of k)).event (make m (n * size s) (kind_of k)).memory
 creates table places homes objects m k s n related fits =
     made_at_creates table places homes objects m k s n _ related fits (λ base is. place_found m (n * size s) base (nat_lt (length m.live) most_live) is)

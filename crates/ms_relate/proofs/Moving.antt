@@ -21,7 +21,7 @@ pub times_sum : (a b : ℤ) (n : ℕ) → (a +ℤ b) *ℤ pos n ≡ a *ℤ pos n
 times_sum a b zero = *ℤ-zero (a +ℤ b) ∙ (let ea : a *ℤ pos 0 ≡ pos 0 = *ℤ-zero a in let eb : b *ℤ pos 0 ≡ pos 0 = *ℤ-zero b in rw (ea, eb) refl)
 times_sum a b (suc n) = rw (times_suc (a +ℤ b) n, times_suc a n, times_suc b n, times_sum a b n) (omega (arith, ints))
 
-module _ (table : Table) (places : ℕ → ℕ) (homes : List Home) where
+module _ (table : Table) (places : Ty → ℕ → ℕ) (homes : List Home) where
   same_cond : (b : Bool) (v w : Value) (g : Handle) → handle homes w ≡ g → handle homes (cond b v w) ≡ cond b (handle homes v) g
   same_cond true v w g e = refl
   same_cond false v w g e = e

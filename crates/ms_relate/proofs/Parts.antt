@@ -81,7 +81,7 @@ pub record IsPart (homes : List Home) (u : Shape) (off : ℕ) (v w : Value) : Ty
   pub all : slice (handle homes w) 0 (size u) ≡ handle homes w
   pub within : (from n : ℕ) → 0 < n → from + n ≤ size u → slice (handle homes w) (low from) (low n) ≡ slice (handle homes v) (low (off + from)) (low n)
 
-module _ (table : Table) (places : ℕ → ℕ) (homes : List Home) where
+module _ (table : Table) (places : Ty → ℕ → ℕ) (homes : List Home) where
   -- where it leads to an object
   pub led : (objects : List Object) (m : Memory) (e : Shape) (p : Pointer) → Related table places homes objects m → Leads homes e (points p) → Fits e × (size e < 2 ^ 32)
   led objects m e p related (leads_to h s at span same near) =

@@ -64,7 +64,7 @@ none_within [] n within e = omega (arith, within)
 none_within (x ∷ xs) zero within e = cc
 none_within (x ∷ xs) (suc n) within e = none_within xs n (omega (arith, within)) e
 
-module _ (table : Table) (places : ℕ → ℕ) (homes : List Home) where
+module _ (table : Table) (places : Ty → ℕ → ℕ) (homes : List Home) where
   -- the array that a path leads to in an object that is alive
   pub array_stands : (bytes : List Byte) (o : Object) (h : Home) (g : Live) (path : List Step) (s : Span) → span_of h path ≡ Some s → count o.trees ≡ h.count → AreLaid (λ place. StandsAt table places homes bytes (g.base + place)) o.trees h.shape 0 → (count (array_at path o.trees) ≡ s.count) × AreLaid (λ place. StandsAt table places homes bytes (g.base + place)) (array_at path o.trees) s.shape s.place
   array_stands bytes o h g path s is many laid =

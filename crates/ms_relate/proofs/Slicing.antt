@@ -5,6 +5,7 @@ use Rattle.std.proofs.lemmas.Bool.{cases_lt, le-leb, lt-leb, lt-ltb, le-ltb}
 use Rattle.std.proofs.lemmas.Int.{ints}
 use Rattle.std.proofs.Math.Nat.{mul-le-mul_right}
 use Rattle.c_types.specs.Layout.{Table}
+use Rattle.c_types.specs.Types.{Ty}
 use Rattle.c_meaning.specs.Shapes.{Shape, elements, Part, part_of, size}
 use Rattle.c_meaning.specs.Values.{Pointer, Step, to_member, inside, Value, invalid, points}
 use Rattle.c_meaning.specs.Objects.{Object, Span, further, gives, index_in, length_of, span_at, span_by, span_in, stepped, whole_of}
@@ -73,7 +74,7 @@ pub record Gives (homes : List Home) (u : Shape) (w : Value) (h : Handle) : Type
   pub leads : Leads homes u w
   pub handle_is : handle homes w ≡ h
 
-module _ (table : Table) (places : ℕ → ℕ) (homes : List Home) where
+module _ (table : Table) (places : Ty → ℕ → ℕ) (homes : List Home) where
   invalid_gives : (u : Shape) → Gives homes u invalid handles.Broken
   invalid_gives u = record { leads = leads_invalid; handle_is = refl }
 

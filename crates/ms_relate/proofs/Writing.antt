@@ -43,7 +43,7 @@ slice_get-set_other (y ∷ ys) (suc n) (suc i) x other = slice_get-set_other ys 
 pub same_Some : {X : Type 0} (o : Option X) (x y : X) → o ≡ Some x → o ≡ Some y → x ≡ y
 same_Some o x y e f = cc
 
-module _ (table : Table) (places : ℕ → ℕ) (homes : List Home) where
+module _ (table : Table) (places : Ty → ℕ → ℕ) (homes : List Home) where
   -- two objects have two identities
   pub other_identity : (objects : List Object) (m : Memory) (i j : ℕ) (g h : Home) → Related table places homes objects m → slice_get homes i ≡ Some g → slice_get homes j ≡ Some h → (i ≡ j → ⊥) → g.id ≡ h.id → ⊥
   other_identity objects m i j g h related at at' other same =

@@ -35,7 +35,7 @@ integer_operand LongLong z = operands.I64 (wrapped 64 z)
 integer_operand UnsignedLongLong z = operands.I64 (wrapped 64 z)
 integer_operand t z = operands.I32 (wrapped 32 z)
 
-abbrev pub operand : (ℕ → ℕ) → List Home → Ty → Value → Operand
+abbrev pub operand : (Ty → ℕ → ℕ) → List Home → Ty → Value → Operand
 operand places homes (integer t) (number z) = integer_operand t z
 operand places homes t v = if is_handle t then operands.Handle (handle homes v) else operands.I32 (word places t v)
 
@@ -88,7 +88,7 @@ pub data DiffActs (m : Memory) (f : List Operand → Effect) : Outcome ℤ → T
   diff_gives : {z : ℤ} → ((rest : List Operand) → f rest ≡ Gives (operands.I64 (wrapped 64 z) ∷ rest) m None) → DiffActs m f (gives z)
   diff_traps : {u : Unsafe} {k : TrapKind} → Traps u k → ((rest : List Operand) → f rest ≡ Trap k) → DiffActs m f (stops u)
 
-module _ (table : Table) (places : ℕ → ℕ) (homes : List Home) where
+module _ (table : Table) (places : Ty → ℕ → ℕ) (homes : List Home) where
   -- a value is read
   pub data LoadActs (t : Ty) (m : Memory) (f : List Operand → Effect) : Outcome Value → Type 0 where
     loads' : {v : Value} {e : Event} → IsOf table places homes t v → ((rest : List Operand) → f rest ≡ Gives (operand places homes t v ∷ rest) (once_more m) (Some e)) → LoadActs t m f (gives v)

@@ -52,6 +52,6 @@ abbrev mutual
   copy_members_on (member o s ms) h g m = next (copy_on s (slice h o (size s)) (slice g o (size s)) m) (λ k. copy_members_on ms h g k)
 
 -- objects are changed, or it ends
-pub data Copies (table : Table) (places : ℕ → ℕ) (homes : List Home) : Outcome (List Object) → Result Memory SegTrap → Type 0 where
+pub data Copies (table : Table) (places : Ty → ℕ → ℕ) (homes : List Home) : Outcome (List Object) → Result Memory SegTrap → Type 0 where
   copied : {objects : List Object} {m : Memory} → Related table places homes objects m → Copies table places homes (gives objects) (Ok m)
   copy_stopped : {u : Unsafe} {e : SegTrap} → Ends u e → Copies table places homes (stops u) (Err e)

@@ -41,10 +41,10 @@ handle homes _ = handles.Null
 abbrev pub IsIn : IntType → ℤ → Type 0
 IsIn t z = wrap t z ≡ z
 
--- a function is its number in the table of functions, which is given, and no function is 0
-abbrev pub word : (ℕ → ℕ) → Ty → Value → ℕ
+-- a function is its number in the table of functions, which is given by the type of the pointer, and no function is 0
+abbrev pub word : (Ty → ℕ → ℕ) → Ty → Value → ℕ
 word places (integer t) (number z) = wrapped (bits t) z
-word places t (function_at n) = suc (places n)
+word places t (function_at n) = suc (places t n)
 word places _ _ = 0
 
 -- ---- pointers to arrays
@@ -57,14 +57,15 @@ pub record IsNear (p : Pointer) (s : Span) : Type 0 where
 
 -- ---- the values of a type
 
-module _ (table : Table) (places : ℕ → ℕ) (homes : List Home) where
+module _ (table : Table) (places : Ty → ℕ → ℕ) (homes : List Home) where
   pub data IsOf : Ty → Value → Type 0 where
     is_number : {t : IntType} {z : ℤ} → IsIn t z → IsOf (integer t) (number z)
     is_null : {t : Ty} → is_function t ≡ false → IsOf (pointer t) null
     is_invalid : {t : Ty} → is_function t ≡ false → IsOf (pointer t) invalid
     -- it leads to an array of that type
     is_pointer : {t : Ty} {p : Pointer} (h : Home) (s : Span) → is_function t ≡ false → slice_get homes p.object ≡ Some h → span_of h p.path ≡ Some s → s.shape ≡ shape table t → IsNear p s → IsOf (pointer t) (points p)
-    is_named : {t : Ty} {n : ℕ} → is_function t ≡ true → suc (places n) < 4294967296 → IsOf (pointer t) (function_at n)
+    -- it has a number there, as one of that type
+    is_named : {t : Ty} {n : ℕ} → is_function t ≡ true → suc (places (pointer t) n) < 4294967296 → IsOf (pointer t) (function_at n)
     is_no_function : {t : Ty} → is_function t ≡ true → IsOf (pointer t) no_function
 
 -- null, invalid, or a pointer to an array whose elements have this shape

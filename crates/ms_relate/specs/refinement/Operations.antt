@@ -26,7 +26,7 @@ pub data Ends : Unsafe → SegTrap → Type 0 where
   kind_ends : Ends wrong_kind traps.Kind
   readonly_ends : Ends readonly traps.Readonly
 
-module _ (table : Table) (places : ℕ → ℕ) (homes : List Home) where
+module _ (table : Table) (places : Ty → ℕ → ℕ) (homes : List Home) where
   -- a number or a function is read
   pub data Reads (t : Ty) : Outcome Value → Result (ℕ × Event) SegTrap → Type 0 where
     reads : {v : Value} {e : Event} → IsOf table places homes t v → Reads t (gives v) (Ok (word places t v, e))

@@ -24,7 +24,7 @@ pub data ArePieces (bytes : List Byte) : Handle → Type 0 where
   whole : {h : Handle} → bytes ≡ pieces h → ArePieces bytes h
   cleared : bytes ≡ zeros → ArePieces bytes handles.Null
 
-module _ (table : Table) (places : ℕ → ℕ) where
+module _ (table : Table) (places : Ty → ℕ → ℕ) where
   -- these bytes are a value of a type
   pub record Spell (homes : List Home) (t : Ty) (v : Value) (bytes : List Byte) : Type 0 where
     pub data' : is_handle t ≡ false → bytes ≡ data_of (width t) (word places t v)
