@@ -11,7 +11,7 @@ use Rattle.ms_task.specs.Thread.{Do, Frame, Item, Thread, thread}
 use Rattle.c_meaning.specs.World.{World, Result, gives, ends}
 use Rattle.c_meaning.specs.World as world
 use Rattle.c_runs.specs.Threads.{Paused, ran, behind, steps_to}
-use Rattle.c_runs.proofs.Goes.{Goes, Mem, RunsTo, Site, Stops, asks_on, behind_both, given, step_is, store, tells_both, tells_nothing}
+use Rattle.c_runs.proofs.Goes.{Goes, Mem, RunsTo, Site, Stops, asks_on, behind_both, given, step_is, store, tells_both, tells_nothing, counted_on}
 
 module _ (S : Site) where
   pub record Leads (size : ℕ) (w w' : World) (m : Mem) (t : Thread) (m' : Mem) (t' : Thread) : Type 0 where
@@ -91,7 +91,7 @@ module _ (S : Site) where
         is = h.is;
         cost = g.cost + h.cost;
         least = let a = l.more in let b = h.least in omega (arith, a, b, fuel);
-        greatest = let a = g.greatest in let b = h.greatest in omega (arith, a, b, le, paid);
+        greatest = let a = g.greatest in let b = h.greatest in let c = counted_on e' g.cost h.cost in omega (arith, a, b, le, paid, c);
         so = g.by h.cost ∙ ap (behind g.puts g.events) h.so ∙ behind_both g.puts h.puts g.events h.events (ran (Rattle.c_runs.specs.Ends.stop_of e'));
         asks = asks_on S e' g.cost h.cost m m1 t t1 w (record w1 { fuel = f }) g.puts g.events h.events g.by h.asks;
       }

@@ -89,6 +89,34 @@ behind_both p1 p2 e1 e2 r =
     ap (λ (l : List ℕ). record { puts = l; events = e1 ++ (e2 ++ r.events); stop = r.stop }) (sym (append_assoc p1 p2 r.puts))
     ∙ ap (λ (l : List Event). record { puts = (p1 ++ p2) ++ r.puts; events = l; stop = r.stop }) (sym (append_assoc e1 e2 r.events))
 
+-- the steps until an end; where a grant is wanting, with the one that asks for it
+abbrev pub counted : End → ℕ → ℕ
+counted world.ungranted n = suc n
+counted _ n = n
+
+pub counted_on : (e : End) (m n : ℕ) → counted e (m + n) ≡ m + counted e n
+counted_on world.ungranted m n = omega arith
+counted_on (world.result v) m n = refl
+counted_on (world.unsafe u) m n = refl
+counted_on world.zero_divide m n = refl
+counted_on world.overflow m n = refl
+counted_on world.abort m n = refl
+counted_on world.null_call m n = refl
+counted_on world.deep m n = refl
+counted_on world.exhausted m n = refl
+counted_on world.out_of_fuel m n = refl
+counted_on world.lost m n = refl
+
+counted_trap : (e : End) (k : TrapKind) (n : ℕ) → stop_of e ≡ Trapped k → counted e n ≡ n
+counted_trap (world.unsafe u) k n a = refl
+counted_trap world.zero_divide k n a = refl
+counted_trap world.overflow k n a = refl
+counted_trap world.abort k n a = refl
+counted_trap world.null_call k n a = refl
+counted_trap world.deep k n a = refl
+counted_trap world.exhausted k n a = refl
+counted_trap _ k n a = absurd cc
+
 module _ (S : Site) where
   pub record Goes (size : ℕ) (w w' : World) (m : Mem) (t : Thread) (m' : Mem) (t' : Thread) : Type 0 where
     pub puts : List ℕ
@@ -119,7 +147,7 @@ module _ (S : Site) where
     pub is : IsEnd e w'
     pub cost : ℕ
     pub least : w.fuel ≤ cost + w'.fuel
-    pub greatest : cost + S.most * w'.fuel ≤ size + S.most * w.fuel
+    pub greatest : counted e cost + S.most * w'.fuel ≤ size + S.most * w.fuel
     pub so : steps_to S.last cost (store S m) t (given w) ≡ behind puts events (ran (stop_of e))
     pub asks : Asks e cost m t w events
 
@@ -174,7 +202,7 @@ module _ (S : Site) where
     is = h.is;
     cost = g.cost + h.cost;
     least = let a = g.least in let b = h.least in omega (arith, a, b);
-    greatest = let a = g.greatest in let b = h.greatest in omega (arith, a, b);
+    greatest = let a = g.greatest in let b = h.greatest in let c = counted_on e g.cost h.cost in omega (arith, a, b, c);
     so = g.by h.cost ∙ ap (behind g.puts g.events) h.so ∙ behind_both g.puts h.puts g.events h.events (ran (stop_of e));
     asks = asks_on e g.cost h.cost m m1 t t1 w w1 g.puts g.events h.events g.by h.asks;
   }
@@ -285,7 +313,7 @@ module _ (S : Site) where
     is = is;
     cost = 1;
     least = omega arith;
-    greatest = omega arith;
+    greatest = let c = counted_trap e k 1 a in omega (arith, c);
     asks = asks;
     so = ap (λ (o : Outcome). after_move (move_on (store S m) (first_of (given w)) (step.exited o)) (given w) (steps_to S.last 0)) h ∙ ap ran (sym a);
   }
@@ -360,7 +388,7 @@ module _ (S : Site) where
         is = h.is;
         cost = 1 + h.cost;
         least = let a = h.least in omega (arith, a, fuel);
-        greatest = let a = h.greatest in omega (arith, a, le, paid);
+        greatest = let a = h.greatest in let c = counted_on e' 1 h.cost in omega (arith, a, le, paid, c);
         so = step_is h.cost m m i fr vs r t (given w) e ∙ h.so;
         asks = asks_on e' 1 h.cost m m (thread fr vs (Do i ∷ r)) (exited t) w (record w { fuel = f }) [] [] h.events (λ k. step_is k m m i fr vs r t (given w) e) h.asks;
       }

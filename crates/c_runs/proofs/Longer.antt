@@ -1,5 +1,5 @@
 -- Longer runs of a thread go on as shorter ones do; and the run of a crew of one task.
-use Rattle.std.proofs.Common.{◌≡◌, ℕ, zero, suc, ◌≤◌, List, [], ◌∷◌, ◌++◌, replicate, Option, Some, None, refl, sym, ap, ◌∙◌, arith, append-nil}
+use Rattle.std.proofs.Common.{◌≡◌, inl, inr, ℕ, zero, suc, ◌≤◌, List, [], ◌∷◌, ◌++◌, replicate, Option, Some, None, refl, sym, ap, ◌∙◌, arith, append-nil}
 use Rattle.std.specs.Prelude.{slice_get}
 use Rattle.ms_event.specs.declared.event.Event.{Event}
 use Rattle.ms_linear.specs.declared.value.Value.{Value}
@@ -95,7 +95,7 @@ as_shown : (r : Run) (q : Ran) → Same r q → Shows r q
 as_shown r q h = record { bytes = h.bytes; events = h.events; ends = by q.stop h.ends } where
   by : (st : Stop) → r.end ≡ crew_end st → EndsAs st r.end
   by (Ended v) e = e
-  by (Trapped k) e = (Task 0, e)
+  by (Trapped k) e = inl e
   by Paused e = e
   by Stuck e = e
 
@@ -108,7 +108,7 @@ shows_before (Some b) (Some e) r q h = record { bytes = ap (λ (l : List ℕ). b
 shows_move : (mv : Move) (s : Store) (c : Crew) (t : Thread) (input : Input) (go : Crew → Input → Run) (go' : Store → Thread → Input → Ran) → c.tasks ≡ t ∷ [] → ((s' : Store) (t' : Thread) (i : Input) → Shows (go (with_start c [] s' t') i) (go' s' t' i))
     → Shows (moved Start mv c input (with_start c []) go) (after_move mv input go')
 shows_move (Goes s' t' took put event) s c t input go go' e h = shows_before put event (go (with_start c [] s' t') (rest_of took input)) (go' s' t' (rest_of took input)) (h s' t' (rest_of took input))
-shows_move (moves.Trap k) s c t input go go' e h = record { bytes = refl; events = refl; ends = (Start, refl) }
+shows_move (moves.Trap k) s c t input go go' e h = record { bytes = refl; events = refl; ends = inr refl }
 shows_move moves.Stuck s c t input go go' e h = record { bytes = refl; events = refl; ends = refl }
 
 shows_at : (t : Thread) (n : ℕ) (s : Store) (input : Input) (fr : Frame) (vs : List Value) (w : List Item) → Shows (run_entries (replicate n 0) (crew_behind s (thread fr vs w) t) input) (steps_behind (thread fr vs w) t n s input)

@@ -24,11 +24,11 @@ use Rattle.c_code.specs.Modules.{index_of, is_defined, is_defined_at}
 use Rattle.c_stage.specs.Stage.{are_data, in_stage}
 use Rattle.c_runs.proofs.Bodies.{is_integer_or_void}
 use Rattle.c_runs.specs.Correct.{Behaves, IsPrefix, Reports, main_result, meant, result_in, run_at}
-use Rattle.c_runs.specs.Crews.{Same, crew_end}
+use Rattle.c_runs.specs.Crews.{Extends, Same, crew_end}
 use Rattle.c_runs.specs.Ends.{stop_of}
 use Rattle.c_runs.specs.Placed.{IsPlaced, longest_of}
 use Rattle.c_runs.specs.Threads as threads
-use Rattle.c_runs.specs.Threads.{Ended, Trapped, Paused, Stuck, Stop, behind, ran, steps}
+use Rattle.c_runs.specs.Threads.{Ended, Trapped, Paused, Stuck, Ran, Stop, behind, ran, steps}
 use Rattle.c_runs.specs.Words.{pushed}
 use Rattle.c_runs.proofs.Callees.{Compiled, E, Left, begun_with, does, start_now}
 use Rattle.c_runs.proofs.Calls.{Callees, Entered, calls_run, enters}
@@ -36,9 +36,9 @@ use Rattle.c_runs.proofs.Files.{Filed}
 use Rattle.c_runs.proofs.Entries.{places_of}
 use Rattle.c_runs.proofs.Filing.{first_filed}
 use Rattle.c_runs.proofs.Globals.{all_reached, file_slots}
-use Rattle.c_runs.proofs.Goes.{Asks, IsEnd, Mem, Runs, RunsTo, Site, Stops, store, weaker}
+use Rattle.c_runs.proofs.Goes.{Asks, IsEnd, Mem, Runs, RunsTo, Site, Stops, counted, store, weaker}
 use Rattle.c_runs.proofs.Grants.{Agrees}
-use Rattle.c_runs.proofs.Longer.{same_run}
+use Rattle.c_runs.proofs.Longer.{longer, same_run}
 use Rattle.c_runs.proofs.Operations.{Linked}
 use Rattle.c_runs.proofs.Outcomes.{How, Known, agrees, asking, bound_law, end_law, output_law, over, prefix_law, sizes_law, spent}
 use Rattle.c_runs.proofs.Placed as stands
@@ -64,6 +64,13 @@ module _ (S0 : Site) (L : Linked (by_itself S0)) (unit : Typed) (all : (f : ℕ)
 
   abbrev pub start : Thread
   start = func_thread here_store (index_of unit f)
+
+  abbrev ran_by : Input → ℕ → Ran
+  ran_by input n = steps n here_store start input
+
+  -- the most steps
+  abbrev room_for : ℕ → ℕ
+  room_for fuel = (by_itself S0).most * (fuel + 1)
 
   module _ (input : Input) (are_bytes : AreBytes input) (g : List Bool) (fuel : ℕ) where
     abbrev w : World
@@ -144,11 +151,11 @@ module _ (S0 : Site) (L : Linked (by_itself S0)) (unit : Typed) (all : (f : ℕ)
 
     pub record Bundle (e : End) (w1 : World) : Type 0 where
       pub st : Stop
-      pub known : Known here_store start input g (by_itself S0).most fuel st e w1
-      pub how : How here_store start input fuel st e w1 known.cost known.events
+      pub known : Known (ran_by input) g st e w1
+      pub how : How (ran_by input) (room_for fuel) fuel st e w1 known.cost known.events
       pub reports : (end : crews.End) → end ≡ crew_end st → Reports t e end
 
-    bounded : (cost f' : ℕ) → cost + (by_itself S0).most * f' ≤ size + (by_itself S0).most * fuel → cost ≤ (by_itself S0).most * (fuel + 1)
+    bounded : (cost f' : ℕ) → cost + (by_itself S0).most * f' ≤ size + (by_itself S0).most * fuel → cost ≤ room_for fuel
     bounded cost f' h =
         let small = entered.1 in
         let more : (by_itself S0).most * (fuel + 1) ≡ (by_itself S0).most * fuel + (by_itself S0).most = ap (λ (n : ℕ). (by_itself S0).most * n) (let q : fuel + 1 ≡ suc fuel = omega arith in q) ∙ mul-suc (by_itself S0).most fuel in
@@ -164,22 +171,22 @@ module _ (S0 : Site) (L : Linked (by_itself S0)) (unit : Typed) (all : (f : ℕ)
     known_end : (e : End) (w1 : World) → Stops (by_itself S0) size w w1 m0 start e → Bundle e w1
     known_end e w1 h = record {
       st = stop_of e;
-      known = record { puts = h.puts; events = h.events; cost = h.cost; so = h.so; output = h.tells.output; sizes = h.tells.sizes; taken = h.tells.grants; room = bounded h.cost w1.fuel h.greatest };
-      how = how_of e h.is h.asks;
+      known = record { puts = h.puts; events = h.events; cost = h.cost; so = h.so; output = h.tells.output; sizes = h.tells.sizes; taken = h.tells.grants };
+      how = how_of e h.is (bounded (counted e h.cost) w1.fuel h.greatest) h.asks;
       reports = reports_of e h.is;
     } where
-      how_of : (e : End) → IsEnd (by_itself S0) e w1 → Asks (by_itself S0) e h.cost m0 start w h.events → How here_store start input fuel (stop_of e) e w1 h.cost h.events
-      how_of (world.result v) is asks = absurd is
-      how_of (world.unsafe u) is asks = over (λ q. absurd cc)
-      how_of world.zero_divide is asks = over (λ q. absurd cc)
-      how_of world.overflow is asks = over (λ q. absurd cc)
-      how_of world.abort is asks = over (λ q. absurd cc)
-      how_of world.null_call is asks = over (λ q. absurd cc)
-      how_of world.deep is asks = over (λ q. absurd cc)
-      how_of world.exhausted is asks = over (λ q. absurd cc)
-      how_of world.ungranted is asks = asking refl refl is asks
-      how_of world.out_of_fuel is asks = spent refl refl (let l = h.least in omega (arith, l, is))
-      how_of world.lost is asks = absurd is
+      how_of : (e : End) → IsEnd (by_itself S0) e w1 → counted e h.cost ≤ room_for fuel → Asks (by_itself S0) e h.cost m0 start w h.events → How (ran_by input) (room_for fuel) fuel (stop_of e) e w1 h.cost h.events
+      how_of (world.result v) is le asks = absurd is
+      how_of (world.unsafe u) is le asks = over (λ q. absurd cc) le
+      how_of world.zero_divide is le asks = over (λ q. absurd cc) le
+      how_of world.overflow is le asks = over (λ q. absurd cc) le
+      how_of world.abort is le asks = over (λ q. absurd cc) le
+      how_of world.null_call is le asks = over (λ q. absurd cc) le
+      how_of world.deep is le asks = over (λ q. absurd cc) le
+      how_of world.exhausted is le asks = over (λ q. absurd cc) le
+      how_of world.ungranted is le asks = asking refl refl is asks le
+      how_of world.out_of_fuel is le asks = spent refl refl (let l = h.least in omega (arith, l, is))
+      how_of world.lost is le asks = absurd is
 
       reports_of : (e : End) → IsEnd (by_itself S0) e w1 → (end : crews.End) → end ≡ crew_end (stop_of e) → Reports t e end
       reports_of (world.result v) is end q = absurd is
@@ -208,9 +215,8 @@ module _ (S0 : Site) (L : Linked (by_itself S0)) (unit : Typed) (all : (f : ℕ)
             output = h.tells.output;
             sizes = h.tells.sizes;
             taken = h.tells.grants;
-            room = bounded h.cost w1.fuel h.greatest;
           };
-          how = over (λ q. absurd cc);
+          how = over (λ q. absurd cc) (bounded h.cost w1.fuel h.greatest);
           reports = reports_value v;
         }
     bundle_of (ends e w1) r = known_end e w1 r
@@ -238,6 +244,9 @@ module _ (S0 : Site) (L : Linked (by_itself S0)) (unit : Typed) (all : (f : ℕ)
     same : Same run (steps b here_store start input)
     same = same_run b here_store start input
 
+    longer_by : (n m : ℕ) → n ≤ m → Extends (ran_by input n) (ran_by input m)
+    longer_by n m le = longer n m le here_store start input
+
     abbrev g : List Bool
     g = grants (steps b here_store start input).events
 
@@ -248,7 +257,7 @@ module _ (S0 : Site) (L : Linked (by_itself S0)) (unit : Typed) (all : (f : ℕ)
     meant_is fuel = ap (λ (q : List Bool). means unit input q fuel) (sym grants_is)
 
     have : (fuel : ℕ) → Bundle input are_bytes g fuel (means unit input g fuel).0 (means unit input g fuel).1
-    have fuel = bundle input are_bytes g fuel (agrees here_store start input (by_itself S0).most b)
+    have fuel = bundle input are_bytes g fuel (agrees (ran_by input) longer_by b)
 
     over_is : run.end ≢ crews.OutOfBudget → (steps b here_store start input).stop ≢ Paused
     over_is d q = d (same.ends ∙ ap crew_end q)
@@ -257,28 +266,28 @@ module _ (S0 : Site) (L : Linked (by_itself S0)) (unit : Typed) (all : (f : ℕ)
     paused_is e = out_is (steps b here_store start input).stop (sym same.ends ∙ e)
 
     sizes_are : sizes_of (events_of run.deeds) ≡ (meant unit input run b).1.sizes
-    sizes_are = let h = have b in ap sizes_of same.events ∙ sizes_law here_store start input (by_itself S0).most b b h.st (means unit input g b).0 (means unit input g b).1 h.known h.how refl ∙ ap (λ (q : End × World). q.1.sizes) (meant_is b)
+    sizes_are = let h = have b in ap sizes_of same.events ∙ sizes_law (ran_by input) longer_by b (room_for b) b h.st (means unit input g b).0 (means unit input g b).1 h.known h.how refl ∙ ap (λ (q : End × World). q.1.sizes) (meant_is b)
 
     output_is : run.end ≢ crews.OutOfBudget → bytes_of run.deeds ≡ (meant unit input run b).1.output
-    output_is d = let h = have b in same.bytes ∙ output_law here_store start input (by_itself S0).most b b h.st (means unit input g b).0 (means unit input g b).1 h.known h.how refl (over_is d) ∙ ap (λ (q : End × World). q.1.output) (meant_is b)
+    output_is d = let h = have b in same.bytes ∙ output_law (ran_by input) longer_by b (room_for b) b h.st (means unit input g b).0 (means unit input g b).1 h.known h.how refl (over_is d) ∙ ap (λ (q : End × World). q.1.output) (meant_is b)
 
     end_is : run.end ≢ crews.OutOfBudget → Reports (main_result unit) (meant unit input run b).0 run.end
     end_is d =
         let h = have b in
         subst (λ (q : Ty). Reports q (meant unit input run b).0 run.end) (sym result_is)
         (subst (λ (q : End × World). Reports t q.0 run.end) (meant_is b)
-        (h.reports run.end (same.ends ∙ ap crew_end (end_law here_store start input (by_itself S0).most b b h.st (means unit input g b).0 (means unit input g b).1 h.known h.how refl (over_is d)))))
+        (h.reports run.end (same.ends ∙ ap crew_end (end_law (ran_by input) longer_by b (room_for b) b h.st (means unit input g b).0 (means unit input g b).1 h.known h.how refl (over_is d)))))
 
     prints_is : run.end ≡ crews.OutOfBudget → IsPrefix (bytes_of run.deeds) (meant unit input run b).1.output
     prints_is e =
         let h = have b in
-        let q = prefix_law here_store start input (by_itself S0).most b b h.st (means unit input g b).0 (means unit input g b).1 h.known h.how refl (paused_is e) in
+        let q = prefix_law (ran_by input) longer_by b (room_for b) b h.st (means unit input g b).0 (means unit input g b).1 h.known h.how refl (paused_is e) in
         (q.0, ap (λ (x : End × World). x.1.output) (sym (meant_is b)) ∙ q.1 ∙ ap (λ (l : List ℕ). l ++ q.0) (sym same.bytes))
 
-    bound_is : (fuel : ℕ) → longest_of unit * (fuel + 1) < b → run.end ≡ crews.OutOfBudget → (meant unit input run fuel).0 ≡ world.out_of_fuel
-    bound_is fuel lt e =
+    bound_is : (fuel : ℕ) → longest_of unit * (fuel + 1) ≤ b → run.end ≡ crews.OutOfBudget → (meant unit input run fuel).0 ≡ world.out_of_fuel
+    bound_is fuel le e =
         let h = have fuel in
-        ap (λ (x : End × World). x.0) (sym (meant_is fuel)) ∙ bound_law here_store start input (by_itself S0).most b fuel h.st (means unit input g fuel).0 (means unit input g fuel).1 h.known h.how (subst (λ (n : ℕ). n * (fuel + 1) < b) (sym longest_is) lt) (paused_is e)
+        ap (λ (x : End × World). x.0) (sym (meant_is fuel)) ∙ bound_law (ran_by input) longer_by b (room_for fuel) fuel h.st (means unit input g fuel).0 (means unit input g fuel).1 h.known h.how (subst (λ (n : ℕ). n * (fuel + 1) ≤ b) (sym longest_is) le) (paused_is e)
 
   pub behaves : Behaves unit here_store (index_of unit f)
   behaves input ok b =

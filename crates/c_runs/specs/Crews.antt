@@ -1,9 +1,9 @@
 -- The run of a crew of one task, behind a start function, as the steps of their threads; and longer runs.
-use Rattle.std.specs.Prelude.{◌≡◌, ◌≢◌, ℕ, List, [], ◌∷◌, ◌++◌, Option}
+use Rattle.std.specs.Prelude.{◌≡◌, ◌≢◌, ◌⊎◌, ℕ, List, [], ◌∷◌, ◌++◌, Option}
 use Rattle.ms_event.specs.declared.event.Event.{Event}
 use Rattle.ms_machine.specs.Crews as crews
 use Rattle.ms_linear.specs.declared.value.Value.{Value}
-use Rattle.ms_machine.specs.Crews.{Crew, Input, Run, Task, Whose, ahead, bytes_of, events_of}
+use Rattle.ms_machine.specs.Crews.{Crew, Input, Run, Start, Task, ahead, bytes_of, events_of}
 use Rattle.ms_machine.specs.Store.{Store}
 use Rattle.ms_task.specs.Thread.{Thread}
 use Rattle.c_runs.specs.Threads.{Ended, Paused, Ran, Stop, Stuck, Trapped, steps, steps_to}
@@ -46,7 +46,7 @@ steps_behind start t n s input = steps_to (then_steps t) n s start input
 
 -- how a run of the crew ends where its threads stop so: a trap is the start function's or the task's
 abbrev pub EndsAs : Stop → crews.End → Type 0
-EndsAs (Trapped k) end = (whose : Whose) × (end ≡ crews.Trap whose k)
+EndsAs (Trapped k) end = (end ≡ crews.Trap (Task 0) k) ⊎ (end ≡ crews.Trap Start k)
 EndsAs st end = end ≡ crew_end st
 
 pub record Shows (r : Run) (q : Ran) : Type 0 where
