@@ -49,6 +49,7 @@ pub mod Bodies
 pub mod Filing
 pub mod Starting
 pub mod Giving
+pub mod Begun
 pub mod Callees
 pub mod Params
 pub mod Copied
