@@ -50,6 +50,7 @@ pub mod Filing
 pub mod Starting
 pub mod Giving
 pub mod Begun
+pub mod Went
 pub mod Callees
 pub mod Params
 pub mod Copied
