@@ -1,14 +1,14 @@
 -- Pointers that are moved where they stand, in a plain variable or where another pointer leads (C11, 6.5.2.4, 6.5.3.1 and 6.5.16.2).
-use Rattle.std.proofs.Common.{◌≡◌, ◌⊎◌, inl, inr, ℕ, List, [], ◌∷◌, Bool, true, false, None, Some, refl, sym, ap, ◌∙◌, subst}
-use Rattle.std.specs.Prelude.{slice_get, if◌then◌else◌}
+use Rattle.std.proofs.Common.{◌≡◌, ◌⊎◌, inl, inr, List, [], ◌∷◌, Bool, true, false, None, Some, refl, sym, ap, ◌∙◌, subst}
+use Rattle.std.specs.Prelude.{if◌then◌else◌}
 use Rattle.ms_linear.specs.declared.value.Value.{Value as Word}
 use Rattle.ms_linear.specs.declared.value.Value.TheVariants.{Handle}
 use Rattle.ms_module.specs.declared.instr.Instr.TheVariants.{LocalGet, LocalTee}
 use Rattle.c_types.specs.declared.integers.IntType.TheVariants.{LongLong}
 use Rattle.c_types.specs.declared.types.Scalar.{Scalar}
 use Rattle.c_types.specs.declared.types.Scalar.TheVariants as scalars
-use Rattle.c_types.specs.Types.{Ty, integer, pointer, is_function, scalar_of}
-use Rattle.c_typed.specs.declared.ops.Variable.TheVariants.{Local}
+use Rattle.c_types.specs.Types.{Ty, integer, pointer, scalar_of}
+use Rattle.c_typed.specs.declared.ops.Variable.{Variable}
 use Rattle.c_meaning.specs.Values.{Value}
 use Rattle.c_meaning.specs.Objects as objects
 use Rattle.c_meaning.specs.Objects.{read, write}
@@ -23,10 +23,10 @@ use Rattle.c_code.specs.Targets.{get, scratch_of, scratch_place}
 use Rattle.ms_relate.specs.refinement.Homes.{Home, handle}
 use Rattle.ms_relate.proofs.Growing.{Extends, handle_still}
 use Rattle.c_runs.proofs.Goes.{after_after}
-use Rattle.c_runs.proofs.Values.{value_still, word_of, word_still}
+use Rattle.c_runs.proofs.Values.{value_still, word_still}
 use Rattle.c_runs.proofs.Related.{Env, IsSlot, IsValue, extends_trans, pushes}
-use Rattle.c_runs.proofs.Ops.{OpIn, Stack, op_any, op_look_in, op_over_in, op_seen_in, op_then_in, same}
-use Rattle.c_runs.proofs.Nodes.{Always, Leaves, Spot_of_x, behind_place, fetch_runs, fetch_twice_runs, gone, remains, set_gives, set_runs, write_runs}
+use Rattle.c_runs.proofs.Ops.{OpIn, Stack, op_look_in, op_over_in, op_seen_in, op_then_in, same}
+use Rattle.c_runs.proofs.Nodes.{Always, Leaves, PlainAt, Spot_of, behind_place, gone, remains, set_gives, write_runs}
 use Rattle.c_runs.proofs.Steps.{op_store}
 use Rattle.c_runs.proofs.Cells.{IsSpot, Leads, LeadsTo, ends_there, lead_still, op_old, op_over_old, spot_pushed}
 use Rattle.c_runs.proofs.Updates.{code_assoc}
@@ -70,53 +70,53 @@ module _ (E : Env) (t : Ty) (slot : IsSlot E.unit.structs t) (back : Bool) (c : 
 
   -- ---- a plain variable
 
-  module _ (x : ℕ) (at_x : slice_get E.kinds x ≡ Some (pointer t, false)) where
+  module _ (x : Variable) (at_x : PlainAt E x (pointer t)) where
     abbrev X : Spot
-    X = variable (Local x)
+    X = variable x
 
     abbrev pub whole : Bool → Does Value
-    whole old = Spot_of_x E x (pointer t) tt at_x >>= behind_spot old
+    whole old = Spot_of E x >>= behind_spot old
 
     abbrev Ends : Code → Bool → Bool → Type 0
     Ends d k old = (hs : List Home) (v new : Value) → Is hs v → Is hs new → OpIn E hs d (P hs new) (remains E k (pointer t)) Is (puts X old v new)
 
-    ends : (k old : Bool) (s : Scalar) → (k ≡ false) ⊎ (old ≡ false) → Ends (ended E.target k (Some (Local x)) s) k old
+    ends : (k old : Bool) (s : Scalar) → (k ≡ false) ⊎ (old ≡ false) → Ends (ended E.target k (Some x) s) k old
     ends true true s (inl e) hs v new okv okn = absurd cc
     ends true true s (inr e) hs v new okv okn = absurd cc
-    ends true false s e hs v new okv okn = write_runs E x (pointer t) tt at_x hs new okn true s
-    ends false false s e hs v new okv okn = write_runs E x (pointer t) tt at_x hs new okn false s
-    ends false true s e hs v new okv okn = set_gives E x (pointer t) tt at_x hs new okn v okv
+    ends true false s e hs v new okv okn = write_runs E x (pointer t) at_x hs new okn true s
+    ends false false s e hs v new okv okn = write_runs E x (pointer t) at_x hs new okn false s
+    ends false true s e hs v new okv okn = set_gives E x (pointer t) at_x hs new okn v okv
 
-    one_value : (k old : Bool) (d : Code) → Ends d k old → OpIn E [] (one (get E.target (Local x)) ⨾ change ⨾ d) same (remains E k (pointer t)) Is (whole old)
+    one_value : (k old : Bool) (d : Code) → Ends d k old → OpIn E [] (one (get E.target x) ⨾ change ⨾ d) same (remains E k (pointer t)) Is (whole old)
     one_value k old d e =
-        let g = one (get E.target (Local x)) in
-        behind_place E x (pointer t) tt at_x (g ⨾ change ⨾ d) same (remains E k (pointer t)) Is (behind_spot old)
-        (op_then_in E [] g (change ⨾ d) same P (remains E k (pointer t)) Is Is (fetch X) (behind_old X old) (fetch_runs E x (pointer t) tt at_x)
+        let g = one (get E.target x) in
+        behind_place E x (pointer t) at_x (g ⨾ change ⨾ d) same (remains E k (pointer t)) Is (behind_spot old)
+        (op_then_in E [] g (change ⨾ d) same P (remains E k (pointer t)) Is Is (fetch X) (behind_old X old) at_x.fetches
         (λ gs grown v okv.
         changed_then gs v okv same (remains E k (pointer t)) X old d
         (λ hs grown' new okn. e hs v new (value_still E.unit.structs E.places gs hs grown' (pointer t) v okv) okn)))
 
     -- the old value remains below
-    two_values : (s : Scalar) → OpIn E [] (begun_over_old E.target (Some (Local x)) no_code s ⨾ change ⨾ put E.target (Some (Local x)) s) same P Is (whole true)
+    two_values : (s : Scalar) → OpIn E [] (begun_over_old E.target (Some x) no_code s ⨾ change ⨾ put E.target (Some x) s) same P Is (whole true)
     two_values s =
-        let g = begun_over_old E.target (Some (Local x)) no_code s in
-        let d = put E.target (Some (Local x)) s in
-        behind_place E x (pointer t) tt at_x (g ⨾ change ⨾ d) same P Is (behind_spot true)
-        (op_then_in E [] g (change ⨾ d) same (λ hs v vs. P hs v (P hs v vs)) P Is Is (fetch X) (behind_old X true) (fetch_twice_runs E x (pointer t) tt at_x)
+        let g = begun_over_old E.target (Some x) no_code s in
+        let d = put E.target (Some x) s in
+        behind_place E x (pointer t) at_x (g ⨾ change ⨾ d) same P Is (behind_spot true)
+        (op_then_in E [] g (change ⨾ d) same (λ hs v vs. P hs v (P hs v vs)) P Is Is (fetch X) (behind_old X true) at_x.fetches_twice
         (λ gs grown v okv.
         changed_then gs v okv (P gs v) P X true d
         (λ hs grown' new okn.
-        op_look_in E hs d (λ vs. P hs new (P gs v vs)) (λ js u. P gs v) P (λ js. Always E) Is (hold (Local x) (held new)) (λ u. pure v)
-        (op_over_in E hs d (P hs new) (P gs v) (λ js. gone E) (λ js. Always E) (hold (Local x) (held new)) (set_runs E x (pointer t) tt at_x hs new okn))
+        op_look_in E hs d (λ vs. P hs new (P gs v vs)) (λ js u. P gs v) P (λ js. Always E) Is (hold x (held new)) (λ u. pure v)
+        (op_over_in E hs d (P hs new) (P gs v) (λ js. gone E) (λ js. Always E) (hold x (held new)) (at_x.sets hs new okn))
         (λ js grown'' u ok.
         let far = extends_trans gs hs js grown' grown'' in
         (v, refl, λ vs. ap (λ (z : Word). z ∷ vs) (sym (word_still E.unit.structs E.places gs js far (pointer t) v okv)), value_still E.unit.structs E.places gs js far (pointer t) v okv)))))
 
-    pub advance_plain : (k old : Bool) (pl : Code) → OpIn E [] (updated E.target k old (Some (Local x)) pl scalars.Pointer change) same (remains E k (pointer t)) Is (whole old)
+    pub advance_plain : (k old : Bool) (pl : Code) → OpIn E [] (updated E.target k old (Some x) pl scalars.Pointer change) same (remains E k (pointer t)) Is (whole old)
     advance_plain true true pl = two_values scalars.Pointer
-    advance_plain true false pl = one_value true false (ended E.target true (Some (Local x)) scalars.Pointer) (ends true false scalars.Pointer (inr refl))
-    advance_plain false true pl = one_value false true (ended E.target false (Some (Local x)) scalars.Pointer) (ends false true scalars.Pointer (inl refl))
-    advance_plain false false pl = one_value false false (ended E.target false (Some (Local x)) scalars.Pointer) (ends false false scalars.Pointer (inl refl))
+    advance_plain true false pl = one_value true false (ended E.target true (Some x) scalars.Pointer) (ends true false scalars.Pointer (inr refl))
+    advance_plain false true pl = one_value false true (ended E.target false (Some x) scalars.Pointer) (ends false true scalars.Pointer (inl refl))
+    advance_plain false false pl = one_value false false (ended E.target false (Some x) scalars.Pointer) (ends false false scalars.Pointer (inl refl))
 
   -- ---- a place that another pointer leads to
 

@@ -1,4 +1,4 @@
--- A stretch that begins with a step that no unit of fuel pays for: it has more steps than units are spent in it, so that it pays for
+-- A stretch that begins with a step that no unit of fuel pays for: it has more steps_to S.last than units are spent in it, so that it pays for
 -- a unit that is spent behind it.
 use Rattle.std.proofs.Common.{◌≡◌, ℕ, suc, ◌+◌, ◌*◌, ◌≤◌, List, [], ◌∷◌, ◌++◌, None, refl, sym, ap, ◌∙◌, arith}
 use Rattle.std.proofs.Math.Nat.{mul-suc}
@@ -10,8 +10,8 @@ use Rattle.ms_task.specs.Control.{exited}
 use Rattle.ms_task.specs.Thread.{Do, Frame, Item, Thread, thread}
 use Rattle.c_meaning.specs.World.{World, Result, gives, ends}
 use Rattle.c_meaning.specs.World as world
-use Rattle.c_runs.specs.Threads.{Paused, ran, behind, steps}
-use Rattle.c_runs.proofs.Goes.{Goes, Mem, RunsTo, Site, Stops, asks_on, behind_both, given, step_is, store, tells_both, tells_nothing}
+use Rattle.c_runs.specs.Threads.{Paused, ran, behind, steps_to}
+use Rattle.c_runs.proofs.Goes.{Goes, Mem, RunsTo, Site, Stops, asks_on, behind_both, given, step_is, store, tells_both, tells_nothing, counted_on}
 
 module _ (S : Site) where
   pub record Leads (size : ℕ) (w w' : World) (m : Mem) (t : Thread) (m' : Mem) (t' : Thread) : Type 0 where
@@ -39,13 +39,13 @@ module _ (S : Site) where
           greatest = let a = g.greatest in let b = h.greatest in omega (arith, a, b);
           by = λ k.
               let e : (g.cost + h.cost) + k ≡ g.cost + (h.cost + k) = omega arith in
-              ap (λ (n : ℕ). steps n (store S m) t (given w)) e ∙ g.by (h.cost + k) ∙ ap (behind g.puts g.events) (h.by k) ∙ behind_both g.puts h.puts g.events h.events (steps k (store S m2) t2 (given w2));
+              ap (λ (n : ℕ). steps_to S.last n (store S m) t (given w)) e ∙ g.by (h.cost + k) ∙ ap (behind g.puts g.events) (h.by k) ∙ behind_both g.puts h.puts g.events h.events (steps_to S.last k (store S m2) t2 (given w2));
         };
         more = let a = l.more in let b = h.least in omega (arith, a, b);
       }
 
   -- no unit is left behind it
-  pub leads_out : (s size : ℕ) (w w1 : World) (m m1 : Mem) (t t1 : Thread) → s ≤ size → Leads s w w1 m t m1 t1 → w1.fuel ≡ 0 → steps 0 (store S m1) t1 (given w1) ≡ ran Paused → Stops S size w w1 m t world.out_of_fuel
+  pub leads_out : (s size : ℕ) (w w1 : World) (m m1 : Mem) (t t1 : Thread) → s ≤ size → Leads s w w1 m t m1 t1 → w1.fuel ≡ 0 → steps_to S.last 0 (store S m1) t1 (given w1) ≡ ran Paused → Stops S size w w1 m t world.out_of_fuel
   leads_out s size w w1 m m1 t t1 le l none waits =
       let g = l.goes in
       record {
@@ -56,7 +56,7 @@ module _ (S : Site) where
         cost = g.cost;
         least = g.least;
         greatest = let a = g.greatest in omega (arith, a, le);
-        so = (let e : g.cost + 0 ≡ g.cost = omega arith in ap (λ (n : ℕ). steps n (store S m) t (given w)) (sym e)) ∙ g.by 0 ∙ ap (behind g.puts g.events) waits;
+        so = (let e : g.cost + 0 ≡ g.cost = omega arith in ap (λ (n : ℕ). steps_to S.last n (store S m) t (given w)) (sym e)) ∙ g.by 0 ∙ ap (behind g.puts g.events) waits;
         asks = tt;
       }
 
@@ -78,7 +78,7 @@ module _ (S : Site) where
           greatest = let a = g.greatest in let b = h.greatest in omega (arith, a, b, le, paid);
           by = λ k.
               let e : (g.cost + h.cost) + k ≡ g.cost + (h.cost + k) = omega arith in
-              ap (λ (n : ℕ). steps n (store S m) t (given w)) e ∙ g.by (h.cost + k) ∙ ap (behind g.puts g.events) (h.by k) ∙ behind_both g.puts h.puts g.events h.events (steps k (store S r.0) (to b w2 r.0) (given w2));
+              ap (λ (n : ℕ). steps_to S.last n (store S m) t (given w)) e ∙ g.by (h.cost + k) ∙ ap (behind g.puts g.events) (h.by k) ∙ behind_both g.puts h.puts g.events h.events (steps_to S.last k (store S r.0) (to b w2 r.0) (given w2));
         },
       )
   leads_paid s rest size f w w1 m m1 t t1 to Good (ends e' w2) l fuel le h =
@@ -91,7 +91,7 @@ module _ (S : Site) where
         is = h.is;
         cost = g.cost + h.cost;
         least = let a = l.more in let b = h.least in omega (arith, a, b, fuel);
-        greatest = let a = g.greatest in let b = h.greatest in omega (arith, a, b, le, paid);
+        greatest = let a = g.greatest in let b = h.greatest in let c = counted_on e' g.cost h.cost in omega (arith, a, b, le, paid, c);
         so = g.by h.cost ∙ ap (behind g.puts g.events) h.so ∙ behind_both g.puts h.puts g.events h.events (ran (Rattle.c_runs.specs.Ends.stop_of e'));
         asks = asks_on S e' g.cost h.cost m m1 t t1 w (record w1 { fuel = f }) g.puts g.events h.events g.by h.asks;
       }

@@ -139,7 +139,7 @@ module _ (E : Env) (u : Ty) (slot : IsSlot E.unit.structs u) where
           let w1 = refused_world E now heap s count slot.fits vs r w m k gs in
           subst Goal (sym (ap meant (with_grants (false ∷ gs) e))) (
             m,
-            (is_null slot.is_data, kept_world E now w.objects w w1 m refl refl refl k.less k.bytes k),
+            (is_null slot.is_data, kept_world E now w.objects w w1 m refl refl refl refl refl k.less k.bytes k),
             subst (λ (x : Word). Goes E.site 1 w w1 m t0 m (at_work E m w1 (x ∷ vs) r)) (sym (pointer_word E u m.homes null slot.is_data)) g,
           )
       new_by (unasked e st) =

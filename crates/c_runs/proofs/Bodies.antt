@@ -26,7 +26,7 @@ use Rattle.ms_relate.proofs.Growing.{Extends}
 use Rattle.c_runs.specs.Words.{pushed, value_word}
 use Rattle.c_runs.proofs.Held.{Lasts}
 use Rattle.c_runs.proofs.Values.{IsOf, word_of}
-use Rattle.c_runs.proofs.Related.{Env, HasAll, IsValue, Kept, Now, pushes, depth_front, front, front_append, has_front, beside}
+use Rattle.c_runs.proofs.Related.{Env, FiledIn, HasAll, IsValue, Kept, Now, pushes, depth_front, front, front_append, has_front, beside}
 use Rattle.c_runs.proofs.Ops.{Op, at_work, op_carried, same, size_joined}
 use Rattle.c_runs.proofs.Flows.{Around, FlowAt, GoodFlow, IsAt, Way, lowest_all, starts, to_flow, way}
 use Rattle.c_runs.proofs.Functions.{no_function_runs}
@@ -60,7 +60,7 @@ module _ (E : Env) (is_result : IsResult E.result) (caller : Frame) (vs : List W
   to_caller v w m = exit_ended caller (pushes E t m.homes v vs) r
 
   abbrev pub Returned : Now → Value → World → Mem → Type 0
-  Returned now v w m = IsValue E t m.homes v × (w.fuel < now.below) × AreBytes w.input × Extends now.homes m.homes × Related E.unit.structs E.places m.homes w.objects m.segments × Lasts now.objects w.objects
+  Returned now v w m = IsValue E t m.homes v × (w.fuel < now.below) × AreBytes w.input × Extends now.homes m.homes × Related E.unit.structs E.places m.homes w.objects m.segments × Lasts now.objects w.objects × FiledIn E w m
 
   abbrev R : Code
   R = result E.target (scalar_of t)
@@ -83,7 +83,7 @@ module _ (E : Env) (is_result : IsResult E.result) (caller : Frame) (vs : List W
   }
 
   abbrev Given : Now → Ty → Value → World → Mem → Type 0
-  Given now s v w m = IsValue E s m.homes v × (w.fuel < now.below) × AreBytes w.input × Extends now.homes m.homes × Related E.unit.structs E.places m.homes w.objects m.segments × Lasts now.objects w.objects
+  Given now s v w m = IsValue E s m.homes v × (w.fuel < now.below) × AreBytes w.input × Extends now.homes m.homes × Related E.unit.structs E.places m.homes w.objects m.segments × Lasts now.objects w.objects × FiledIn E w m
 
   abbrev Results : ℕ → Now → World → Mem → Ty → Type 0
   Results n now w m s =
@@ -102,18 +102,18 @@ module _ (E : Env) (is_result : IsResult E.result) (caller : Frame) (vs : List W
   result_runs : (n : ℕ) (now : Now) → IsAt E 0 now → (w : World) (m : Mem) → Kept E now w m → Results n now w m t
   result_runs n now le w m k = go is_result where
     by : (q : Ty) (b : Bool) → is_function q ≡ b → Gives_zero n now w m q (if b then scalars.Function else scalars.Pointer) (if b then no_function else null)
-    by q true d = λ ag. let z = no_function_runs (beside 0 E) q d n tt now (starts E 0 now le) vs after_body dep w m k ag in let k' = z.1.1 in (z.0, (z.1.0, k'.less, k'.bytes, k'.grown, k'.related, k'.lasts), z.2)
-    by q false d = λ ag. let z = null_runs (beside 0 E) q d n tt now (starts E 0 now le) vs after_body dep w m k ag in let k' = z.1.1 in (z.0, (z.1.0, k'.less, k'.bytes, k'.grown, k'.related, k'.lasts), z.2)
+    by q true d = λ ag. let z = no_function_runs (beside 0 E) q d n tt now (starts E 0 now le) vs after_body dep w m k ag in let k' = z.1.1 in (z.0, (z.1.0, k'.less, k'.bytes, k'.grown, k'.related, k'.lasts, k'.file), z.2)
+    by q false d = λ ag. let z = null_runs (beside 0 E) q d n tt now (starts E 0 now le) vs after_body dep w m k ag in let k' = z.1.1 in (z.0, (z.1.0, k'.less, k'.bytes, k'.grown, k'.related, k'.lasts, k'.file), z.2)
 
     go : IsResult t → Results n now w m t
-    go (is_void e) = subst (Results n now w m) (sym e) (here E.site 0 w m (λ v w1 m1. exit_ended caller (pushes E void m1.homes v vs) r) (Given now void) (zero_value void) (tt, k.less, k.bytes, k.grown, k.related, k.lasts))
-    go (is_integer u e) = subst (Results n now w m) (sym e) (λ ag. let q = zero_steps u n tt now (starts E 0 now le) vs after_body dep w m k ag in let k' = q.1.1 in (q.0, (q.1.0, k'.less, k'.bytes, k'.grown, k'.related, k'.lasts), q.2))
+    go (is_void e) = subst (Results n now w m) (sym e) (here E.site 0 w m (λ v w1 m1. exit_ended caller (pushes E void m1.homes v vs) r) (Given now void) (zero_value void) (tt, k.less, k.bytes, k.grown, k.related, k.lasts, k.file))
+    go (is_integer u e) = subst (Results n now w m) (sym e) (λ ag. let q = zero_steps u n tt now (starts E 0 now le) vs after_body dep w m k ag in let k' = q.1.1 in (q.0, (q.1.0, k'.less, k'.bytes, k'.grown, k'.related, k'.lasts, k'.file), q.2))
     go (is_pointer q e) = subst (Results n now w m) (sym e) (by q (is_function q) refl)
 
   ends_runs : (n : ℕ) (now : Now) → IsAt E 0 now → (flow : Flow) (w : World) (m : Mem) → GoodFlow E at_top now flow w m
       → Runs E.site (size_of (R n)) m (to_flow E vs (front (R n).instrs after_body) [] [] r caller flow w m) w to_caller (Returned now) (gives (given t flow) w)
   ends_runs n now le next w m g = result_runs n now le w m g.1
-  ends_runs n now le (returned v) w m g = let k' = g.1 in here E.site (size_of (R n)) w m to_caller (Returned now) v (g.0, k'.less, k'.bytes, k'.grown, k'.related, k'.lasts)
+  ends_runs n now le (returned v) w m g = let k' = g.1 in here E.site (size_of (R n)) w m to_caller (Returned now) v (g.0, k'.less, k'.bytes, k'.grown, k'.related, k'.lasts, k'.file)
   ends_runs n now le broken w m g = absurd (let e = g.0.0 in cc)
   ends_runs n now le continued w m g = absurd (let e = g.0 in cc)
 

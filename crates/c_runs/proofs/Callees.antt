@@ -1,24 +1,18 @@
 -- Calls of defined functions do what is meant, by induction on the bound that stands above the fuel.
 use Rattle.std.proofs.Common.{◌≡◌, ◌≢◌, ℕ, zero, suc, ◌+◌, ◌<◌, ◌≤◌, List, [], ◌∷◌, ◌++◌, length, length-append, map, drop, Bool, true, false, Option, Some, None, refl, sym, ap, ◌∙◌, arith, subst, append_assoc, T, eqb→eq}
-use Rattle.std.specs.Prelude.{replicate, slice_get, not, ◌==◌, ◌||◌, ◌&&◌, nat_lt, if◌then◌else◌}
+use Rattle.std.specs.Prelude.{replicate, slice_get, ◌==◌, ◌||◌, if◌then◌else◌}
 use Rattle.std.specs.List.{list_any}
-use Rattle.std.proofs.lemmas.Bool.{lt-ltb, ltb-true, ltb-false}
 use Rattle.std.proofs.lemmas.List.{length-map, length-replicate}
 use Rattle.ms_types.specs.declared.types.ValType.{ValType}
 use Rattle.ms_types.specs.declared.types.ValType.TheVariants.{I32}
 use Rattle.ms_linear.specs.declared.value.Value.{Value as Word}
 use Rattle.ms_linear.specs.Values.{default_of}
-use Rattle.ms_host.specs.declared.host.Host.{Host}
-use Rattle.ms_host.specs.declared.trap.TrapKind.TheVariants as traps
 use Rattle.ms_machine.specs.Running.{AreBytes}
-use Rattle.ms_machine.specs.Step as step
-use Rattle.ms_machine.specs.Step.{act, called, host_in}
 use Rattle.ms_machine.specs.Store.{number_of_instance}
 use Rattle.ms_module.specs.declared.instr.Instr.{Instr}
-use Rattle.ms_module.specs.declared.instr.Instr.TheVariants.{Call}
-use Rattle.ms_task.specs.Control.{call_on, deepest, exit_ended}
+use Rattle.ms_task.specs.Control.{exit_ended}
 use Rattle.ms_task.specs.declared.func.FuncInst.{FuncInst}
-use Rattle.ms_task.specs.Thread.{Activation, Do, Frame, Item, Thread, thread, depth_of, result_of, sequence}
+use Rattle.ms_task.specs.Thread.{Activation, Frame, Item, Thread, depth_of, result_of, sequence}
 use Rattle.c_types.specs.Layout.{IsLaidOut, IsSmall, Layout, layout_at}
 use Rattle.c_types.specs.Types.{Ty, function, Tys, no_types, types, scalar_of}
 use Rattle.c_typed.specs.declared.ops.Variable.{Variable}
@@ -28,9 +22,9 @@ use Rattle.c_typed.specs.Tree.{Stmt, Function, Typed}
 use Rattle.c_typed.specs.refinement.Expressions as well
 use Rattle.c_typed.specs.refinement.Expressions.{is_visible}
 use Rattle.c_typed.specs.Statements.{IsStatement, no_jumps}
-use Rattle.c_typed.specs.Units.{context_of, list_of, numbers}
+use Rattle.c_typed.specs.Units.{context_of, list_of, literals_in, numbers}
 use Rattle.c_meaning.specs.Values.{Value, zero_value}
-use Rattle.c_meaning.specs.World.{deep, Held, plain, World, Result, gives, ends, Does, after, ◌>>=◌, ◌>>◌, pure, known, spend}
+use Rattle.c_meaning.specs.World.{plain, World, Result, gives, Does, after, ◌>>=◌, ◌>>◌, pure, known}
 use Rattle.c_meaning.specs.Functions as meaning
 use Rattle.c_meaning.specs.Functions.{back_to, calls_at, first_locals, given, if_shallow, make_param, make_params, numbers_from, of_defined, run_body, with_body}
 use Rattle.c_meaning.specs.Statements.{Flow, leave, stmt}
@@ -39,7 +33,7 @@ use Rattle.c_code.specs.Functions as code
 use Rattle.c_code.specs.Functions.{body, held_as, locals, params_from, params_in, result, result_in, scratch_locals, slots_from}
 use Rattle.c_code.specs.Modules.{index_of, target_of}
 use Rattle.c_code.specs.Operations.{val_of}
-use Rattle.c_stage.specs.Stage.{are_data, are_slots, in_stmt, is_data, is_variable}
+use Rattle.c_stage.specs.Stage.{are_slots, in_stmt, is_variable}
 use Rattle.c_code.specs.Statements as scheme
 use Rattle.c_code.specs.Statements.{at_body, freed, objects_in}
 use Rattle.c_code.specs.Targets.{Target}
@@ -53,20 +47,22 @@ use Rattle.c_meaning.specs.Objects.{Object}
 use Rattle.ms_relate.specs.refinement.Homes.{Home}
 use Rattle.ms_relate.specs.refinement.Relation.{Related}
 use Rattle.ms_relate.proofs.Growing.{Extends}
-use Rattle.c_runs.proofs.Held.{AreApart, AreHeld, AreOpen, AreOwn, IsHeld, Lasts, Slot, get_behind, held_still, held_word, some_is, words, words_still}
-use Rattle.c_runs.proofs.Lasting.{lasts_same, lasts_trans, open_on}
+use Rattle.c_runs.proofs.Held.{AreHeld, IsHeld, Lasts, Slot, get_behind, held_word, some_is, words}
+use Rattle.c_runs.proofs.Lasting.{lasts_same}
 use Rattle.c_runs.proofs.Related as related
-use Rattle.c_runs.proofs.Related.{AreOf, Env, HasAll, IsValue, Kept, Now, are_still, extends_same, extends_trans, frame_of, front, piled, piled_still, pushes, seeing}
-use Rattle.c_runs.proofs.Ops.{GoodIn, ToIn, at_work, same}
-use Rattle.c_runs.proofs.Operations.{AtHome, Linked, call_is}
+use Rattle.c_runs.proofs.Related.{AreOf, Env, FiledIn, HasAll, IsValue, Kept, Now, are_still, extends_same, extends_trans, frame_of, front, piled, piled_still, pushes, seeing}
+use Rattle.c_runs.proofs.Ops.{at_work, same}
+use Rattle.c_runs.proofs.Operations.{AtHome, Linked}
 use Rattle.c_runs.proofs.Exprs.{AreScalars, CallsRun}
 use Rattle.c_runs.proofs.Flows.{FlowRuns, IsAt}
+use Rattle.c_runs.proofs.Globals.{NamesOf, all_reached, file_slots}
+use Rattle.c_runs.proofs.Globals.{NamesOf, all_reached, file_slots}
 use Rattle.c_runs.proofs.Makes.{get_is}
-use Rattle.c_runs.proofs.Scalars.{IsData, IsVariable, data_scalar, data_type, plain_data, small_slot, variable_type, zero_held, zero_word}
+use Rattle.c_runs.proofs.Scalars.{IsData, IsVariable, plain_data, small_slot, variable_type, zero_held, zero_word}
 use Rattle.c_runs.proofs.Stmts.{ArePlain, IsPlain, left_runs, neither, no_objects, no_off, out_none, stmt_runs}
 use Rattle.c_runs.proofs.Bodies.{IsResult, at_top, body_runs}
-use Rattle.c_runs.proofs.Entering.{arg_words, args_held, args_words, callee, deep_call, first_apart, first_own, firsts, flat, length_us, others_are, shallow_call}
-use Rattle.c_runs.proofs.Ready.{IsCallable, IsReady, in_stmt_of}
+use Rattle.c_runs.proofs.Entering.{arg_words, args_held, args_words, callee, first_apart, first_own, firsts, flat, length_us, others_are}
+use Rattle.c_runs.proofs.Ready.{IsReady, in_stmt_of}
 use Rattle.c_runs.proofs.Whole.{both}
 
 -- ---- slots that are integers, and no objects
@@ -231,13 +227,14 @@ pub record Compiled (S : Site) (unit : Typed) (f : ℕ) (t : Ty) (ps : Tys) : Ty
   pub begins : function_is.slots ≡ list_of ps ++ others
   pub well : IsStatement (context_of unit function_is.slots (length (list_of ps))) t no_jumps stmt_is
   pub slots_are : AreSlots function_is.slots
-  pub ready : IsReady (target_of unit function_is stmt_is).is_object unit (in_stmt stmt_is) (uses.in_stmt stmt_is) (in_stmt_of stmt_is)
+  pub ready : IsReady true (target_of unit function_is stmt_is).is_object unit (in_stmt stmt_is) (uses.in_stmt stmt_is) (in_stmt_of stmt_is)
   pub result : IsResult t
   pub table : IsTable S unit
   pub laid_out : IsLaidOut unit.structs
   pub has_members : (n : ℕ) (l : Layout) → layout_at unit.structs n ≡ Some l → l.members ≢ []
   pub sizes : (x : ℕ) (s : Ty) → slice_get function_is.slots x ≡ Some s → IsSmall unit.structs s
   pub sound : AreSoundNames unit.structs unit.globals function_is.slots (map (λ (g : Function). g.ty) unit.functions)
+  pub names : NamesOf unit.structs (file_slots unit) (all_reached unit) (target_of unit function_is stmt_is) unit.globals (literals_in unit.made)
   -- what stands in front of the slots: the arguments, where they are copied
   pub args : List Word
   pub first_is : (target_of unit function_is stmt_is).first ≡ length args
@@ -298,6 +295,7 @@ module _ (S : Site) (L : Linked S) (unit : Typed) (i f d : ℕ) (t : Ty) (ps : T
     args = p.args;
     first_is = p.first_is;
     calls = calls_at unit i;
+    may_call = true;
     bound = i;
     turn_bound = suc i;
     fn = index_of unit f;
@@ -307,10 +305,13 @@ module _ (S : Site) (L : Linked S) (unit : Typed) (i f d : ℕ) (t : Ty) (ps : T
     kinds_are = kinds_at;
     objects_are = objects_at;
     scratch_is = scratch_is;
+    files = file_slots unit;
+    reached = all_reached unit;
     waits = waits_stmt p.stmt_is;
     pending = 0;
     result = t;
     depth = d;
+    level = d;
     visible = [];
   }
 
@@ -363,7 +364,7 @@ module _ (S : Site) (L : Linked S) (unit : Typed) (i f d : ℕ) (t : Ty) (ps : T
 
   -- the value, and what it leaves
   abbrev pub Left : Now → Value → World → Mem → Type 0
-  Left now v w1 m1 = IsValue E t m1.homes v × (w1.fuel < now.below) × AreBytes w1.input × Extends now.homes m1.homes × Related E.unit.structs E.places m1.homes w1.objects m1.segments × Lasts now.objects w1.objects
+  Left now v w1 m1 = IsValue E t m1.homes v × (w1.fuel < now.below) × AreBytes w1.input × Extends now.homes m1.homes × Related E.unit.structs E.places m1.homes w1.objects m1.segments × Lasts now.objects w1.objects × FiledIn E w1 m1
 
   pub few : (hs : List Home) (us : List Value) → AreOf E ps hs us → 0 + length us ≤ k
   few hs us ok = let a = length_us E hs ps us ok in omega (arith, a)
@@ -375,7 +376,7 @@ module _ (S : Site) (L : Linked S) (unit : Typed) (i f d : ℕ) (t : Ty) (ps : T
   abbrev pub Enters : (hs : List Home) (us : List Value) → AreOf E ps hs us → (size : ℕ) → Type 0
   Enters hs us ok size =
       (caller : Frame) (vs : List Word) (r : List Item) → suc (depth_of r) ≡ d → (below : ℕ) → below ≤ i → (w : World) (m : Mem) → m.homes ≡ hs → suc w.depth ≡ d → w.fuel < below → AreBytes w.input
-      → Related E.unit.structs E.places m.homes w.objects m.segments
+      → Related E.unit.structs E.places m.homes w.objects m.segments → FiledIn E w m
       → Runs S size m (exit_ended (callee E hs S.funcs (index_of unit f) p.inst ps us vs caller r p.is_at p.takes ok) vs (front (sequence S.funcs (index_of unit f) 0) (Activation (result_of p.inst) (length vs) caller ∷ r))) w
       (λ v w1 m1. exit_ended caller (pushes E t m1.homes v vs) r) (Left (start_now below m.homes w.objects)) (does us (begun_with us w))
 
@@ -429,9 +430,9 @@ module _ (S : Site) (L : Linked S) (unit : Typed) (i f d : ℕ) (t : Ty) (ps : T
           ap (λ (ls : List Word). record { function = index_of unit f; locals = ls }) (locals_are ∙ ap (λ (gs : List Home). words E.places kinds gs (first_locals p.function_is us) ++ temps) (sym e))
           ∙ ap (λ (front : List Word). record { function = index_of unit f; locals = front ++ (words E.places kinds m.homes (first_locals p.function_is us) ++ temps) }) (sym no_args)
 
-      start_kept : (below : ℕ) (w : World) (m : Mem) → m.homes ≡ hs → suc w.depth ≡ d → w.fuel < below → AreBytes w.input → Related E.unit.structs E.places m.homes w.objects m.segments
+      start_kept : (below : ℕ) (w : World) (m : Mem) → m.homes ≡ hs → suc w.depth ≡ d → w.fuel < below → AreBytes w.input → Related E.unit.structs E.places m.homes w.objects m.segments → FiledIn E w m
           → Kept Ep (start_now below m.homes w.objects) (begun_with us w) (record m { temps = temps })
-      start_kept below w m e dep lt bytes related = record {
+      start_kept below w m e dep lt bytes related file = record {
         held = subst (λ (gs : List Home). AreHeld E.unit.structs E.places kinds gs (first_locals p.function_is us)) (sym e) held_are;
         deep = dep;
         less = lt;
@@ -443,6 +444,7 @@ module _ (S : Site) (L : Linked S) (unit : Typed) (i f d : ℕ) (t : Ty) (ps : T
         apart = first_apart us (drop (length us) slots);
         own = first_own (length w.objects) us (drop (length us) slots);
         lasts = lasts_same w.objects;
+        file = file;
       }
 
     abbrev B : Code
@@ -469,7 +471,7 @@ module _ (S : Site) (L : Linked S) (unit : Typed) (i f d : ℕ) (t : Ty) (ps : T
       code_is : body tg p.function_is p.stmt_is ≡ inner D
       code_is =
           let coded : (us : List Ty) → Ty → Coded = λ us r. let vs = objects_in tg slots (numbers (length us)) in (code.params tg us ⨾ scheme.stmt tg slots 0 (at_body vs) p.stmt_is ⨾ freed tg vs ⨾ result tg (scalar_of r)) 1 in
-          let nothing = no_objects E L home K refl callees ints slots_data refl refl p.sound (slot_there slots) (omega arith) (numbers k) (plain_numbers k (omega arith)) in
+          let nothing = no_objects E L home K refl callees ints slots_data refl refl p.sound p.names (slot_there slots) (omega arith) (numbers k) (plain_numbers k (omega arith)) in
           ap (λ (ty : Ty). inner (coded (params_in ty) (result_in ty))) p.typed
           ∙ ap (λ (n : ℕ). let vs = objects_in tg slots (numbers k) in inner (((if n == 0 then no_code else params_from tg 0 (list_of ps)) ⨾ scheme.stmt tg slots 0 (at_body vs) p.stmt_is ⨾ freed tg vs ⨾ R) 1)) first_zero
           ∙ ap (λ (vs : List Variable). inner ((no_code ⨾ scheme.stmt tg slots 0 (at_body vs) p.stmt_is ⨾ freed tg vs ⨾ R) 1)) nothing
@@ -501,8 +503,8 @@ module _ (S : Site) (L : Linked S) (unit : Typed) (i f d : ℕ) (t : Ty) (ps : T
 
       flow_runs : (hs : List Home) (us : List Value) → AreOf E ps hs us → FlowRuns Ep at_top 0 0 B same (flow >>= (λ g. leaves us >> pure g))
       flow_runs hs us ok =
-          left_runs E L home K refl callees ints slots_data refl refl p.sound (slot_there slots) (omega arith) (numbers k) at_top 0 0 B flow (numbers_from 0 us) (plain_from us 0 (few hs us ok))
-          (stmt_runs E L home K refl callees ints slots_data refl refl p.sound (slot_there slots) (omega arith) (numbers k) 0 None (at_body []) no_jumps no_off p.stmt_is (out_none E (numbers k)) (omega arith) p.ready p.well)
+          left_runs E L home K refl callees ints slots_data refl refl p.sound p.names (slot_there slots) (omega arith) (numbers k) at_top 0 0 B flow (numbers_from 0 us) (plain_from us 0 (few hs us ok))
+          (stmt_runs E L home K refl callees ints slots_data refl refl p.sound p.names (slot_there slots) (omega arith) (numbers k) 0 None (at_body []) no_jumps no_off p.stmt_is (out_none E (numbers k)) (omega arith) p.ready p.well)
 
       callee_runs : (hs : List Home) (us : List Value) → AreOf E ps hs us → (caller : Frame) (vs : List Word) (r : List Item) → suc (depth_of r) ≡ d → (now : Now) → IsAt Ep 0 now → (w : World) (m : Mem) → Kept Ep now w m
           → Runs S (size_of D) m (at_work E m w vs (front D.instrs (Activation (result_of p.inst) (length vs) caller ∷ r))) w (λ v w1 m1. exit_ended caller (pushes E t m1.homes v vs) r) (Left now) (does us w)
@@ -513,7 +515,7 @@ module _ (S : Site) (L : Linked S) (unit : Typed) (i f d : ℕ) (t : Ty) (ps : T
           (body_runs Ep p.result caller vs r dep B (flow >>= (λ g. leaves us >> pure g)) now (λ n h small at. flow_runs hs us ok n h small now at) 1 has.1 flat_fits le w m kp))
 
       pub flat_enters : (hs : List Home) (us : List Value) (ok : AreOf E ps hs us) → Enters hs us ok (size_of D)
-      flat_enters hs us ok caller vs r dep below le w m e deeper lt bytes related =
+      flat_enters hs us ok caller vs r dep below le w m e deeper lt bytes related file =
           let m' : Mem = record m { temps = temps } in
           let ws = begun_with us w in
           let now = start_now below m.homes w.objects in
@@ -526,4 +528,4 @@ module _ (S : Site) (L : Linked S) (unit : Typed) (i f d : ℕ) (t : Ty) (ps : T
           (resize S (0 + size_of D) (size_of D) m ts w to (Left now) (does us ws) (omega arith)
           (behind_goes S 0 (size_of D) w ws m m' ts ts to (Left now) (does us ws)
           (goes.shifts S w ws m temps ts refl refl (tells_nothing w ws refl refl refl))
-          (callee_runs hs us ok caller vs r dep now (record { below = le; waits = refl; seen = refl }) ws m' (start_kept hs us ok below w m e deeper lt bytes related))))
+          (callee_runs hs us ok caller vs r dep now (record { below = le; waits = refl; seen = refl }) ws m' (start_kept hs us ok below w m e deeper lt bytes related file))))

@@ -1,71 +1,48 @@
 -- Calls of defined functions do what is meant, by induction on the bound that stands above the fuel.
-use Rattle.std.proofs.Common.{◌≡◌, ◌≢◌, ℕ, zero, suc, ◌+◌, ◌<◌, ◌≤◌, List, [], ◌∷◌, ◌++◌, length, length-append, map, drop, Bool, true, false, Option, Some, None, refl, sym, ap, ◌∙◌, arith, subst, append_assoc, T, eqb→eq}
-use Rattle.std.specs.Prelude.{replicate, slice_get, not, ◌==◌, ◌||◌, ◌&&◌, nat_lt, if◌then◌else◌}
+use Rattle.std.proofs.Common.{◌≡◌, ℕ, zero, suc, ◌+◌, ◌<◌, ◌≤◌, List, [], ◌∷◌, ◌++◌, length, map, Bool, true, false, Option, Some, refl, sym, ap, ◌∙◌, arith, subst}
+use Rattle.std.specs.Prelude.{slice_get, ◌==◌, ◌||◌, nat_lt, if◌then◌else◌}
 use Rattle.std.specs.List.{list_any}
-use Rattle.std.proofs.lemmas.Bool.{lt-ltb, ltb-true, ltb-false}
-use Rattle.std.proofs.lemmas.List.{length-map, length-replicate}
-use Rattle.ms_types.specs.declared.types.ValType.{ValType}
-use Rattle.ms_types.specs.declared.types.ValType.TheVariants.{I32}
+use Rattle.std.proofs.lemmas.Bool.{ltb-true, ltb-false}
 use Rattle.ms_linear.specs.declared.value.Value.{Value as Word}
-use Rattle.ms_linear.specs.Values.{default_of}
 use Rattle.ms_host.specs.declared.host.Host.{Host}
 use Rattle.ms_host.specs.declared.trap.TrapKind.TheVariants as traps
 use Rattle.ms_machine.specs.Running.{AreBytes}
 use Rattle.ms_machine.specs.Step as step
 use Rattle.ms_machine.specs.Step.{act, called, host_in}
-use Rattle.ms_machine.specs.Store.{number_of_instance}
 use Rattle.ms_module.specs.declared.instr.Instr.{Instr}
 use Rattle.ms_task.specs.Control.{call_on, deepest, exit_ended}
 use Rattle.ms_task.specs.declared.func.FuncInst.{FuncInst}
-use Rattle.ms_task.specs.Thread.{Activation, Do, Frame, Item, Thread, thread, depth_of, result_of, sequence}
-use Rattle.c_types.specs.Layout.{IsLaidOut, Layout, layout_at}
-use Rattle.c_types.specs.Types.{Ty, function, Tys, no_types, types, scalar_of}
-use Rattle.c_typed.specs.declared.ops.Variable.{Variable}
+use Rattle.ms_task.specs.Thread.{Activation, Do, Item, Thread, thread, depth_of, result_of, sequence}
+use Rattle.c_types.specs.Types.{Ty, function, Tys, no_types, types}
 use Rattle.c_typed.specs.declared.ops.Variable.TheVariants.{Local}
 use Rattle.c_typed.specs.Objects.{is_object}
 use Rattle.c_typed.specs.Tree.{Stmt, Function, Typed}
-use Rattle.c_typed.specs.refinement.Expressions as well
-use Rattle.c_typed.specs.refinement.Expressions.{is_visible}
-use Rattle.c_typed.specs.Statements.{IsStatement, no_jumps}
-use Rattle.c_typed.specs.Units.{context_of, list_of, numbers}
-use Rattle.c_meaning.specs.Values.{Value, zero_value}
-use Rattle.c_meaning.specs.World.{deep, Held, plain, World, Result, gives, ends, Does, after, ◌>>=◌, ◌>>◌, pure, known, spend}
+use Rattle.c_typed.specs.Units.{list_of, numbers}
+use Rattle.c_meaning.specs.Values.{Value}
+use Rattle.c_meaning.specs.World.{deep, Held, World, Result, gives, ends, Does, after, ◌>>◌, spend}
 use Rattle.c_meaning.specs.Functions as meaning
 use Rattle.c_meaning.specs.Functions.{back_to, calls_at, first_locals, given, if_shallow, make_param, make_params, numbers_from, of_defined, run_body, with_body}
-use Rattle.c_meaning.specs.Statements.{Flow, leave, stmt}
-use Rattle.ms_emit.specs.Codes.{Code, Coded, no_code, ◌⨾◌, inner, joined, size_of, total}
-use Rattle.c_code.specs.Functions as code
-use Rattle.c_code.specs.Functions.{body, held_as, locals, params_from, params_in, result, result_in, scratch_locals, slots_from}
+use Rattle.c_code.specs.Functions.{params_in}
 use Rattle.c_code.specs.Modules.{index_of, target_of}
-use Rattle.c_code.specs.Operations.{val_of}
-use Rattle.c_stage.specs.Stage.{are_data, are_slots, in_stmt, is_data}
-use Rattle.c_code.specs.Statements as scheme
-use Rattle.c_code.specs.Statements.{at_body, freed, objects_in}
+use Rattle.c_stage.specs.Stage.{are_data, is_data}
 use Rattle.c_code.specs.Targets.{Target}
-use Rattle.c_code.specs.Uses as uses
-use Rattle.c_code.specs.Uses.{waits_stmt}
 use Rattle.c_runs.proofs.Goes as goes
 use Rattle.c_runs.proofs.Goes.{Site, Mem, Runs, Goes, after_after, behind_goes, resize, spent, tells_nothing, trapped, unspent}
-use Rattle.c_meaning.specs.Objects.{Object}
 use Rattle.ms_relate.specs.refinement.Homes.{Home}
 use Rattle.ms_relate.specs.refinement.Relation.{Related}
 use Rattle.ms_relate.proofs.Growing.{Extends}
-use Rattle.c_runs.proofs.Held.{AreApart, AreHeld, AreOpen, AreOwn, IsHeld, Lasts, Slot, held_still, held_word, some_is, words, words_still}
-use Rattle.c_runs.proofs.Lasting.{lasts_same, lasts_trans, open_on}
-use Rattle.c_runs.proofs.Related as related
-use Rattle.c_runs.proofs.Related.{AreOf, Env, HasAll, IsValue, Kept, Now, are_still, extends_same, extends_trans, frame_of, front, piled, piled_still, pushes, seeing}
-use Rattle.c_runs.proofs.Ops.{GoodIn, Stack, ToIn, at_work, same}
-use Rattle.c_runs.proofs.Operations.{AtHome, Linked, Reaches}
+use Rattle.c_runs.proofs.Held.{AreApart, AreHeld, AreOpen, AreOwn, Lasts, held_still, words, words_still}
+use Rattle.c_runs.proofs.Lasting.{lasts_trans, open_on}
+use Rattle.c_runs.proofs.Related.{AreOf, Env, FiledIn, IsValue, Kept, Now, are_still, extends_trans, frame_of, front, piled, piled_still, pushes}
+use Rattle.c_runs.proofs.Ops.{GoodIn, ToIn, at_work, Stack}
+use Rattle.c_runs.proofs.Operations.{Linked, Reaches}
 use Rattle.c_runs.proofs.Exprs.{AreScalars, CallsRun}
-use Rattle.c_runs.proofs.Flows.{FlowRuns, IsAt}
-use Rattle.c_runs.proofs.Makes.{get_is}
-use Rattle.c_runs.proofs.Scalars.{IsData, data_scalar, data_type, zero_held, zero_word}
-use Rattle.c_runs.proofs.Stmts.{ArePlain, IsPlain, left_runs, neither, no_objects, no_off, out_none, stmt_runs}
-use Rattle.c_runs.proofs.Bodies.{IsResult, at_top, body_runs}
-use Rattle.c_runs.proofs.Entering.{arg_words, args_held, args_words, callee, deep_call, first_apart, first_own, firsts, flat, length_us, others_are, shallow_call}
-use Rattle.c_runs.proofs.Ready.{IsCallable, IsReady, in_stmt_of}
+use Rattle.c_runs.proofs.Scalars.{data_scalar, data_type}
+use Rattle.c_runs.proofs.Stmts.{neither}
+use Rattle.c_runs.proofs.Entering.{arg_words, callee, deep_call, length_us, shallow_call}
+use Rattle.c_runs.proofs.Ready.{IsCallable}
 use Rattle.c_runs.proofs.Whole.{both}
-use Rattle.c_runs.proofs.Callees.{AreFlat, Compiled, get_within, E, Enters, K, begun_with, does, flat_enters, flat_fits, flat_of, home, in_front, long, object_is, slots, tg}
+use Rattle.c_runs.proofs.Callees.{Compiled, get_within, E, Enters, K, begun_with, does, flat_enters, flat_fits, flat_of, home, in_front, long, object_is, slots, tg}
 use Rattle.c_runs.proofs.Entering.{length_args}
 use Rattle.c_runs.proofs.Copied.{copied_enters, copied_fits}
 use Rattle.c_runs.proofs.Params.{AreScalarsOf, args_from, numbers_are, numbers_differ}
@@ -119,6 +96,7 @@ at_args p front e = record {
   table = p.table;
   sizes = p.sizes;
   sound = p.sound;
+  names = p.names;
   laid_out = p.laid_out;
   has_members = p.has_members;
   args = front;
@@ -208,7 +186,7 @@ module _ (S : Site) (L : Linked S) (unit : Typed) (all : (f : ℕ) (t : Ty) (ps 
 
     -- what the callee leaves
     abbrev Back : ℕ → Value → World → Mem → Type 0
-    Back below v w1 m1 = IsValue C t m1.homes v × (w1.fuel < below) × AreBytes w1.input × Extends m.homes m1.homes × Related C.unit.structs C.places m1.homes w1.objects m1.segments × Lasts w.objects w1.objects
+    Back below v w1 m1 = IsValue C t m1.homes v × (w1.fuel < below) × AreBytes w1.input × Extends m.homes m1.homes × Related C.unit.structs C.places m1.homes w1.objects m1.segments × Lasts w.objects w1.objects × FiledIn C w1 m1
 
     -- back at the caller, whose variables and depth are as before
     back_runs : (size below : ℕ) (m' : Mem) (ts : Thread) (ws wn : World) → below ≤ now.below → wn.locals ≡ w.locals → wn.depth ≡ w.depth → (x : Result Value)
@@ -241,6 +219,7 @@ module _ (S : Site) (L : Linked S) (unit : Typed) (all : (f : ℕ) (t : Ty) (ps 
               apart = subst AreApart (sym el) k.apart;
               own = subst (AreOwn (length now.objects)) (sym el) k.own;
               lasts = lasts_trans now.objects w.objects w1.objects k.lasts left.5;
+              file = left.6;
             },
           ),
           goes.sized S (size + 0) size ws w2 m' m2 ts (at_work C m2 w2 top r) none_more
@@ -272,7 +251,7 @@ module _ (S : Site) (L : Linked S) (unit : Typed) (all : (f : ℕ) (t : Ty) (ps 
         spent S 1 size q (record w { fuel = suc q }) m instr fr (above (piled C ps hs us vs)) r started (ToIn C (pushes C t) vs r) (GoodIn C (IsValue C t) now) _
         (call_moves ∙ ap (λ (us' : List Word). step.moved (goes.store S m) (call_on S.funcs (index_of unit f) (thread fr us' r))) piled_same ∙ ap (step.moved (goes.store S m)) (shallow_call C m.homes S.funcs (index_of unit f) p.inst ps us vs fr r p.is_at p.takes ok' lt)) refl (omega (arith, small))
         (back_runs size (suc q) m (exit_ended (callee C m.homes S.funcs (index_of unit f) p.inst ps us vs fr r p.is_at p.takes ok') vs (front (sequence S.funcs (index_of unit f) 0) marked)) wn wn (omega (arith, less)) refl refl (does S L unit i f (suc d) t ps p us (begun_with S L unit i f (suc d) t ps p us wn))
-        (en.2 fr vs r (ap suc dep) (suc q) (omega (arith, less, le)) wn m refl (ap suc k'.deep) (omega arith) k'.bytes k'.related))
+        (en.2 fr vs r (ap suc dep) (suc q) (omega (arith, less, le)) wn m refl (ap suc k'.deep) (omega arith) k'.bytes k'.related k'.file))
 
     by_depth : (b : Bool) → nat_lt w.depth deepest ≡ b → Goal 1 w (if b then (spend >> body_of) w else ends deep w)
     by_depth true e' = by_fuel (let a = ltb-true _ _ e' in let b = k.deep in omega (arith, a, dep, b)) w.fuel k
@@ -288,6 +267,6 @@ module _ (S : Site) (L : Linked S) (unit : Typed) (all : (f : ℕ) (t : Ty) (ps 
         subst (λ (x : Result Value). Goal 1 w x) (sym (ap (λ (o : Option Function). of_defined unit o go w) p.named ∙ ap (λ (b : Option Stmt). with_body unit p.function_is b go w) p.has_body)) (by_depth (nat_lt w.depth deepest) refl)
 
   pub calls_run : (i f d : ℕ) (t : Ty) (ps : Tys) (p : Compiled S unit f t ps) → Callees i f d t ps p
-  calls_run zero f0 d t0 ps0 p0 q f t ps e b instr above reach hs us ok n has now le vs r dep w m k = absurd (let lt = k.less in let under = le.below in omega (arith, lt, under))
-  calls_run (suc i) f0 d t0 ps0 p0 q f t ps e b instr above reach hs us ok n has now le vs r dep w m k =
+  calls_run zero f0 d t0 ps0 p0 may q f t ps e b instr above reach hs us ok n has now le vs r dep w m k = absurd (let lt = k.less in let under = le.below in omega (arith, lt, under))
+  calls_run (suc i) f0 d t0 ps0 p0 may q f t ps e b instr above reach hs us ok n has now le vs r dep w m k =
       let p = all f t ps e b in call_runs i f0 d t0 ps0 p0 f t ps p instr above reach hs us ok (λ q. calls_run i f (suc d) t ps q) (par_ints f t ps e) now le.below vs r dep w m (extends_trans hs now.homes m.homes le.grown k.grown) k

@@ -1,6 +1,6 @@
 -- The body of a function of which a parameter is an object: its parameters are copied to slots of their own, behind the arguments, and
 -- their objects are freed last.
-use Rattle.std.proofs.Common.{◌≡◌, ℕ, suc, ◌+◌, ◌<◌, ◌≤◌, List, [], ◌∷◌, ◌++◌, length, append-nil, map, drop, take, Bool, true, false, Option, Some, None, refl, sym, ap, ◌∙◌, arith, subst}
+use Rattle.std.proofs.Common.{◌≡◌, ℕ, suc, ◌+◌, ◌<◌, ◌≤◌, List, [], ◌∷◌, ◌++◌, length, append-nil, map, drop, Bool, true, false, Option, Some, None, refl, sym, ap, ◌∙◌, arith, subst}
 use Rattle.std.specs.Prelude.{slice_get, ◌==◌, if◌then◌else◌}
 use Rattle.ms_types.specs.declared.types.ValType.{ValType}
 use Rattle.ms_linear.specs.declared.value.Value.{Value as Word}
@@ -8,7 +8,7 @@ use Rattle.ms_linear.specs.Values.{default_of}
 use Rattle.ms_machine.specs.Running.{AreBytes}
 use Rattle.ms_module.specs.declared.instr.Instr.{Instr}
 use Rattle.ms_task.specs.Control.{exit_ended}
-use Rattle.ms_task.specs.Thread.{Activation, Frame, Item, Thread, depth_of, result_of}
+use Rattle.ms_task.specs.Thread.{Activation, Frame, Item, Thread, result_of}
 use Rattle.c_types.specs.Types.{Ty, function, Tys, scalar_of}
 use Rattle.c_typed.specs.declared.ops.Variable.{Variable}
 use Rattle.c_typed.specs.Tree.{Typed}
@@ -34,20 +34,18 @@ use Rattle.c_runs.proofs.Goes.{Site, Mem, Runs, after_after, behind_goes, bind, 
 use Rattle.c_runs.proofs.Held.{words}
 use Rattle.c_runs.proofs.Ending.{Differ, Disjoint}
 use Rattle.c_runs.proofs.Lasting.{lasts_same}
-use Rattle.c_runs.proofs.Related.{AreOf, Env, HasAll, Kept, Now, depth_front, extends_same, frame_of, front, front_append, has_back, has_front, pushes, seeing}
+use Rattle.c_runs.proofs.Related.{AreOf, Env, FiledIn, FiledIn, HasAll, Kept, Now, depth_front, extends_same, frame_of, front, front_append, has_back, has_front, pushes, seeing}
 use Rattle.c_runs.proofs.Ops.{at_work, same, size_joined}
 use Rattle.c_runs.proofs.Operations.{Linked}
 use Rattle.c_runs.proofs.Updates.{code_assoc}
 use Rattle.c_runs.proofs.Exprs.{AreScalars, CallsRun}
-use Rattle.c_runs.proofs.Flows.{Around, FlowAt, FlowRuns, GoodFlow, IsAt, Off, Way, around_front, to_flow, way}
-use Rattle.c_runs.proofs.Blocks.{frees}
-use Rattle.c_runs.proofs.Scopes.{Among, IsOff, block_behind, with_off}
+use Rattle.c_runs.proofs.Flows.{FlowAt, FlowRuns, GoodFlow, Off, to_flow, way}
+use Rattle.c_runs.proofs.Scopes.{IsOff, block_behind, with_off}
 use Rattle.c_runs.proofs.Stmts.{IsOut, no_off, off_none, stmt_runs, take_zero}
 use Rattle.c_runs.proofs.Bodies.{at_top, body_runs}
-use Rattle.c_runs.proofs.Entering.{arg_words, callee, first_apart, first_own, firsts, length_us}
-use Rattle.c_runs.proofs.Params.{AreArgs, SameBut, copies, copies_all, copies_same, filled, first_filled, numbers_are, numbers_differ, runs_same, same_after}
-use Rattle.c_runs.proofs.Callees as callees
-use Rattle.c_runs.proofs.Callees.{Compiled, E, Enters, K, Left, begun_with, firsts_held, flow, does, few, home, kinds, length_temps, locals_as, long, map_append, seen_number, slot_there, slots, slots_data, start_now, temps, tg, words_of}
+use Rattle.c_runs.proofs.Entering.{arg_words, callee, first_apart, first_own, firsts}
+use Rattle.c_runs.proofs.Params.{AreArgs, SameBut, copies, copies_all, copies_same, first_filled, runs_same, same_after}
+use Rattle.c_runs.proofs.Callees.{Compiled, E, Enters, K, Left, begun_with, firsts_held, flow, does, home, kinds, length_temps, locals_as, long, map_append, seen_number, slot_there, slots, slots_data, temps, tg, words_of}
 
 -- ways that differ in what a break or a continue leaves, where none may stand
 same_way : (E : Env) (off off' : Off) (c : Code) (x : Does Flow) → off.returned ≡ off'.returned → FlowRuns E (way no_jumps 0 None off) 0 0 c same x → FlowRuns E (way no_jumps 0 None off') 0 0 c same x
@@ -136,9 +134,9 @@ module _ (S : Site) (L : Linked S) (unit : Typed) (i f d : ℕ) (t : Ty) (ps : T
           ∙ ap (λ (front : List Word). record { function = index_of unit f; locals = front ++ (words Ec.places (kinds S L unit i f d t ps p) hs (firsts ks) ++ first_temps) }) (sym args_are)
           ∙ ap (λ (gs : List Home). record { function = index_of unit f; locals = p.args ++ (words Ec.places (kinds S L unit i f d t ps p) gs (firsts ks) ++ first_temps) }) (sym e)
 
-      start_kept : (below : ℕ) (w : World) (m : Mem) → suc w.depth ≡ d → w.fuel < below → AreBytes w.input → Related Ec.unit.structs Ec.places m.homes w.objects m.segments
+      start_kept : (below : ℕ) (w : World) (m : Mem) → suc w.depth ≡ d → w.fuel < below → AreBytes w.input → Related Ec.unit.structs Ec.places m.homes w.objects m.segments → FiledIn Ec w m
           → Kept Ec (now_of below m.homes w.objects) (empty w) (record m { temps = first_temps })
-      start_kept below w m dep lt bytes related = record {
+      start_kept below w m dep lt bytes related file = record {
         held = firsts_held Ec m.homes p.stmt_is 0 ks (λ x s e. (locals_as S L unit i f d t ps p x s e).0);
         deep = dep;
         less = lt;
@@ -150,6 +148,7 @@ module _ (S : Site) (L : Linked S) (unit : Typed) (i f d : ℕ) (t : Ty) (ps : T
         apart = first_apart [] ks;
         own = first_own (length w.objects) [] ks;
         lasts = lasts_same w.objects;
+        file = file;
       }
 
     -- ---- the parameters' block
@@ -196,7 +195,7 @@ module _ (S : Site) (L : Linked S) (unit : Typed) (i f d : ℕ) (t : Ty) (ps : T
         stmt_flow : FlowRuns Ein (way no_jumps 0 None (with_off ns no_off)) 0 0 B same flow_is
         stmt_flow =
             same_way Ein off_body (with_off ns no_off) B flow_is refl
-            (stmt_runs Ec L (home S L unit i f d t ps p) (K S L unit i f d t ps p) refl callees_run ints (slots_data S L unit i f d t ps p) refl refl p.sound (slot_there ks) (omega arith) ns 0 None (at_body vs_of) no_jumps off_body p.stmt_is out (omega arith) p.ready p.well)
+            (stmt_runs Ec L (home S L unit i f d t ps p) (K S L unit i f d t ps p) refl callees_run ints (slots_data S L unit i f d t ps p) refl refl p.sound p.names (slot_there ks) (omega arith) ns 0 None (at_body vs_of) no_jumps off_body p.stmt_is out (omega arith) p.ready p.well)
 
         module _ (hs : List Home) (us : List Value) (args : AreArgs Ec hs 0 ps us) (numbered : numbers_from 0 us ≡ ns) where
           abbrev copy : Does (Unit {0})
@@ -244,7 +243,7 @@ module _ (S : Site) (L : Linked S) (unit : Typed) (i f d : ℕ) (t : Ty) (ps : T
           -- ---- from the start of the call to the caller
 
           pub copied_enters : (ok : AreOf Ec ps hs us) (args_are : p.args ≡ arg_words Ec hs ps us) → length us ≤ length ks → Enters S L unit i f d t ps p hs us ok (size_of D)
-          copied_enters ok args_are le' caller vs r dep below le w m e deeper lt bytes related =
+          copied_enters ok args_are le' caller vs r dep below le w m e deeper lt bytes related file =
               let m' : Mem = record m { temps = first_temps } in
               let ws = empty w in
               let now = now_of below m.homes w.objects in
@@ -263,4 +262,4 @@ module _ (S : Site) (L : Linked S) (unit : Typed) (i f d : ℕ) (t : Ty) (ps : T
               (goes.shifts S w ws m first_temps ts refl refl (tells_nothing w ws refl refl refl))
               (subst (λ (o : Option ValType). Runs S (size_of D) m' (at_work Ec m' ws vs (front D.instrs (Activation o (length vs) caller ∷ r))) ws to good (copied ws)) (sym p.gives_one)
               (body_runs Ec p.result caller vs r dep whole (copy >> block_of) now (arrives now (record { below = le; grown = grown; seen = λ x s. absurd cc; few = omega arith })) 1 has.1 copied_fits (record { below = le; waits = refl; seen = refl }) ws m'
-              (start_kept hs us ok args_are below w m deeper lt bytes related))))))
+              (start_kept hs us ok args_are below w m deeper lt bytes related file))))))

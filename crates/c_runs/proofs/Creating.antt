@@ -27,10 +27,11 @@ use Rattle.ms_relate.specs.refinement.Laid.{Fits}
 use Rattle.ms_relate.specs.refinement.Relation.{Related, kind_of}
 use Rattle.ms_relate.proofs.Acts.{act_gives, new_acts}
 use Rattle.ms_relate.proofs.Growing.{Extends, slice_get-push_new, slice_get-push_old}
-use Rattle.c_runs.specs.Threads.{Ran, Stop, ran, steps}
+use Rattle.c_runs.specs.Threads.{Paused, Ran, ran, steps_to}
 use Rattle.c_runs.proofs.Goes as goes
 use Rattle.c_runs.proofs.Goes.{Goes, Mem, Stops, Tells, given, tells_nothing}
 use Rattle.c_runs.proofs.Grants.{Agrees, Fit}
+use Rattle.c_runs.proofs.Files.{filed_still}
 use Rattle.c_runs.proofs.Held.{held_still, words_still}
 use Rattle.c_runs.proofs.Lasting.{lasts_push, lasts_trans, open_on}
 use Rattle.c_runs.proofs.Related.{Env, Kept, Now, extends_trans, frame_of}
@@ -46,9 +47,9 @@ never_fits_false : (gs : List Bool) → Fit (false ∷ []) (true ∷ gs) → ⊥
 never_fits_false gs (inl h) = absurd (let e = h.1 in cc)
 never_fits_false gs (inr h) = absurd (let e = h.1 in cc)
 
-none_told : (w : List Item) (a b : Stop) → (by_work w (ran a) (ran b)).events ≡ []
-none_told [] a b = refl
-none_told (i ∷ w) a b = refl
+none_told : (w : List Item) (a b : Ran) → a.events ≡ [] → b.events ≡ [] → (by_work w a b).events ≡ []
+none_told [] a b p q = p
+none_told (i ∷ w) a b p q = q
 
 module _ (E : Env) (now : Now) (k : Kind) (s : Shape) (n : ℕ) (fits : Fits s) (vs : List Word) (r : List Item) (w : World) (m : Mem) (kept : Kept E now w m) where
   abbrev bytes : ℕ
@@ -84,13 +85,13 @@ module _ (E : Env) (now : Now) (k : Kind) (s : Shape) (n : ℕ) (fits : Fits s) 
 
   -- what one step tells
   first_told : (m' : Mem) (t' : Thread) (e : Event) → act (goes.store E.site m) i (thread (frame_of E m w) (I32 bytes ∷ vs) r) ≡ step.Next (goes.store E.site m') t' (Some e)
-      → grants (steps 1 (goes.store E.site m) t (given w)).events ≡ grants (e ∷ [])
+      → grants (steps_to E.site.last 1 (goes.store E.site m) t (given w)).events ≡ grants (e ∷ [])
   first_told m' t' e q =
-      ap (λ (o : step.Outcome). grants (Rattle.c_runs.specs.Threads.after_move (Rattle.ms_machine.specs.Moves.move_on (goes.store E.site m) (Rattle.ms_machine.specs.Moves.first_of (given w)) (step.exited o)) (given w) (steps 0)).events) q
-      ∙ ap (λ (es : List Event). grants (e ∷ es)) (none_told (Rattle.ms_task.specs.Control.exited t').work _ _)
+      ap (λ (o : step.Outcome). grants (Rattle.c_runs.specs.Threads.after_move (Rattle.ms_machine.specs.Moves.move_on (goes.store E.site m) (Rattle.ms_machine.specs.Moves.first_of (given w)) (step.exited o)) (given w) (steps_to E.site.last 0)).events) q
+      ∙ ap (λ (es : List Event). grants (e ∷ es)) (none_told (Rattle.ms_task.specs.Control.exited t').work _ (ran Paused) (E.site.still (goes.store E.site m') _ (given w)) refl)
 
   -- it asks for one, and none is left
-  asks_for : (e : Event) (b : Bool) → grants (e ∷ []) ≡ b ∷ [] → grants (steps 1 (goes.store E.site m) t (given w)).events ≡ grants (e ∷ []) → w.grants ≡ [] → NewGoes
+  asks_for : (e : Event) (b : Bool) → grants (e ∷ []) ≡ b ∷ [] → grants (steps_to E.site.last 1 (goes.store E.site m) t (given w)).events ≡ grants (e ∷ []) → w.grants ≡ [] → NewGoes
   asks_for e b one told none = unasked none (record {
     puts = [];
     events = [];
@@ -129,6 +130,7 @@ module _ (E : Env) (now : Now) (k : Kind) (s : Shape) (n : ℕ) (fits : Fits s) 
           apart = kept.apart;
           own = kept.own;
           lasts = lasts_trans now.objects w.objects w'.objects kept.lasts push;
+          file = filed_still E.unit.structs E.places E.files E.reached E.site.shared m.homes hs more w.globals w.literals m.globals kept.file;
         };
         home = home;
         at = subst (λ (j : ℕ). slice_get hs j ≡ Some home) long (slice_get-push_new m.homes home);
@@ -141,9 +143,9 @@ module _ (E : Env) (now : Now) (k : Kind) (s : Shape) (n : ℕ) (fits : Fits s) 
             (act_gives (goes.store E.site m) (frame_of E m w) r (segment.New (kind_of k)) (I32 bytes ∷ vs) (top ∷ vs) seg (Some (events.Alloc id base bytes)) is));
       }
 
-  pub new_goes : Agrees (goes.store E.site m) t (given w) w.grants → NewGoes
+  pub new_goes : Agrees E.site.last (goes.store E.site m) t (given w) w.grants → NewGoes
   new_goes ag = by (new_acts E.unit.structs E.places m.homes m.segments w.objects k s n kept.related fits) where
-    fit : (e : Event) → grants (steps 1 (goes.store E.site m) t (given w)).events ≡ grants (e ∷ []) → Fit (grants (e ∷ [])) w.grants
+    fit : (e : Event) → grants (steps_to E.site.last 1 (goes.store E.site m) t (given w)).events ≡ grants (e ∷ []) → Fit (grants (e ∷ [])) w.grants
     fit e told = subst (λ (l : List Bool). Fit l w.grants) told (ag 1)
 
     by : NewActs E.unit.structs E.places m.homes w.objects m.segments k s n bytes (λ rest. segment_on (segment.New (kind_of k)) m.segments (I32 bytes ∷ rest)) → NewGoes
@@ -157,7 +159,7 @@ module _ (E : Env) (now : Now) (k : Kind) (s : Shape) (n : ℕ) (fits : Fits s) 
       us : List Word
       us = Handle (handle (m.homes ++ home ∷ []) (to_object (length w.objects))) ∷ vs
 
-      told : grants (steps 1 (goes.store E.site m) t (given w)).events ≡ true ∷ []
+      told : grants (steps_to E.site.last 1 (goes.store E.site m) t (given w)).events ≡ true ∷ []
       told = first_told (record m { segments = after }) (thread (frame_of E m w) us r) e
           (act_gives (goes.store E.site m) (frame_of E m w) r (segment.New (kind_of k)) (I32 bytes ∷ vs) us after (Some e) (is vs))
 
@@ -175,7 +177,7 @@ module _ (E : Env) (now : Now) (k : Kind) (s : Shape) (n : ℕ) (fits : Fits s) 
       acts : act (goes.store E.site m) i (thread (frame_of E m w) (I32 bytes ∷ vs) r) ≡ step.Next (goes.store E.site m) (thread (frame_of E m w) us r) (Some e)
       acts = act_gives (goes.store E.site m) (frame_of E m w) r (segment.New (kind_of k)) (I32 bytes ∷ vs) us m.segments (Some e) (is vs)
 
-      told : grants (steps 1 (goes.store E.site m) t (given w)).events ≡ false ∷ []
+      told : grants (steps_to E.site.last 1 (goes.store E.site m) t (given w)).events ≡ false ∷ []
       told = first_told m (thread (frame_of E m w) us r) e acts
 
       go : (gs : List Bool) → w.grants ≡ gs → NewGoes

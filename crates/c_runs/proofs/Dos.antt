@@ -106,7 +106,7 @@ module _ (E : Env) (u : IntType) (narrow : width_of u ≡ W32) (T : Code) (test 
 
     module _ (n : ℕ) (ih : Iterates n) (now : Now) (le : IsAt E d now) (le' : now.below ≤ suc n) (w : World) (m : Mem) where
       -- again at the loop's instruction, with a unit to spend
-      paid_runs : (w2 : World) (m2 : Mem) (q : ℕ) → Kept E now (record w2 { fuel = q }) m2 → Leads E.site turn w (record w2 { fuel = q }) m (head m w) m2 (head m2 w2) → Agrees (goes.store E.site m2) (head m2 w2) (given w2) w2.grants
+      paid_runs : (w2 : World) (m2 : Mem) (q : ℕ) → Kept E now (record w2 { fuel = q }) m2 → Leads E.site turn w (record w2 { fuel = q }) m (head m w) m2 (head m2 w2) → Agrees E.site.last (goes.store E.site m2) (head m2 w2) (given w2) w2.grants
           → RunsTo E.site turn m (head m w) w to (GoodFlow E l now) (after (spend (record w2 { fuel = q })) (λ x. again n))
       paid_runs w2 m2 zero k ld ag = leads_out E.site turn turn w (record w2 { fuel = 0 }) m m2 (head m w) (head m2 w2) (omega arith) ld refl refl
       paid_runs w2 m2 (suc f) k ld ag =
@@ -119,7 +119,7 @@ module _ (E : Env) (u : IntType) (narrow : width_of u ≡ W32) (T : Code) (test 
 
       -- behind the test
       decide : (z : ℕ) (t : Bool) → IsTest E z t → (w2 : World) (m2 : Mem) → Kept E now w2 m2 → Leads E.site ((1 + sB) + sT) w w2 m (head m w) m2 (thread (frame_of E m2 w2) (I32 z ∷ vs) (Do (BrIf 0) ∷ ring))
-          → Agrees (goes.store E.site m2) (thread (frame_of E m2 w2) (I32 z ∷ vs) (Do (BrIf 0) ∷ ring)) (given w2) w2.grants → RunsTo E.site turn m (head m w) w to (GoodFlow E l now) (behind_test n t w2)
+          → Agrees E.site.last (goes.store E.site m2) (thread (frame_of E m2 w2) (I32 z ∷ vs) (Do (BrIf 0) ∷ ring)) (given w2) w2.grants → RunsTo E.site turn m (head m w) w to (GoodFlow E l now) (behind_test n t w2)
       decide z t (is_yes q ez et) w2 m2 k ld ag =
           let t2 = thread (frame_of E m2 w2) (I32 z ∷ vs) (Do (BrIf 0) ∷ ring) in
           let g = one_here E.site w2 m2 m2 (BrIf 0) (frame_of E m2 w2) (I32 z ∷ vs) ring (head m2 w2)
@@ -136,7 +136,7 @@ module _ (E : Env) (u : IntType) (narrow : width_of u ≡ W32) (T : Code) (test 
       abbrev at_test : Mem → World → Thread
       at_test m1 w1 = at_work E m1 w1 vs (front (T n2).instrs (Do (BrIf 0) ∷ ring))
 
-      test_by : (w1 : World) (m1 : Mem) → Leads E.site (1 + sB) w w1 m (head m w) m1 (at_test m1 w1) → Agrees (goes.store E.site m1) (at_test m1 w1) (given w1) w1.grants
+      test_by : (w1 : World) (m1 : Mem) → Leads E.site (1 + sB) w w1 m (head m w) m1 (at_test m1 w1) → Agrees E.site.last (goes.store E.site m1) (at_test m1 w1) (given w1) w1.grants
           → (y : Result Value) → RunsTo E.site sT m1 (at_test m1 w1) w1 (ToIn E (pushes E (integer u)) vs (Do (BrIf 0) ∷ ring)) (GoodIn E (IsValue E (integer u)) now) y
           → RunsTo E.site turn m (head m w) w to (GoodFlow E l now) (after y (λ v w2. after (is_true v w2) (behind_test n)))
       test_by w1 m1 ld ag (ends e w2) h = resize_to E.site ((1 + sB) + sT) turn m (head m w) w to (GoodFlow E l now) (ends e w2) (omega arith) (stops_behind E.site (1 + sB) sT w w1 w2 m m1 (head m w) (at_test m1 w1) e ld.goes h)
@@ -149,11 +149,11 @@ module _ (E : Env) (u : IntType) (narrow : width_of u ≡ W32) (T : Code) (test 
             decide (wrapped 32 z) (not (is_zero z)) (test_is E u z narrow i) w2 h.0 h.1.1 (leads_further E.site (1 + sB) sT w w1 w2 m m1 h.0 (head m w) (at_test m1 w1) t2 ld g') (agrees_after E.site sT w1 w2 m1 h.0 (at_test m1 w1) t2 g' ag)
         by _ i g = absurd i
 
-      behind_runs : (w1 : World) (m1 : Mem) → Kept E now w1 m1 → Leads E.site (1 + sB) w w1 m (head m w) m1 (at_work E m1 w1 vs (front tail1 ring)) → Agrees (goes.store E.site m1) (at_work E m1 w1 vs (front tail1 ring)) (given w1) w1.grants
+      behind_runs : (w1 : World) (m1 : Mem) → Kept E now w1 m1 → Leads E.site (1 + sB) w w1 m (head m w) m1 (at_work E m1 w1 vs (front tail1 ring)) → Agrees E.site.last (goes.store E.site m1) (at_work E m1 w1 vs (front tail1 ring)) (given w1) w1.grants
           → RunsTo E.site turn m (head m w) w to (GoodFlow E l now) ((meaning.test test >>= behind_test n) w1)
       behind_runs w1 m1 k1 ld ag =
           let split = front_append (T n2).instrs (BrIf 0 ∷ []) ring in
-          let ag' = subst (λ (q : List Item). Agrees (goes.store E.site m1) (at_work E m1 w1 vs q) (given w1) w1.grants) split ag in
+          let ag' = subst (λ (q : List Item). Agrees E.site.last (goes.store E.site m1) (at_work E m1 w1 vs q) (given w1) w1.grants) split ag in
           subst (λ (y : Result Flow). RunsTo E.site turn m (head m w) w to (GoodFlow E l now) y) (sym (after_after (test w1) is_true (behind_test n)))
           (test_by w1 m1 (subst (λ (q : List Item). Leads E.site (1 + sB) w w1 m (head m w) m1 (at_work E m1 w1 vs q)) split ld) ag' (test w1) (rt n2 hasT now (starts E d now le) vs (Do (BrIf 0) ∷ ring) dep w1 m1 k1 ag'))
 
@@ -168,7 +168,7 @@ module _ (E : Env) (u : IntType) (narrow : width_of u ≡ W32) (T : Code) (test 
       abbrev to_body : Flow → World → Mem → Thread
       to_body = to_flow E vs (front tail1 ring) r (front tail1 ring) rr caller
 
-      body_by : Agrees (goes.store E.site m) t0 (given w) w.grants → (y : Result Flow) → RunsTo E.site sB m t0 w to_body (GoodFlow E (body_way d C off) now) y
+      body_by : Agrees E.site.last (goes.store E.site m) t0 (given w) w.grants → (y : Result Flow) → RunsTo E.site sB m t0 w to_body (GoodFlow E (body_way d C off) now) y
           → RunsTo E.site turn m (head m w) w to (GoodFlow E l now) (after y (behind_body (meaning.test test >>= behind_test n)))
       body_by ag (ends e w1) h = resize_to E.site (1 + sB) turn m (head m w) w to (GoodFlow E l now) (ends e w1) (omega arith) (stops_behind E.site 1 sB w w w1 m m (head m w) t0 e first.goes h)
       body_by ag (gives next w1) q =

@@ -4,8 +4,8 @@ use Rattle.std.specs.Prelude.{ℤ, pos, ◌&&◌, get_or, not, slice_get, if◌t
 use Rattle.ms_linear.specs.declared.value.Value.{Value as Word}
 use Rattle.ms_types.specs.declared.types.ValType.TheVariants as vals
 use Rattle.ms_module.specs.declared.access.Segment.TheVariants as segment
+use Rattle.ms_module.specs.declared.instr.Instr.TheVariants.{Call, Drop, GlobalGet, Segment, CallIndirect, LocalGet, LocalSet}
 use Rattle.ms_module.specs.declared.instr.Instr.{Instr}
-use Rattle.ms_module.specs.declared.instr.Instr.TheVariants.{Call, CallIndirect, Drop, LocalGet, LocalSet, Segment}
 use Rattle.ms_module.specs.declared.numeric.Width.TheVariants.{W32}
 use Rattle.c_types.specs.declared.integers.IntType.{IntType}
 use Rattle.c_types.specs.declared.integers.IntType.TheVariants.{Char, SignedChar, UnsignedChar, Short, UnsignedShort, Int, UnsignedInt, Long, UnsignedLong, LongLong, UnsignedLongLong}
@@ -47,11 +47,12 @@ use Rattle.c_runs.specs.Words.{pushed}
 use Rattle.ms_relate.specs.refinement.Homes.{Home, IsScalar}
 use Rattle.ms_relate.proofs.Growing.{Extends}
 use Rattle.c_runs.proofs.Values.{IsOf, pushed_is, value_still, word_of, word_still}
-use Rattle.c_runs.proofs.Related.{AreOf, Env, IsSlot, IsValue, beside, piled, pushes}
-use Rattle.c_runs.proofs.Ops.{AllGiven, OpIn, Stack, op_any, op_assoc, op_given, op_look, op_look_in, op_none_in, op_over_in, op_then_in, same}
-use Rattle.c_runs.proofs.Nodes.{Carries, Leaves, assign_runs, chosen_runs, constant_runs, fetch_runs, behind_place, gone, left_runs, remains}
-use Rattle.c_runs.proofs.Operations.{AtHome, Linked, Reaches, abort_runs, binary_runs, call_is, compare_runs, complement_runs, convert_runs, getchar_runs, narrow_truth_runs, negate_runs, not_runs, putchar_runs, truth_in, truth_runs, update_runs}
-use Rattle.c_runs.proofs.Cells.{Leads, address_runs, assign_there, deref_leads, read_there, variable_leads}
+use Rattle.c_runs.proofs.Related.{AreOf, Env, IsSlot, IsValue, piled, pushes, beside}
+use Rattle.c_runs.proofs.Ops.{AllGiven, OpIn, op_any, op_assoc, op_given, op_look, op_look_in, op_none_in, op_over_in, op_then_in, same, Stack}
+use Rattle.c_runs.proofs.Nodes.{Carries, Leaves, PlainAt, assign_runs, chosen_runs, constant_runs, behind_place, gone, left_runs, remains, slot_plain}
+use Rattle.c_runs.proofs.Operations.{AtHome, Linked, abort_runs, binary_runs, compare_runs, complement_runs, convert_runs, getchar_runs, narrow_truth_runs, negate_runs, not_runs, putchar_runs, truth_in, truth_runs, update_runs, Reaches, call_is}
+use Rattle.c_runs.proofs.Cells.{Leads, address_runs, assign_there, deref_leads, read_there}
+use Rattle.c_runs.proofs.Globals.{NamesOf, global_all, global_plain, literal_runs}
 use Rattle.c_runs.proofs.Members.{IsLaid, LeadsAll, Slices, decay_all, decay_slice, laid_member, leads_all, member_all, member_slices, slice_runs, variable_all, visit_runs}
 use Rattle.c_runs.proofs.Scalars.{IsData, function_type, null_runs, pointer_type, scalar_type, small_slot, truth_pointer}
 use Rattle.c_runs.proofs.Entries.{types_of}
@@ -198,7 +199,7 @@ module _ (E : Env) (L : Linked E.site) (home : AtHome E) (k : well.Context) (slo
   -- a call does what is meant, from this function
   abbrev pub CallsRun : Type 0
   CallsRun =
-      (d f : ℕ) (t : Ty) (ps : Tys) → slice_get k.functions f ≡ Some (function t ps) → IsCallable E.unit f → (i : Instr) (above : Stack) → Reaches E i above (E.target.index f) → (hs : List Home) (us : List Value) → AreOf E ps hs us
+      E.may_call ≡ true → (d f : ℕ) (t : Ty) (ps : Tys) → slice_get k.functions f ≡ Some (function t ps) → IsCallable E.unit f → (i : Instr) (above : Stack) → Reaches E i above (E.target.index f) → (hs : List Home) (us : List Value) → AreOf E ps hs us
       → OpIn (beside d E) hs (one i) (λ vs. above (piled E ps hs us vs)) (pushes E t) (IsValue E t) (E.calls f us)
 
   abbrev pub AreScalars : Tys → Type 0
@@ -208,10 +209,10 @@ module _ (E : Env) (L : Linked E.site) (home : AtHome E) (k : well.Context) (slo
   -- the arguments of a call through a pointer, which waits beside d other values
   abbrev pub ArgsRun : Type 0
   ArgsRun =
-      (d : ℕ) → E.pending ≤ d → (es : Exprs) (ts : Tys) → IsReady E.target.is_object E.unit (suc d) (suc d) E.waits (in_exprs es) (uses.in_exprs es) (in_exprs_of es) → HaveTypes k es ts → AreScalars ts
+      (d : ℕ) → E.pending ≤ d → (es : Exprs) (ts : Tys) → IsReady E.may_call E.target.is_object E.unit (suc d) (suc d) E.waits (in_exprs es) (uses.in_exprs es) (in_exprs_of es) → HaveTypes k es ts → AreScalars ts
       → OpIn (beside (suc d) E) [] (code.exprs E.target (suc d) es) same (λ hs us vs. piled E ts hs us vs) (λ hs us. AreOf E ts hs us) (exprs E.unit E.calls es)
 
-  sound_scalars : (ts : Tys) → AreSound ts → AreScalars ts
+  pub sound_scalars : (ts : Tys) → AreSound ts → AreScalars ts
   sound_scalars no_types h = tt
   sound_scalars (ty.types t ts) h = (scalar_type t h.0.0 h.0.1, sound_scalars ts h.2)
 
@@ -228,7 +229,8 @@ module _ (E : Env) (L : Linked E.site) (home : AtHome E) (k : well.Context) (slo
   left_int kept c t u x e h = as_type kept (left kept (of_type u) c) t u x e (left_runs E kept (of_type u) (integer u) c x refl h)
 
   module _ (calls_run : CallsRun) (args_run : ArgsRun) (scalars_are : (f : ℕ) (t : Ty) (ps : Tys) → slice_get k.functions f ≡ Some (function t ps) → AreScalars ps)
-      (slots_data : (x : ℕ) (t : Ty) → slice_get k.slots x ≡ Some t → E.target.is_object (Local x) ≡ false → IsData t) (visible_are : k.visible ≡ E.visible) (structs_same : k.structs ≡ E.unit.structs) (functions_are : k.functions ≡ types_of E.unit) (sound : AreSoundNames k.structs k.globals k.slots k.functions) where
+      (slots_data : (x : ℕ) (t : Ty) → slice_get k.slots x ≡ Some t → E.target.is_object (Local x) ≡ false → IsData t) (visible_are : k.visible ≡ E.visible) (structs_same : k.structs ≡ E.unit.structs) (functions_are : k.functions ≡ types_of E.unit) (sound : AreSoundNames k.structs k.globals k.slots k.functions)
+      (names : NamesOf E.unit.structs E.files E.reached E.target k.globals k.literals) where
     -- a type with a size
     sized : (t : Ty) → IsSmall k.structs t → IsSlot E.unit.structs t
     sized t h = small_slot E.unit.structs E.laid_out E.has_members t (subst (λ (table : Table). IsSmall table t) structs_same h)
@@ -243,15 +245,26 @@ module _ (E : Env) (L : Linked E.site) (home : AtHome E) (k : well.Context) (slo
     seen_at : (x : ℕ) (t : Ty) → IsPlace k (of (Local x)) t → is_visible E.visible x ≡ true
     seen_at x t h = ap (λ (vs : List ℕ). is_visible vs x) (sym visible_are) ∙ h.1
 
-    leads_at : (x : ℕ) (t : Ty) → IsPlace k (of (Local x)) t → E.target.is_object (Local x) ≡ true → Leads E (one (get E.target (Local x))) t (place E.unit E.calls (of (Local x)))
-    leads_at x t h q = variable_leads E x t (kind_at x t h.0 true q) (seen_at x t h)
+    abbrev variable_in : Bool → Variable → Option Variable
+    variable_in b x = if b then None else Some x
 
-    abbrev variable_in : Bool → ℕ → Option Variable
-    variable_in b x = if b then None else Some (Local x)
+    -- a variable at file scope
+    file_at : (x : ℕ) (t : Ty) → slice_get k.globals x ≡ Some t → (b : Bool) → E.target.is_object (Global x) ≡ b → slice_get E.files x ≡ Some (t, b)
+    file_at x t e b q = names.kinds x t e ∙ ap (λ (c : Bool). Some (t, c)) q
+
+    -- one that is no object is read and written without a handle
+    plain_at : (x : Variable) (t : Ty) → IsScalar t → IsPlace k (of x) t → E.target.is_object x ≡ false → PlainAt E x t
+    plain_at (Local x) t sc h q = slot_plain E x t sc (kind_at x t h.0 false q)
+    plain_at (Global x) t sc h q = global_plain E L home x t sc (file_at x t h false q)
+
+    -- the handle of one that is an object leads to all of it
+    all_at : (x : Variable) (t : Ty) → IsPlace k (of x) t → E.target.is_object x ≡ true → LeadsAll E (one (get E.target x)) t (place E.unit E.calls (of x))
+    all_at (Local x) t h q = variable_all E x t (kind_at x t h.0 true q) (seen_at x t h)
+    all_at (Global x) t h q = global_all E L home x t (file_at x t h true q) (names.seen x t h) (small_slot E.unit.structs E.laid_out E.has_members t (names.sizes x t h))
 
     -- a place that is no plain variable's
     abbrev IsCell : Place → Type 0
-    IsCell (of (Local x)) = E.target.is_object (Local x) ≡ true
+    IsCell (of x) = E.target.is_object x ≡ true
     IsCell _ = Unit {0}
 
     -- its handle is left
@@ -261,16 +274,19 @@ module _ (E : Env) (L : Linked E.site) (home : AtHome E) (k : well.Context) (slo
     is_data : (p : Place) (t : Ty) → IsPlace k p t → is_function t ≡ false
     is_data p t h = (sound_place k sound p t h).0
 
+    variable_data : (x : Variable) (t : Ty) → IsPlace k (of x) t → E.target.is_object x ≡ false → IsData t
+    variable_data (Local x) t h q = slots_data x t h.0 q
+    variable_data (Global x) t h q = names.data_are x t h q
+
     -- an array or a struct is an object
-    whole_slot : (x : ℕ) (t : Ty) → (IsData t → ⊥) → slice_get k.slots x ≡ Some t → E.target.is_object (Local x) ≡ true
-    whole_slot x t never e = by (E.target.is_object (Local x)) refl where
-      by : (b : Bool) → E.target.is_object (Local x) ≡ b → b ≡ true
+    whole_slot : (x : Variable) (t : Ty) → (IsData t → ⊥) → IsPlace k (of x) t → E.target.is_object x ≡ true
+    whole_slot x t never h = by (E.target.is_object x) refl where
+      by : (b : Bool) → E.target.is_object x ≡ b → b ≡ true
       by true q = refl
-      by false q = absurd (never (slots_data x t e q))
+      by false q = absurd (never (variable_data x t h q))
 
     whole_cell : (p : Place) (t : Ty) → (IsData t → ⊥) → IsPlace k p t → IsCell p
-    whole_cell (of (Local x)) t never h = whole_slot x t never h.0
-    whole_cell (of (Global x)) t never h = tt
+    whole_cell (of x) t never h = whole_slot x t never h
     whole_cell (deref a) t never h = tt
     whole_cell (member p n m) t never h = tt
 
@@ -312,22 +328,20 @@ module _ (E : Env) (L : Linked E.site) (home : AtHome E) (k : well.Context) (slo
     pointer_scalar t e = ap (λ (b : Bool). Some (if b then scalars.Function else scalars.Pointer)) e
 
     read_runs : (d : ℕ) (s : Scalar) (p : Place) (t : Ty) → IsScalar t → in_place p ≡ true → scalar_of t ≡ Some s → IsPlace k p t → LeadsIn d p t → Leaves E (fetched E.target (plain_in E.target p) (code.place E.target d p) s) t (place E.unit E.calls p >>= meaning.fetch)
-    read_runs d s (of (Local x)) t sc l e h leads = by (E.target.is_object (Local x)) refl where
-      by : (b : Bool) → E.target.is_object (Local x) ≡ b → Leaves E (fetched E.target (variable_in b x) (one (get E.target (Local x))) s) t (place E.unit E.calls (of (Local x)) >>= meaning.fetch)
-      by true q = read_there E t s sc e (one (get E.target (Local x))) (place E.unit E.calls (of (Local x))) (leads q)
-      by false q = behind_place E x t sc (kind_at x t h.0 false q) (one (get E.target (Local x))) same (pushes E t) (IsValue E t) meaning.fetch (fetch_runs E x t sc (kind_at x t h.0 false q))
-    read_runs d s (of (Global x)) t sc l e h leads = absurd cc
+    read_runs d s (of x) t sc l e h leads = by (E.target.is_object x) refl where
+      by : (b : Bool) → E.target.is_object x ≡ b → Leaves E (fetched E.target (variable_in b x) (one (get E.target x)) s) t (place E.unit E.calls (of x) >>= meaning.fetch)
+      by true q = read_there E t s sc e (one (get E.target x)) (place E.unit E.calls (of x)) (leads q)
+      by false q = let p = plain_at x t sc h q in behind_place E x t p (one (get E.target x)) same (pushes E t) (IsValue E t) meaning.fetch p.fetches
     read_runs d s (deref a) t sc l e h leads = read_there E t s sc e (code.place E.target d (deref a)) (place E.unit E.calls (deref a)) (leads tt)
     read_runs d s (member p n m) t sc l e h leads = read_there E t s sc e (code.place E.target d (member p n m)) (place E.unit E.calls (member p n m)) (leads tt)
 
     assigned : (kept : Bool) (d : ℕ) (s : Scalar) (p : Place) (t : Ty) → IsScalar t → (c : Code) (y : Does Value) → in_place p ≡ true → scalar_of t ≡ Some s → IsPlace k p t → LeadsIn d p t → Leaves E c t y
         → Carries E kept (begun E.target (plain_in E.target p) (code.place E.target d p) ⨾ c ⨾ ended E.target kept (plain_in E.target p) s) t (place E.unit E.calls p >>= (λ q. y >>= (λ v. store q v >> pure v)))
-    assigned kept d s (of (Local x)) t sc c y l e h leads r = by (E.target.is_object (Local x)) refl where
-      by : (b : Bool) → E.target.is_object (Local x) ≡ b
-          → Carries E kept (begun E.target (variable_in b x) (one (get E.target (Local x))) ⨾ c ⨾ ended E.target kept (variable_in b x) s) t (place E.unit E.calls (of (Local x)) >>= (λ q. y >>= (λ v. store q v >> pure v)))
-      by true q = assign_there E t s sc e kept (one (get E.target (Local x))) c (place E.unit E.calls (of (Local x))) y (leads q) r
-      by false q = assign_runs E x t sc (kind_at x t h.0 false q) kept s c y r
-    assigned kept d s (of (Global x)) t sc c y l e h leads r = absurd cc
+    assigned kept d s (of x) t sc c y l e h leads r = by (E.target.is_object x) refl where
+      by : (b : Bool) → E.target.is_object x ≡ b
+          → Carries E kept (begun E.target (variable_in b x) (one (get E.target x)) ⨾ c ⨾ ended E.target kept (variable_in b x) s) t (place E.unit E.calls (of x) >>= (λ q. y >>= (λ v. store q v >> pure v)))
+      by true q = assign_there E t s sc e kept (one (get E.target x)) c (place E.unit E.calls (of x)) y (leads q) r
+      by false q = assign_runs E x t (plain_at x t sc h q) kept s c y r
     assigned kept d s (deref a) t sc c y l e h leads r = assign_there E t s sc e kept (code.place E.target d (deref a)) c (place E.unit E.calls (deref a)) y (leads tt) r
     assigned kept d s (member p n m) t sc c y l e h leads r = assign_there E t s sc e kept (code.place E.target d (member p n m)) c (place E.unit E.calls (member p n m)) y (leads tt) r
 
@@ -339,12 +353,11 @@ module _ (E : Env) (L : Linked E.site) (home : AtHome E) (k : well.Context) (slo
     updates : (kept old : Bool) (d : ℕ) (u v : IntType) (o : BinaryOp) (p : Place) (c : Code) (y : Does Value) → in_place p ≡ true → well.IsPromoted v → IsPlace k p (integer u) → LeadsIn d p (integer u) → Leaves E c (integer v) y
         → Carries E kept (updated E.target kept old (plain_in E.target p) (code.place E.target d p) (scalars.Int u) (convert u v ⨾ c ⨾ one (operated o v) ⨾ convert v u)) (integer u)
         (updating old u v o p y)
-    updates kept old d u v o (of (Local x)) c y l pr h leads r = by (E.target.is_object (Local x)) refl where
-      by : (b : Bool) → E.target.is_object (Local x) ≡ b
-          → Carries E kept (updated E.target kept old (variable_in b x) (one (get E.target (Local x))) (scalars.Int u) (convert u v ⨾ c ⨾ one (operated o v) ⨾ convert v u)) (integer u) (updating old u v o (of (Local x)) y)
-      by true q = update_there E o u v (one (get E.target (Local x))) (place E.unit E.calls (of (Local x))) (leads q) c y pr r kept old
-      by false q = update_runs E o u v x (kind_at x (integer u) h.0 false q) c y pr r kept old (one (get E.target (Local x))) (scalars.Int u)
-    updates kept old d u v o (of (Global x)) c y l pr h leads r = absurd cc
+    updates kept old d u v o (of x) c y l pr h leads r = by (E.target.is_object x) refl where
+      by : (b : Bool) → E.target.is_object x ≡ b
+          → Carries E kept (updated E.target kept old (variable_in b x) (one (get E.target x)) (scalars.Int u) (convert u v ⨾ c ⨾ one (operated o v) ⨾ convert v u)) (integer u) (updating old u v o (of x) y)
+      by true q = update_there E o u v (one (get E.target x)) (place E.unit E.calls (of x)) (leads q) c y pr r kept old
+      by false q = update_runs E o u v x (plain_at x (integer u) tt h q) c y pr r kept old (one (get E.target x)) (scalars.Int u)
     updates kept old d u v o (deref e) c y l pr h leads r = update_there E o u v (code.place E.target d (deref e)) (place E.unit E.calls (deref e)) (leads tt) c y pr r kept old
     updates kept old d u v o (member p n m) c y l pr h leads r = update_there E o u v (code.place E.target d (member p n m)) (place E.unit E.calls (member p n m)) (leads tt) c y pr r kept old
 
@@ -355,12 +368,11 @@ module _ (E : Env) (L : Linked E.site) (home : AtHome E) (k : well.Context) (slo
 
     advances : (kept old : Bool) (d : ℕ) (u : Ty) (back : Bool) (p : Place) (c : Code) (y : Does Value) (slot : IsSlot E.unit.structs u) → in_place p ≡ true → IsPlace k p (pointer u) → LeadsIn d p (pointer u) → Leaves E c (integer LongLong) y
         → Carries E kept (updated E.target kept old (plain_in E.target p) (code.place E.target d p) scalars.Pointer (moved (bytes E u slot) back c)) (pointer u) (advancing old (bytes E u slot) back p y)
-    advances kept old d u back (of (Local x)) c y slot l h leads r = by (E.target.is_object (Local x)) refl where
-      by : (b : Bool) → E.target.is_object (Local x) ≡ b
-          → Carries E kept (updated E.target kept old (variable_in b x) (one (get E.target (Local x))) scalars.Pointer (moved (bytes E u slot) back c)) (pointer u) (advancing old (bytes E u slot) back (of (Local x)) y)
-      by true q = advance_there E u slot back c y r (one (get E.target (Local x))) (place E.unit E.calls (of (Local x))) (leads q) kept old
-      by false q = advance_plain E u slot back c y r x (kind_at x (pointer u) h.0 false q) kept old (one (get E.target (Local x)))
-    advances kept old d u back (of (Global x)) c y slot l h leads r = absurd cc
+    advances kept old d u back (of x) c y slot l h leads r = by (E.target.is_object x) refl where
+      by : (b : Bool) → E.target.is_object x ≡ b
+          → Carries E kept (updated E.target kept old (variable_in b x) (one (get E.target x)) scalars.Pointer (moved (bytes E u slot) back c)) (pointer u) (advancing old (bytes E u slot) back (of x) y)
+      by true q = advance_there E u slot back c y r (one (get E.target x)) (place E.unit E.calls (of x)) (leads q) kept old
+      by false q = advance_plain E u slot back c y r x (plain_at x (pointer u) tt h q) kept old (one (get E.target x))
     advances kept old d u back (deref e) c y slot l h leads r = advance_there E u slot back c y r (code.place E.target d (deref e)) (place E.unit E.calls (deref e)) (leads tt) kept old
     advances kept old d u back (member p n m) c y slot l h leads r = advance_there E u slot back c y r (code.place E.target d (member p n m)) (place E.unit E.calls (member p n m)) (leads tt) kept old
 
@@ -393,26 +405,26 @@ module _ (E : Env) (L : Linked E.site) (home : AtHome E) (k : well.Context) (slo
     arg_is t sc gs hs grown v vs ok = pushed_is E.unit.structs E.places gs t v vs sc ∙ ap (λ (u : Word). u ∷ vs) (sym (word_still E.unit.structs E.places gs hs grown t v ok))
 
     -- what an address is taken of
-    cell : (d : ℕ) (p : Place) → IsReady E.target.is_object E.unit E.pending d E.waits (in_place p) (uses.in_place p) (in_expr_of (tree.address p)) → IsCell p
-    cell d (of (Local x)) i = taken E.target.is_object E.unit E.pending d E.waits true [] x i
-    cell d (of (Global x)) i = tt
+    cell : (d : ℕ) (p : Place) → IsReady E.may_call E.target.is_object E.unit E.pending d E.waits (in_place p) (uses.in_place p) (in_expr_of (tree.address p)) → IsCell p
+    cell d (of (Local x)) i = taken E.may_call E.target.is_object E.unit E.pending d E.waits true [] (Local x) i
+    cell d (of (Global x)) i = taken E.may_call E.target.is_object E.unit E.pending d E.waits (in_place (of (Global x))) [] (Global x) i
     cell d (deref a) i = tt
     cell d (member p n m) i = tt
 
     mutual
-      leads_run : (d : ℕ) (p : Place) (t : Ty) → IsReady E.target.is_object E.unit E.pending d E.waits (in_place p) (uses.in_place p) (in_place_of p) → IsPlace k p t → LeadsIn d p t
-      leads_run d (of (Local x)) t i h q = leads_at x t h q
-      leads_run d (of (Global x)) t i h q = absurd (let e = i.in_stage in cc)
+      leads_run : (d : ℕ) (p : Place) (t : Ty) → IsReady E.may_call E.target.is_object E.unit E.pending d E.waits (in_place p) (uses.in_place p) (in_place_of p) → IsPlace k p t → LeadsIn d p t
+      leads_run d (of x) t i h q = leads_all E (one (get E.target x)) t (place E.unit E.calls (of x)) (all_at x t h q)
       leads_run d (deref a) t i h q = deref_leads E (code_of true d a) t (value_in_E a) h.0 (expr_runs true d a (pointer t) i h.1)
       leads_run d (member p n m) t i h q =
           leads_all E (code.place E.target d (member p n m)) t (place E.unit E.calls (member p n m))
           (member_leads d p n m t h.1 (slices_run d p n (offset E.target.structs (struct n) m) (code.member_size E.target n m) i h.0 (some_there n m t h.1) (within_there n m t h.1)))
 
       -- a part of a struct
-      slices_run : (d : ℕ) (p : Place) (n from len : ℕ) → IsReady E.target.is_object E.unit E.pending d E.waits (in_place p) (uses.in_place p) (in_place_of p) → IsPlace k p (struct n) → 0 < len → from + len ≤ size (shape E.unit.structs (struct n)) → SlicesIn d p n from len
-      slices_run d (of (Local x)) n from len i h some within =
-          slice_runs E (one (get E.target (Local x))) (struct n) from len (place E.unit E.calls (of (Local x))) (leads_at x (struct n) h (whole_slot x (struct n) (λ never. never) h.0))
-      slices_run d (of (Global x)) n from len i h some within = absurd (let e = i.in_stage in cc)
+      slices_run : (d : ℕ) (p : Place) (n from len : ℕ) → IsReady E.may_call E.target.is_object E.unit E.pending d E.waits (in_place p) (uses.in_place p) (in_place_of p) → IsPlace k p (struct n) → 0 < len → from + len ≤ size (shape E.unit.structs (struct n)) → SlicesIn d p n from len
+      slices_run d (of x) n from len i h some within =
+          let c = one (get E.target x) in
+          let y = place E.unit E.calls (of x) in
+          slice_runs E c (struct n) from len y (leads_all E c (struct n) y (all_at x (struct n) h (whole_slot x (struct n) (λ never. never) h)))
       slices_run d (deref a) n from len i h some within =
           slice_runs E (code_of true d a) (struct n) from len (place E.unit E.calls (deref a)) (deref_leads E (code_of true d a) (struct n) (value_in_E a) h.0 (expr_runs true d a (pointer (struct n)) i h.1))
       slices_run d (member p n' m) n from len i h some within =
@@ -425,11 +437,9 @@ module _ (E : Env) (L : Linked E.site) (home : AtHome E) (k : well.Context) (slo
           member_slices E n' m (struct n) l c x from len some within
           (subst (λ (q : ℕ). Slices E c (struct n') (q + from) len x) is (slices_run d p n' (o + from) len i h.0 some (omega (arith, is, end, within))))
 
-      pub decays_run : (d : ℕ) (p : Place) (u : Ty) (n : ℕ) → IsReady E.target.is_object E.unit E.pending d E.waits (in_place p) (uses.in_place p) (in_place_of p) → IsPlace k p (array u n) → DecaysTo d p u n
-      decays_run d (of (Local x)) u n i h =
-          decay_all E u n (sound_place k sound (of (Local x)) (array u n) h).1.0 (one (get E.target (Local x))) (place E.unit E.calls (of (Local x)))
-          (variable_all E x (array u n) (kind_at x (array u n) h.0 true (whole_slot x (array u n) (λ never. never) h.0)) (seen_at x (array u n) h))
-      decays_run d (of (Global x)) u n i h = absurd (let e = i.in_stage in cc)
+      pub decays_run : (d : ℕ) (p : Place) (u : Ty) (n : ℕ) → IsReady E.may_call E.target.is_object E.unit E.pending d E.waits (in_place p) (uses.in_place p) (in_place_of p) → IsPlace k p (array u n) → DecaysTo d p u n
+      decays_run d (of x) u n i h =
+          decay_all E u n (sound_place k sound (of x) (array u n) h).1.0 (one (get E.target x)) (place E.unit E.calls (of x)) (all_at x (array u n) h (whole_slot x (array u n) (λ never. never) h))
       decays_run d (deref a) u n i h =
           let len = n * type_size E.target.structs u in
           let c = code_of true d a in
@@ -441,11 +451,17 @@ module _ (E : Env) (L : Linked E.site) (home : AtHome E) (k : well.Context) (slo
           decay_all E u n (sound_place k sound (member p n' m) (array u n) h).1.0 (code.place E.target d (member p n' m)) (place E.unit E.calls (member p n' m))
           (member_leads d p n' m (array u n) h.1 (slices_run d p n' (offset E.target.structs (struct n') m) (code.member_size E.target n' m) i h.0 (some_there n' m (array u n) h.1) (within_there n' m (array u n) h.1)))
 
-      pub expr_runs : (kept : Bool) (d : ℕ) (e : Expr) (t : Ty) → IsReady E.target.is_object E.unit E.pending d E.waits (in_expr e) (uses.in_expr e) (in_expr_of e) → HasType k e t → Carries E kept (code_of kept d e) t (value_in_E e)
+      pub expr_runs : (kept : Bool) (d : ℕ) (e : Expr) (t : Ty) → IsReady E.may_call E.target.is_object E.unit E.pending d E.waits (in_expr e) (uses.in_expr e) (in_expr_of e) → HasType k e t → Carries E kept (code_of kept d e) t (value_in_E e)
       expr_runs kept d (tree.number u n) t x h = left_int kept (one (constant (width_of u) (value_of u n))) t u (value_in_E (tree.number u n)) h.0 (constant_runs E u (value_of u n) (value_in u n h.1))
       expr_runs kept d tree.null t x h =
           subst (λ (r : Ty). Carries E kept (left kept (Some scalars.Pointer) (one (Segment segment.Null))) r (value_in_E tree.null)) (sym h.1)
           (left_runs E kept (Some scalars.Pointer) (pointer h.0) (one (Segment segment.Null)) (value_in_E tree.null) (pointer_scalar h.0 h.2) (null_runs E h.0 h.2))
+      expr_runs kept d (tree.literal n) t x h =
+          let few = h.1 in
+          let all = names.texts in
+          let c = plain (GlobalGet (E.target.globals + n) ∷ Segment segment.Seal ∷ []) in
+          subst (λ (r : Ty). Carries E kept (left kept (Some scalars.Pointer) c) r (value_in_E (tree.literal n))) (sym h.0)
+          (left_runs E kept (Some scalars.Pointer) (pointer (integer Char)) c (value_in_E (tree.literal n)) refl (literal_runs E L home n (omega (arith, few, all)) names.behind))
       expr_runs kept d tree.no_function t x h = left_function kept (one (i32 0)) t h.0 (value_in_E tree.no_function) h.1 h.2 (no_function_runs E h.0 h.2)
       expr_runs kept d (tree.function n) t x h =
           let is = (sound.function n h.0 h.2).0 in
@@ -458,7 +474,7 @@ module _ (E : Env) (L : Linked E.site) (home : AtHome E) (k : well.Context) (slo
           subst (λ (r : Ty). Carries E kept (left kept (Some scalars.Pointer) c) r (value_in_E (tree.decay u n p))) (sym h.0)
           (left_runs E kept (Some scalars.Pointer) (pointer u) c (value_in_E (tree.decay u n p)) (pointer_scalar u (sound_place k sound p (array u n) h.1).1.0) (decays_run d p u n x h.1))
       expr_runs kept d (tree.address p) t x h =
-          let i = addressed E.target.is_object E.unit E.pending d E.waits (in_place p) (uses.in_place p) p x in
+          let i = addressed E.may_call E.target.is_object E.unit E.pending d E.waits (in_place p) (uses.in_place p) p x in
           let plain_type = is_data p h.0 h.2 in
           subst (λ (r : Ty). Carries E kept (left kept (Some scalars.Pointer) (code.place E.target d p)) r (value_in_E (tree.address p))) (sym h.1)
           (left_runs E kept (Some scalars.Pointer) (pointer h.0) (code.place E.target d p) (value_in_E (tree.address p)) (pointer_scalar h.0 plain_type)
@@ -483,51 +499,51 @@ module _ (E : Env) (L : Linked E.site) (home : AtHome E) (k : well.Context) (slo
       expr_runs kept d (tree.unary signs.Negate u a) t x h = left_int kept _ t u (value_in_E (tree.unary signs.Negate u a)) h.0 (negate_runs E u (code_of true d a) (value_in_E a) h.1 (expr_runs true d a (integer u) x h.2))
       expr_runs kept d (tree.unary signs.Complement u a) t x h = left_int kept _ t u (value_in_E (tree.unary signs.Complement u a)) h.0 (complement_runs E u (code_of true d a) (value_in_E a) h.1 (expr_runs true d a (integer u) x h.2))
       expr_runs kept d (tree.binary o u a b) t x h =
-          let q = parts E.target.is_object E.unit E.pending d E.waits (in_expr a) (in_expr b) (uses.in_expr a) (uses.in_expr b) (in_expr_of a) (in_expr_of b) x in
+          let q = parts E.may_call E.target.is_object E.unit E.pending d E.waits (in_expr a) (in_expr b) (uses.in_expr a) (uses.in_expr b) (in_expr_of a) (in_expr_of b) x in
           left_int kept _ t u (value_in_E (tree.binary o u a b)) h.0 (binary_runs E o u (code_of true d a) (code_of true d b) (value_in_E a) (value_in_E b) h.1 (expr_runs true d a (integer u) q.0 h.2) (expr_runs true d b (integer u) q.1 h.3))
       expr_runs kept d (tree.compare o u a b) t x h =
-          let q = parts E.target.is_object E.unit E.pending d E.waits (in_expr a) (in_expr b) (uses.in_expr a) (uses.in_expr b) (in_expr_of a) (in_expr_of b) x in
+          let q = parts E.may_call E.target.is_object E.unit E.pending d E.waits (in_expr a) (in_expr b) (uses.in_expr a) (uses.in_expr b) (in_expr_of a) (in_expr_of b) x in
           left_int kept _ t Int (value_in_E (tree.compare o u a b)) h.0 (compare_runs E o u (code_of true d a) (code_of true d b) (value_in_E a) (value_in_E b) h.1 (expr_runs true d a (integer u) q.0 h.2) (expr_runs true d b (integer u) q.1 h.3))
       expr_runs kept d (tree.compare_pointers relations.Equal a b) t x h =
-          let q = parts E.target.is_object E.unit E.pending d E.waits (in_expr a) (in_expr b) (uses.in_expr a) (uses.in_expr b) (in_expr_of a) (in_expr_of b) x in
+          let q = parts E.may_call E.target.is_object E.unit E.pending d E.waits (in_expr a) (in_expr b) (uses.in_expr a) (uses.in_expr b) (in_expr_of a) (in_expr_of b) x in
           left_int kept _ t Int (value_in_E (tree.compare_pointers relations.Equal a b)) h.1
           (equal_runs E h.0 h.2 (is_null b) (code_of true d a) (code_of true d b) (value_in_E a) (value_in_E b) (null_is E b) (expr_runs true d a (pointer h.0) q.0 h.3) (expr_runs true d b (pointer h.0) q.1 h.4))
       expr_runs kept d (tree.compare_pointers relations.NotEqual a b) t x h =
-          let q = parts E.target.is_object E.unit E.pending d E.waits (in_expr a) (in_expr b) (uses.in_expr a) (uses.in_expr b) (in_expr_of a) (in_expr_of b) x in
+          let q = parts E.may_call E.target.is_object E.unit E.pending d E.waits (in_expr a) (in_expr b) (uses.in_expr a) (uses.in_expr b) (in_expr_of a) (in_expr_of b) x in
           left_int kept _ t Int (value_in_E (tree.compare_pointers relations.NotEqual a b)) h.1
           (unequal_runs E h.0 h.2 (is_null b) (code_of true d a) (code_of true d b) (value_in_E a) (value_in_E b) (null_is E b) (expr_runs true d a (pointer h.0) q.0 h.3) (expr_runs true d b (pointer h.0) q.1 h.4))
       expr_runs kept d (tree.compare_pointers relations.Less a b) t x h =
-          let q = parts E.target.is_object E.unit E.pending d E.waits (in_expr a) (in_expr b) (uses.in_expr a) (uses.in_expr b) (in_expr_of a) (in_expr_of b) x in
+          let q = parts E.may_call E.target.is_object E.unit E.pending d E.waits (in_expr a) (in_expr b) (uses.in_expr a) (uses.in_expr b) (in_expr_of a) (in_expr_of b) x in
           ordered kept relations.Less (code_of true d a) (code_of true d b) (value_in_E a) (value_in_E b) t h.0 h.1 h.2 (expr_runs true d a (pointer h.0) q.0 h.3) (expr_runs true d b (pointer h.0) q.1 h.4)
       expr_runs kept d (tree.compare_pointers relations.LessEqual a b) t x h =
-          let q = parts E.target.is_object E.unit E.pending d E.waits (in_expr a) (in_expr b) (uses.in_expr a) (uses.in_expr b) (in_expr_of a) (in_expr_of b) x in
+          let q = parts E.may_call E.target.is_object E.unit E.pending d E.waits (in_expr a) (in_expr b) (uses.in_expr a) (uses.in_expr b) (in_expr_of a) (in_expr_of b) x in
           ordered kept relations.LessEqual (code_of true d a) (code_of true d b) (value_in_E a) (value_in_E b) t h.0 h.1 h.2 (expr_runs true d a (pointer h.0) q.0 h.3) (expr_runs true d b (pointer h.0) q.1 h.4)
       expr_runs kept d (tree.compare_pointers relations.Greater a b) t x h =
-          let q = parts E.target.is_object E.unit E.pending d E.waits (in_expr a) (in_expr b) (uses.in_expr a) (uses.in_expr b) (in_expr_of a) (in_expr_of b) x in
+          let q = parts E.may_call E.target.is_object E.unit E.pending d E.waits (in_expr a) (in_expr b) (uses.in_expr a) (uses.in_expr b) (in_expr_of a) (in_expr_of b) x in
           ordered kept relations.Greater (code_of true d a) (code_of true d b) (value_in_E a) (value_in_E b) t h.0 h.1 h.2 (expr_runs true d a (pointer h.0) q.0 h.3) (expr_runs true d b (pointer h.0) q.1 h.4)
       expr_runs kept d (tree.compare_pointers relations.GreaterEqual a b) t x h =
-          let q = parts E.target.is_object E.unit E.pending d E.waits (in_expr a) (in_expr b) (uses.in_expr a) (uses.in_expr b) (in_expr_of a) (in_expr_of b) x in
+          let q = parts E.may_call E.target.is_object E.unit E.pending d E.waits (in_expr a) (in_expr b) (uses.in_expr a) (uses.in_expr b) (in_expr_of a) (in_expr_of b) x in
           ordered kept relations.GreaterEqual (code_of true d a) (code_of true d b) (value_in_E a) (value_in_E b) t h.0 h.1 h.2 (expr_runs true d a (pointer h.0) q.0 h.3) (expr_runs true d b (pointer h.0) q.1 h.4)
       expr_runs kept d (tree.same_function alike a b) t x h =
-          let q = parts E.target.is_object E.unit E.pending d E.waits (in_expr a) (in_expr b) (uses.in_expr a) (uses.in_expr b) (in_expr_of a) (in_expr_of b) x in
+          let q = parts E.may_call E.target.is_object E.unit E.pending d E.waits (in_expr a) (in_expr b) (uses.in_expr a) (uses.in_expr b) (in_expr_of a) (in_expr_of b) x in
           left_int kept _ t Int (value_in_E (tree.same_function alike a b)) h.1
           (same_function_runs E h.0 h.2 alike (code_of true d a) (code_of true d b) (value_in_E a) (value_in_E b) (expr_runs true d a (pointer h.0) q.0 h.3) (expr_runs true d b (pointer h.0) q.1 h.4))
       expr_runs kept d (tree.difference u a b) t x h =
-          let q = parts E.target.is_object E.unit E.pending d E.waits (in_expr a) (in_expr b) (uses.in_expr a) (uses.in_expr b) (in_expr_of a) (in_expr_of b) x in
+          let q = parts E.may_call E.target.is_object E.unit E.pending d E.waits (in_expr a) (in_expr b) (uses.in_expr a) (uses.in_expr b) (in_expr_of a) (in_expr_of b) x in
           left_int kept _ t LongLong (value_in_E (tree.difference u a b)) h.0
           (difference_runs E u (sized u h.1) (code_of true d a) (code_of true d b) (value_in_E a) (value_in_E b) (expr_runs true d a (pointer u) q.0 h.2) (expr_runs true d b (pointer u) q.1 h.3))
       expr_runs kept d (tree.move u back a b) t x h =
-          let q = parts E.target.is_object E.unit E.pending d E.waits (in_expr a) (in_expr b) (uses.in_expr a) (uses.in_expr b) (in_expr_of a) (in_expr_of b) x in
+          let q = parts E.may_call E.target.is_object E.unit E.pending d E.waits (in_expr a) (in_expr b) (uses.in_expr a) (uses.in_expr b) (in_expr_of a) (in_expr_of b) x in
           let slot = sized u h.1 in
           left_pointer kept _ t u (value_in_E (tree.move u back a b)) h.0 slot.is_data
           (move_runs E u slot back (code_of true d a) (code_of true d b) (value_in_E a) (value_in_E b) (expr_runs true d a (pointer u) q.0 h.2) (expr_runs true d b (integer LongLong) q.1 h.3))
       expr_runs kept d (tree.move_by u a b) t x h =
-          let q = parts E.target.is_object E.unit E.pending d E.waits (in_expr a) (in_expr b) (uses.in_expr a) (uses.in_expr b) (in_expr_of a) (in_expr_of b) x in
+          let q = parts E.may_call E.target.is_object E.unit E.pending d E.waits (in_expr a) (in_expr b) (uses.in_expr a) (uses.in_expr b) (in_expr_of a) (in_expr_of b) x in
           let slot = sized u h.1 in
           left_pointer kept _ t u (value_in_E (tree.move_by u a b)) h.0 slot.is_data
           (move_by_runs E u slot (code_of true d a) (code_of true d b) (value_in_E a) (value_in_E b) (expr_runs true d a (integer LongLong) q.0 h.2) (expr_runs true d b (pointer u) q.1 h.3))
       expr_runs kept d (tree.and a b) t x h =
-          let q = parts E.target.is_object E.unit E.pending d E.waits (in_expr a) (in_expr b) (uses.in_expr a) (uses.in_expr b) (in_expr_of a) (in_expr_of b) x in
+          let q = parts E.may_call E.target.is_object E.unit E.pending d E.waits (in_expr a) (in_expr b) (uses.in_expr a) (uses.in_expr b) (in_expr_of a) (in_expr_of b) x in
           let y = as_bit (is_bit b) (code_of true d b) in
           left_int kept (code_of true d a ⨾ choice (Some vals.I32) y (one (i32 0))) t Int (value_in_E (tree.and a b)) h.2
           (chosen_runs E h.0 (code_of true d a) y (one (i32 0)) (Some vals.I32) (value_in_E a) (meaning.test (value_in_E b) >>= (λ p. pure (meaning.truth p))) (pure (meaning.truth false)) (pushes E (integer Int)) (IsValue E (integer Int)) (narrow_width h.0 h.3) (whole_plain _)
@@ -535,7 +551,7 @@ module _ (E : Env) (L : Linked E.site) (home : AtHome E) (k : well.Context) (slo
           (as_bit_runs E k b h.1 (code_of true d b) (is_bit b) refl q.1.in_stage (narrow_width h.1 h.4) h.6 (expr_runs true d b (integer h.1) q.1 h.6))
           (constant_runs E Int (pos 0) (truth_in false)))
       expr_runs kept d (tree.or a b) t x h =
-          let q = parts E.target.is_object E.unit E.pending d E.waits (in_expr a) (in_expr b) (uses.in_expr a) (uses.in_expr b) (in_expr_of a) (in_expr_of b) x in
+          let q = parts E.may_call E.target.is_object E.unit E.pending d E.waits (in_expr a) (in_expr b) (uses.in_expr a) (uses.in_expr b) (in_expr_of a) (in_expr_of b) x in
           let y = as_bit (is_bit b) (code_of true d b) in
           left_int kept (code_of true d a ⨾ choice (Some vals.I32) (one (i32 1)) y) t Int (value_in_E (tree.or a b)) h.2
           (chosen_runs E h.0 (code_of true d a) (one (i32 1)) y (Some vals.I32) (value_in_E a) (pure (meaning.truth true)) (meaning.test (value_in_E b) >>= (λ p. pure (meaning.truth p))) (pushes E (integer Int)) (IsValue E (integer Int)) (narrow_width h.0 h.3)
@@ -544,46 +560,46 @@ module _ (E : Env) (L : Linked E.site) (home : AtHome E) (k : well.Context) (slo
           (constant_runs E Int (pos 1) (truth_in true))
           (as_bit_runs E k b h.1 (code_of true d b) (is_bit b) refl q.1.in_stage (narrow_width h.1 h.4) h.6 (expr_runs true d b (integer h.1) q.1 h.6)))
       expr_runs kept d (tree.choose s e a b) t x h =
-          let p = parts E.target.is_object E.unit E.pending d E.waits (in_expr e) (in_expr a && in_expr b) (uses.in_expr e) (uses.in_expr a ++ uses.in_expr b) (in_expr_of e) (either (in_expr_of a) (in_expr_of b)) x in
-          let r = parts E.target.is_object E.unit E.pending d E.waits (in_expr a) (in_expr b) (uses.in_expr a) (uses.in_expr b) (in_expr_of a) (in_expr_of b) p.1 in
+          let p = parts E.may_call E.target.is_object E.unit E.pending d E.waits (in_expr e) (in_expr a && in_expr b) (uses.in_expr e) (uses.in_expr a ++ uses.in_expr b) (in_expr_of e) (either (in_expr_of a) (in_expr_of b)) x in
+          let r = parts E.may_call E.target.is_object E.unit E.pending d E.waits (in_expr a) (in_expr b) (uses.in_expr a) (uses.in_expr b) (in_expr_of a) (in_expr_of b) p.1 in
           left_runs E kept s t (code_of true d e ⨾ choice (val_option s) (code_of true d a) (code_of true d b)) (value_in_E (tree.choose s e a b)) h.1
           (chosen_runs E h.0 (code_of true d e) (code_of true d a) (code_of true d b) (val_option s) (value_in_E e) (value_in_E a) (value_in_E b) (pushes E t) (IsValue E t) (narrow_width h.0 h.2) (whole_expr E.target true d b r.1.in_stage)
           (expr_runs true d e (integer h.0) p.0 h.3) (expr_runs true d a t r.0 h.4) (expr_runs true d b t r.1 h.5))
       expr_runs kept d (tree.comma a b) t x h =
-          let q = parts E.target.is_object E.unit E.pending d E.waits (in_expr a) (in_expr b) (uses.in_expr a) (uses.in_expr b) (in_expr_of a) (in_expr_of b) x in
+          let q = parts E.may_call E.target.is_object E.unit E.pending d E.waits (in_expr a) (in_expr b) (uses.in_expr a) (uses.in_expr b) (in_expr_of a) (in_expr_of b) x in
           op_then_in E [] (code_of false d a) (code_of kept d b) same (λ hs. gone E) (remains E kept t) (IsValue E h.0) (IsValue E t) (value_in_E a) (λ v. value_in_E b) (expr_runs false d a h.0 q.0 h.1)
           (λ gs grown v ok. op_any E gs (code_of kept d b) same (remains E kept t) (IsValue E t) (value_in_E b) (expr_runs kept d b t q.1 h.2))
       expr_runs kept d (tree.assign s p e) t x h =
-          let q = parts E.target.is_object E.unit E.pending d E.waits (in_place p) (in_expr e) (uses.in_place p) (uses.in_expr e) (in_place_of p) (in_expr_of e) x in
+          let q = parts E.may_call E.target.is_object E.unit E.pending d E.waits (in_place p) (in_expr e) (uses.in_place p) (uses.in_expr e) (in_place_of p) (in_expr_of e) x in
           assigned kept d s p t (scalar_type t s h.0) (code_of true d e) (value_in_E e) q.0.in_stage h.0 h.1 (leads_run d p t q.0 h.1) (expr_runs true d e t q.1 h.2)
       expr_runs kept d (tree.update old u o v p e) t x h =
-          let q = parts E.target.is_object E.unit E.pending d E.waits (in_place p) (in_expr e) (uses.in_place p) (uses.in_expr e) (in_place_of p) (in_expr_of e) x in
+          let q = parts E.may_call E.target.is_object E.unit E.pending d E.waits (in_place p) (in_expr e) (uses.in_place p) (uses.in_expr e) (in_place_of p) (in_expr_of e) x in
           as_type kept (code_of kept d (tree.update old u o v p e)) t u (value_in_E (tree.update old u o v p e)) h.0 (updates kept old d u v o p (code_of true d e) (value_in_E e) q.0.in_stage h.1 h.2 (leads_run d p (integer u) q.0 h.2) (expr_runs true d e (integer v) q.1 h.3))
       expr_runs kept d (tree.advance old u back p e) t x h =
-          let q = parts E.target.is_object E.unit E.pending d E.waits (in_place p) (in_expr e) (uses.in_place p) (uses.in_expr e) (in_place_of p) (in_expr_of e) x in
+          let q = parts E.may_call E.target.is_object E.unit E.pending d E.waits (in_place p) (in_expr e) (uses.in_place p) (uses.in_expr e) (in_place_of p) (in_expr_of e) x in
           let slot = sized u h.1 in
           subst (λ (r : Ty). Carries E kept (code_of kept d (tree.advance old u back p e)) r (value_in_E (tree.advance old u back p e))) (sym h.0)
           (by_size E u slot (λ c m. Carries E kept (updated E.target kept old (plain_in E.target p) (code.place E.target d p) scalars.Pointer (moved c back (code_of true d e))) (pointer u) (advancing old m back p (value_in_E e)))
           (advances kept old d u back p (code_of true d e) (value_in_E e) slot q.0.in_stage h.2 (leads_run d p (pointer u) q.0 h.2) (expr_runs true d e (integer LongLong) q.1 h.3)))
       expr_runs kept d (tree.copy n p q) t x h =
-          let both = behind_use E.target.is_object E.unit E.pending d E.waits (copies n) (in_place p && in_place q) (uses.in_place p ++ uses.in_place q) (either (in_place_of p) (in_place_of q)) x in
-          let r = parts E.target.is_object E.unit E.pending d E.waits (in_place p) (in_place q) (uses.in_place p) (uses.in_place q) (in_place_of p) (in_place_of q) both in
+          let both = behind_use E.may_call E.target.is_object E.unit E.pending d E.waits (copies n) (in_place p && in_place q) (uses.in_place p ++ uses.in_place q) (either (in_place_of p) (in_place_of q)) x in
+          let r = parts E.may_call E.target.is_object E.unit E.pending d E.waits (in_place p) (in_place q) (uses.in_place p) (uses.in_place q) (in_place_of p) (in_place_of q) both in
           subst (λ (s : Ty). Carries E kept (code_of kept d (tree.copy n p q)) s (value_in_E (tree.copy n p q))) (sym h.0)
           (copy_runs E n (sized (struct n) h.1) kept (code.place E.target d p) (code.place E.target d q) (place E.unit E.calls p) (place E.unit E.calls q)
           (leads_run d p (struct n) r.0 h.2 (whole_cell p (struct n) (λ never. never) h.2)) (leads_run d q (struct n) r.1 h.3 (whole_cell q (struct n) (λ never. never) h.3)))
       expr_runs kept d (tree.call f s es) t x h =
-          let c = called E.target.is_object E.unit E.pending d E.waits f (in_exprs es) (uses.in_exprs es) (in_exprs_of es) x in
+          let c = called E.may_call E.target.is_object E.unit E.pending d E.waits f (in_exprs es) (uses.in_exprs es) (in_exprs_of es) x in
           left_runs E kept s t (code.exprs E.target d es ⨾ one (Call (E.target.index f))) (value_in_E (tree.call f s es)) h.2
           (op_then_in E [] (code.exprs E.target d es) (one (Call (E.target.index f))) same (λ hs us vs. piled E h.0 hs us vs) (pushes E t) (λ hs us. AreOf E h.0 hs us) (IsValue E t) (exprs E.unit E.calls es) (E.calls f) (exprs_run d es h.0 c.1 h.3 (scalars_are f t h.0 h.1))
-          (λ gs grown us ok. calls_run E.pending f t h.0 h.1 c.0 (Call (E.target.index f)) same (λ lt m w vs r. call_is E L home m w (E.target.index f) vs r lt) gs us ok))
+          (λ gs grown us ok. calls_run c.0.0 E.pending f t h.0 h.1 c.0.1 (Call (E.target.index f)) same (λ lt m w vs r. call_is E L home m w (E.target.index f) vs r lt) gs us ok))
       expr_runs kept d (tree.call_through f s e es) t x h =
-          let q = through_parts E.target.is_object E.unit E.pending d E.waits f (in_expr e) (in_exprs es) (uses.in_expr e) (uses.in_exprs es) (in_expr_of e) (in_exprs_of es) x in
+          let q = through_parts E.may_call E.target.is_object E.unit E.pending d E.waits f (in_expr e) (in_exprs es) (uses.in_expr e) (uses.in_exprs es) (in_expr_of e) (in_exprs_of es) x in
           let room = q.2.room in
           let c = code.exprs E.target (suc d) es in
           let y = exprs E.unit E.calls es in
           left_runs E kept s t (code_of true d e ⨾ one (LocalSet (waiting E.target d)) ⨾ c ⨾ plain (LocalGet (waiting E.target d) ∷ CallIndirect (E.target.sig f) ∷ [])) (value_in_E (tree.call_through f s e es)) h.2
-          (through_runs E home f q.0 t h.0 h.1 d q.1.before (omega (arith, room))
-          (λ n at is i above reach hs us ok. calls_run (suc d) n t h.0 (subst (λ (ts : List Ty). slice_get ts n ≡ Some (function t h.0)) (sym functions_are) at) is i above reach hs us ok)
+          (through_runs E home f q.0.1 t h.0 h.1 d q.1.before (omega (arith, room))
+          (λ n at is i above reach hs us ok. calls_run q.0.0 (suc d) n t h.0 (subst (λ (ts : List Ty). slice_get ts n ≡ Some (function t h.0)) (sym functions_are) at) is i above reach hs us ok)
           c y (args_run d q.1.before es h.0 q.2 h.4 (sound_scalars h.0 (subst (λ (g : Ty). Sound g) h.1 (sound_expr k sound e (pointer f) h.3)).1)) (code_of true d e) (value_in_E e) (expr_runs true d e (pointer f) q.1 h.3))
       expr_runs kept d (tree.putchar e) t x h =
           left_int kept (code_of true d e ⨾ one (Call 0)) t Int (value_in_E (tree.putchar e)) h.0 (putchar_runs E L home (code_of true d e) (value_in_E e) (expr_runs true d e (integer Int) x h.1))
@@ -596,7 +612,7 @@ module _ (E : Env) (L : Linked E.site) (home : AtHome E) (k : well.Context) (slo
           (left_runs E kept (Some scalars.Pointer) (pointer u) c (value_in_E (tree.malloc u e)) (pointer_scalar u slot.is_data)
           (malloc_runs E u slot (type_size E.target.structs u) (size_is u h.2) (bytes_in e) (code_of true d e) (value_in_E e) (λ b q. known_bytes E k e b q x.in_stage h.3) (expr_runs true d e (integer UnsignedInt) x h.3)))
       expr_runs kept d (tree.calloc u a b) t x h =
-          let q = parts E.target.is_object E.unit E.pending d E.waits (in_expr a) (in_expr b) (uses.in_expr a) (uses.in_expr b) (in_expr_of a) (in_expr_of b) x in
+          let q = parts E.may_call E.target.is_object E.unit E.pending d E.waits (in_expr a) (in_expr b) (uses.in_expr a) (uses.in_expr b) (in_expr_of a) (in_expr_of b) x in
           let slot = sized u h.2 in
           let c = product_allocated (scratch_i64 E.target) (type_size E.target.structs u) (code_of true d a) (code_of true d b) in
           subst (λ (r : Ty). Carries E kept (left kept (Some scalars.Pointer) c) r (value_in_E (tree.calloc u a b))) (sym h.0)
@@ -615,13 +631,12 @@ module _ (E : Env) (L : Linked E.site) (home : AtHome E) (k : well.Context) (slo
       expr_runs kept d (tree.size_of_place n p) t x h = size_runs kept n t h.2 (small_size n _ h.4 h.3.1)
       expr_runs kept d (tree.size_of_value n e) t x h = size_runs kept n t h.2 (small_size n _ h.4 h.3.1)
       expr_runs kept d (tree.size_of_type n) t x h = size_runs kept n t h (ltb→lt n 4294967296 (subst T (sym x.in_stage) tt))
-      expr_runs kept d _ t x h = absurd (let e = x.in_stage in cc)
 
-      pub exprs_run : (d : ℕ) (es : Exprs) (ts : Tys) → IsReady E.target.is_object E.unit E.pending d E.waits (in_exprs es) (uses.in_exprs es) (in_exprs_of es) → HaveTypes k es ts → AreScalars ts
+      pub exprs_run : (d : ℕ) (es : Exprs) (ts : Tys) → IsReady E.may_call E.target.is_object E.unit E.pending d E.waits (in_exprs es) (uses.in_exprs es) (in_exprs_of es) → HaveTypes k es ts → AreScalars ts
           → OpIn E [] (code.exprs E.target d es) same (λ hs us vs. piled E ts hs us vs) (λ hs us. AreOf E ts hs us) (exprs E.unit E.calls es)
       exprs_run d none no_types x h i = op_none_in E [] same (λ hs us vs. piled E no_types hs us vs) (λ hs us. AreOf E no_types hs us) [] (λ gs grown. tt) (λ gs vs grown. refl)
       exprs_run d (more e es) (ty.types t ts) x h i =
-          let q = parts E.target.is_object E.unit E.pending d E.waits (in_expr e) (in_exprs es) (uses.in_expr e) (uses.in_exprs es) (in_expr_of e) (in_exprs_of es) x in
+          let q = parts E.may_call E.target.is_object E.unit E.pending d E.waits (in_expr e) (in_exprs es) (uses.in_expr e) (uses.in_exprs es) (in_expr_of e) (in_exprs_of es) x in
           let all = λ (hs : List Home) (us : List Value) (vs : List Word). piled E (ty.types t ts) hs us vs in
           op_then_in E [] (code_of true d e) (code.exprs E.target d es) same (pushes E t) all (IsValue E t) (λ hs us. AreOf E (ty.types t ts) hs us) (value_in_E e) (λ v. exprs E.unit E.calls es >>= (λ vs. pure (v ∷ vs))) (expr_runs true d e t q.0 h.0)
           (λ gs grown v ok.
@@ -636,10 +651,10 @@ module _ (E : Env) (L : Linked E.site) (home : AtHome E) (k : well.Context) (slo
 
 pub args_all : (n : ℕ) (E : Env) (L : Linked E.site) (home : AtHome E) (k : well.Context) (slots_are : k.slots ≡ E.slots) (calls_run : CallsRun E L home k slots_are)
     → ((f : ℕ) (t : Ty) (ps : Tys) → slice_get k.functions f ≡ Some (function t ps) → AreScalars E L home k slots_are ps) → ((x : ℕ) (t : Ty) → slice_get k.slots x ≡ Some t → E.target.is_object (Local x) ≡ false → IsData t)
-    → k.visible ≡ E.visible → k.structs ≡ E.unit.structs → k.functions ≡ types_of E.unit → AreSoundNames k.structs k.globals k.slots k.functions → E.waits ≤ E.pending + n → ArgsRun E L home k slots_are
-args_all zero E L home k slots_are calls_run scalars_are slots_data visible_are structs_same functions_are sound most d before es ts x h i = absurd (let room = x.room in omega (arith, most, before, room))
-args_all (suc n) E L home k slots_are calls_run scalars_are slots_data visible_are structs_same functions_are sound most d before es ts x h i =
+    → k.visible ≡ E.visible → k.structs ≡ E.unit.structs → k.functions ≡ types_of E.unit → AreSoundNames k.structs k.globals k.slots k.functions → NamesOf E.unit.structs E.files E.reached E.target k.globals k.literals → E.waits ≤ E.pending + n → ArgsRun E L home k slots_are
+args_all zero E L home k slots_are calls_run scalars_are slots_data visible_are structs_same functions_are sound names most d before es ts x h i = absurd (let room = x.room in omega (arith, most, before, room))
+args_all (suc n) E L home k slots_are calls_run scalars_are slots_data visible_are structs_same functions_are sound names most d before es ts x h i =
     let Ed = beside (suc d) E in
     exprs_run Ed L home k slots_are calls_run
-    (args_all n Ed L home k slots_are calls_run scalars_are slots_data visible_are structs_same functions_are sound (omega (arith, most, before)))
-    scalars_are slots_data visible_are structs_same functions_are sound (suc d) es ts x h i
+    (args_all n Ed L home k slots_are calls_run scalars_are slots_data visible_are structs_same functions_are sound names (omega (arith, most, before)))
+    scalars_are slots_data visible_are structs_same functions_are sound names (suc d) es ts x h i

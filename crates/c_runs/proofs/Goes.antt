@@ -1,6 +1,6 @@
 -- The machine goes from one state to another, within counts of steps. Each unit of fuel that is spent between them costs at
 -- least one step; the steps are at most so many instructions, and `most` for each unit that is spent.
-use Rattle.std.proofs.Common.{◌≡◌, ℕ, suc, ◌+◌, ◌*◌, ◌≤◌, List, [], ◌∷◌, ◌++◌, length, Bool, false, Some, None, refl, sym, ap, ◌∙◌, arith, append_assoc, append-nil, length-append}
+use Rattle.std.proofs.Common.{◌≡◌, ℕ, suc, ◌+◌, ◌*◌, ◌≤◌, List, [], ◌∷◌, ◌++◌, length, Bool, false, Option, Some, None, refl, sym, ap, ◌∙◌, arith, append_assoc, append-nil, length-append}
 use Rattle.std.proofs.Math.Nat.{mul-suc}
 use Rattle.ms_event.specs.declared.event.Event.{Event}
 use Rattle.ms_event.specs.declared.event.Event.TheVariants.{Alloc, Free, Read, Refused, Seal, Slice, Write}
@@ -27,7 +27,7 @@ use Rattle.ms_task.specs.Thread.{Do, Frame, Item, Thread, thread}
 use Rattle.c_meaning.specs.World.{End, World, Result, gives, ends, after}
 use Rattle.c_meaning.specs.World as world
 use Rattle.ms_relate.specs.refinement.Homes.{Home}
-use Rattle.c_runs.specs.Threads.{Trapped, Ran, ran, behind, before, after_move, steps}
+use Rattle.c_runs.specs.Threads.{Trapped, Ran, ran, behind, before, after_move, steps_to}
 use Rattle.c_runs.specs.Ends.{stop_of}
 use Rattle.c_runs.proofs.Grants.{Agrees, agrees_on, grants_append}
 
@@ -37,6 +37,11 @@ pub record Site : Type 0 where
   pub instances : List Instance
   pub tables : List Table
   pub memories : List Linear
+  -- how many globals there are
+  pub shared : ℕ
+  -- what goes on where a thread has ended; by itself it does nothing
+  pub last : ℕ → Store → Option Value → Input → Ran
+  pub still : (s : Store) (v : Option Value) (input : Input) → (last 0 s v input).events ≡ []
   -- of instructions in a function
   pub most : ℕ
 
@@ -84,6 +89,34 @@ behind_both p1 p2 e1 e2 r =
     ap (λ (l : List ℕ). record { puts = l; events = e1 ++ (e2 ++ r.events); stop = r.stop }) (sym (append_assoc p1 p2 r.puts))
     ∙ ap (λ (l : List Event). record { puts = (p1 ++ p2) ++ r.puts; events = l; stop = r.stop }) (sym (append_assoc e1 e2 r.events))
 
+-- the steps until an end; where a grant is wanting, with the one that asks for it
+abbrev pub counted : End → ℕ → ℕ
+counted world.ungranted n = suc n
+counted _ n = n
+
+pub counted_on : (e : End) (m n : ℕ) → counted e (m + n) ≡ m + counted e n
+counted_on world.ungranted m n = omega arith
+counted_on (world.result v) m n = refl
+counted_on (world.unsafe u) m n = refl
+counted_on world.zero_divide m n = refl
+counted_on world.overflow m n = refl
+counted_on world.abort m n = refl
+counted_on world.null_call m n = refl
+counted_on world.deep m n = refl
+counted_on world.exhausted m n = refl
+counted_on world.out_of_fuel m n = refl
+counted_on world.lost m n = refl
+
+counted_trap : (e : End) (k : TrapKind) (n : ℕ) → stop_of e ≡ Trapped k → counted e n ≡ n
+counted_trap (world.unsafe u) k n a = refl
+counted_trap world.zero_divide k n a = refl
+counted_trap world.overflow k n a = refl
+counted_trap world.abort k n a = refl
+counted_trap world.null_call k n a = refl
+counted_trap world.deep k n a = refl
+counted_trap world.exhausted k n a = refl
+counted_trap _ k n a = absurd cc
+
 module _ (S : Site) where
   pub record Goes (size : ℕ) (w w' : World) (m : Mem) (t : Thread) (m' : Mem) (t' : Thread) : Type 0 where
     pub puts : List ℕ
@@ -92,7 +125,7 @@ module _ (S : Site) where
     pub cost : ℕ
     pub least : w.fuel ≤ cost + w'.fuel
     pub greatest : cost + S.most * w'.fuel ≤ size + S.most * w.fuel
-    pub by : (k : ℕ) → steps (cost + k) (store S m) t (given w) ≡ behind puts events (steps k (store S m') t' (given w'))
+    pub by : (k : ℕ) → steps_to S.last (cost + k) (store S m) t (given w) ≡ behind puts events (steps_to S.last k (store S m') t' (given w'))
 
   -- Where the program ends so, the machine does. An end for want of fuel has none left; one for want of a grant has none left, and
   -- the step behind it asks for one more.
@@ -104,7 +137,7 @@ module _ (S : Site) where
   IsEnd _ w = Unit {0}
 
   abbrev pub Asks : End → ℕ → Mem → Thread → World → List Event → Type 0
-  Asks world.ungranted n m t w events = length (grants (steps (suc n) (store S m) t (given w)).events) ≡ suc (length (grants events))
+  Asks world.ungranted n m t w events = length (grants (steps_to S.last (suc n) (store S m) t (given w)).events) ≡ suc (length (grants events))
   Asks _ n m t w events = Unit {0}
 
   pub record Stops (size : ℕ) (w w' : World) (m : Mem) (t : Thread) (e : End) : Type 0 where
@@ -114,8 +147,8 @@ module _ (S : Site) where
     pub is : IsEnd e w'
     pub cost : ℕ
     pub least : w.fuel ≤ cost + w'.fuel
-    pub greatest : cost + S.most * w'.fuel ≤ size + S.most * w.fuel
-    pub so : steps cost (store S m) t (given w) ≡ behind puts events (ran (stop_of e))
+    pub greatest : counted e cost + S.most * w'.fuel ≤ size + S.most * w.fuel
+    pub so : steps_to S.last cost (store S m) t (given w) ≡ behind puts events (ran (stop_of e))
     pub asks : Asks e cost m t w events
 
   -- where the program goes on, the machine comes to the thread of it; where it ends, the machine does
@@ -125,16 +158,16 @@ module _ (S : Site) where
 
   -- for grants that the run agrees with
   abbrev pub Runs : {A : Type 0} → (size : ℕ) → Mem → Thread → World → (A → World → Mem → Thread) → (A → World → Mem → Type 0) → Result A → Type 0
-  Runs size m start w to Good x = Agrees (store S m) start (given w) w.grants → RunsTo size m start w to Good x
+  Runs size m start w to Good x = Agrees S.last (store S m) start (given w) w.grants → RunsTo size m start w to Good x
 
   -- ---- one behind the other
 
   pub asks_on : (e : End) (cost n : ℕ) (m m1 : Mem) (t t1 : Thread) (w w1 : World) (puts : List ℕ) (events later : List Event)
-      → ((k : ℕ) → steps (cost + k) (store S m) t (given w) ≡ behind puts events (steps k (store S m1) t1 (given w1))) → Asks e n m1 t1 w1 later → Asks e (cost + n) m t w (events ++ later)
+      → ((k : ℕ) → steps_to S.last (cost + k) (store S m) t (given w) ≡ behind puts events (steps_to S.last k (store S m1) t1 (given w1))) → Asks e n m1 t1 w1 later → Asks e (cost + n) m t w (events ++ later)
   asks_on world.ungranted cost n m m1 t t1 w w1 puts events later by a =
       let one : suc (cost + n) ≡ cost + suc n = omega arith in
-      let seen = ap (λ (k : ℕ). grants (steps k (store S m) t (given w)).events) one ∙ ap (λ (r : Ran). grants r.events) (by (suc n)) ∙ grants_append events (steps (suc n) (store S m1) t1 (given w1)).events in
-      let long = ap (λ (l : List Bool). length l) seen ∙ length-append (grants events) (grants (steps (suc n) (store S m1) t1 (given w1)).events) in
+      let seen = ap (λ (k : ℕ). grants (steps_to S.last k (store S m) t (given w)).events) one ∙ ap (λ (r : Ran). grants r.events) (by (suc n)) ∙ grants_append events (steps_to S.last (suc n) (store S m1) t1 (given w1)).events in
+      let long = ap (λ (l : List Bool). length l) seen ∙ length-append (grants events) (grants (steps_to S.last (suc n) (store S m1) t1 (given w1)).events) in
       let all = ap (λ (l : List Bool). length l) (grants_append events later) ∙ length-append (grants events) (grants later) in
       omega (arith, long, all, a)
   asks_on (world.result v) cost n m m1 t t1 w w1 puts events later by a = tt
@@ -158,7 +191,7 @@ module _ (S : Site) where
     greatest = let a = g.greatest in let b = h.greatest in omega (arith, a, b);
     by = λ k.
         let e : (g.cost + h.cost) + k ≡ g.cost + (h.cost + k) = omega arith in
-        ap (λ (n : ℕ). steps n (store S m) t (given w)) e ∙ g.by (h.cost + k) ∙ ap (behind g.puts g.events) (h.by k) ∙ behind_both g.puts h.puts g.events h.events (steps k (store S m2) t2 (given w2));
+        ap (λ (n : ℕ). steps_to S.last n (store S m) t (given w)) e ∙ g.by (h.cost + k) ∙ ap (behind g.puts g.events) (h.by k) ∙ behind_both g.puts h.puts g.events h.events (steps_to S.last k (store S m2) t2 (given w2));
   }
 
   pub stops_behind : (s1 s2 : ℕ) (w w1 w2 : World) (m m1 : Mem) (t t1 : Thread) (e : End) → Goes s1 w w1 m t m1 t1 → Stops s2 w1 w2 m1 t1 e → Stops (s1 + s2) w w2 m t e
@@ -169,7 +202,7 @@ module _ (S : Site) where
     is = h.is;
     cost = g.cost + h.cost;
     least = let a = g.least in let b = h.least in omega (arith, a, b);
-    greatest = let a = g.greatest in let b = h.greatest in omega (arith, a, b);
+    greatest = let a = g.greatest in let b = h.greatest in let c = counted_on e g.cost h.cost in omega (arith, a, b, c);
     so = g.by h.cost ∙ ap (behind g.puts g.events) h.so ∙ behind_both g.puts h.puts g.events h.events (ran (stop_of e));
     asks = asks_on e g.cost h.cost m m1 t t1 w w1 g.puts g.events h.events g.by h.asks;
   }
@@ -179,8 +212,8 @@ module _ (S : Site) where
   after_goes s1 s2 w w1 m m1 t t1 to Good (gives b w2) g r = (r.0, r.1, goes_on s1 s2 w w1 w2 m m1 r.0 t t1 (to b w2 r.0) g r.2)
   after_goes s1 s2 w w1 m m1 t t1 to Good (ends e w2) g r = stops_behind s1 s2 w w1 w2 m m1 t t1 e g r
 
-  pub agrees_after : (s1 : ℕ) (w w1 : World) (m m1 : Mem) (t t1 : Thread) → Goes s1 w w1 m t m1 t1 → Agrees (store S m) t (given w) w.grants → Agrees (store S m1) t1 (given w1) w1.grants
-  agrees_after s1 w w1 m m1 t t1 g a = agrees_on (store S m) (store S m1) t t1 (given w) (given w1) g.puts g.events g.cost w.grants w1.grants g.by g.tells.grants a
+  pub agrees_after : (s1 : ℕ) (w w1 : World) (m m1 : Mem) (t t1 : Thread) → Goes s1 w w1 m t m1 t1 → Agrees S.last (store S m) t (given w) w.grants → Agrees S.last (store S m1) t1 (given w1) w1.grants
+  agrees_after s1 w w1 m m1 t t1 g a = agrees_on S.last (store S m) (store S m1) t t1 (given w) (given w1) g.puts g.events g.cost w.grants w1.grants g.by g.tells.grants a
 
   pub behind_goes : {B : Type 0} (s1 s2 : ℕ) (w w1 : World) (m m1 : Mem) (t t1 : Thread) (to : B → World → Mem → Thread) (Good : B → World → Mem → Type 0) (x : Result B)
       → Goes s1 w w1 m t m1 t1 → Runs s2 m1 t1 w1 to Good x → Runs (s1 + s2) m t w to Good x
@@ -201,7 +234,7 @@ module _ (S : Site) where
   weaker size m t w to Good Good' (ends e w1) f r ag = r ag
 
   bind_to : {A B : Type 0} (s1 s2 : ℕ) (m : Mem) (start : Thread) (w : World) (to1 : A → World → Mem → Thread) (Good1 : A → World → Mem → Type 0) (to2 : B → World → Mem → Thread) (Good2 : B → World → Mem → Type 0)
-      (x : Result A) (f : A → World → Result B) → Agrees (store S m) start (given w) w.grants → RunsTo s1 m start w to1 Good1 x
+      (x : Result A) (f : A → World → Result B) → Agrees S.last (store S m) start (given w) w.grants → RunsTo s1 m start w to1 Good1 x
       → ((a : A) (w1 : World) (m1 : Mem) → Good1 a w1 m1 → Runs s2 m1 (to1 a w1 m1) w1 to2 Good2 (f a w1)) → RunsTo (s1 + s2) m start w to2 Good2 (after x f)
   bind_to s1 s2 m start w to1 Good1 to2 Good2 (gives a w1) f ag r g =
       after_goes s1 s2 w w1 m r.0 start (to1 a w1 r.0) to2 Good2 (f a w1) r.2 (g a w1 r.0 r.1 (agrees_after s1 w w1 m r.0 start (to1 a w1 r.0) r.2 ag))
@@ -223,7 +256,7 @@ module _ (S : Site) where
     cost = 0;
     least = omega arith;
     greatest = omega arith;
-    by = λ k. let e : 0 + k ≡ k = omega arith in ap (λ (n : ℕ). steps n (store S m) t (given w)) e;
+    by = λ k. let e : 0 + k ≡ k = omega arith in ap (λ (n : ℕ). steps_to S.last n (store S m) t (given w)) e;
   }
 
   -- the same state of the machine, of another world and with other locals of no variable
@@ -235,7 +268,7 @@ module _ (S : Site) where
     cost = 0;
     least = omega (arith, ef);
     greatest = let e = ap (λ (n : ℕ). S.most * n) ef in omega (arith, e);
-    by = λ k. let e : 0 + k ≡ k = omega arith in ap (λ (n : ℕ). steps n (store S m) t (given w)) e ∙ ap (λ (l : Input). steps k (store S m) t l) (sym ei);
+    by = λ k. let e : 0 + k ≡ k = omega arith in ap (λ (n : ℕ). steps_to S.last n (store S m) t (given w)) e ∙ ap (λ (l : Input). steps_to S.last k (store S m) t l) (sym ei);
   }
 
   pub sized : (s s' : ℕ) (w w' : World) (m m' : Mem) (t t' : Thread) → s ≤ s' → Goes s w w' m t m' t' → Goes s' w w' m t m' t'
@@ -248,11 +281,11 @@ module _ (S : Site) where
   -- ---- one step, which tells nothing
 
   pub step_is : (k : ℕ) (m m' : Mem) (i : Instr) (fr : Frame) (vs : List Value) (r : List Item) (t' : Thread) (input : Input)
-      → act (store S m) i (thread fr vs r) ≡ step.Next (store S m') t' None → steps (1 + k) (store S m) (thread fr vs (Do i ∷ r)) input ≡ steps k (store S m') (exited t') input
+      → act (store S m) i (thread fr vs r) ≡ step.Next (store S m') t' None → steps_to S.last (1 + k) (store S m) (thread fr vs (Do i ∷ r)) input ≡ steps_to S.last k (store S m') (exited t') input
   step_is k m m' i fr vs r t' input e =
       let one : 1 + k ≡ suc k = omega arith in
-      ap (λ (n : ℕ). steps n (store S m) (thread fr vs (Do i ∷ r)) input) one
-      ∙ ap (λ (o : Outcome). after_move (move_on (store S m) (first_of input) (step.exited o)) input (steps k)) e
+      ap (λ (n : ℕ). steps_to S.last n (store S m) (thread fr vs (Do i ∷ r)) input) one
+      ∙ ap (λ (o : Outcome). after_move (move_on (store S m) (first_of input) (step.exited o)) input (steps_to S.last k)) e
 
   pub one : (w w' : World) (m m' : Mem) (i : Instr) (fr : Frame) (vs : List Value) (r : List Item) (t' : Thread) → w'.fuel ≡ w.fuel → w'.input ≡ w.input → Tells w w' [] []
       → act (store S m) i (thread fr vs r) ≡ step.Next (store S m') t' None → Goes 1 w w' m (thread fr vs (Do i ∷ r)) m' (exited t')
@@ -263,7 +296,7 @@ module _ (S : Site) where
     cost = 1;
     least = omega (arith, ef);
     greatest = let q = ap (λ (n : ℕ). S.most * n) ef in omega (arith, q);
-    by = λ k. step_is k m m' i fr vs r t' (given w) e ∙ ap (λ (l : Input). steps k (store S m') (exited t') l) (sym ei);
+    by = λ k. step_is k m m' i fr vs r t' (given w) e ∙ ap (λ (l : Input). steps_to S.last k (store S m') (exited t') l) (sym ei);
   }
 
   -- in one world
@@ -280,9 +313,9 @@ module _ (S : Site) where
     is = is;
     cost = 1;
     least = omega arith;
-    greatest = omega arith;
+    greatest = let c = counted_trap e k 1 a in omega (arith, c);
     asks = asks;
-    so = ap (λ (o : Outcome). after_move (move_on (store S m) (first_of (given w)) (step.exited o)) (given w) (steps 0)) h ∙ ap ran (sym a);
+    so = ap (λ (o : Outcome). after_move (move_on (store S m) (first_of (given w)) (step.exited o)) (given w) (steps_to S.last 0)) h ∙ ap ran (sym a);
   }
 
   -- ---- a step that asks the host: it takes a byte of the input, or puts one
@@ -299,11 +332,11 @@ module _ (S : Site) where
     greatest = let q = ap (λ (n : ℕ). S.most * n) ef in omega (arith, q);
     by = λ k.
         let one : 1 + k ≡ suc k = omega arith in
-        ap (λ (n : ℕ). steps n (store S m) (thread fr us (Do i ∷ r)) (given w)) one
-        ∙ ap (λ (o : Outcome). after_move (move_on (store S m) (first_of (given w)) (step.exited o)) (given w) (steps k)) e
-        ∙ ap (λ (x : hosting.Effect). after_move (hosted (store S m) (thread fr us r) (takes h) x) (given w) (steps k)) g
-        ∙ ap (λ (t : Bool). before (Some b) None (steps k (store S m) (exited (thread fr vs r)) (rest_of t (given w)))) calm
-        ∙ ap (λ (l : Input). before (Some b) None (steps k (store S m) (exited (thread fr vs r)) l)) (sym ei);
+        ap (λ (n : ℕ). steps_to S.last n (store S m) (thread fr us (Do i ∷ r)) (given w)) one
+        ∙ ap (λ (o : Outcome). after_move (move_on (store S m) (first_of (given w)) (step.exited o)) (given w) (steps_to S.last k)) e
+        ∙ ap (λ (x : hosting.Effect). after_move (hosted (store S m) (thread fr us r) (takes h) x) (given w) (steps_to S.last k)) g
+        ∙ ap (λ (t : Bool). before (Some b) None (steps_to S.last k (store S m) (exited (thread fr vs r)) (rest_of t (given w)))) calm
+        ∙ ap (λ (l : Input). before (Some b) None (steps_to S.last k (store S m) (exited (thread fr vs r)) l)) (sym ei);
   }
 
   pub takes_one : (w w' : World) (m : Mem) (i : Instr) (fr : Frame) (us vs : List Value) (r : List Item) (h : Host)
@@ -318,10 +351,10 @@ module _ (S : Site) where
     greatest = let q = ap (λ (n : ℕ). S.most * n) ef in omega (arith, q);
     by = λ k.
         let one : 1 + k ≡ suc k = omega arith in
-        ap (λ (n : ℕ). steps n (store S m) (thread fr us (Do i ∷ r)) (given w)) one
-        ∙ ap (λ (o : Outcome). after_move (move_on (store S m) (first_of (given w)) (step.exited o)) (given w) (steps k)) e
-        ∙ ap (λ (x : hosting.Effect). after_move (hosted (store S m) (thread fr us r) (takes h) x) (given w) (steps k)) g
-        ∙ ap (λ (l : Input). steps k (store S m) (exited (thread fr vs r)) l) ei;
+        ap (λ (n : ℕ). steps_to S.last n (store S m) (thread fr us (Do i ∷ r)) (given w)) one
+        ∙ ap (λ (o : Outcome). after_move (move_on (store S m) (first_of (given w)) (step.exited o)) (given w) (steps_to S.last k)) e
+        ∙ ap (λ (x : hosting.Effect). after_move (hosted (store S m) (thread fr us r) (takes h) x) (given w) (steps_to S.last k)) g
+        ∙ ap (λ (l : Input). steps_to S.last k (store S m) (exited (thread fr vs r)) l) ei;
   }
 
   -- ---- a step on which a unit of fuel is spent: the unit pays for all but one step of what follows
@@ -343,7 +376,7 @@ module _ (S : Site) where
           greatest = let a = h.greatest in omega (arith, a, le, paid);
           by = λ k.
               let q : (1 + h.cost) + k ≡ 1 + (h.cost + k) = omega arith in
-              ap (λ (n : ℕ). steps n (store S m) (thread fr vs (Do i ∷ r)) (given w)) q ∙ step_is (h.cost + k) m m i fr vs r t (given w) e ∙ h.by k;
+              ap (λ (n : ℕ). steps_to S.last n (store S m) (thread fr vs (Do i ∷ r)) (given w)) q ∙ step_is (h.cost + k) m m i fr vs r t (given w) e ∙ h.by k;
         },
       )
   spent_to size rest f w m i fr vs r t to Good (ends e' w1) e fuel le h =
@@ -355,7 +388,7 @@ module _ (S : Site) where
         is = h.is;
         cost = 1 + h.cost;
         least = let a = h.least in omega (arith, a, fuel);
-        greatest = let a = h.greatest in omega (arith, a, le, paid);
+        greatest = let a = h.greatest in let c = counted_on e' 1 h.cost in omega (arith, a, le, paid, c);
         so = step_is h.cost m m i fr vs r t (given w) e ∙ h.so;
         asks = asks_on e' 1 h.cost m m (thread fr vs (Do i ∷ r)) (exited t) w (record w { fuel = f }) [] [] h.events (λ k. step_is k m m i fr vs r t (given w) e) h.asks;
       }
@@ -365,7 +398,7 @@ module _ (S : Site) where
       → Runs rest m (exited t) (record w { fuel = f }) to Good x → Runs size m (thread fr vs (Do i ∷ r)) w to Good x
   spent size rest f w m i fr vs r t to Good x e fuel le g ag =
       spent_to size rest f w m i fr vs r t to Good x e fuel le
-      (g (agrees_on (store S m) (store S m) (thread fr vs (Do i ∷ r)) (exited t) (given w) (given w) [] [] 1 w.grants w.grants (λ k. step_is k m m i fr vs r t (given w) e) refl ag))
+      (g (agrees_on S.last (store S m) (store S m) (thread fr vs (Do i ∷ r)) (exited t) (given w) (given w) [] [] 1 w.grants w.grants (λ k. step_is k m m i fr vs r t (given w) e) refl ag))
 
   -- no unit is left
   pub unspent : (size : ℕ) (w : World) (m : Mem) (i : Instr) (fr : Frame) (vs : List Value) (r : List Item) → w.fuel ≡ 0 → Stops size w w m (thread fr vs (Do i ∷ r)) world.out_of_fuel

@@ -1,12 +1,13 @@
 -- Grants that a thread's run agrees with, however many steps it has.
-use Rattle.std.proofs.Common.{◌≡◌, ℕ, ◌+◌, List, [], ◌∷◌, ◌++◌, ◌⊎◌, inl, inr, ⊎_elim, Bool, true, false, refl, ap, ◌∙◌, subst, drop}
+use Rattle.std.proofs.Common.{◌≡◌, ℕ, ◌+◌, List, [], ◌∷◌, ◌++◌, ◌⊎◌, inl, inr, ⊎_elim, Option, Bool, true, false, refl, ap, ◌∙◌, subst, drop}
 use Rattle.ms_event.specs.declared.event.Event.{Event}
 use Rattle.ms_event.specs.declared.event.Event.TheVariants.{Alloc, Free, Read, Refused, Seal, Slice, Write}
 use Rattle.ms_event.specs.Monitor.{grants}
+use Rattle.ms_linear.specs.declared.value.Value.{Value}
 use Rattle.ms_machine.specs.Crews.{Input}
 use Rattle.ms_machine.specs.Store.{Store}
 use Rattle.ms_task.specs.Thread.{Thread}
-use Rattle.c_runs.specs.Threads.{Ran, behind, steps}
+use Rattle.c_runs.specs.Threads.{Ran, behind, steps_to}
 
 abbrev pub Begins : List Bool → List Bool → Type 0
 Begins a b = (c : List Bool) × (b ≡ a ++ c)
@@ -36,13 +37,13 @@ grants_append (Free a1 ∷ a) b = grants_append a b
 grants_append (Seal a1 a2 a3 ∷ a) b = grants_append a b
 
 -- the grants of the first steps, however many, and g are one the front of the other
-abbrev pub Agrees : Store → Thread → Input → List Bool → Type 0
-Agrees s t input g = (n : ℕ) → Fit (grants (steps n s t input).events) g
+abbrev pub Agrees : (ℕ → Store → Option Value → Input → Ran) → Store → Thread → Input → List Bool → Type 0
+Agrees last s t input g = (n : ℕ) → Fit (grants (steps_to last n s t input).events) g
 
 -- kept over a stretch with these events
-pub agrees_on : (s s' : Store) (t t' : Thread) (input input' : Input) (puts : List ℕ) (events : List Event) (cost : ℕ) (g g' : List Bool)
-    → ((k : ℕ) → steps (cost + k) s t input ≡ behind puts events (steps k s' t' input')) → g ≡ grants events ++ g' → Agrees s t input g → Agrees s' t' input' g'
-agrees_on s s' t t' input input' puts events cost g g' by e a k =
-    fit_behind (grants events) (grants (steps k s' t' input').events) g'
-    (subst (λ (x : List Bool). Fit (grants events ++ grants (steps k s' t' input').events) x) e
-    (subst (λ (x : List Bool). Fit x g) (ap (λ (r : Ran). grants r.events) (by k) ∙ grants_append events (steps k s' t' input').events) (a (cost + k))))
+pub agrees_on : (last : ℕ → Store → Option Value → Input → Ran) (s s' : Store) (t t' : Thread) (input input' : Input) (puts : List ℕ) (events : List Event) (cost : ℕ) (g g' : List Bool)
+    → ((k : ℕ) → steps_to last (cost + k) s t input ≡ behind puts events (steps_to last k s' t' input')) → g ≡ grants events ++ g' → Agrees last s t input g → Agrees last s' t' input' g'
+agrees_on last s s' t t' input input' puts events cost g g' by e a k =
+    fit_behind (grants events) (grants (steps_to last k s' t' input').events) g'
+    (subst (λ (x : List Bool). Fit (grants events ++ grants (steps_to last k s' t' input').events) x) e
+    (subst (λ (x : List Bool). Fit x g) (ap (λ (r : Ran). grants r.events) (by k) ∙ grants_append events (steps_to last k s' t' input').events) (a (cost + k))))

@@ -1,6 +1,7 @@
 pub mod Grants
 pub mod Goes
 pub mod Values
+pub mod Files
 pub mod Held
 pub mod Ending
 pub mod Lasting
@@ -29,6 +30,7 @@ pub mod Tested
 pub mod Allocating
 pub mod Freeing
 pub mod Strings
+pub mod Globals
 pub mod Rooms
 pub mod Through
 pub mod LeafHandles
@@ -44,6 +46,11 @@ pub mod Members
 pub mod Scopes
 pub mod Stmts
 pub mod Bodies
+pub mod Filing
+pub mod Starting
+pub mod Giving
+pub mod Begun
+pub mod Went
 pub mod Callees
 pub mod Params
 pub mod Copied

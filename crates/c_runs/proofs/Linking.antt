@@ -5,13 +5,17 @@ use Rattle.std.specs.List.{list_any, position_or_len}
 use Rattle.std.proofs.lemmas.List.{length-map, length-replicate}
 use Rattle.std.proofs.lemmas.Option.{get_or_from_slice_get, slice_get-map, slice_get_within}
 use Rattle.ms_host.specs.declared.host.Host.TheVariants as hosts
+use Rattle.ms_linear.specs.declared.global.GlobalInst.{GlobalInst}
 use Rattle.ms_linear.specs.declared.table.Entry.{Entry}
 use Rattle.ms_linear.specs.Table.{Table, most_entries}
 use Rattle.ms_module.specs.declared.module.Func.{Func as ModuleFunc}
+use Rattle.ms_module.specs.declared.module.Global.{Global as ModuleGlobal}
 use Rattle.ms_types.specs.declared.types.Limits.{Limits}
+use Rattle.ms_types.specs.declared.types.ValType.{ValType}
+use Rattle.ms_types.specs.declared.types.ValType.TheVariants as vals
 use Rattle.ms_machine.specs.Externs.{Fault, Made, externs, fault_at, with_rest}
 use Rattle.ms_machine.specs.Linked as linking
-use Rattle.ms_machine.specs.Linked.{all_more, and_then, if_small, entry_in, instance_in, linked, no_type, nothing_made, or_next, outside, own_func, sizes_fit, store_of, stored, too_large, unless, with_externs, with_module}
+use Rattle.ms_machine.specs.Linked.{all_more, and_then, if_small, globals_in, instance_in, linked, no_type, nothing_made, or_next, outside, own_func, own_global, sizes_fit, store_of, stored, too_large, unless, values_at, with_externs, with_module, entry_in}
 use Rattle.ms_machine.specs.Store.{Store}
 use Rattle.ms_machine.specs.declared.store.Instance.{Instance}
 use Rattle.ms_machine.specs.Writing.{empty_table, with_entries}
@@ -22,18 +26,19 @@ use Rattle.ms_machine.specs.declared.externs.Extern.TheVariants.{Host}
 use Rattle.ms_machine.specs.declared.externs.Why.TheVariants.{Fit, TooLarge}
 use Rattle.ms_task.specs.declared.func.FuncInst.{FuncInst}
 use Rattle.c_types.specs.Types.{Ty, function, no_types}
+use Rattle.c_typed.specs.declared.ops.Variable.TheVariants.{Global}
 use Rattle.c_typed.specs.Tree.{Function, Stmt, Typed}
-use Rattle.c_typed.specs.Units.{IsWellTyped}
+use Rattle.c_typed.specs.Units.{IsWellTyped, literals_in}
 use Rattle.c_meaning.specs.Units.{main_number}
-use Rattle.c_code.specs.Functions.{body, locals, params_in, signature}
+use Rattle.c_code.specs.Functions.{body, held_as, locals, params_in, signature}
 use Rattle.c_code.specs.Limits as limits
 use Rattle.c_code.specs.Limits.{first_true, has_many_slots, is_long_copy, limit_of, most_named}
-use Rattle.c_code.specs.Modules.{compiled, defined, func_of, funcs_from, import_from_c, imported, index_of, is_defined, is_defined_at, named, rank_in, sigs_through, start_func, target_of, entry_of}
+use Rattle.c_code.specs.Modules.{compiled, defined, func_of, funcs_from, global_of, globals_from, import_from_c, imported, index_of, is_defined, is_defined_at, literal_globals, named, no_slots, rank_in, sigs_through, start_func, target_of, entry_of}
 use Rattle.c_stage.specs.Stage.{in_stage}
 use Rattle.c_code.specs.Uses.{uses, waits_stmt}
 use Rattle.c_typing.proofs.Indices.{rank_is}
 use Rattle.c_runs.specs.Correct.{Behaves}
-use Rattle.c_runs.specs.Placed.{IsFunctionAt, IsPlaced}
+use Rattle.c_runs.specs.Placed.{IsFunctionAt, IsPlaced, begun_as, first_globals}
 use Rattle.c_runs.proofs.Numbers.{from, is_below, numbers_are, or_zero, other, same, slice_left}
 use Rattle.c_runs.proofs.Placed.{same_one}
 use Rattle.ms_relate.proofs.Growing.{related_new}
@@ -195,6 +200,36 @@ module _ (u : Typed) (name : List ℕ) (c : ℕ) (none : imported u ≡ []) wher
         body_is = refl;
       }
 
+  -- ---- the globals
+
+  abbrev own : ModuleGlobal → GlobalInst
+  own = own_global (values_at [] (globals_in three_hosts))
+
+  own_begins : (v : ValType) → own (global_of u v) ≡ begun_as (global_of u v)
+  own_begins vals.I32 = refl
+  own_begins vals.I64 = refl
+  own_begins vals.Handle = refl
+
+  literals_begin : (n : ℕ) → map own (literal_globals u n) ≡ map begun_as (literal_globals u n)
+  literals_begin zero = refl
+  literals_begin (suc n) = ap (λ (l : List GlobalInst). begun_as (global_of u vals.Handle) ∷ l) (literals_begin n)
+
+  all_begin : (n : ℕ) (ts : List Ty) → map own (globals_from u n ts ++ literal_globals u (literals_in u.made)) ≡ map begun_as (globals_from u n ts ++ literal_globals u (literals_in u.made))
+  all_begin n [] = literals_begin (literals_in u.made)
+  all_begin n (t ∷ ts) =
+      let v = held_as (no_slots u (Global n)) t in
+      ap (λ (g : GlobalInst). g ∷ map own (globals_from u (suc n) ts ++ literal_globals u (literals_in u.made))) (own_begins v)
+      ∙ ap (λ (l : List GlobalInst). begun_as (global_of u v) ∷ l) (all_begin (suc n) ts)
+
+  globals_begin : st.globals ≡ first_globals u
+  globals_begin = all_begin 0 u.globals
+
+  global_address : (x : ℕ) → x < length st.globals → slice_get (instance_in nothing_made (compiled u) three_hosts).globals x ≡ Some x
+  global_address x lt =
+      let l = length-map (compiled u).globals own in
+      let z : 0 + x ≡ x = omega arith in
+      number_at 0 (length (compiled u).globals) x (omega (arith, l, lt)) ∙ ap Some z
+
   -- ---- the table: behind the first entry, which is empty, those that are values
 
   abbrev inst : Instance
@@ -232,6 +267,8 @@ module _ (u : Typed) (name : List ℕ) (c : ℕ) (none : imported u ≡ []) wher
     inst = instance_in nothing_made (compiled u) three_hosts;
     alone = refl;
     all = address_at (compiled u).funcs (own_func (compiled u) 0);
+    globals = globals_begin;
+    shared = global_address;
     three = omega arith;
     putchar = refl;
     getchar = refl;

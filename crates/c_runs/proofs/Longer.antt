@@ -1,17 +1,17 @@
 -- Longer runs of a thread go on as shorter ones do; and the run of a crew of one task.
-use Rattle.std.proofs.Common.{◌≡◌, ℕ, zero, suc, ◌≤◌, List, [], ◌∷◌, ◌++◌, replicate, Option, Some, None, refl, sym, ap, ◌∙◌, arith, append-nil}
+use Rattle.std.proofs.Common.{◌≡◌, inl, inr, ℕ, zero, suc, ◌≤◌, List, [], ◌∷◌, ◌++◌, replicate, Option, Some, None, refl, sym, ap, ◌∙◌, arith, append-nil}
 use Rattle.std.specs.Prelude.{slice_get}
 use Rattle.ms_event.specs.declared.event.Event.{Event}
 use Rattle.ms_linear.specs.declared.value.Value.{Value}
 use Rattle.ms_machine.specs.Crews as crews
-use Rattle.ms_machine.specs.Crews.{Crew, End, Input, Run, Task, bytes_of, deed, events_of, moved, run_entries, with_task}
+use Rattle.ms_machine.specs.Crews.{Crew, End, Input, Run, Start, Task, bytes_of, deed, events_of, moved, run_entries, with_start, with_task}
 use Rattle.ms_machine.specs.Moves as moves
 use Rattle.ms_machine.specs.Moves.{Goes, Move, move_of, rest_of}
 use Rattle.ms_machine.specs.Running.{with_event}
 use Rattle.ms_machine.specs.Store.{Store}
 use Rattle.ms_task.specs.Thread.{Frame, Item, Thread, thread}
-use Rattle.c_runs.specs.Threads.{Ended, Trapped, Paused, Stuck, Ran, ran, before, after_move, steps, with_put}
-use Rattle.c_runs.specs.Crews.{Extends, Same, crew_of_one}
+use Rattle.c_runs.specs.Threads.{Ended, Trapped, Paused, Stuck, Stop, Ran, ran, before, after_move, steps, steps_to, with_put}
+use Rattle.c_runs.specs.Crews.{EndsAs, Extends, Same, Shows, crew_behind, crew_end, crew_of_one, steps_behind, then_steps}
 
 extends_same : (r : Ran) → Extends r r
 extends_same r = record { puts = []; events = []; puts_are = sym (append-nil r.puts); events_are = sym (append-nil r.events); over = λ n. refl }
@@ -75,3 +75,49 @@ same_at (suc n) s input fr vs (i ∷ w) =
 
 pub same_run : (n : ℕ) (s : Store) (t : Thread) (input : Input) → Same (run_entries (replicate n 0) (crew_of_one s t) input) (steps n s t input)
 same_run n s t input = same_at n s input t.frame t.operands t.work
+
+-- ---- behind a start function
+
+extends_last : (last : ℕ → Store → Option Value → Input → Ran) → ((n m : ℕ) → n ≤ m → (s : Store) (v : Option Value) (input : Input) → Extends (last n s v input) (last m s v input))
+    → (n m : ℕ) → n ≤ m → (s : Store) (input : Input) (fr : Frame) (vs : List Value) (w : List Item) → Extends (steps_to last n s (thread fr vs w) input) (steps_to last m s (thread fr vs w) input)
+extends_last last h zero zero le s input fr vs w = extends_same (steps_to last 0 s (thread fr vs w) input)
+extends_last last h zero (suc m) le s input fr vs [] = h 0 (suc m) le s (slice_get vs 0) input
+extends_last last h zero (suc m) le s input fr vs (i ∷ w) = extends_paused (steps_to last (suc m) s (thread fr vs (i ∷ w)) input)
+extends_last last h (suc n) zero le s input fr vs w = absurd (omega (arith, le))
+extends_last last h (suc n) (suc m) le s input fr vs [] = h (suc n) (suc m) le s (slice_get vs 0) input
+extends_last last h (suc n) (suc m) le s input fr vs (i ∷ w) =
+    extends_move (move_of s (thread fr vs (i ∷ w)) input) input (steps_to last n) (steps_to last m) (λ s' t' i'. extends_last last h n m (omega (arith, le)) s' i' t'.frame t'.operands t'.work)
+
+pub longer_behind : (start t : Thread) (n m : ℕ) → n ≤ m → (s : Store) (input : Input) → Extends (steps_behind start t n s input) (steps_behind start t m s input)
+longer_behind start t n m le s input = extends_last (then_steps t) (λ a b le' s' v i. longer a b le' s' t i) n m le s input start.frame start.operands start.work
+
+as_shown : (r : Run) (q : Ran) → Same r q → Shows r q
+as_shown r q h = record { bytes = h.bytes; events = h.events; ends = by q.stop h.ends } where
+  by : (st : Stop) → r.end ≡ crew_end st → EndsAs st r.end
+  by (Ended v) e = e
+  by (Trapped k) e = inl e
+  by Paused e = e
+  by Stuck e = e
+
+shows_before : (put : Option ℕ) (event : Option Event) (r : Run) (q : Ran) → Shows r q → Shows (crews.behind (deed Start put event) r) (before put event q)
+shows_before None None r q h = record { bytes = h.bytes; events = h.events; ends = h.ends }
+shows_before (Some b) None r q h = record { bytes = ap (λ (l : List ℕ). b ∷ l) h.bytes; events = h.events; ends = h.ends }
+shows_before None (Some e) r q h = record { bytes = h.bytes; events = ap (λ (l : List Event). e ∷ l) h.events; ends = h.ends }
+shows_before (Some b) (Some e) r q h = record { bytes = ap (λ (l : List ℕ). b ∷ l) h.bytes; events = ap (λ (l : List Event). e ∷ l) h.events; ends = h.ends }
+
+shows_move : (mv : Move) (s : Store) (c : Crew) (t : Thread) (input : Input) (go : Crew → Input → Run) (go' : Store → Thread → Input → Ran) → c.tasks ≡ t ∷ [] → ((s' : Store) (t' : Thread) (i : Input) → Shows (go (with_start c [] s' t') i) (go' s' t' i))
+    → Shows (moved Start mv c input (with_start c []) go) (after_move mv input go')
+shows_move (Goes s' t' took put event) s c t input go go' e h = shows_before put event (go (with_start c [] s' t') (rest_of took input)) (go' s' t' (rest_of took input)) (h s' t' (rest_of took input))
+shows_move (moves.Trap k) s c t input go go' e h = record { bytes = refl; events = refl; ends = inr refl }
+shows_move moves.Stuck s c t input go go' e h = record { bytes = refl; events = refl; ends = refl }
+
+shows_at : (t : Thread) (n : ℕ) (s : Store) (input : Input) (fr : Frame) (vs : List Value) (w : List Item) → Shows (run_entries (replicate n 0) (crew_behind s (thread fr vs w) t) input) (steps_behind (thread fr vs w) t n s input)
+shows_at t zero s input fr vs [] = as_shown (run_entries [] (crew_of_one s t) input) (steps 0 s t input) (same_run 0 s t input)
+shows_at t zero s input fr vs (i ∷ w) = record { bytes = refl; events = refl; ends = refl }
+shows_at t (suc n) s input fr vs [] = as_shown (run_entries (replicate (suc n) 0) (crew_of_one s t) input) (steps (suc n) s t input) (same_run (suc n) s t input)
+shows_at t (suc n) s input fr vs (i ∷ w) =
+    shows_move (move_of s (thread fr vs (i ∷ w)) input) s (crew_behind s (thread fr vs (i ∷ w)) t) t input (run_entries (replicate n 0)) (steps_to (then_steps t) n) refl (λ s' t' i'. shows_at t n s' i' t'.frame t'.operands t'.work)
+
+-- a run of the crew tells what so many steps do
+pub shows_behind : (start t : Thread) (n : ℕ) (s : Store) (input : Input) → Shows (run_entries (replicate n 0) (crew_behind s start t) input) (steps_behind start t n s input)
+shows_behind start t n s input = shows_at t n s input start.frame start.operands start.work

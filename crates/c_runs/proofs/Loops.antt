@@ -28,7 +28,7 @@ use Rattle.c_code.specs.Operations.{width_of}
 use Rattle.c_code.specs.Statements.{iterated}
 use Rattle.c_code.specs.Targets.{Target}
 use Rattle.c_numbers.specs.Operands.{operand}
-use Rattle.c_runs.specs.Threads.{Paused, ran, steps}
+use Rattle.c_runs.specs.Threads.{Paused, ran, steps_to}
 use Rattle.c_runs.proofs.Ahead.{Leads, leads_first, leads_further, leads_out, leads_paid}
 use Rattle.c_runs.proofs.Goes as goes
 use Rattle.c_runs.proofs.Grants.{Agrees}
@@ -214,7 +214,7 @@ module _ (E : Env) where
     abbrev iteration : ℕ → Does Flow
     iteration n = mx >>= behind_body (step' >> (spend >> again n))
 
-    waits : (is : List Instr) (s : Store) (fr : Frame) (input : Input) → steps 0 s (exit_ended fr vs (front (is ++ BrIf 0 ∷ []) ring)) input ≡ ran Paused
+    waits : (is : List Instr) (s : Store) (fr : Frame) (input : Input) → steps_to E.site.last 0 s (exit_ended fr vs (front (is ++ BrIf 0 ∷ []) ring)) input ≡ ran Paused
     waits [] s fr input = refl
     waits (i ∷ is) s fr input = refl
 
@@ -236,7 +236,7 @@ module _ (E : Env) where
 
       -- behind a unit that is spent
       paid_runs : (n : ℕ) → ((k : ℕ) → n ≡ suc k → Iterates k) → (now : Now) → IsAt E d now → now.below ≤ suc n → (w : World) (m : Mem) (w2 : World) (m2 : Mem) (q : ℕ)
-          → Kept E now (record w2 { fuel = q }) m2 → Leads E.site turn w (record w2 { fuel = q }) m (head m w) m2 (at_work E m2 w2 vs (front tail2 ring)) → Agrees (goes.store E.site m2) (at_work E m2 w2 vs (front tail2 ring)) (given w2) w2.grants
+          → Kept E now (record w2 { fuel = q }) m2 → Leads E.site turn w (record w2 { fuel = q }) m (head m w) m2 (at_work E m2 w2 vs (front tail2 ring)) → Agrees E.site.last (goes.store E.site m2) (at_work E m2 w2 vs (front tail2 ring)) (given w2) w2.grants
           → RunsTo E.site turn m (head m w) w to (GoodFlow E l now) (after (spend (record w2 { fuel = q })) (λ x. again n))
       paid_runs n ih now le le' w m w2 m2 zero k ld ag = leads_out E.site turn turn w (record w2 { fuel = 0 }) m m2 (head m w) (at_work E m2 w2 vs (front tail2 ring)) (omega arith) ld refl (waits (T n2).instrs (goes.store E.site m2) (frame_of E m2 w2) (given w2))
       paid_runs zero ih now le le' w m w2 m2 (suc f) k ld ag = absurd (let lt = k.less in omega (arith, lt, le'))
@@ -251,7 +251,7 @@ module _ (E : Env) where
 
       -- behind the body
       module _ (n : ℕ) (ih : (k : ℕ) → n ≡ suc k → Iterates k) (now : Now) (le : IsAt E d now) (le' : now.below ≤ suc n) (w : World) (m : Mem) where
-        step_by : (w1 : World) (m1 : Mem) → Leads E.site (1 + sB) w w1 m (head m w) m1 (at_work E m1 w1 vs (front (S n1).instrs (front tail2 ring))) → Agrees (goes.store E.site m1) (at_work E m1 w1 vs (front (S n1).instrs (front tail2 ring))) (given w1) w1.grants
+        step_by : (w1 : World) (m1 : Mem) → Leads E.site (1 + sB) w w1 m (head m w) m1 (at_work E m1 w1 vs (front (S n1).instrs (front tail2 ring))) → Agrees E.site.last (goes.store E.site m1) (at_work E m1 w1 vs (front (S n1).instrs (front tail2 ring))) (given w1) w1.grants
             → (y : Result (Unit {0})) → RunsTo E.site sS m1 (at_work E m1 w1 vs (front (S n1).instrs (front tail2 ring))) w1 (To_ E (gone E) vs (front tail2 ring)) (Good E (Always E) now) y
             → RunsTo E.site turn m (head m w) w to (GoodFlow E l now) (after y (λ x. spend >> again n))
         step_by w1 m1 ld ag (ends e w2) h = stops_behind E.site (1 + sB) sS w w1 w2 m m1 (head m w) (at_work E m1 w1 vs (front (S n1).instrs (front tail2 ring))) e ld.goes h
@@ -260,11 +260,11 @@ module _ (E : Env) where
             let t2 = at_work E q.0 w2 vs (front tail2 ring) in
             paid_runs n ih now le le' w m w2 q.0 w2.fuel q.1.1 (leads_further E.site (1 + sB) sS w w1 w2 m m1 q.0 (head m w) t1 t2 ld q.2) (agrees_after E.site sS w1 w2 m1 q.0 t1 t2 q.2 ag)
 
-        behind_runs : (w1 : World) (m1 : Mem) → Kept E now w1 m1 → Leads E.site (1 + sB) w w1 m (head m w) m1 (at_work E m1 w1 vs (front tail1 ring)) → Agrees (goes.store E.site m1) (at_work E m1 w1 vs (front tail1 ring)) (given w1) w1.grants
+        behind_runs : (w1 : World) (m1 : Mem) → Kept E now w1 m1 → Leads E.site (1 + sB) w w1 m (head m w) m1 (at_work E m1 w1 vs (front tail1 ring)) → Agrees E.site.last (goes.store E.site m1) (at_work E m1 w1 vs (front tail1 ring)) (given w1) w1.grants
             → RunsTo E.site turn m (head m w) w to (GoodFlow E l now) ((step' >> (spend >> again n)) w1)
         behind_runs w1 m1 k1 ld ag =
             let split = front_append (S n1).instrs tail2 ring in
-            let ag' = subst (λ (q : List Item). Agrees (goes.store E.site m1) (at_work E m1 w1 vs q) (given w1) w1.grants) split ag in
+            let ag' = subst (λ (q : List Item). Agrees E.site.last (goes.store E.site m1) (at_work E m1 w1 vs q) (given w1) w1.grants) split ag in
             step_by w1 m1 (subst (λ (q : List Item). Leads E.site (1 + sB) w w1 m (head m w) m1 (at_work E m1 w1 vs q)) split ld) ag' (step' w1)
             (rs n1 hasS now (starts E d now le) vs (front tail2 ring) (depth_front tail2 ring ∙ dep) w1 m1 k1 ag')
 
@@ -276,7 +276,7 @@ module _ (E : Env) where
         abbrev t0 : Thread
         t0 = at_work E m w vs (front (B (suc N)).instrs (front tail1 ring))
 
-        body_by : Agrees (goes.store E.site m) t0 (given w) w.grants → (y : Result Flow) → RunsTo E.site sB m t0 w to_body (GoodFlow E (body_way d C off) now) y → RunsTo E.site turn m (head m w) w to (GoodFlow E l now) (after y (behind_body (step' >> (spend >> again n))))
+        body_by : Agrees E.site.last (goes.store E.site m) t0 (given w) w.grants → (y : Result Flow) → RunsTo E.site sB m t0 w to_body (GoodFlow E (body_way d C off) now) y → RunsTo E.site turn m (head m w) w to (GoodFlow E l now) (after y (behind_body (step' >> (spend >> again n))))
         body_by ag (ends e w1) h = resize_to E.site (1 + sB) turn m (head m w) w to (GoodFlow E l now) (ends e w1) (omega arith) (stops_behind E.site 1 sB w w w1 m m (head m w) t0 e first.goes h)
         body_by ag (gives next w1) q =
             let t1 = at_work E q.0 w1 vs (front tail1 ring) in

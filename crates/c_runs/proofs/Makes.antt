@@ -46,7 +46,7 @@ use Rattle.c_runs.proofs.Creating.{Made, NewGoes, granted, made_world, new_goes,
 pub wrapped_small : (n : ℕ) → n < 2 ^ 32 → wrapped 32 (pos n) ≡ n
 wrapped_small n lt = omega arith
 
-once : (n : ℕ) → n ≡ 1 * n
+pub once : (n : ℕ) → n ≡ 1 * n
 once n = omega arith
 
 pub only_one : (x i : ℕ) → is_visible (x ∷ []) i ≡ true → x ≡ i
@@ -148,6 +148,7 @@ module _ (E : Env) (x : ℕ) (t : Ty) (at_x : slice_get E.kinds x ≡ Some (t, t
       apart = made_apart;
       own = made_own;
       lasts = M.keeps.lasts;
+      file = M.keeps.file;
     }
 
   -- ---- the code

@@ -16,6 +16,7 @@ use Rattle.ms_task.specs.Thread.{Item, thread}
 use Rattle.c_types.specs.declared.integers.IntType.{IntType}
 use Rattle.c_types.specs.declared.types.Scalar.{Scalar}
 use Rattle.c_types.specs.Types.{Ty, void, integer, pointer, struct, array, function, scalar_of}
+use Rattle.c_typed.specs.declared.ops.Variable.{Variable}
 use Rattle.c_typed.specs.declared.ops.Variable.TheVariants.{Local}
 use Rattle.c_typed.specs.Tree.{of}
 use Rattle.c_meaning.specs.Values.{Value, number}
@@ -27,7 +28,7 @@ use Rattle.c_meaning.specs.Expressions.{Spot, variable, as_number, fetch, is_tru
 use Rattle.ms_emit.specs.Codes.{Code, plain as bare, one, no_code, ◌⨾◌, choice, size_of}
 use Rattle.c_code.specs.Expressions.{ended, left}
 use Rattle.c_code.specs.Operations.{constant, width_of}
-use Rattle.c_code.specs.Targets.{get, set}
+use Rattle.c_code.specs.Targets.{get, set, tee}
 use Rattle.c_numbers.specs.Operands.{IsIn, operand, word}
 use Rattle.c_numbers.proofs.Conversions.{constant_is}
 use Rattle.c_numbers.proofs.Ranges.{is_zero_of}
@@ -174,12 +175,6 @@ module _ (E : Env) where
     place_is : (w : World) (m : Mem) → AreHeld E.unit.structs E.places E.kinds m.homes w.locals → Spot_of_x w ≡ gives (variable (Local x)) w
     place_is w m a = let f = found_in w m a in ap (λ (o : Option Held). after (known o w) (λ h. pure (spot_of (Local x) h))) f.is
 
-    -- the place, which needs no code
-    pub behind_place : {B : Type 0} (c : Code) (pre : Stack) (post : List Home → B → Stack) (Fit : List Home → B → Type 0) (f : Spot → Does B) → OpIn E [] c pre post Fit (f (variable (Local x))) → OpIn E [] c pre post Fit (Spot_of_x >>= f)
-    behind_place {B = B} c pre post Fit f h n has now le vs r dep w m k =
-        subst (λ (y : Result Spot). Runs E.site (size_of (c n)) m (at_work E m w (pre vs) (front (c n).instrs r)) w (ToIn E post vs r) (GoodIn E Fit now) (after y f)) (sym (place_is w m k.held))
-        (h n has now le vs r dep w m k)
-
     fetch_is : (w : World) (m : Mem) (f : Found E.unit.structs E.places E.kinds m.homes w.locals x t) → fetch (variable (Local x)) w ≡ gives f.value w
     fetch_is w m f = ap (λ (o : Option Held). after (known o w) plain_value) f.is
 
@@ -238,6 +233,7 @@ module _ (E : Env) where
         apart = apart_plain w.locals x v k.apart;
         own = own_plain (length now.objects) w.locals x v k.own;
         lasts = k.lasts;
+        file = k.file;
       }
 
       set_step : (now : Now) (w : World) (m : Mem) → Starts E hs now → Kept E now w m → (us vs : List Word) (r : List Item)
@@ -262,30 +258,65 @@ module _ (E : Env) where
             (one_step E.site w (written w) m m (LocalTee (local_of_x x (t, false) at_x)) (frame_of E m w) (Top vs) r (thread (frame_of E m (written w)) (Top vs) r) refl refl (tells_nothing w (written w) refl refl refl) (set_step now w m le k (Top vs) (Top vs) r)),
       )
 
-      -- it is set, and a value that is known is given
-      pub set_gives : (v' : Value) → IsValue E t hs v' → OpIn E hs (one (set E.target (Local x))) Top (λ gs. gone) (IsValue E t) (store (variable (Local x)) v >> pure v')
-      set_gives v' ok =
-          op_look_in E hs (one (set E.target (Local x))) Top (λ gs. gone) (λ gs. gone) (λ gs. Always) (IsValue E t) (hold (Local x) (plain v)) (λ q. pure v') set_runs
-          (λ gs more q ok'. (v', refl, λ vs. refl, value_still E.unit.structs E.places hs gs more t v' ok))
+  -- ---- any plain variable, of a scalar type
 
-      pub write_runs : (k : Bool) (s : Scalar) → OpIn E hs (ended E.target k (Some (Local x)) s) Top (remains k t) (IsValue E t) (store (variable (Local x)) v >> pure v)
-      write_runs true s = tee_runs
-      write_runs false s = set_gives v i
+  abbrev pub Spot_of : Variable → Does Spot
+  Spot_of v = place E.unit E.calls (of v)
+
+  -- what its code does
+  pub record PlainAt (v : Variable) (t : Ty) : Type 0 where
+    pub scalar : IsScalar t
+    pub is_here : (now : Now) (w : World) (m : Mem) → Kept E now w m → Spot_of v w ≡ gives (variable v) w
+    pub fetches : Leaves (one (get E.target v)) t (fetch (variable v))
+    pub fetches_twice : OpIn E [] (bare (get E.target v ∷ get E.target v ∷ [])) same (λ hs x vs. pushes E t hs x (pushes E t hs x vs)) (IsValue E t) (fetch (variable v))
+    pub sets : (hs : List Home) (x : Value) → IsValue E t hs x → OpIn E hs (one (set E.target v)) (λ vs. word_of E.places t hs x ∷ vs) (λ gs. gone) (λ gs. Always) (hold v (plain x))
+    pub tees : (hs : List Home) (x : Value) → IsValue E t hs x → OpIn E hs (tee E.target v) (λ vs. word_of E.places t hs x ∷ vs) (pushes E t) (IsValue E t) (store (variable v) x >> pure x)
+
+  pub slot_plain : (x : ℕ) (t : Ty) → IsScalar t → slice_get E.kinds x ≡ Some (t, false) → PlainAt (Local x) t
+  slot_plain x t scalar at_x = record {
+    scalar = scalar;
+    is_here = λ now w m k. place_is x t scalar at_x w m k.held;
+    fetches = fetch_runs x t scalar at_x;
+    fetches_twice = fetch_twice_runs x t scalar at_x;
+    sets = λ hs v i. set_runs x t scalar at_x hs v i;
+    tees = λ hs v i. tee_runs x t scalar at_x hs v i;
+  }
+
+  module _ (v : Variable) (t : Ty) (p : PlainAt v t) where
+    -- the place, which needs no code
+    pub behind_place : {B : Type 0} (c : Code) (pre : Stack) (post : List Home → B → Stack) (Fit : List Home → B → Type 0) (f : Spot → Does B) → OpIn E [] c pre post Fit (f (variable v)) → OpIn E [] c pre post Fit (Spot_of v >>= f)
+    behind_place {B = B} c pre post Fit f h n has now le vs r dep w m k =
+        subst (λ (y : Result Spot). Runs E.site (size_of (c n)) m (at_work E m w (pre vs) (front (c n).instrs r)) w (ToIn E post vs r) (GoodIn E Fit now) (after y f)) (sym (p.is_here now w m k))
+        (h n has now le vs r dep w m k)
+
+    module _ (hs : List Home) (x : Value) (i : IsValue E t hs x) where
+      abbrev Top_of : Stack
+      Top_of vs = word_of E.places t hs x ∷ vs
+
+      -- it is set, and a value that is known is given
+      pub set_gives : (x' : Value) → IsValue E t hs x' → OpIn E hs (one (set E.target v)) Top_of (λ gs. gone) (IsValue E t) (store (variable v) x >> pure x')
+      set_gives x' ok =
+          op_look_in E hs (one (set E.target v)) Top_of (λ gs. gone) (λ gs. gone) (λ gs. Always) (IsValue E t) (hold v (plain x)) (λ q. pure x') (p.sets hs x i)
+          (λ gs more q ok'. (x', refl, λ vs. refl, value_still E.unit.structs E.places hs gs more t x' ok))
+
+      pub write_runs : (k : Bool) (s : Scalar) → OpIn E hs (ended E.target k (Some v) s) Top_of (remains k t) (IsValue E t) (store (variable v) x >> pure x)
+      write_runs true s = p.tees hs x i
+      write_runs false s = set_gives x i
 
     pub assign_runs : (k : Bool) (s : Scalar) (c : Code) (y : Does Value) → Leaves c t y
-        → OpIn E [] (no_code ⨾ c ⨾ ended E.target k (Some (Local x)) s) same (remains k t) (IsValue E t) (Spot_of_x >>= (λ p. y >>= (λ v. store p v >> pure v)))
+        → OpIn E [] (no_code ⨾ c ⨾ ended E.target k (Some v) s) same (remains k t) (IsValue E t) (Spot_of v >>= (λ q. y >>= (λ x. store q x >> pure x)))
     assign_runs k s c y h =
-        let d = ended E.target k (Some (Local x)) s in
-        let f = λ (v : Value). store (variable (Local x)) v >> pure v in
-        behind_place (no_code ⨾ c ⨾ d) same (remains k t) (IsValue E t) (λ p. y >>= (λ v. store p v >> pure v))
+        let d = ended E.target k (Some v) s in
+        let f = λ (x : Value). store (variable v) x >> pure x in
+        behind_place (no_code ⨾ c ⨾ d) same (remains k t) (IsValue E t) (λ q. y >>= (λ x. store q x >> pure x))
         (op_then_in E [] no_code (c ⨾ d) same (λ gs. gone) (remains k t) (λ gs. Always) (IsValue E t) (pure tt) (λ q. y >>= f) (op_none E same gone Always tt tt (λ vs. refl))
         (λ gs more q ok.
         op_any E gs (c ⨾ d) same (remains k t) (IsValue E t) (y >>= f)
         (op_then_in E [] c d same (pushes E t) (remains k t) (IsValue E t) (IsValue E t) y f h
-        (λ gs' more' v ok'. pre_scalar gs' d v (remains k t) (f v) (write_runs gs' v ok' k s)))))
+        (λ gs' more' x ok'. pre_scalar gs' d x (remains k t) (f x) (write_runs gs' x ok' k s)))))
       where
-        pre_scalar : (gs : List Home) (d : Code) (v : Value) (post : List Home → Value → Stack) (z : Does Value) → OpIn E gs d (λ vs. word_of E.places t gs v ∷ vs) post (IsValue E t) z → OpIn E gs d (pushes E t gs v) post (IsValue E t) z
-        pre_scalar gs d v post z h = subst (λ (st : Stack). OpIn E gs d st post (IsValue E t) z) (λ j vs. sym (pushed_is E.unit.structs E.places gs t v vs scalar) j) h
+        pre_scalar : (gs : List Home) (d : Code) (x : Value) (post : List Home → Value → Stack) (z : Does Value) → OpIn E gs d (λ vs. word_of E.places t gs x ∷ vs) post (IsValue E t) z → OpIn E gs d (pushes E t gs x) post (IsValue E t) z
+        pre_scalar gs d x post z h = subst (λ (st : Stack). OpIn E gs d st post (IsValue E t) z) (λ j vs. sym (pushed_is E.unit.structs E.places gs t x vs p.scalar) j) h
 
   -- ---- conditions
 

@@ -30,7 +30,7 @@ use Rattle.c_types.specs.Types.{void, integer}
 use Rattle.c_typed.specs.declared.ops.BinaryOp.{BinaryOp}
 use Rattle.c_typed.specs.declared.ops.RelOp.{RelOp}
 use Rattle.c_typed.specs.declared.ops.UnaryOp.TheVariants.{Negate, Complement}
-use Rattle.c_typed.specs.declared.ops.Variable.TheVariants.{Local}
+use Rattle.c_typed.specs.declared.ops.Variable.{Variable}
 use Rattle.c_typed.specs.refinement.Expressions.{IsPromoted}
 use Rattle.c_meaning.specs.Values.{Value, number}
 use Rattle.c_meaning.specs.Accesses.{hold}
@@ -55,7 +55,7 @@ use Rattle.ms_relate.specs.refinement.Homes.{Home}
 use Rattle.c_runs.proofs.Values.{IsOf}
 use Rattle.c_runs.proofs.Related.{Env, IsValue, Kept, Now, frame_of, kept_world}
 use Rattle.c_runs.proofs.Ops.{Good, Op, OpIn, Stack, To_, at_work, op_agree, op_assoc, op_bare, op_carried, op_look, op_over, op_seen, op_then, op_trap_in, same}
-use Rattle.c_runs.proofs.Nodes.{Always, Leaves, Num, Spot_of_x, behind_place, fetch_runs, fetch_twice_runs, gone, of_number, op_integer, op_integer_then, op_number_then, remains, set_gives, set_runs, two_run, write_runs}
+use Rattle.c_runs.proofs.Nodes.{Always, Leaves, Num, PlainAt, Spot_of, behind_place, gone, of_number, op_integer, op_integer_then, op_number_then, remains, set_gives, two_run, write_runs}
 use Rattle.c_runs.proofs.Whole.{bare_convert}
 use Rattle.ms_module.specs.declared.instr.Instr.{Instr}
 
@@ -65,6 +65,7 @@ pub record Linked (S : Site) : Type 0 where
   pub inst : Instance
   pub alone : S.instances ≡ inst ∷ []
   pub all : (x : ℕ) → x < length S.funcs → slice_get inst.funcs x ≡ Some x
+  pub shared : (x : ℕ) → x < S.shared → slice_get inst.globals x ≡ Some x
   pub three : 3 ≤ length S.funcs
   pub putchar : host_in (slice_get S.funcs 0) ≡ Some hosts.Putchar
   pub getchar : host_in (slice_get S.funcs 1) ≡ Some hosts.Getchar
@@ -193,16 +194,16 @@ module _ (E : Env) where
       (op_agree E (code.operated o v) (λ vs. Num E v q (Num E v z' vs)) v (operated o v z' q) (λ vs. operation o v pr z' q vs (wrap_in v z) iq))
       (λ p ip. convert_at v u p ip)))
 
-  module _ (o : BinaryOp) (u v : IntType) (x : ℕ) (at_x : slice_get E.kinds x ≡ Some (integer u, false)) (c : Code) (y : Does Value) (pr : IsPromoted v) (h : Leaves E c (integer v) y) where
+  module _ (o : BinaryOp) (u v : IntType) (x : Variable) (at_x : PlainAt E x (integer u)) (c : Code) (y : Does Value) (pr : IsPromoted v) (h : Leaves E c (integer v) y) where
     abbrev change : Code
     change = convert u v ⨾ c ⨾ one (code.operated o v) ⨾ convert v u
 
     -- the new value is written, and one of the two is given
     abbrev puts : Bool → ℤ → ℤ → Does Value
-    puts old z p = store (variable (Local x)) (number p) >> pure (if old then number z else number p)
+    puts old z p = store (variable x) (number p) >> pure (if old then number z else number p)
 
     abbrev behind_old : Bool → Value → Does Value
-    behind_old old w0 = as_number w0 >>= (λ z. meaning.integer y >>= (λ q. operated o v (wrap v z) q >>= (λ p. let new = number (wrap u p) in store (variable (Local x)) new >> pure (if old then w0 else new))))
+    behind_old old w0 = as_number w0 >>= (λ z. meaning.integer y >>= (λ q. operated o v (wrap v z) q >>= (λ p. let new = number (wrap u p) in store (variable x) new >> pure (if old then w0 else new))))
 
     same_meaning : (old : Bool) (z : ℤ) (w : World) → (changes o u v y z >>= puts old z) w ≡ behind_old old (number z) w
     same_meaning old z w =
@@ -218,19 +219,19 @@ module _ (E : Env) where
     abbrev End_runs : (d : Code) (k old : Bool) → Type 0
     End_runs d k old = (z p : ℤ) → IsIn u z → IsIn u p → Op E d (Num E u p) (keeps k) (IsOf (integer u)) (puts old z p)
 
-    end_runs : (k old : Bool) (s : Scalar) → (k ≡ false) ⊎ (old ≡ false) → End_runs (ended E.target k (Some (Local x)) s) k old
+    end_runs : (k old : Bool) (s : Scalar) → (k ≡ false) ⊎ (old ≡ false) → End_runs (ended E.target k (Some x) s) k old
     end_runs true true s (inl e) z p iz ip = absurd cc
     end_runs true true s (inr e) z p iz ip = absurd cc
-    end_runs true false s e z p iz ip = write_runs E x (integer u) tt at_x [] (number p) ip true s
-    end_runs false false s e z p iz ip = write_runs E x (integer u) tt at_x [] (number p) ip false s
-    end_runs false true s e z p iz ip = set_gives E x (integer u) tt at_x [] (number p) ip (number z) iz
+    end_runs true false s e z p iz ip = write_runs E x (integer u) at_x [] (number p) ip true s
+    end_runs false false s e z p iz ip = write_runs E x (integer u) at_x [] (number p) ip false s
+    end_runs false true s e z p iz ip = set_gives E x (integer u) at_x [] (number p) ip (number z) iz
 
     one_value : (k old : Bool) (d : Code) → End_runs d k old
-        → Op E (one (get E.target (Local x)) ⨾ change ⨾ d) same (keeps k) (IsOf (integer u)) (Spot_of_x E x (integer u) tt at_x >>= (λ q. fetch q >>= (λ w0. as_number w0 >>= (λ z. meaning.integer y >>= (λ q'. operated o v (wrap v z) q' >>= (λ p. let new = number (wrap u p) in store q new >> pure (if old then w0 else new)))))))
+        → Op E (one (get E.target x) ⨾ change ⨾ d) same (keeps k) (IsOf (integer u)) (Spot_of E x >>= (λ q. fetch q >>= (λ w0. as_number w0 >>= (λ z. meaning.integer y >>= (λ q'. operated o v (wrap v z) q' >>= (λ p. let new = number (wrap u p) in store q new >> pure (if old then w0 else new)))))))
     one_value k old d e =
-        let g = one (get E.target (Local x)) in
-        behind_place E x (integer u) tt at_x (g ⨾ change ⨾ d) same (λ hs. keeps k) (λ hs. IsOf (integer u)) _
-        (op_then E g (change ⨾ d) same (pushed (integer u)) (keeps k) (IsOf (integer u)) (IsOf (integer u)) (fetch (variable (Local x))) (behind_old old) (fetch_runs E x (integer u) tt at_x)
+        let g = one (get E.target x) in
+        behind_place E x (integer u) at_x (g ⨾ change ⨾ d) same (λ hs. keeps k) (λ hs. IsOf (integer u)) _
+        (op_then E g (change ⨾ d) same (pushed (integer u)) (keeps k) (IsOf (integer u)) (IsOf (integer u)) (fetch (variable x)) (behind_old old) at_x.fetches
         (λ w0 ok.
         of_number E u (λ w0. Op E (change ⨾ d) (pushed (integer u) w0) (keeps k) (IsOf (integer u)) (behind_old old w0))
         (λ z iz.
@@ -240,12 +241,12 @@ module _ (E : Env) where
 
     -- the old value remains below
     two_values : (s : Scalar)
-        → Op E (begun_over_old E.target (Some (Local x)) no_code s ⨾ change ⨾ put E.target (Some (Local x)) s) same (pushed (integer u)) (IsOf (integer u)) (Spot_of_x E x (integer u) tt at_x >>= (λ q. fetch q >>= (λ w0. as_number w0 >>= (λ z. meaning.integer y >>= (λ q'. operated o v (wrap v z) q' >>= (λ p. let new = number (wrap u p) in store q new >> pure w0))))))
+        → Op E (begun_over_old E.target (Some x) no_code s ⨾ change ⨾ put E.target (Some x) s) same (pushed (integer u)) (IsOf (integer u)) (Spot_of E x >>= (λ q. fetch q >>= (λ w0. as_number w0 >>= (λ z. meaning.integer y >>= (λ q'. operated o v (wrap v z) q' >>= (λ p. let new = number (wrap u p) in store q new >> pure w0))))))
     two_values s =
-        let g = begun_over_old E.target (Some (Local x)) no_code s in
-        let d = put E.target (Some (Local x)) s in
-        behind_place E x (integer u) tt at_x (g ⨾ change ⨾ d) same (λ hs. pushed (integer u)) (λ hs. IsOf (integer u)) _
-        (op_then E g (change ⨾ d) same (λ w0 vs. pushed (integer u) w0 (pushed (integer u) w0 vs)) (pushed (integer u)) (IsOf (integer u)) (IsOf (integer u)) (fetch (variable (Local x))) (behind_old true) (fetch_twice_runs E x (integer u) tt at_x)
+        let g = begun_over_old E.target (Some x) no_code s in
+        let d = put E.target (Some x) s in
+        behind_place E x (integer u) at_x (g ⨾ change ⨾ d) same (λ hs. pushed (integer u)) (λ hs. IsOf (integer u)) _
+        (op_then E g (change ⨾ d) same (λ w0 vs. pushed (integer u) w0 (pushed (integer u) w0 vs)) (pushed (integer u)) (IsOf (integer u)) (IsOf (integer u)) (fetch (variable x)) (behind_old true) at_x.fetches_twice
         (λ w0 ok.
         of_number E u (λ w0. Op E (change ⨾ d) (λ vs. pushed (integer u) w0 (pushed (integer u) w0 vs)) (pushed (integer u)) (IsOf (integer u)) (behind_old true w0))
         (λ z iz.
@@ -253,17 +254,17 @@ module _ (E : Env) where
         (op_then E change d (λ vs. Num E u z (Num E u z vs)) (λ p vs. Num E u p (Num E u z vs)) (pushed (integer u)) (IsIn u) (IsOf (integer u)) (changes o u v y z) (puts true z)
         (op_over E change (Num E u z) (Num E u z) (Num E u) (IsIn u) (changes o u v y z) (change_runs o u v c y pr h z iz))
         (λ p ip.
-        op_look E d (λ vs. Num E u p (Num E u z vs)) (λ q vs. Num E u z vs) (pushed (integer u)) (Always E) (IsOf (integer u)) (hold (Local x) (plain (number p))) (λ q. pure (number z))
-        (op_over E d (Num E u p) (Num E u z) (gone E) (Always E) (hold (Local x) (plain (number p))) (set_runs E x (integer u) tt at_x [] (number p) ip))
+        op_look E d (λ vs. Num E u p (Num E u z vs)) (λ q vs. Num E u z vs) (pushed (integer u)) (Always E) (IsOf (integer u)) (hold x (plain (number p))) (λ q. pure (number z))
+        (op_over E d (Num E u p) (Num E u z) (gone E) (Always E) (hold x (plain (number p))) (at_x.sets [] (number p) ip))
         (λ q ok'. (number z, refl, refl, iz)))))
         w0 ok))
 
     pub update_runs : (k old : Bool) (pl : Code) (s : Scalar)
-        → OpIn E [] (updated E.target k old (Some (Local x)) pl s change) same (remains E k (integer u)) (IsValue E (integer u)) (Spot_of_x E x (integer u) tt at_x >>= (λ q. fetch q >>= (λ w0. as_number w0 >>= (λ z. meaning.integer y >>= (λ q'. operated o v (wrap v z) q' >>= (λ p. let new = number (wrap u p) in store q new >> pure (if old then w0 else new)))))))
+        → OpIn E [] (updated E.target k old (Some x) pl s change) same (remains E k (integer u)) (IsValue E (integer u)) (Spot_of E x >>= (λ q. fetch q >>= (λ w0. as_number w0 >>= (λ z. meaning.integer y >>= (λ q'. operated o v (wrap v z) q' >>= (λ p. let new = number (wrap u p) in store q new >> pure (if old then w0 else new)))))))
     update_runs true true pl s = two_values s
-    update_runs true false pl s = one_value true false (ended E.target true (Some (Local x)) s) (end_runs true false s (inr refl))
-    update_runs false true pl s = one_value false true (ended E.target false (Some (Local x)) s) (end_runs false true s (inl refl))
-    update_runs false false pl s = one_value false false (ended E.target false (Some (Local x)) s) (end_runs false false s (inl refl))
+    update_runs true false pl s = one_value true false (ended E.target true (Some x) s) (end_runs true false s (inr refl))
+    update_runs false true pl s = one_value false true (ended E.target false (Some x) s) (end_runs false true s (inl refl))
+    update_runs false false pl s = one_value false false (ended E.target false (Some x) s) (end_runs false false s (inl refl))
 
   -- ---- calls
 
@@ -293,7 +294,7 @@ module _ (E : Env) where
         let lt : b < 2 ^ 8 = byte_below z in
         let room : 0 < length E.site.funcs = let t = L.three in omega (arith, t) in (
           m,
-          (small_is b lt, kept_world E now w.objects w w' m refl refl refl k.less k.bytes k),
+          (small_is b lt, kept_world E now w.objects w w' m refl refl refl refl refl k.less k.bytes k),
           puts_one E.site w w' m (Call 0) (frame_of E m w) (I32 (wrapped 32 z) ∷ vs) (I32 (wrapped 32 (pos b)) ∷ vs) r hosts.Putchar b
               (call_is m w 0 (I32 (wrapped 32 z) ∷ vs) r room ∙ ap (called (goes.store E.site m) 0 (thread (frame_of E m w) (I32 (wrapped 32 z) ∷ vs) r)) L.putchar)
               (ap (λ (q : ℕ). hosting.Gives (I32 q ∷ vs) (Some q)) byte ∙ ap (λ (q : ℕ). hosting.Gives (I32 q ∷ vs) (Some b)) (sym (small_same b lt))) refl refl refl
@@ -320,7 +321,7 @@ module _ (E : Env) where
         let bytes : AreBytes (None ∷ bs) = subst AreBytes e k.bytes in
         let w' : World = record w { input = bs } in (
           m,
-          (refl, kept_world E now w.objects w w' m refl refl refl k.less bytes.1 k),
+          (refl, kept_world E now w.objects w w' m refl refl refl refl refl k.less bytes.1 k),
           takes_one E.site w w' m (Call 1) (frame_of E m w) vs (I32 4294967295 ∷ vs) r hosts.Getchar
               (call_is m w 1 vs r room ∙ ap (called (goes.store E.site m) 1 (thread (frame_of E m w) vs r)) L.getchar)
               (ap (λ (l : Input). host_on hosts.Getchar (first_of l) vs) e) refl
@@ -332,7 +333,7 @@ module _ (E : Env) where
         let lt : b < 256 = bytes.0 in
         let w' : World = record w { input = bs } in (
           m,
-          (small_is b lt, kept_world E now w.objects w w' m refl refl refl k.less bytes.1 k),
+          (small_is b lt, kept_world E now w.objects w w' m refl refl refl refl refl k.less bytes.1 k),
           takes_one E.site w w' m (Call 1) (frame_of E m w) vs (I32 (wrapped 32 (pos b)) ∷ vs) r hosts.Getchar
               (call_is m w 1 vs r room ∙ ap (called (goes.store E.site m) 1 (thread (frame_of E m w) vs r)) L.getchar)
               (ap (λ (l : Input). host_on hosts.Getchar (first_of l) vs) e ∙ ap (λ (q : ℕ). hosting.Gives (I32 q ∷ vs) None) (sym (small_same b lt))) refl

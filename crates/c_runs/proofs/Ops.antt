@@ -70,10 +70,10 @@ module _ (E : Env) where
   -- ---- homes at the start
 
   pub kept_from : (now : Now) (hs : List Home) (os : List Object) (w : World) (m : Mem) → Extends now.homes hs → KeptAs E (with_homes hs now) os w m → KeptAs E now os w m
-  kept_from now hs os w m more k = record { held = k.held; deep = k.deep; less = k.less; bytes = k.bytes; temps = k.temps; grown = extends_trans now.homes hs m.homes more k.grown; related = k.related; open' = k.open'; apart = k.apart; own = k.own; lasts = k.lasts }
+  kept_from now hs os w m more k = record { held = k.held; deep = k.deep; less = k.less; bytes = k.bytes; temps = k.temps; grown = extends_trans now.homes hs m.homes more k.grown; related = k.related; open' = k.open'; apart = k.apart; own = k.own; lasts = k.lasts; file = k.file }
 
   pub kept_here : (now : Now) (os : List Object) (w : World) (m : Mem) → KeptAs E now os w m → KeptAs E (with_homes m.homes now) os w m
-  kept_here now os w m k = record { held = k.held; deep = k.deep; less = k.less; bytes = k.bytes; temps = k.temps; grown = extends_same m.homes; related = k.related; open' = k.open'; apart = k.apart; own = k.own; lasts = k.lasts }
+  kept_here now os w m k = record { held = k.held; deep = k.deep; less = k.less; bytes = k.bytes; temps = k.temps; grown = extends_same m.homes; related = k.related; open' = k.open'; apart = k.apart; own = k.own; lasts = k.lasts; file = k.file }
 
   pub op_more : {A : Type 0} (hs hs' : List Home) (c : Code) (pre : Stack) (post : List Home → A → Stack) (Ok : List Home → A → Type 0) (x : Does A) → Extends hs hs' → OpIn hs c pre post Ok x → OpIn hs' c pre post Ok x
   op_more hs hs' c pre post Ok x more h n has now le = h n has now (record { below = le.below; grown = extends_trans hs hs' now.homes more le.grown; seen = le.seen; few = le.few })

@@ -1,39 +1,34 @@
--- What a thread's steps and the meaning have in common, however many steps and however much fuel there are: the sizes that are asked for,
--- the output, the end, a prefix, and a bound. It speaks of no code.
+-- What steps and the meaning have in common, however many steps and however much fuel there are: the sizes that are asked for, the
+-- output, the end, a prefix, and a bound. It speaks of no code, and of any steps of which more go on as fewer do.
 use Rattle.std.proofs.Common.{◌≡◌, ◌≢◌, ℕ, suc, ◌+◌, ◌*◌, ◌<◌, ◌≤◌, ⊎_elim, inl, inr, List, [], ◌∷◌, ◌++◌, length, length-append, Bool, refl, sym, ap, ◌∙◌, arith, append-nil}
 use Rattle.std.proofs.lemmas.Bool.{cases_lt}
 use Rattle.ms_event.specs.declared.event.Event.{Event}
 use Rattle.ms_event.specs.declared.event.Event.TheVariants as events
 use Rattle.ms_event.specs.Monitor.{grants, sizes_of}
-use Rattle.ms_machine.specs.Crews.{Input}
-use Rattle.ms_machine.specs.Store.{Store}
-use Rattle.ms_task.specs.Thread.{Thread}
 use Rattle.c_meaning.specs.World as world
 use Rattle.c_meaning.specs.World.{End, World}
-use Rattle.c_runs.specs.Threads.{Ended, Trapped, Paused, Stuck, Stop, Ran, ran, behind, steps}
+use Rattle.c_runs.specs.Threads.{Ended, Trapped, Paused, Stuck, Stop, Ran, ran, behind}
 use Rattle.c_runs.specs.Correct.{IsPrefix}
 use Rattle.c_runs.specs.Crews.{Extends}
 use Rattle.c_runs.proofs.Goes.{sizes_append}
 use Rattle.c_runs.proofs.Grants.{Fit, grants_append}
-use Rattle.c_runs.proofs.Longer.{longer}
 
--- ---- what is known of the meaning with so much fuel, against the machine's steps from its start
+-- ---- what is known of the meaning, against what so many steps of the machine do
 
-pub record Known (s : Store) (t0 : Thread) (input : Input) (g : List Bool) (most fuel : ℕ) (st : Stop) (e : End) (w : World) : Type 0 where
+pub record Known (R : ℕ → Ran) (g : List Bool) (st : Stop) (e : End) (w : World) : Type 0 where
   pub puts : List ℕ
   pub events : List Event
   pub cost : ℕ
-  pub so : steps cost s t0 input ≡ behind puts events (ran st)
+  pub so : R cost ≡ behind puts events (ran st)
   pub output : w.output ≡ puts
   pub sizes : w.sizes ≡ sizes_of events
   pub taken : g ≡ grants events ++ w.grants
-  pub room : cost ≤ most * (fuel + 1)
 
--- the machine stops so: it is over, or fuel or grants have been used up
-pub data How (s : Store) (t0 : Thread) (input : Input) (fuel : ℕ) (st : Stop) (e : End) (w : World) (cost : ℕ) (events : List Event) : Type 0 where
-  over : st ≢ Paused → How s t0 input fuel st e w cost events
-  spent : e ≡ world.out_of_fuel → st ≡ Paused → fuel ≤ cost → How s t0 input fuel st e w cost events
-  asking : e ≡ world.ungranted → st ≡ Paused → w.grants ≡ [] → length (grants (steps (suc cost) s t0 input).events) ≡ suc (length (grants events)) → How s t0 input fuel st e w cost events
+-- the machine stops so, within so many steps: it is over, or fuel or grants have been used up
+pub data How (R : ℕ → Ran) (most fuel : ℕ) (st : Stop) (e : End) (w : World) (cost : ℕ) (events : List Event) : Type 0 where
+  over : st ≢ Paused → cost ≤ most → How R most fuel st e w cost events
+  spent : e ≡ world.out_of_fuel → st ≡ Paused → fuel ≤ cost → How R most fuel st e w cost events
+  asking : e ≡ world.ungranted → st ≡ Paused → w.grants ≡ [] → length (grants (R (suc cost)).events) ≡ suc (length (grants events)) → suc cost ≤ most → How R most fuel st e w cost events
 
 -- ---- lists
 
@@ -52,22 +47,19 @@ none_of : {A : Type 0} (xs : List A) → length xs ≡ 0 → xs ≡ []
 none_of [] e = refl
 none_of (x ∷ xs) e = absurd (omega (arith, e))
 
--- ---- the laws, of the steps of a thread and of what is known
+-- ---- the laws, of the steps and of what is known
 
-module _ (s : Store) (t0 : Thread) (input : Input) (most : ℕ) where
-  abbrev R : ℕ → Ran
-  R n = steps n s t0 input
-
+module _ (R : ℕ → Ran) (longer : (n m : ℕ) → n ≤ m → Extends (R n) (R m)) where
   abbrev G : ℕ → List Bool
   G b = grants (R b).events
 
   pub agrees : (b n : ℕ) → Fit (grants (R n).events) (G b)
   agrees b n = ⊎_elim
-      (λ lt. let x = longer n b (omega (arith, lt)) s t0 input in inl (grants x.events, ap grants x.events_are ∙ grants_append (R n).events x.events))
-      (λ le. let x = longer b n (omega (arith, le)) s t0 input in inr (grants x.events, ap grants x.events_are ∙ grants_append (R b).events x.events))
+      (λ lt. let x = longer n b (omega (arith, lt)) in inl (grants x.events, ap grants x.events_are ∙ grants_append (R n).events x.events))
+      (λ le. let x = longer b n (omega (arith, le)) in inr (grants x.events, ap grants x.events_are ∙ grants_append (R b).events x.events))
       (cases_lt n b)
 
-  module _ (b fuel : ℕ) (st : Stop) (e : End) (w : World) (k : Known s t0 input (G b) most fuel st e w) (how : How s t0 input fuel st e w k.cost k.events) where
+  module _ (b most fuel : ℕ) (st : Stop) (e : End) (w : World) (k : Known R (G b) st e w) (how : How R most fuel st e w k.cost k.events) where
     n : ℕ
     n = k.cost
 
@@ -83,7 +75,7 @@ module _ (s : Store) (t0 : Thread) (input : Input) (most : ℕ) where
     -- a run that asked for one more than there is isn't this one
     not_longer : length (grants (R (suc k.cost)).events) ≡ suc (length (grants k.events)) → w.grants ≡ [] → suc k.cost ≤ b → ⊥
     not_longer more none le =
-        let x = longer (suc k.cost) b le s t0 input in
+        let x = longer (suc k.cost) b le in
         let long = ap length (ap grants x.events_are ∙ grants_append (R (suc k.cost)).events x.events) ∙ length-append (grants (R (suc k.cost)).events) (grants x.events) in
         let all = ap length k.taken ∙ length-append (grants k.events) w.grants ∙ ap (λ (l : List Bool). length (grants k.events) + length l) none in
         omega (arith, long, all, more)
@@ -100,7 +92,7 @@ module _ (s : Store) (t0 : Thread) (input : Input) (most : ℕ) where
       ahead_of : b ≤ k.cost → Beside
       ahead_of le = go (R b).stop refl where
         x : Extends (R b) (R k.cost)
-        x = longer b k.cost le s t0 input
+        x = longer b k.cost le
 
         over_is : (q : Stop) → (R b).stop ≡ q → q ≢ Paused → Beside
         over_is q eq d = equal (sym (x.over (λ p. d (sym eq ∙ p)))) (λ p. d (sym eq ∙ ap (λ (r : Ran). r.stop) (sym (x.over (λ p. d (sym eq ∙ p)))) ∙ stop_is ∙ p))
@@ -113,10 +105,10 @@ module _ (s : Store) (t0 : Thread) (input : Input) (most : ℕ) where
 
       pub beside : Beside
       beside = by how where
-        by : How s t0 input fuel st e w k.cost k.events → Beside
-        by (over d) = ⊎_elim (λ lt. equal ((longer k.cost b (omega (arith, lt)) s t0 input).over (not_paused d)) d) (λ le. ahead_of le) (cases_lt k.cost b)
+        by : How R most fuel st e w k.cost k.events → Beside
+        by (over d room) = ⊎_elim (λ lt. equal ((longer k.cost b (omega (arith, lt))).over (not_paused d)) d) (λ le. ahead_of le) (cases_lt k.cost b)
         by (spent e1 e2 le) = ahead_of (omega (arith, le, is_fuel))
-        by (asking e1 e2 none more) = ⊎_elim (λ lt. absurd (not_longer more none (omega (arith, lt)))) (λ le. ahead_of le) (cases_lt k.cost b)
+        by (asking e1 e2 none more room) = ⊎_elim (λ lt. absurd (not_longer more none (omega (arith, lt)))) (λ le. ahead_of le) (cases_lt k.cost b)
 
       -- ---- the sizes, the output, the end, a prefix
 
@@ -150,13 +142,10 @@ module _ (s : Store) (t0 : Thread) (input : Input) (most : ℕ) where
         by (equal q d) = absurd (d (sym stop_is ∙ sym (ap (λ (r : Ran). r.stop) q) ∙ p))
         by (ahead x p') = (x.puts, k.output ∙ sym puts_is ∙ x.puts_are)
 
-    -- with less fuel than the budget has room for
-    pub bound_law : most * (fuel + 1) < b → (R b).stop ≡ Paused → e ≡ world.out_of_fuel
-    bound_law lt p = by how where
-      room : suc k.cost ≤ b
-      room = let r = k.room in omega (arith, lt, r)
-
-      by : How s t0 input fuel st e w k.cost k.events → e ≡ world.out_of_fuel
-      by (over d) = absurd (d (sym stop_is ∙ sym (ap (λ (r : Ran). r.stop) ((longer k.cost b (omega (arith, room)) s t0 input).over (not_paused d))) ∙ p))
-      by (spent e1 e2 le) = e1
-      by (asking e1 e2 none more) = absurd (not_longer more none room)
+    -- where the budget has room for all of them
+    pub bound_law : most ≤ b → (R b).stop ≡ Paused → e ≡ world.out_of_fuel
+    bound_law le p = by how where
+      by : How R most fuel st e w k.cost k.events → e ≡ world.out_of_fuel
+      by (over d room) = absurd (d (sym stop_is ∙ sym (ap (λ (r : Ran). r.stop) ((longer k.cost b (omega (arith, room, le))).over (not_paused d))) ∙ p))
+      by (spent e1 e2 le') = e1
+      by (asking e1 e2 none more room) = absurd (not_longer more none (omega (arith, room, le)))

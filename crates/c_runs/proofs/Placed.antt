@@ -1,6 +1,6 @@
 -- What a call needs of each function, from what a store has of the unit.
-use Rattle.std.proofs.Common.{◌≡◌, ◌≢◌, ℕ, zero, suc, ◌+◌, ◌<◌, ◌≤◌, List, [], ◌∷◌, ◌++◌, append_assoc, length, map, max, Bool, true, false, cond, is_some, Option, Some, None, Ok, Err, refl, sym, ap, ◌∙◌, arith, subst}
-use Rattle.std.specs.Prelude.{get_or, nat_lt, not, position, replicate, slice_get, ◌&&◌, filter, ◌==◌, ◌||◌}
+use Rattle.std.proofs.Common.{◌≡◌, ◌≢◌, ℕ, zero, suc, ◌+◌, ◌<◌, ◌≤◌, List, [], ◌∷◌, length, map, max, Bool, true, false, cond, is_some, Option, Some, None, refl, sym, ap, ◌∙◌, arith, subst, ◌++◌, append_assoc, Ok, Err}
+use Rattle.std.specs.Prelude.{get_or, nat_lt, not, position, replicate, slice_get, ◌&&◌, ◌||◌, filter, ◌==◌}
 use Rattle.std.specs.List.{position_or_len}
 use Rattle.std.specs.List.{All, list_any}
 use Rattle.std.proofs.lemmas.Option.{slice_get_within}
@@ -17,7 +17,10 @@ use Rattle.ms_module.specs.Numbered.{sequence_at}
 use Rattle.ms_task.specs.declared.func.FuncInst.{FuncInst}
 use Rattle.ms_task.specs.Thread.{body_in, body_of, sequence}
 use Rattle.ms_linear.specs.declared.value.Value.TheVariants.{I32}
-use Rattle.c_meaning.specs.Units.{main_number}
+use Rattle.c_meaning.specs.Units as file
+use Rattle.c_meaning.specs.Units.{in_made, main_number}
+use Rattle.c_typed.specs.declared.ops.Variable.{Variable}
+use Rattle.c_typed.specs.declared.ops.Variable.TheVariants.{Local, Global}
 use Rattle.c_types.specs.Types.{Ty, void, integer, pointer, function, Tys, no_types}
 use Rattle.c_typed.specs.Objects.{is_whole}
 use Rattle.c_typed.specs.Tree.{Function, Made, Stmt, Typed}
@@ -34,15 +37,18 @@ use Rattle.c_code.specs.Operations.{val_of}
 use Rattle.c_stage.specs.Stage.{are_data, are_slots, in_body, in_functions, in_stage, in_stmt, is_empty, is_main, is_plain_function, is_result}
 use Rattle.c_code.specs.Uses as uses
 use Rattle.c_code.specs.Uses.{waits_stmt}
+use Rattle.c_runs.specs.Threads.{over}
 use Rattle.c_runs.specs.Placed.{IsPlaced, instructions_in, longest_in, longest_of}
 use Rattle.c_runs.proofs.Goes.{Mem, Site}
 use Rattle.c_runs.proofs.Operations.{Linked}
 use Rattle.c_runs.proofs.Related.{HasAll}
 use Rattle.c_runs.proofs.Bodies.{IsResult, is_integer_or_void, is_pointer, is_void}
 use Rattle.c_runs.proofs.Callees.{Compiled, slots_of}
+use Rattle.c_runs.proofs.Filing.{names_of}
 use Rattle.c_runs.proofs.Numbers.{never_passes}
+use Rattle.c_runs.proofs.Ready.{AreCallable, IsCallable, any_left, any_right, in_stmt_of, left_of, right_of, IsKnown, same_number}
+use Rattle.c_runs.proofs.Scalars.{IsVariable}
 use Rattle.c_runs.proofs.Entries.{IsTable, IsEntry}
-use Rattle.c_runs.proofs.Ready.{AreCallable, IsCallable, IsKnown, any_left, any_right, in_stmt_of, right_of, same_number}
 use Rattle.c_runs.proofs.Whole.{both}
 
 -- ---- one of a list
@@ -87,6 +93,13 @@ used_at m (g ∷ fs) zero f b e h used =
     (ap (λ (o : Option Stmt). list_any (is_call_of m) (uses.in_body o)) (ap (λ (x : Function). x.body) (same_one g f e) ∙ h) ∙ used)
 used_at m (g ∷ fs) (suc n) f b e h used = any_right (is_call_of m) (uses.in_body g.body) (uses.in_functions fs) (used_at m fs n f b e h used)
 
+-- a variable at file scope whose address a body takes
+taken_at : (x : ℕ) (fs : List Function) (n : ℕ) (f : Function) (b : Stmt) → slice_get fs n ≡ Some f → f.body ≡ Some b → in_stmt_of b (Global x) ≡ true → file.in_functions x fs ≡ true
+taken_at x [] n f b at has e = absurd cc
+taken_at x (g ∷ fs) zero f b at has e =
+    left_of (file.in_body x g.body) (file.in_functions x fs) (ap (λ (o : Option Stmt). file.in_body x o) (ap (λ (h : Function). h.body) (same_one g f at) ∙ has) ∙ e)
+taken_at x (g ∷ fs) (suc n) f b at has e = right_of (file.in_body x g.body) (file.in_functions x fs) (taken_at x fs n f b at has e)
+
 -- what holds of all uses holds of those of a body
 known_at : (P : uses.Use → Type 0) (fs : List Function) (n : ℕ) (f : Function) (b : Stmt) → slice_get fs n ≡ Some f → f.body ≡ Some b → Each P (uses.in_functions fs) → Each P (uses.in_stmt b)
 known_at P [] n f b e h all = absurd cc
@@ -95,13 +108,13 @@ known_at P (g ∷ fs) zero f b e h all =
 known_at P (g ∷ fs) (suc n) f b e h all = known_at P fs n f b e h (each_back P (uses.in_body g.body) (uses.in_functions fs) all)
 
 -- each use is known to the unit
-known_use : (u : Typed) (pre rest : List uses.Use) (x : uses.Use) → uses.uses u ≡ pre ++ x ∷ rest → IsKnown u x
+known_use : (u : Typed) (pre rest : List uses.Use) (x : uses.Use) → uses.uses u ≡ pre ++ x ∷ rest → IsKnown true u x
 known_use u pre rest (uses.names n) e = ap (list_any (is_name_of n)) e ∙ any_right (is_name_of n) pre (uses.names n ∷ rest) (same_number n (list_any (is_name_of n) rest))
-known_use u pre rest (uses.calls n) e = tt
-known_use u pre rest (uses.through t) e = sig_through u t pre rest e
+known_use u pre rest (uses.calls n) e = refl
+known_use u pre rest (uses.through t) e = (refl, sig_through u t pre rest e)
 known_use u pre rest (uses.copies n) e = tt
 
-all_known : (u : Typed) (pre rest : List uses.Use) → uses.uses u ≡ pre ++ rest → Each (IsKnown u) rest
+all_known : (u : Typed) (pre rest : List uses.Use) → uses.uses u ≡ pre ++ rest → Each (IsKnown true u) rest
 all_known u pre [] e = tt
 all_known u pre (x ∷ rest) e = (known_use u pre rest x e, all_known u (pre ++ x ∷ []) rest (e ∙ sym (append_assoc pre (x ∷ []) rest)))
 
@@ -209,14 +222,14 @@ named_main fs n f e h = by (nat_lt (position_or_len is_main fs) (length fs)) e w
 -- ---- the site of a store
 
 abbrev pub site_of : Typed → Store → Site
-site_of u s = record { funcs = s.funcs; instances = s.instances; tables = s.tables; memories = s.memories; most = longest_of u }
+site_of u s = record { funcs = s.funcs; instances = s.instances; tables = s.tables; memories = s.memories; shared = length s.globals; last = over; still = λ t v input. refl; most = longest_of u }
 
 abbrev pub mem_of : Store → Mem
 mem_of s = record { globals = s.globals; segments = s.segments; homes = []; temps = [] }
 
 module _ (u : Typed) (s : Store) (well : IsWellTyped u) (staged : in_stage u ≡ true) (placed : IsPlaced u s) where
   pub linked : Linked (site_of u s)
-  linked = record { inst = placed.inst; alone = placed.alone; all = placed.all; three = placed.three; putchar = placed.putchar; getchar = placed.getchar; abort = placed.abort }
+  linked = record { inst = placed.inst; alone = placed.alone; all = placed.all; shared = placed.shared; three = placed.three; putchar = placed.putchar; getchar = placed.getchar; abort = placed.abort }
 
   -- a function that is a value is defined
   named_callable : (n : ℕ) → list_any (λ m. m == n) (named u) ≡ true → IsCallable u n
@@ -256,6 +269,19 @@ module _ (u : Typed) (s : Store) (well : IsWellTyped u) (staged : in_stage u ≡
     by [] e = refl
     by (m ∷ ms) e = absurd cc
 
+  -- no variable stands at file scope
+  pub file_types : (x : ℕ) (t : Ty) → slice_get u.globals x ≡ Some t → IsVariable t
+  file_types x t e = by u.globals (both (is_empty u.globals) (in_functions u.functions) (both (is_empty u.made) (is_empty u.globals && in_functions u.functions) staged).1).0 e where
+    by : (ts : List Ty) → is_empty ts ≡ true → slice_get ts x ≡ Some t → IsVariable t
+    by [] q e = absurd cc
+    by (s ∷ ts) q e = absurd cc
+
+  -- a variable whose address a body takes is an object
+  objects_taken : (f : Function) (n : ℕ) (b : Stmt) → slice_get u.functions n ≡ Some f → f.body ≡ Some b → (x : Variable) → in_stmt_of b x ≡ true → (target_of u f b).is_object x ≡ true
+  objects_taken f n b at has (Local x) e = right_of (is_whole (get_or f.slots x void)) (in_stmt_of b (Local x)) e
+  objects_taken f n b at has (Global x) e =
+      right_of (is_whole (get_or u.globals x void)) (in_made x u.made || file.in_functions x u.functions) (right_of (in_made x u.made) (file.in_functions x u.functions) (taken_at x u.functions n f b at has e))
+
   module _ (n : ℕ) (t : Ty) (ps : Tys) (e : slice_get (map (λ (g : Function). g.ty) u.functions) n ≡ Some (function t ps)) where
     found : (f : Function) × (slice_get u.functions n ≡ Some f) × (f.ty ≡ function t ps)
     found = get_mapped u.functions n (function t ps) e
@@ -275,10 +301,10 @@ module _ (u : Typed) (s : Store) (well : IsWellTyped u) (staged : in_stage u ≡
         (never_passes (λ k. not (is_defined_at u k) && list_any (is_call_of k) (uses.uses u)) (length u.functions) placed.none_imported m lt)
         (any_right (is_call_of m) (uses.in_made u.made) (uses.in_functions u.functions) (used_at m u.functions n found.0 b found.1 e' used))
 
-    known : (b : Stmt) → found.0.body ≡ Some b → Each (IsKnown u) (uses.in_stmt b)
+    known : (b : Stmt) → found.0.body ≡ Some b → Each (IsKnown true u) (uses.in_stmt b)
     known b e' =
-        known_at (IsKnown u) u.functions n found.0 b found.1 e'
-        (each_back (IsKnown u) (uses.in_made u.made) (uses.in_functions u.functions) (all_known u [] (uses.uses u) refl))
+        known_at (IsKnown true u) u.functions n found.0 b found.1 e'
+        (each_back (IsKnown true u) (uses.in_made u.made) (uses.in_functions u.functions) (all_known u [] (uses.uses u) refl))
 
     pub compiled : IsCallable u n → Compiled (site_of u s) u n t ps
     compiled is_callable =
@@ -312,7 +338,7 @@ module _ (u : Typed) (s : Store) (well : IsWellTyped u) (staged : in_stage u ≡
           begins = bd.0.1;
           well = bd.2;
           slots_are = slots_of f.slots st.0;
-          ready = record { in_stage = st.1; callable = callable b.0 b.1; known = known b.0 b.1; objects = λ x e. right_of (is_whole (get_or f.slots x void)) (in_stmt_of b.0 x) e };
+          ready = record { in_stage = st.1; callable = callable b.0 b.1; known = known b.0 b.1; objects = objects_taken f n b.0 found.1 b.1 };
           result = result_kind f t plain_here.0;
           table = table;
           args = replicate (target_of u f b.0).first (I32 0);
@@ -321,6 +347,7 @@ module _ (u : Typed) (s : Store) (well : IsWellTyped u) (staged : in_stage u ≡
           has_members = λ n l e. not_empty l.members (well.structs n l e).0;
           sizes = λ x s' e'. (all_at (IsObject u.structs) f.slots x s' e' bd.1).1;
           sound = sound_with u well f.slots bd.1;
+          names = names_of u well file_types (target_of u f b.0) refl (λ x. refl) (λ x q e. all_at (IsObject u.structs) u.globals x q e well.globals);
         }
 
     -- of `main`

@@ -1,6 +1,6 @@
 -- Variables and locals; and what is known of a function that is carried out.
 use Rattle.ms_machine.specs.Running.{AreBytes}
-use Rattle.std.proofs.Common.{◌≡◌, ◌≢◌, ℕ, zero, suc, ◌+◌, ◌^◌, ◌<◌, ◌≤◌, List, [], ◌∷◌, ◌++◌, length, true, false, Some, refl, sym, ap, ◌∙◌, arith, subst}
+use Rattle.std.proofs.Common.{◌≡◌, ◌≢◌, ℕ, zero, suc, ◌+◌, ◌^◌, ◌<◌, ◌≤◌, List, [], ◌∷◌, ◌++◌, length, Bool, true, false, Some, refl, sym, ap, ◌∙◌, arith, subst}
 use Rattle.std.specs.Prelude.{slice_get, slice_set}
 use Rattle.ms_linear.specs.declared.value.Value.{Value as Word}
 use Rattle.ms_module.specs.declared.instr.Instr.{Instr}
@@ -26,6 +26,7 @@ use Rattle.ms_relate.proofs.Growing.{Extends}
 use Rattle.c_runs.proofs.Entries.{IsTable, places_of}
 use Rattle.c_runs.proofs.Goes.{Site, Mem}
 use Rattle.c_runs.proofs.Held.{AreApart, AreHeld, AreOpen, AreOwn, IsHeld, Lasts, Slot, words}
+use Rattle.c_runs.proofs.Files.{Filed, Reached}
 use Rattle.c_runs.proofs.Values.{IsValueOf, pushed_of, value_still, word_of, word_still}
 
 -- ---- a function that is carried out: its slots are locals, behind so many others
@@ -55,7 +56,9 @@ pub record Env : Type 0 where
   -- the locals in front of the slots
   pub args : List Word
   pub first_is : target.first ≡ length args
+  -- what calls do, and whether any may stand here
   pub calls : Calls
+  pub may_call : Bool
   -- fuel is below it; of loops, too
   pub bound : ℕ
   pub turn_bound : ℕ
@@ -66,13 +69,18 @@ pub record Env : Type 0 where
   pub as_long : length kinds ≡ length slots
   pub kinds_are : (x : ℕ) (t : Ty) → slice_get slots x ≡ Some t → slice_get kinds x ≡ Some (t, target.is_object (Local x))
   pub objects_are : (x : ℕ) (t : Ty) → slice_get kinds x ≡ Some (t, true) → IsSlot unit.structs t
+  -- the variables at file scope, and how far they are made
+  pub files : List Slot
+  pub reached : Reached
   -- behind them are the scratch locals, and those of so many values that wait
   pub scratch_is : target.scratch ≡ length args + length slots
   pub waits : ℕ
   -- so many of them wait at most where a piece of code begins
   pub pending : ℕ
   pub result : Ty
+  -- how many calls are open: of the machine, and of C
   pub depth : ℕ
+  pub level : ℕ
   -- the variables that may be named, at least
   pub visible : List ℕ
 
@@ -105,7 +113,7 @@ pub record Temps (all waits : ℕ) (before after : List Word) : Type 0 where
   pub stay : (j : ℕ) → j < waits → slice_get after (4 + j) ≡ slice_get before (4 + j)
 
 -- what is kept, where the segments are those of these objects
-pub record Keeps (structs : Table) (places : Ty → ℕ → ℕ) (kinds : List Slot) (depth all : ℕ) (now : Now) (os : List Object) (w : World) (m : Mem) : Type 0 where
+pub record Keeps (structs : Table) (places : Ty → ℕ → ℕ) (kinds files : List Slot) (reached : Reached) (shared depth all : ℕ) (now : Now) (os : List Object) (w : World) (m : Mem) : Type 0 where
   pub held : AreHeld structs places kinds m.homes w.locals
   pub deep : w.depth ≡ depth
   pub less : w.fuel < now.below
@@ -117,9 +125,10 @@ pub record Keeps (structs : Table) (places : Ty → ℕ → ℕ) (kinds : List S
   pub apart : AreApart w.locals
   pub own : AreOwn (length now.objects) w.locals
   pub lasts : Lasts now.objects w.objects
+  pub file : Filed structs places files reached shared m.homes w.globals w.literals m.globals
 
 abbrev pub KeptAs : Env → Now → List Object → World → Mem → Type 0
-KeptAs E now os w m = Keeps E.unit.structs E.places E.kinds E.depth E.waits now os w m
+KeptAs E now os w m = Keeps E.unit.structs E.places E.kinds E.files E.reached E.site.shared E.level E.waits now os w m
 
 abbrev pub Kept : Env → Now → World → Mem → Type 0
 Kept E now w m = KeptAs E now w.objects w m
@@ -149,6 +158,10 @@ with_homes hs now = record now { homes = hs }
 abbrev pub seeing : List ℕ → Env → Env
 seeing vs E = record E { visible = vs }
 
+-- the variables at file scope are held so
+abbrev pub FiledIn : Env → World → Mem → Type 0
+FiledIn E w m = Filed E.unit.structs E.places E.files E.reached E.site.shared m.homes w.globals w.literals m.globals
+
 -- where so many values wait
 abbrev pub beside : ℕ → Env → Env
 beside d E = record E { pending = d }
@@ -167,8 +180,8 @@ pub extends_none : (a : List Home) → Extends [] a
 extends_none a n h e = absurd cc
 
 -- in another world, of the same variables and objects
-pub kept_world : (E : Env) (now : Now) (os : List Object) (w w' : World) (m : Mem) → w'.locals ≡ w.locals → w'.objects ≡ w.objects → w'.depth ≡ w.depth → w'.fuel < now.below → AreBytes w'.input → KeptAs E now os w m → KeptAs E now os w' m
-kept_world E now os w w' m el eo ed less bytes k = record {
+pub kept_world : (E : Env) (now : Now) (os : List Object) (w w' : World) (m : Mem) → w'.locals ≡ w.locals → w'.objects ≡ w.objects → w'.depth ≡ w.depth → w'.globals ≡ w.globals → w'.literals ≡ w.literals → w'.fuel < now.below → AreBytes w'.input → KeptAs E now os w m → KeptAs E now os w' m
+kept_world E now os w w' m el eo ed eg et less bytes k = record {
   held = subst (λ (l : List Held). AreHeld E.unit.structs E.places E.kinds m.homes l) (sym el) k.held;
   deep = ed ∙ k.deep;
   less = less;
@@ -180,23 +193,25 @@ kept_world E now os w w' m el eo ed less bytes k = record {
   apart = subst AreApart (sym el) k.apart;
   own = subst (AreOwn (length now.objects)) (sym el) k.own;
   lasts = subst (Lasts now.objects) (sym eo) k.lasts;
+  file = subst (λ (xs : List Held). Filed E.unit.structs E.places E.files E.reached E.site.shared m.homes xs w'.literals m.globals) (sym eg)
+      (subst (λ (ts : List ℕ). Filed E.unit.structs E.places E.files E.reached E.site.shared m.homes w.globals ts m.globals) (sym et) k.file);
 }
 
 -- with other variables that may be named
 pub kept_seen : (E : Env) (now : Now) (us : List ℕ) (os : List Object) (w : World) (m : Mem) → AreOpen E.kinds us w.objects w.locals → KeptAs E now os w m → KeptAs E (record now { visible = us }) os w m
-kept_seen E now us os w m open' k = record { held = k.held; deep = k.deep; less = k.less; bytes = k.bytes; temps = k.temps; grown = k.grown; related = k.related; open' = open'; apart = k.apart; own = k.own; lasts = k.lasts }
+kept_seen E now us os w m open' k = record { held = k.held; deep = k.deep; less = k.less; bytes = k.bytes; temps = k.temps; grown = k.grown; related = k.related; open' = open'; apart = k.apart; own = k.own; lasts = k.lasts; file = k.file }
 
 -- below another bound
 pub kept_below : (E : Env) (now : Now) (below : ℕ) (os : List Object) (w : World) (m : Mem) → w.fuel < below → KeptAs E now os w m → KeptAs E (record now { below = below }) os w m
-kept_below E now below os w m less k = record { held = k.held; deep = k.deep; less = less; bytes = k.bytes; temps = k.temps; grown = k.grown; related = k.related; open' = k.open'; apart = k.apart; own = k.own; lasts = k.lasts }
+kept_below E now below os w m less k = record { held = k.held; deep = k.deep; less = less; bytes = k.bytes; temps = k.temps; grown = k.grown; related = k.related; open' = k.open'; apart = k.apart; own = k.own; lasts = k.lasts; file = k.file }
 
 -- with less fuel, below another bound
 pub kept_fuel : (E : Env) (now : Now) (below : ℕ) (os : List Object) (w : World) (m : Mem) (q : ℕ) → q < below → KeptAs E now os w m → KeptAs E (record now { below = below }) os (record w { fuel = q }) m
-kept_fuel E now below os w m q less k = record { held = k.held; deep = k.deep; less = less; bytes = k.bytes; temps = k.temps; grown = k.grown; related = k.related; open' = k.open'; apart = k.apart; own = k.own; lasts = k.lasts }
+kept_fuel E now below os w m q less k = record { held = k.held; deep = k.deep; less = less; bytes = k.bytes; temps = k.temps; grown = k.grown; related = k.related; open' = k.open'; apart = k.apart; own = k.own; lasts = k.lasts; file = k.file }
 
 -- with other values that wait
 pub kept_temps : (E : Env) (now : Now) (n : ℕ) (before : List Word) (os : List Object) (w : World) (m : Mem) (q : List Word) → Temps E.waits n before q → KeptAs E now os w m → KeptAs E (record now { waits = n; temps = before }) os w (record m { temps = q })
-kept_temps E now n before os w m q temps k = record { held = k.held; deep = k.deep; less = k.less; bytes = k.bytes; temps = temps; grown = k.grown; related = k.related; open' = k.open'; apart = k.apart; own = k.own; lasts = k.lasts }
+kept_temps E now n before os w m q temps k = record { held = k.held; deep = k.deep; less = k.less; bytes = k.bytes; temps = temps; grown = k.grown; related = k.related; open' = k.open'; apart = k.apart; own = k.own; lasts = k.lasts; file = k.file }
 
 -- ---- in front of other locals
 

@@ -94,6 +94,7 @@ module _ (E : Env) where
     apart = k.apart;
     own = k.own;
     lasts = ending_lasts w.locals now.objects k.own ns w.objects k.lasts;
+    file = k.file;
   }
 
   module _ (ns : List ℕ) (differ : Differ ns) (among : (x : ℕ) → is_visible ns x ≡ true → x < length E.slots) (apart : Disjoint E.visible ns) where

@@ -48,7 +48,7 @@ use Rattle.ms_relate.specs.refinement.Laid.{is_handle}
 use Rattle.ms_relate.specs.refinement.Relation.{Related}
 use Rattle.ms_relate.proofs.Acts.{act_gives, act_traps, load_acts, store_acts}
 use Rattle.ms_relate.proofs.Growing.{Extends, handle_still, related_once_more}
-use Rattle.c_runs.specs.Threads.{Ran, Trapped, after_move, before, behind, steps}
+use Rattle.c_runs.specs.Threads.{Ran, Trapped, after_move, before, behind, steps_to}
 use Rattle.c_runs.specs.Ends.{stop_of}
 use Rattle.c_runs.proofs.Goes as goes
 use Rattle.c_runs.proofs.Goes.{Goes, Mem, RunsTo, Site, Tells, given, trapped, weaker}
@@ -147,10 +147,10 @@ module _ (S : Site) where
     greatest = let z = ap (λ (n : ℕ). S.most * n) ef in omega (arith, z);
     by = λ k.
         let one : 1 + k ≡ suc k = omega arith in
-        ap (λ (n : ℕ). steps n (goes.store S m) (thread fr vs (Do i ∷ r)) (given w)) one
-        ∙ ap (λ (o : step.Outcome). after_move (Rattle.ms_machine.specs.Moves.move_on (goes.store S m) (Rattle.ms_machine.specs.Moves.first_of (given w)) (step.exited o)) (given w) (steps k)) q
-        ∙ told e (steps k (goes.store S m') (exited t') (given w))
-        ∙ ap (λ (l : Input). behind [] (with_event e []) (steps k (goes.store S m') (exited t') l)) (sym ei);
+        ap (λ (n : ℕ). steps_to S.last n (goes.store S m) (thread fr vs (Do i ∷ r)) (given w)) one
+        ∙ ap (λ (o : step.Outcome). after_move (Rattle.ms_machine.specs.Moves.move_on (goes.store S m) (Rattle.ms_machine.specs.Moves.first_of (given w)) (step.exited o)) (given w) (steps_to S.last k)) q
+        ∙ told e (steps_to S.last k (goes.store S m') (exited t') (given w))
+        ∙ ap (λ (l : Input). behind [] (with_event e []) (steps_to S.last k (goes.store S m') (exited t') l)) (sym ei);
   }
 
   pub quiet_tells : (w w' : World) (e : Option Event) → IsQuiet e → w'.output ≡ w.output → w'.sizes ≡ w.sizes → w.grants ≡ w'.grants → Tells w w' [] (with_event e [])
@@ -272,6 +272,7 @@ module _ (E : Env) where
     apart = k.apart;
     own = k.own;
     lasts = lasts_trans now.objects w.objects qs k.lasts l;
+    file = k.file;
   }
 
   -- with other segments of the same objects
@@ -288,6 +289,7 @@ module _ (E : Env) where
     apart = k.apart;
     own = k.own;
     lasts = k.lasts;
+    file = k.file;
   }
 
   -- and the locals behind the slots are as they were

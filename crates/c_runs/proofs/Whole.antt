@@ -184,19 +184,20 @@ module _ (t : Target) where
   mutual
     whole_place : (d : ℕ) (p : Place) → in_place p ≡ true → IsWhole (place t d p)
     whole_place d (of (Local n)) e = whole_plain _
-    whole_place d (of (Global n)) e = absurd cc
+    whole_place d (of (Global n)) e = whole_plain _
     whole_place d (tree.deref a) e = whole_expr true d a e
     whole_place d (tree.member p n m) e = whole_part d p _ _ e
 
     whole_part : (d : ℕ) (p : Place) (from n : ℕ) → in_place p ≡ true → IsWhole (part t d p from n)
     whole_part d (of (Local v)) from n e = whole_then (one _) _ (whole_plain _) (whole_plain _)
-    whole_part d (of (Global v)) from n e = absurd cc
+    whole_part d (of (Global v)) from n e = whole_then (one _) _ (whole_plain _) (whole_plain _)
     whole_part d (tree.deref a) from n e = whole_then (expr t true d a) _ (whole_expr true d a e) (whole_plain _)
     whole_part d (tree.member p k m) from n e = whole_part d p _ n e
 
     pub whole_expr : (k : Bool) (d : ℕ) (e : Expr) → in_expr e ≡ true → IsWhole (expr t k d e)
     whole_expr k d (tree.number u n) h = whole_left k _ _ (whole_plain _)
     whole_expr k d tree.null h = whole_left k _ _ (whole_plain _)
+    whole_expr k d (tree.literal n) h = whole_left k _ _ (whole_plain _)
     whole_expr k d tree.no_function h = whole_left k _ _ (whole_plain _)
     whole_expr k d (tree.function n) h = whole_left k _ _ (whole_plain _)
     whole_expr k d (tree.same_function is a b) h = let q = both (in_expr a) (in_expr b) h in whole_left k _ _ (whole_two (expr t true d a) (expr t true d b) _ (whole_expr true d a q.0) (whole_expr true d b q.1))
@@ -255,7 +256,6 @@ module _ (t : Target) where
     whole_expr k d (tree.size_of_place n p) h = whole_left k _ _ (whole_plain _)
     whole_expr k d (tree.size_of_value n e) h = whole_left k _ _ (whole_plain _)
     whole_expr k d (tree.size_of_type n) h = whole_left k _ _ (whole_plain _)
-    whole_expr k d _ h = absurd cc
 
     pub whole_exprs : (d : ℕ) (es : Exprs) → in_exprs es ≡ true → IsWhole (exprs t d es)
     whole_exprs d none h = whole_plain []

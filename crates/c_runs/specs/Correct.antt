@@ -1,5 +1,5 @@
 -- What is said of the run of a compiled unit.
-use Rattle.std.specs.Prelude.{◌≡◌, ◌≢◌, ℕ, ◌+◌, ◌*◌, ◌<◌, List, [], ◌∷◌, ◌++◌, option_and_then, replicate, slice_get, Option, Some, None}
+use Rattle.std.specs.Prelude.{◌≡◌, ◌≢◌, ℕ, ◌+◌, ◌*◌, ◌≤◌, List, [], ◌∷◌, ◌++◌, option_and_then, replicate, slice_get, Option, Some, None}
 use Rattle.ms_event.specs.Monitor.{grants, sizes_of}
 use Rattle.ms_machine.specs.Crews as crews
 use Rattle.ms_machine.specs.Crews.{Input, OutOfBudget, Run, bytes_of, events_of, run_of}
@@ -45,8 +45,8 @@ pub record MeansRun (u : Typed) (input : Input) (budget : ℕ) (run : Run) : Typ
   pub end : run.end ≢ OutOfBudget → Reports (main_result u) (meant u input run budget).0 run.end
   -- out of budget it has printed a prefix
   pub prints : run.end ≡ OutOfBudget → IsPrefix (bytes_of run.deeds) (meant u input run budget).1.output
-  -- with a budget above this it is out of it only where the meaning is out of fuel
-  pub bound : (fuel : ℕ) → longest_of u * (fuel + 1) < budget → run.end ≡ OutOfBudget → (meant u input run fuel).0 ≡ out_of_fuel
+  -- with a budget of this it is out of it only where the meaning is out of fuel
+  pub bound : (fuel : ℕ) → longest_of u * (fuel + 1) ≤ budget → run.end ≡ OutOfBudget → (meant u input run fuel).0 ≡ out_of_fuel
 
 -- the run of the task of the function at an address, with no start function
 abbrev pub run_at : Store → (address : ℕ) → Input → (budget : ℕ) → Run

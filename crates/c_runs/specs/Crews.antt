@@ -1,11 +1,12 @@
--- The run of a crew of one task as the steps of its thread, and longer runs.
-use Rattle.std.specs.Prelude.{◌≡◌, ◌≢◌, ℕ, List, [], ◌∷◌, ◌++◌}
+-- The run of a crew of one task, behind a start function, as the steps of their threads; and longer runs.
+use Rattle.std.specs.Prelude.{◌≡◌, ◌≢◌, ◌⊎◌, ℕ, List, [], ◌∷◌, ◌++◌, Option}
 use Rattle.ms_event.specs.declared.event.Event.{Event}
 use Rattle.ms_machine.specs.Crews as crews
-use Rattle.ms_machine.specs.Crews.{Crew, Run, Task, bytes_of, events_of}
+use Rattle.ms_linear.specs.declared.value.Value.{Value}
+use Rattle.ms_machine.specs.Crews.{Crew, Input, Run, Start, Task, ahead, bytes_of, events_of}
 use Rattle.ms_machine.specs.Store.{Store}
 use Rattle.ms_task.specs.Thread.{Thread}
-use Rattle.c_runs.specs.Threads.{Ended, Paused, Ran, Stop, Stuck, Trapped}
+use Rattle.c_runs.specs.Threads.{Ended, Paused, Ran, Stop, Stuck, Trapped, steps, steps_to}
 
 abbrev pub crew_of_one : Store → Thread → Crew
 crew_of_one s t = record { store = s; chain = []; tasks = t ∷ [] }
@@ -30,3 +31,25 @@ pub record Extends (r r' : Ran) : Type 0 where
   pub puts_are : r'.puts ≡ r.puts ++ puts
   pub events_are : r'.events ≡ r.events ++ events
   pub over : r.stop ≢ Paused → r' ≡ r
+
+-- ---- behind a start function
+
+abbrev pub crew_behind : Store → (start t : Thread) → Crew
+crew_behind s start t = record { store = s; chain = ahead (start ∷ []); tasks = t ∷ [] }
+
+abbrev pub then_steps : Thread → ℕ → Store → Option Value → Input → Ran
+then_steps t n s v input = steps n s t input
+
+-- the steps of the start function, and then those of the task
+abbrev pub steps_behind : (start t : Thread) → ℕ → Store → Input → Ran
+steps_behind start t n s input = steps_to (then_steps t) n s start input
+
+-- how a run of the crew ends where its threads stop so: a trap is the start function's or the task's
+abbrev pub EndsAs : Stop → crews.End → Type 0
+EndsAs (Trapped k) end = (end ≡ crews.Trap (Task 0) k) ⊎ (end ≡ crews.Trap Start k)
+EndsAs st end = end ≡ crew_end st
+
+pub record Shows (r : Run) (q : Ran) : Type 0 where
+  pub bytes : bytes_of r.deeds ≡ q.puts
+  pub events : events_of r.deeds ≡ q.events
+  pub ends : EndsAs q.stop r.end

@@ -1,17 +1,20 @@
 -- What a store has of a unit that was compiled: its functions, and three of the host.
-use Rattle.std.specs.Prelude.{◌≡◌, ◌==◌, ℕ, ◌<◌, ◌≤◌, max, true, List, [], ◌∷◌, length, Option, Some, None, slice_get}
+use Rattle.std.specs.Prelude.{◌≡◌, ◌==◌, ℕ, ◌+◌, ◌<◌, ◌≤◌, max, true, List, [], ◌∷◌, length, map, Option, Some, None, slice_get}
 use Rattle.std.specs.List.{list_any}
 use Rattle.ms_host.specs.declared.host.Host.TheVariants as hosts
+use Rattle.ms_linear.specs.declared.global.GlobalInst.{GlobalInst}
 use Rattle.ms_linear.specs.Table.{Table}
+use Rattle.ms_linear.specs.Values.{default_of}
 use Rattle.ms_machine.specs.Step.{host_in}
 use Rattle.ms_machine.specs.Store.{Store}
 use Rattle.ms_machine.specs.declared.store.Instance.{Instance}
+use Rattle.ms_module.specs.declared.module.Global.{Global}
 use Rattle.ms_segment.specs.Memory.{Placed}
 use Rattle.ms_task.specs.declared.func.FuncInst.{FuncInst}
 use Rattle.c_typed.specs.Tree.{Function, Stmt, Typed}
 use Rattle.ms_emit.specs.Codes.{total}
 use Rattle.c_code.specs.Functions.{body, locals, params_in, signature}
-use Rattle.c_code.specs.Modules.{imported, index_of, named, target_of, compiled, entry_of}
+use Rattle.c_code.specs.Modules.{compiled, defined, entry_of, imported, index_of, named, target_of}
 use Rattle.c_code.specs.Uses.{waits_stmt}
 
 -- at the address that is its index, the function of this number, with this body
@@ -24,12 +27,25 @@ pub record IsFunctionAt (u : Typed) (s : Store) (n : ℕ) (f : Function) (b : St
   pub locals_are : inst.locals ≡ locals (target_of u f b) (length (params_in f.ty)) f.slots (waits_stmt b)
   pub body_is : inst.body ≡ body (target_of u f b) f b
 
--- one instance, in which each function has its address as its index; the unit imports none from `c`
+-- the index of the start function
+abbrev pub start_index : Typed → ℕ
+start_index u = 3 + length (imported u) + length (defined u)
+
+-- a global as it begins: zero, or null
+abbrev pub begun_as : Global → GlobalInst
+begun_as g = record { value = default_of g.ty.ty; mutable = true }
+
+abbrev pub first_globals : Typed → List GlobalInst
+first_globals u = map begun_as (compiled u).globals
+
+-- one instance, in which each function and each global has its address as its index; the unit imports none from `c`
 pub record IsPlaced (u : Typed) (s : Store) : Type 0 where
   pub none_imported : imported u ≡ []
   pub inst : Instance
   pub alone : s.instances ≡ inst ∷ []
   pub all : (x : ℕ) → x < length s.funcs → slice_get inst.funcs x ≡ Some x
+  pub globals : s.globals ≡ first_globals u
+  pub shared : (x : ℕ) → x < length s.globals → slice_get inst.globals x ≡ Some x
   pub three : 3 ≤ length s.funcs
   pub putchar : host_in (slice_get s.funcs 0) ≡ Some hosts.Putchar
   pub getchar : host_in (slice_get s.funcs 1) ≡ Some hosts.Getchar
