@@ -222,10 +222,38 @@ fn expect_rows<R: Abort + AllocGlobal>(rt: &R, rows: &[Row]) -> Result<(), Fail>
     Ok(())
 }
 
+fn judgements<R: Abort + AllocGlobal>(rt: &R) -> Result<(), Fail> {
+    expect_rows(rt, &rows::JUDGEMENTS)
+}
+
+fn modules<R: Abort + AllocGlobal>(rt: &R) -> Result<(), Fail> {
+    expect_rows(rt, &rows::MODULES)
+}
+
+fn jobs<R: Abort + AllocGlobal>(rt: &R) -> Result<(), Fail> {
+    expect_rows(rt, &rows::JOBS_RUN)
+}
+
+fn limits<R: Abort + AllocGlobal>(rt: &R) -> Result<(), Fail> {
+    expect_rows(rt, &rows::LIMITS)
+}
+
+fn calls_of_c<R: Abort + AllocGlobal>(rt: &R) -> Result<(), Fail> {
+    expect_rows(rt, &c_rows::CALLS)
+}
+
+fn objects_of_c<R: Abort + AllocGlobal>(rt: &R) -> Result<(), Fail> {
+    expect_rows(rt, &c_rows::OBJECTS)
+}
+
 #[test]
 fn worked_rows(rt: HostRuntime) -> Result<(), Fail> {
-    expect_rows(&rt, &rows::ROWS)?;
-    expect_rows(&rt, &c_rows::C_ROWS)
+    judgements(&rt)?;
+    modules(&rt)?;
+    jobs(&rt)?;
+    limits(&rt)?;
+    calls_of_c(&rt)?;
+    objects_of_c(&rt)
 }
 
 #[test]

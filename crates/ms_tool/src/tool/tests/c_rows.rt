@@ -2,7 +2,8 @@
 
 use super::*;
 
-pub const C_ROWS: [Row; 52] = [
+/// Numbers, control, calls, functions as values, and structs that are assigned.
+pub const CALLS: [Row; 21] = [
     Row {
         words: "exec a.c",
         text: "int main(void){return 7;}",
@@ -159,6 +160,10 @@ pub const C_ROWS: [Row; 52] = [
         written: Some("alloc 1 0 8\nread 1 0 8 4 4\n"),
         ..QUIET
     },
+];
+
+/// Objects, and what is refused.
+pub const OBJECTS: [Row; 31] = [
     Row {
         words: "exec a.c",
         text: "int main(void){int n=0; do n=n+1; while(n<3); return n;}",

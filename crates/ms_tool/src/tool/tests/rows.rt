@@ -21,7 +21,8 @@ const SLICE: &str =
     "(func (export \"main\") (result i32) i32.const 8 segment.new heap i32.const 4 i32.const 4
    handle.slice i64.const -1 handle.add 4 i32.segload)";
 
-pub const ROWS: [Row; 57] = [
+/// Traces that are judged.
+pub const JUDGEMENTS: [Row; 10] = [
     Row {
         words: "judge a.wat",
         text: "alloc 1 0 4\nalloc 2 0 4\n",
@@ -93,6 +94,10 @@ pub const ROWS: [Row; 57] = [
         report: USAGE,
         ..QUIET
     },
+];
+
+/// Modules that are run, checked and written, and words.
+pub const MODULES: [Row; 25] = [
     Row {
         words: "run dumped",
         text: KEEPS,
@@ -278,6 +283,10 @@ pub const ROWS: [Row; 57] = [
         next: Got::Byte(b'i'),
         ..QUIET
     },
+];
+
+/// Jobs.
+pub const JOBS_RUN: [Row; 11] = [
     Row {
         words: "run in-order",
         text: HANDLE,
@@ -356,6 +365,10 @@ pub const ROWS: [Row; 57] = [
         ..QUIET
     },
     // What is written to a file.
+];
+
+/// What is written, sealed handles, and the larger limits.
+pub const LIMITS: [Row; 11] = [
     Row {
         words: "asm a.wat o",
         text: SEVEN,
