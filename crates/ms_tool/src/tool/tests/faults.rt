@@ -23,11 +23,12 @@ fn let_fail(world: &mut Outside, calls: [u64; 5]) -> Result<(), Fail> {
     Ok(())
 }
 
-/// A row, and which calls fail in it (see `let_fail`).
+/// A row, which calls fail in it (see `let_fail`), and whether the file `o` is written all the same.
 #[derive(Clone, Copy)]
 struct Faulty {
     row: Row,
     calls: [u64; 5],
+    written: bool,
 }
 
 const FAULTY: [Faulty; 19] = [
@@ -37,9 +38,11 @@ const FAULTY: [Faulty; 19] = [
             text: SEVEN,
             status: Status::ReadFault,
             report: "read fault a.wat\n",
-            ..QUIET
+            output: "",
+            next: Got::Byte(b'h'),
         },
         calls: [1, 0, 0, 0, 0],
+        written: false,
     },
     Faulty {
         row: Row {
@@ -47,9 +50,11 @@ const FAULTY: [Faulty; 19] = [
             text: SEVEN,
             status: Status::WriteFault,
             report: "",
-            ..QUIET
+            output: "",
+            next: Got::Byte(b'h'),
         },
         calls: [0, 1, 0, 0, 0],
+        written: false,
     },
     Faulty {
         row: Row {
@@ -57,10 +62,11 @@ const FAULTY: [Faulty; 19] = [
             text: SEVEN,
             status: Status::WriteFault,
             report: "",
-            written: Some(SEVEN_BINARY),
-            ..QUIET
+            output: "",
+            next: Got::Byte(b'h'),
         },
         calls: [0, 0, 1, 0, 0],
+        written: true,
     },
     Faulty {
         row: Row {
@@ -68,9 +74,11 @@ const FAULTY: [Faulty; 19] = [
             text: SEVEN,
             status: Status::WriteFault,
             report: "",
-            ..QUIET
+            output: "",
+            next: Got::Byte(b'h'),
         },
         calls: [1, 0, 1, 0, 0],
+        written: false,
     },
     Faulty {
         row: Row {
@@ -78,9 +86,11 @@ const FAULTY: [Faulty; 19] = [
             text: HANDLE,
             status: Status::ReadFault,
             report: "read fault in-order\n",
-            ..QUIET
+            output: "",
+            next: Got::Byte(b'h'),
         },
         calls: [1, 0, 0, 0, 0],
+        written: false,
     },
     Faulty {
         row: Row {
@@ -88,9 +98,11 @@ const FAULTY: [Faulty; 19] = [
             text: HANDLE,
             status: Status::ReadFault,
             report: "read fault a.wat\n",
-            ..QUIET
+            output: "",
+            next: Got::Byte(b'h'),
         },
         calls: [2, 0, 0, 0, 0],
+        written: false,
     },
     Faulty {
         row: Row {
@@ -98,108 +110,119 @@ const FAULTY: [Faulty; 19] = [
             text: HANDLE,
             status: Status::ReadFault,
             report: "read fault 0011\n",
-            ..QUIET
+            output: "",
+            next: Got::Byte(b'h'),
         },
         calls: [3, 0, 0, 0, 0],
+        written: false,
     },
     Faulty {
         row: Row {
-            words: "exec a.c",
+            words: "exec a.wat",
             text: ECHO,
             status: Status::ReadFault,
-            report: "read fault a.c\n",
-            ..QUIET
+            report: "read fault a.wat\n",
+            output: "",
+            next: Got::Byte(b'h'),
         },
         calls: [1, 0, 0, 0, 0],
+        written: false,
     },
     Faulty {
         row: Row {
-            words: "exec a.c",
+            words: "exec a.wat",
             text: ECHO,
             status: Status::ReadFault,
             report: "read fault\n",
-            ..QUIET
+            output: "",
+            next: Got::Byte(b'h'),
         },
         calls: [0, 0, 0, 1, 0],
+        written: false,
     },
     Faulty {
         row: Row {
-            words: "exec a.c",
+            words: "exec a.wat",
             text: ECHO,
             status: Status::ReadFault,
             report: "read fault\n",
             output: "h",
             next: Got::Byte(b'i'),
-            ..QUIET
         },
         calls: [0, 0, 0, 2, 0],
+        written: false,
     },
     Faulty {
         row: Row {
-            words: "exec a.c",
+            words: "exec a.wat",
             text: ECHO,
             status: Status::ReadFault,
             report: "read fault\n",
             output: "hi",
             next: Got::End,
-            ..QUIET
         },
         calls: [0, 0, 0, 3, 0],
+        written: false,
     },
     Faulty {
         row: Row {
-            words: "exec a.c",
+            words: "exec a.wat",
             text: ECHO,
             status: Status::WriteFault,
             report: "",
+            output: "",
             next: Got::Byte(b'i'),
-            ..QUIET
         },
         calls: [0, 0, 0, 0, 1],
+        written: false,
     },
     Faulty {
         row: Row {
-            words: "exec a.c",
+            words: "exec a.wat",
             text: ECHO,
             status: Status::WriteFault,
             report: "",
             output: "h",
             next: Got::End,
-            ..QUIET
         },
         calls: [0, 0, 0, 0, 2],
+        written: false,
     },
     Faulty {
         row: Row {
-            words: "exec a.c",
+            words: "exec a.wat",
             text: ECHO,
             status: Status::WriteFault,
             report: "",
             output: "hi",
             next: Got::End,
-            ..QUIET
         },
         calls: [0, 0, 1, 0, 0],
+        written: false,
     },
     Faulty {
         row: Row {
-            words: "exec a.c",
+            words: "exec a.wat",
             text: ECHO,
             status: Status::WriteFault,
             report: "",
-            ..QUIET
+            output: "",
+            next: Got::Byte(b'h'),
         },
         calls: [0, 0, 1, 1, 0],
+        written: false,
     },
     Faulty {
         row: Row {
-            words: "run traced-unit",
+            words: "run traced",
             text: REMAKES,
             status: Status::WriteFault,
             report: "",
-            ..QUIET
+            output: "",
+            next: Got::Byte(b'h'),
         },
         calls: [0, 1, 0, 0, 0],
+        written: false,
     },
     Faulty {
         row: Row {
@@ -207,20 +230,23 @@ const FAULTY: [Faulty; 19] = [
             text: KEEPS,
             status: Status::WriteFault,
             report: "done\n",
-            ..QUIET
+            output: "",
+            next: Got::Byte(b'h'),
         },
         calls: [0, 0, 2, 0, 0],
+        written: false,
     },
     Faulty {
         row: Row {
             words: "exec a.c",
-            text: OVERRUN,
+            text: "int main(void){int a[4]; int i; for(i=0;i<=4;i=i+1){putchar(48+i); a[i]=i;} return 0;}",
             status: Status::WriteFault,
             report: "",
             output: "01",
-            ..QUIET
+            next: Got::Byte(b'h'),
         },
         calls: [0, 0, 0, 0, 3],
+        written: false,
     },
     Faulty {
         row: Row {
@@ -228,28 +254,51 @@ const FAULTY: [Faulty; 19] = [
             text: "int main(void){return getchar();}",
             status: Status::ReadFault,
             report: "read fault\n",
-            ..QUIET
+            output: "",
+            next: Got::Byte(b'h'),
         },
         calls: [0, 0, 0, 1, 0],
+        written: false,
     },
 ];
 
-/// Whether a row comes out so when its calls fail.
-fn expect_faulty<R: Abort + AllocGlobal>(rt: &R, faulty: &Faulty) -> Result<(), Fail> {
+/// Whether a row comes out so when its calls fail, of which the file `o` has these bytes, if it is written.
+fn expect_faulty<R: Abort + AllocGlobal>(
+    rt: &R,
+    faulty: &Faulty,
+    bytes: &[u8],
+) -> Result<(), Fail> {
     let row = faulty.row;
     let mut world = row_world(rt.alloc(), &row)?;
     let_fail(&mut world, faulty.calls)?;
-    expect_in(rt, world, &row)
+    let words = row.words;
+    let line = format!(in rt.alloc(); "mswasm {words}")?;
+    let flow = (row.output, row.next);
+    let written = if faulty.written { Some(bytes) } else { None };
+    expect(
+        rt,
+        line.as_str(),
+        world,
+        row.status,
+        row.report,
+        flow,
+        written,
+    )
 }
 
-fn expect_all_faulty<R: Abort + AllocGlobal>(rt: &R, rows: &[Faulty]) -> Result<(), Fail> {
+fn expect_all_faulty<R: Abort + AllocGlobal>(
+    rt: &R,
+    rows: &[Faulty],
+    bytes: &[u8],
+) -> Result<(), Fail> {
     for faulty in rows {
-        expect_faulty(rt, faulty)?;
+        expect_faulty(rt, faulty, bytes)?;
     }
     Ok(())
 }
 
 #[test]
 fn scripted_faults(rt: HostRuntime) -> Result<(), Fail> {
-    expect_all_faulty(&rt, &FAULTY)
+    let binary = bytes_of(rt.alloc(), SEVEN_BINARY)?;
+    expect_all_faulty(&rt, &FAULTY, binary.as_slice())
 }
