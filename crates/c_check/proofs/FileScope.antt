@@ -10,6 +10,7 @@ use Rattle.c_tree.specs.declared.initialiser.Init.{Init}
 use Rattle.c_tree.specs.Statements.{Items}
 use Rattle.c_tree.specs.Tree.{Declarator, Initialiser}
 use Rattle.c_typed.specs.declared.ops.Variable.TheVariants as variables
+use Rattle.c_typed.specs.Constants.{give_constants}
 use Rattle.c_typed.specs.declared.unit.Subject.TheVariants as subjects
 use Rattle.c_typed.specs.Tree as to
 use Rattle.c_typed.specs.Tree.{Function, Stmt}
@@ -18,7 +19,7 @@ use Rattle.c_check_types.specs.Scopes.{outer}
 use Rattle.c_check_types.specs.Types.{Derived, whole, lengthless, whole_type, Parameter, types_of_parameters}
 use Rattle.c_declare.specs.Functions.{has_no_body, result_in, defined, with_definition, with_body}
 use Rattle.c_check.specs.Statements.{scope_of, nothing_done, is_missing}
-use Rattle.c_check.specs.Declarations.{global_value, declares_global, names_function, declares, declares_one, declaration, defines_function, definition, stands_alone, form, external}
+use Rattle.c_check.specs.Declarations.{with_values, global_value, declares_global, names_function, declares, declares_one, declaration, defines_function, definition, stands_alone, form, external}
 use Rattle.c_typed.specs.refinement.Types.{IsType, IsObject}
 use Rattle.c_typed.specs.refinement.Expressions.{is_visible}
 use Rattle.c_typed.specs.Statements.{no_jumps, IsStatement}
@@ -81,7 +82,8 @@ global_value-does m n t (Some v) s g h e o at there =
     let held = held-stepped s u good (quiet-steps s u q) h in
     let still : slice_get u.made m ≡ Some (to.global n []) = subst (λ ms. slice_get ms m ≡ Some (to.global n [])) (sym q.made.1) (get-kept s.made q.made.0 m (to.global n []) there) in
     let news = subst (λ xs. All (IsGiven (context u)) xs) (sym done.is) done.given in
-    ends Any tt u (with-given u m n ss) Whole (given-good u m n ss good) (any-same u) (given-held u m n [] ss good empty still news held, empty))
+    only-then Any (give_constants ss) (with_values m n ss) u Whole (λ constants.
+    ends Any tt u (with-given u m n ss) Whole (given-good u m n ss good) (any-same u) (given-held u m n [] ss good empty still news constants held, empty)))
 
 at-end : {A : Type 0} (xs : List A) (x : A) → slice_get (xs ++ x ∷ []) (length xs) ≡ Some x
 at-end [] x = refl

@@ -180,5 +180,5 @@ given-grown c d g tree.break h = absurd h
 given-grown c d g tree.continue h = absurd h
 
 pub made-grown : (c d : Context) → Grows c d → (m : Made) → IsMade c m → IsMade d m
-made-grown c d g (tree.global n ss) h = All-weaker (IsGiven c) (IsGiven d) (given-grown c d g) ss h
+made-grown c d g (tree.global n ss) h = (All-weaker (IsGiven c) (IsGiven d) (given-grown c d g) ss h.0, h.1)
 made-grown c d g (tree.text bytes) h = tt

@@ -12,6 +12,7 @@ use Rattle.c_check_types.specs.State.{State}
 use Rattle.c_typed.specs.refinement.Types.{IsObject}
 use Rattle.c_typed.specs.refinement.Expressions.{Context, is_visible}
 use Rattle.c_typed.specs.Statements.{no_jumps, IsStatement}
+use Rattle.c_typed.specs.Constants.{give_constants}
 use Rattle.c_typed.specs.Identifiers.{is_identifier}
 use Rattle.c_typed.specs.Units.{HasIdentifier, HaveNames, literals_in, variables_in, numbers, context_of, list_of, IsBody, IsFunction, IsMade, IsGiven, IsWellTyped}
 use Rattle.c_declare.specs.Functions.{defined}
@@ -206,7 +207,7 @@ same-literals ms n = let e = texts-append ms (tree.global n [] ∷ []) in omega 
 pub made-holds : (s : State) (n : ℕ) → Holds s → Holds (with-made s n)
 made-holds s n h =
     let is = IsMade (so_far s [] 0) in
-    things-hold s (s.made ++ tree.global n [] ∷ []) (same-literals s.made n) (All-push is s.made (tree.global n []) h.made (All-nil (IsGiven (so_far s [] 0)))) h
+    things-hold s (s.made ++ tree.global n [] ∷ []) (same-literals s.made n) (All-push is s.made (tree.global n []) h.made (All-nil (IsGiven (so_far s [] 0)), refl)) h
 
 -- the variable that is made is the next one
 pub made-next : (u w : State) (t : Ty) (n : ℕ) → AreMade u → w.made ≡ u.made → n ≡ length u.globals → w.globals ≡ u.globals ++ t ∷ [] → AreMade (with-made w n)
@@ -239,12 +240,12 @@ with-given s m n ss = with-things s (set s.made m (tree.global n ss))
 pub given-good : (s : State) (m n : ℕ) (ss : List Stmt) → Good s → Good (with-given s m n ss)
 given-good s m n ss g = things-good s (set s.made m (tree.global n ss)) g
 
-pub given-held : (s : State) (m n : ℕ) (old ss : List Stmt) → Good s → s.slots ≡ [] → slice_get s.made m ≡ Some (tree.global n old) → All (IsGiven (context s)) ss → Held s
-    → Held (with-given s m n ss)
-given-held s m n old ss g empty at news h =
+pub given-held : (s : State) (m n : ℕ) (old ss : List Stmt) → Good s → s.slots ≡ [] → slice_get s.made m ≡ Some (tree.global n old) → All (IsGiven (context s)) ss
+    → give_constants ss ≡ true → Held s → Held (with-given s m n ss)
+given-held s m n old ss g empty at news constants h =
     let c = so_far s [] 0 in
     let there = All-weaker (IsGiven (context s)) (IsGiven c) (given-grown (context s) c (context-is s h.0.literals empty (none-visible s g empty))) ss news in (
-      things-hold s (set s.made m (tree.global n ss)) (set-literals s.made m n old ss at) (All-set (IsMade c) s.made m (tree.global n ss) there h.0.made) h.0,
+      things-hold s (set s.made m (tree.global n ss)) (set-literals s.made m n old ss at) (All-set (IsMade c) s.made m (tree.global n ss) (there, constants) h.0.made) h.0,
       set-variables s.made m n old ss at ∙ h.1,
     )
 

@@ -23,6 +23,7 @@ pub mod Computed
 pub mod Trees
 pub mod Items
 pub mod Alone
+pub mod Globals
 pub mod Leaves
 pub mod Stated
 pub mod Held

@@ -13,6 +13,7 @@ use Rattle.c_tree.specs.StatementHeights.{tallest_item}
 use Rattle.c_tree.specs.Statements.{Items}
 use Rattle.c_tree.specs.Tree.{Declarator, Initialiser}
 use Rattle.c_typed.specs.declared.ops.Variable.TheVariants as variables
+use Rattle.c_typed.specs.Constants.{give_constants}
 use Rattle.c_typed.specs.refinement.Nesting.{stmt_nesting, deepest, made_nesting, function_nesting, unit_nesting}
 use Rattle.c_typed.specs.Tree as to
 use Rattle.c_typed.specs.Tree.{Function, Stmt, Typed}
@@ -44,7 +45,8 @@ module _ {m : ℕ} where
   global_value-any z i t None h = ends tt
   global_value-any z i t (Some v) h =
       onward (initialised-nests {n = m} 0 v true (to.of (variables.Global i)) t [] nil h tt) (λ ss k.
-      record { after = λ s g. done (deepest-set made_nesting s.made z (to.global i ss) g.0 (deepest-in m ss k), g.1) tt })
+      onward (only_if-any (give_constants ss)) (λ a p.
+      record { after = λ s g. done (deepest-set made_nesting s.made z (to.global i ss) g.0 (deepest-in m ss k), g.1) tt }))
 
   declares_global-any : (name : List ℕ) (d : Derived) (v : Option Initialiser) → value_height v ≤ m → Gives m (declares_global name d v) Any
   declares_global-any name d v h =

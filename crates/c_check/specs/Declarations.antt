@@ -12,6 +12,7 @@ use Rattle.c_tree.specs.declared.specifier.SpecifierNode.TheVariants as specifie
 use Rattle.c_tree.specs.Statements.{Items}
 use Rattle.c_tree.specs.Tree.{Declarator, Initialiser}
 use Rattle.c_typed.specs.declared.ops.Variable.TheVariants as variables
+use Rattle.c_typed.specs.Constants.{give_constants}
 use Rattle.c_typed.specs.Tree as to
 use Rattle.c_typed.specs.Tree.{Stmt}
 use Rattle.c_check_types.specs.State.{Rule, ◌>>=◌, ◌>>◌, pure, given, only_if, state, change}
@@ -41,6 +42,7 @@ abbrev pub global_value : (place number : ℕ) → Ty → Option Initialiser →
 global_value m n t None = pure tt
 global_value m n t (Some v) = do
   ss ← initialised v true (to.of (variables.Global n)) t []
+  only_if (give_constants ss)
   with_values m n ss
 
 abbrev pub declares_global : List ℕ → Derived → Option Initialiser → Rule (Unit {0})

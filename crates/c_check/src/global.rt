@@ -12,7 +12,7 @@ use crate::initialiser::initialised;
 use c_check_types::{Checker, Derived, Stop};
 use c_declare::{declares_function, enters_global, variable_type};
 use c_tree::{Init, Initialiser};
-use c_typed::{Made, Path, Stmt, Variable};
+use c_typed::{Made, Path, Stmt, Variable, give_constants};
 use c_types::CType;
 use std::mem;
 
@@ -55,6 +55,9 @@ fn global_value<'a>(
             let mut values = Vec::new(checker.alloc);
             let path = Path::Variable(Variable::Global(n));
             initialised(checker, v, true, &path, t, &mut values)?;
+            if !give_constants(&values) {
+                return Err(Stop::NoTyping);
+            }
             with_values(checker, m, n, values)
         }
     }

@@ -25,7 +25,7 @@ use Rattle.c_typed.specs.declared.ops.UnaryOp.TheVariants.{Negate, Complement}
 use Rattle.c_typed.specs.declared.ops.Variable.{Variable}
 use Rattle.c_typed.specs.Tree as tree
 use Rattle.c_typed.specs.Tree.{Place, of, deref, member, Expr, Exprs, none, more}
-use Rattle.c_meaning.specs.Integers.{value_of, wrap}
+use Rattle.c_meaning.specs.Integers.{bits_of, value_of, wrap}
 use Rattle.ms_emit.specs.Codes.{Code, plain, one, no_code, ◌⨾◌, choice}
 use Rattle.c_code.specs.Leaves.{Leaf, leaves}
 use Rattle.c_code.specs.Operations.{constant, convert, compared, eqz, i32, i64, load, narrow, new_heap, op, operated, rel, relation, slice, store, truth, val_option, width_of}
@@ -61,7 +61,7 @@ abbrev pub bytes_in : Expr → Option ℕ
 bytes_in (tree.number t n) = Some n
 bytes_in (tree.size_of_place n p) = Some n
 bytes_in (tree.size_of_value n e) = Some n
-bytes_in (tree.size_of_type n) = Some n
+bytes_in (tree.size_of_type n) = Some (bits_of UnsignedInt (pos n))
 bytes_in _ = None
 
 abbrev pub is_null : Expr → Bool

@@ -1,8 +1,11 @@
 //! What is known of an expression by its own node, as the code around it asks.
 
-ghost use Rattle.std.specs.Prelude.{◌≡◌};
+ghost use Rattle.std.specs.Prelude.{◌≡◌, pos};
+ghost use Rattle.c_types.specs.declared.integers.IntType.TheVariants.{UnsignedInt};
 ghost use Rattle.c_typed.specs.refinement.Views.{expr_of};
+ghost use Rattle.c_meaning.specs.Integers.{bits_of};
 ghost use Rattle.c_code.specs.Expressions as words;
+ghost use Rattle.c_compile.specs.declared.known.Known.TheVariants.{Size};
 ghost use Rattle.c_compile.specs.refinement.Known as known;
 
 use c_typed::Expr;
@@ -23,6 +26,15 @@ pub enum Known {
     Nothing,
 }
 
+/// What is known of a size: as bits of an `unsigned int` it is itself.
+#[tactic(auto, using(crate::proofs::Sizes::own_bits))]
+fn size(n: u32) -> Known
+    ensures is { result ≡ Size n }
+    ensures bits { bits_of UnsignedInt (pos n) ≡ n }
+{
+    Known::Size(n)
+}
+
 /// What is known of it.
 pub fn known_of(e: &Expr) -> Known
     ensures number { words.number_in (expr_of e.now) ≡ known.number_in result }
@@ -32,7 +44,7 @@ pub fn known_of(e: &Expr) -> Known
 {
     match e {
         Expr::Number(u, bits) => Known::Number(*u, *bits),
-        Expr::SizeOf(n, _) => Known::Size(*n),
+        Expr::SizeOf(n, _) => size(*n),
         Expr::Null => Known::Null,
         Expr::Truth(_, _)
         | Expr::Not(_)

@@ -1,6 +1,6 @@
 -- What expressions do (C11, 6.5), by recursion on the typed tree. Evaluation goes from left to right.
 use Rattle.std.specs.Prelude.{ℕ, ◌*◌, ℤ, pos, negsuc, neg_ℤ, int_div, Bool, true, false, not, ◌==◌, List, [], ◌∷◌, Option, Some, None, if◌then◌else◌, slice_get}
-use Rattle.c_types.specs.declared.integers.IntType.TheVariants.{UnsignedChar, UnsignedInt}
+use Rattle.c_types.specs.declared.integers.IntType.TheVariants.{Char, UnsignedChar, UnsignedInt}
 use Rattle.c_types.specs.Types.{Ty, struct}
 use Rattle.c_types.specs.Layout.{size}
 use Rattle.c_typed.specs.declared.ops.RelOp.TheVariants.{Equal, NotEqual}
@@ -39,6 +39,10 @@ nothing_given = null
 abbrev pub byte_value : Option ℕ → Value
 byte_value None = number (negsuc 0)
 byte_value (Some b) = number (pos b)
+
+-- an element of a string (6.4.5, paragraph 6)
+abbrev pub char_of : ℕ → Value
+char_of b = number (wrap Char (pos b))
 
 abbrev pub back_if : Bool → ℤ → ℤ
 back_if back z = if back then neg_ℤ z else z
@@ -130,7 +134,7 @@ module _ (unit : Typed) (calls : Calls) where
     expr (tree.unary op t a) = integer (expr a) >>= (λ x. pure (number (changed op t x)))
     expr (tree.size_of_place n b) = pure (number (pos n))
     expr (tree.size_of_value n e) = pure (number (pos n))
-    expr (tree.size_of_type n) = pure (number (pos n))
+    expr (tree.size_of_type n) = pure (number (wrap UnsignedInt (pos n)))
     -- 6.3.1.3
     expr (tree.convert t u a) = integer (expr a) >>= (λ x. pure (number (wrap u x)))
     -- 6.5.5 to 6.5.12

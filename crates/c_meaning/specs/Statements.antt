@@ -1,18 +1,17 @@
 -- What statements do (C11, 6.8), by recursion on the typed tree. A unit of fuel is spent at each return to the start of a loop.
 -- `loops` and `do_loops` have a bound, by which the recursion goes: it is above the fuel, so that no run comes to it.
 use Rattle.std.specs.Prelude.{ℕ, zero, suc, ◌==◌, Bool, true, false, List, [], ◌∷◌, map, Option, Some, None, if◌then◌else◌, slice_get}
-use Rattle.c_types.specs.declared.integers.IntType.TheVariants.{Char}
 use Rattle.c_types.specs.Types.{Ty}
 use Rattle.c_typed.specs.declared.ops.Variable.TheVariants.{Local}
 use Rattle.c_typed.specs.declared.tree.Case.{Case}
 use Rattle.c_typed.specs.Tree.{Expr, Stmt, nothing, perform, fill, if_else, loop, do_while, switch, scope, return, return_nothing, break, continue, Stmts, done, seq, Typed}
 use Rattle.c_typed.specs.Statements.{count}
-use Rattle.c_meaning.specs.Values.{Value, inside, number, zero_value}
+use Rattle.c_meaning.specs.Values.{Value, inside, zero_value}
 use Rattle.c_meaning.specs.Objects as objects
 use Rattle.c_meaning.specs.World.{out_of_fuel, Held, plain, object, Does, ◌>>=◌, ◌>>◌, pure, stop, known, look, alter, spend}
 use Rattle.c_meaning.specs.Integers.{bits_of, value_of}
 use Rattle.c_meaning.specs.Accesses.{make_frame, hold}
-use Rattle.c_meaning.specs.Expressions.{Calls, expr, further, integer, nothing_given, place, pointer, test}
+use Rattle.c_meaning.specs.Expressions.{Calls, char_of, expr, further, integer, nothing_given, place, pointer, test}
 
 -- ---- how a statement goes on (6.8.6)
 
@@ -109,7 +108,7 @@ module _ (unit : Typed) (calls : Calls) (bound : ℕ) where
       -- a string into an array (6.7.9, paragraph 14)
       stmt (fill b n bytes) =
           pointer (place unit calls b) >>= further inside >>= (λ p.
-          alter (objects.write_all 1 p 0 (map (λ x. number (value_of Char x)) bytes))) >> pure next
+          alter (objects.write_all 1 p 0 (map char_of bytes))) >> pure next
       stmt (if_else c a b) = test (expr unit calls c) >>= (λ x. if x then stmt a else stmt b)
       stmt (loop c step body) = loops bound (test (expr unit calls c)) (step_of step) (stmt body)
       stmt (do_while body c) = do_loops bound (test (expr unit calls c)) (stmt body)

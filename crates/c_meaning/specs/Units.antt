@@ -6,12 +6,11 @@ use Rattle.c_types.specs.Types.{Ty, void, integer, array}
 use Rattle.c_typed.specs.declared.ops.Variable.TheVariants.{Global}
 use Rattle.c_typed.specs.Tree.{Stmt, Function, Made, global, text, Typed}
 use Rattle.c_typed.specs.Objects.{in_stmt, is_whole}
-use Rattle.c_meaning.specs.Values.{Value, inside, number, zero_value}
+use Rattle.c_meaning.specs.Values.{Value, inside, zero_value}
 use Rattle.c_meaning.specs.Objects as objects
 use Rattle.c_meaning.specs.World.{End, result, lost, plain, object, World, Result, gives, ends, Does, ◌>>=◌, ◌>>◌, pure, stop, known, look, change, alter}
-use Rattle.c_meaning.specs.Integers.{value_of}
 use Rattle.c_meaning.specs.Accesses.{make_frame, hold}
-use Rattle.c_meaning.specs.Expressions.{Calls, further}
+use Rattle.c_meaning.specs.Expressions.{Calls, char_of, further}
 use Rattle.c_meaning.specs.Statements.{stmt}
 use Rattle.c_meaning.specs.Functions.{of_defined, called, calls_at, result_of}
 
@@ -70,13 +69,16 @@ module _ (unit : Typed) where
   abbrev pub fill_literal : ℕ → List ℕ → Does (Unit {0})
   fill_literal k bytes =
       look (λ w. slice_get w.literals k) >>= known >>= (λ o. further inside (objects.to_object o)) >>= (λ p.
-      alter (objects.write_all 1 p 0 (map (λ x. number (value_of Char x)) bytes)))
+      alter (objects.write_all 1 p 0 (map char_of bytes)))
 
   -- k literals stand before these
   abbrev pub give_each : (k : ℕ) → List Made → Does (Unit {0})
   give_each k [] = pure tt
   give_each k (global n ss ∷ ms) = run_each ss >> give_each k ms
   give_each k (text bytes ∷ ms) = fill_literal k bytes >> give_each (suc k) ms
+
+  abbrev pub before_main : Does (Unit {0})
+  before_main = make_each unit.made >> give_each 0 unit.made
 
   -- ---- main
 

@@ -3,6 +3,7 @@ use Rattle.std.specs.Prelude.{◌≡◌, ℕ, zero, suc, ◌+◌, ◌<◌, true,
 use Rattle.std.specs.List.{All}
 use Rattle.c_types.specs.Layout.{Table, Layout, layout_at, IsLaidOut}
 use Rattle.c_types.specs.Types.{Ty, function, Tys, no_types, types}
+use Rattle.c_typed.specs.Constants.{give_constants}
 use Rattle.c_typed.specs.Identifiers.{is_identifier}
 use Rattle.c_typed.specs.Tree as tree
 use Rattle.c_typed.specs.Tree.{Function, Made, Stmt, Typed}
@@ -29,14 +30,14 @@ abbrev pub numbers : ℕ → List ℕ
 numbers zero = []
 numbers (suc n) = numbers n ++ n ∷ []
 
--- a value that file scope gives (6.7.9, paragraph 4): an assignment, or a string's bytes
+-- a value that file scope gives: an assignment, or a string's bytes
 abbrev pub IsGiven : Context → Stmt → Type 0
 IsGiven c (tree.perform e) = IsDone c e
 IsGiven c (tree.fill p n bytes) = IsFilled c p n bytes
 IsGiven c _ = ⊥
 
 abbrev pub IsMade : Context → Made → Type 0
-IsMade c (tree.global n ss) = All (IsGiven c) ss
+IsMade c (tree.global n ss) = All (IsGiven c) ss × (give_constants ss ≡ true)
 IsMade c (tree.text bytes) = Unit {0}
 
 -- ---- functions

@@ -11,6 +11,7 @@
 #![tactic(auto)]
 
 mod build;
+mod constant;
 mod form;
 mod identifier;
 mod integers;
@@ -26,6 +27,7 @@ pub use build::{
     add, assign, copy, do_while, fill, if_else, loop_of, perform, return_value, scope, switch,
     while_loop,
 };
+pub use constant::give_constants;
 pub use form::{Amount, Form};
 pub use identifier::is_identifier;
 pub use integers::{arithmetic, compared, promoted_value, shift};

@@ -210,7 +210,7 @@ module _ (u : tree.Typed) (c : Context) (t : Target) (waits : ℕ) (returns : c.
       → Goes c bd ls (gives t k ms) [] []
   gives_goes bd ls k [] g le h = none
   gives_goes bd ls k (tree.global n ss ∷ ms) g le h =
-      values_goes bd ls ss (All-head (IsMade Here) (tree.global n ss) ms g)
+      values_goes bd ls ss (All-head (IsMade Here) (tree.global n ss) ms g).0
       (first_values c t functions waits (uses.in_values ss) (uses.in_made ms) (λ m. in_values m ss) (λ m. in_made m ms)
       (waits_values u ss) (waits_made u ms) h)
       ▹ gives_goes bd ls k ms (All-tail (IsMade Here) (tree.global n ss) ms g) le
