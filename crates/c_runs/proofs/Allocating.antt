@@ -1,5 +1,5 @@
 -- Objects of the heap are made (C11, 7.22.3.2, 7.22.3.4): as many elements as the bytes hold. Where one is refused the pointer is null.
-use Rattle.std.proofs.Common.{◌≡◌, ⊎_elim, ℕ, ◌*◌, ◌/◌, ◌%◌, ◌^◌, ◌<◌, ◌≤◌, List, [], ◌∷◌, length, Bool, true, false, T, ltb→lt, Option, Some, None, refl, sym, ap, ◌∙◌, arith, subst, div-mul-le_self, mod-eq_of_lt, mul-le-mul_right}
+use Rattle.std.proofs.Common.{◌≡◌, ⊎_elim, ℕ, ◌*◌, ◌/◌, ◌%◌, ◌^◌, ◌<◌, ◌≤◌, List, [], ◌∷◌, length, Bool, true, false, Option, Some, None, refl, sym, ap, ◌∙◌, arith, subst, div-mul-le_self, mod-eq_of_lt, mul-le-mul_right}
 use Rattle.std.specs.Prelude.{pos, nat_lt, Ok, Err, if◌then◌else◌}
 use Rattle.std.proofs.lemmas.Bool.{cases_lt, le-ltb, lt-ltb, ne_eqb}
 use Rattle.ms_handle.specs.declared.handle.Kind.TheVariants as kinds
@@ -30,14 +30,13 @@ use Rattle.c_meaning.specs.Shapes.{Shape, shape, size}
 use Rattle.c_meaning.specs.Values.{Value, null, number}
 use Rattle.c_meaning.specs.Objects.{heap, to_object, whole_of}
 use Rattle.c_meaning.specs.World.{ungranted, World, Result, Does, ◌>>=◌, pure}
-use Rattle.c_meaning.specs.Integers.{bits_of, value_of}
+use Rattle.c_meaning.specs.Integers.{bits_of, value_of, wrap}
 use Rattle.c_meaning.specs.Accesses.{allocate, allocate_product, make, pointer_to}
 use Rattle.c_meaning.specs.Expressions as meaning
 use Rattle.ms_emit.specs.Codes.{Code, plain, one, ◌⨾◌, choice}
 use Rattle.c_code.specs.Expressions.{allocated, bytes_in, product_allocated}
 use Rattle.c_code.specs.Operations.{i32, i64, new_heap, op, rel}
 use Rattle.c_code.specs.Targets.{scratch_i64}
-use Rattle.c_stage.specs.Stage.{in_expr}
 use Rattle.c_numbers.specs.Operands.{IsIn, all_carried, then_on}
 use Rattle.c_numbers.proofs.Conversions.{constant_is}
 use Rattle.c_numbers.proofs.Ranges.{bits_below}
@@ -90,14 +89,14 @@ known_type t e = ap or e where
 abbrev IsKnown : Does Value → ℕ → Type 0
 IsKnown x b = (x ≡ pure (number (pos b))) × (b < 2 ^ 32)
 
-pub known_bytes : (E : Env) (k : well.Context) (e : Expr) (b : ℕ) → bytes_in e ≡ Some b → in_expr e ≡ true → HasType k e (integer UnsignedInt) → IsKnown (meaning.expr E.unit E.calls e) b
-known_bytes E k (tree.number t n) b e i h = subst (λ (c : ℕ). IsKnown (pure (number (value_of t n))) c) (some_is n b e) (by t (known_type t h.0) h.1) where
+pub known_bytes : (E : Env) (k : well.Context) (e : Expr) (b : ℕ) → bytes_in e ≡ Some b → HasType k e (integer UnsignedInt) → IsKnown (meaning.expr E.unit E.calls e) b
+known_bytes E k (tree.number t n) b e h = subst (λ (c : ℕ). IsKnown (pure (number (value_of t n))) c) (some_is n b e) (by t (known_type t h.0) h.1) where
   by : (u : IntType) → UnsignedInt ≡ u → n < 2 ^ bits u → IsKnown (pure (number (value_of u n))) n
   by u q lt = subst (λ (v : IntType). n < 2 ^ bits v → IsKnown (pure (number (value_of v n))) n) q (λ l. (refl, l)) lt
-known_bytes E k (tree.size_of_place n p) b e i h = subst (λ (c : ℕ). IsKnown (pure (number (pos n))) c) (some_is n b e) (refl, let is = h.4 in let le = h.3.1 in omega (arith, is, le))
-known_bytes E k (tree.size_of_value n a) b e i h = subst (λ (c : ℕ). IsKnown (pure (number (pos n))) c) (some_is n b e) (refl, let is = h.4 in let le = h.3.1 in omega (arith, is, le))
-known_bytes E k (tree.size_of_type n) b e i h = subst (λ (c : ℕ). IsKnown (pure (number (pos n))) c) (some_is n b e) (refl, ltb→lt n 4294967296 (subst T (sym i) tt))
-known_bytes E k _ b e i h = absurd cc
+known_bytes E k (tree.size_of_place n p) b e h = subst (λ (c : ℕ). IsKnown (pure (number (pos n))) c) (some_is n b e) (refl, let is = h.4 in let le = h.3.1 in omega (arith, is, le))
+known_bytes E k (tree.size_of_value n a) b e h = subst (λ (c : ℕ). IsKnown (pure (number (pos n))) c) (some_is n b e) (refl, let is = h.4 in let le = h.3.1 in omega (arith, is, le))
+known_bytes E k (tree.size_of_type n) b e h = subst (λ (c : ℕ). IsKnown (pure (number (wrap UnsignedInt (pos n)))) c) (some_is (bits_of UnsignedInt (pos n)) b e) (refl, bits_below UnsignedInt (pos n))
+known_bytes E k _ b e h = absurd cc
 
 module _ (E : Env) (u : Ty) (slot : IsSlot E.unit.structs u) where
   abbrev s : Shape

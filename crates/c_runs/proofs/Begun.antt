@@ -1,11 +1,10 @@
 -- The start function: what is made, and then what is given, as one run.
-use Rattle.std.proofs.Common.{◌≡◌, ℕ, ◌+◌, ◌≤◌, List, [], length, sym, arith, subst, refl}
-use Rattle.ms_linear.specs.declared.value.Value.{Value as Word}
+use Rattle.std.proofs.Common.{◌≡◌, ℕ, ◌+◌, ◌≤◌, List, [], length, sym, arith, subst}
 use Rattle.ms_module.specs.declared.instr.Instr.{Instr}
 use Rattle.ms_task.specs.Thread.{Item, depth_of, sequence}
 use Rattle.c_typed.specs.Tree.{Typed}
 use Rattle.c_typed.specs.Units.{IsWellTyped, literals_in}
-use Rattle.c_meaning.specs.World.{World, Result, ◌>>◌}
+use Rattle.c_meaning.specs.World.{World, ◌>>◌}
 use Rattle.c_meaning.specs.Units.{give_each, make_each}
 use Rattle.ms_emit.specs.Codes.{Code, total}
 use Rattle.c_code.specs.Functions.{gives as gives_code, makes, start}

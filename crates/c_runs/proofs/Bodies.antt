@@ -40,11 +40,6 @@ pub data IsResult (t : Ty) : Type 0 where
   is_pointer : (s : Ty) → t ≡ pointer s → IsResult t
 
 -- a result without a pointer
-abbrev pub is_integer_or_void : Ty → Bool
-is_integer_or_void void = true
-is_integer_or_void (integer t) = true
-is_integer_or_void _ = false
-
 -- the body of a function: no jump leads out of it, and no value waits
 abbrev pub at_top : Way
 at_top = way no_jumps 0 None no_off

@@ -33,7 +33,11 @@ use Rattle.c_code.specs.Functions as code
 use Rattle.c_code.specs.Functions.{body, held_as, locals, params_from, params_in, result, result_in, scratch_locals, slots_from}
 use Rattle.c_code.specs.Modules.{index_of, target_of}
 use Rattle.c_code.specs.Operations.{val_of}
-use Rattle.c_stage.specs.Stage.{are_slots, in_stmt, is_variable}
+use Rattle.c_runs.proofs.Small.{is_small}
+use Rattle.std.specs.List.{All}
+use Rattle.std.proofs.lemmas.List.Elements.{All-head, All-tail}
+use Rattle.c_types.specs.Layout.{Table}
+use Rattle.c_typed.specs.refinement.Types.{IsObject}
 use Rattle.c_code.specs.Statements as scheme
 use Rattle.c_code.specs.Statements.{at_body, freed, objects_in}
 use Rattle.c_code.specs.Targets.{Target}
@@ -63,7 +67,6 @@ use Rattle.c_runs.proofs.Stmts.{ArePlain, IsPlain, left_runs, neither, no_object
 use Rattle.c_runs.proofs.Bodies.{IsResult, at_top, body_runs}
 use Rattle.c_runs.proofs.Entering.{arg_words, args_held, args_words, callee, first_apart, first_own, firsts, flat, length_us, others_are}
 use Rattle.c_runs.proofs.Ready.{IsReady, in_stmt_of}
-use Rattle.c_runs.proofs.Whole.{both}
 
 -- ---- slots that are integers, and no objects
 
@@ -147,9 +150,9 @@ abbrev pub AreSlots : List Ty → Type 0
 AreSlots [] = Unit {0}
 AreSlots (t ∷ ts) = IsVariable t × AreSlots ts
 
-pub slots_of : (ts : List Ty) → are_slots ts ≡ true → AreSlots ts
-slots_of [] e = tt
-slots_of (t ∷ ts) e = let q = both (is_variable t) (are_slots ts) e in (variable_type t q.0, slots_of ts q.1)
+pub slots_of : (table : Table) (ts : List Ty) → All (IsObject table) ts → AreSlots ts
+slots_of table [] h = tt
+slots_of table (t ∷ ts) h = (variable_type table t (All-head (IsObject table) t ts h), slots_of table ts (All-tail (IsObject table) t ts h))
 
 pub slot_is : (ts : List Ty) → AreSlots ts → (x : ℕ) (t : Ty) → slice_get ts x ≡ Some t → IsVariable t
 slot_is [] a x t e = absurd cc
@@ -227,7 +230,7 @@ pub record Compiled (S : Site) (unit : Typed) (f : ℕ) (t : Ty) (ps : Tys) : Ty
   pub begins : function_is.slots ≡ list_of ps ++ others
   pub well : IsStatement (context_of unit function_is.slots (length (list_of ps))) t no_jumps stmt_is
   pub slots_are : AreSlots function_is.slots
-  pub ready : IsReady true (target_of unit function_is stmt_is).is_object unit (in_stmt stmt_is) (uses.in_stmt stmt_is) (in_stmt_of stmt_is)
+  pub ready : IsReady true (target_of unit function_is stmt_is).is_object unit (is_small stmt_is) (uses.in_stmt stmt_is) (in_stmt_of stmt_is)
   pub result : IsResult t
   pub table : IsTable S unit
   pub laid_out : IsLaidOut unit.structs

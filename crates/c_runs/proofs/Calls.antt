@@ -21,13 +21,12 @@ use Rattle.c_typed.specs.Units.{list_of, numbers}
 use Rattle.c_meaning.specs.Values.{Value}
 use Rattle.c_meaning.specs.World.{deep, Held, World, Result, gives, ends, Does, after, ◌>>◌, spend}
 use Rattle.c_meaning.specs.Functions as meaning
-use Rattle.c_meaning.specs.Functions.{back_to, calls_at, first_locals, given, if_shallow, make_param, make_params, numbers_from, of_defined, run_body, with_body}
+use Rattle.c_meaning.specs.Functions.{back_to, calls_at, if_shallow, numbers_from, of_defined, with_body}
 use Rattle.c_code.specs.Functions.{params_in}
 use Rattle.c_code.specs.Modules.{index_of, target_of}
-use Rattle.c_stage.specs.Stage.{are_data, is_data}
 use Rattle.c_code.specs.Targets.{Target}
 use Rattle.c_runs.proofs.Goes as goes
-use Rattle.c_runs.proofs.Goes.{Site, Mem, Runs, Goes, after_after, behind_goes, resize, spent, tells_nothing, trapped, unspent}
+use Rattle.c_runs.proofs.Goes.{Site, Mem, Runs, Goes, spent, tells_nothing, trapped, unspent}
 use Rattle.ms_relate.specs.refinement.Homes.{Home}
 use Rattle.ms_relate.specs.refinement.Relation.{Related}
 use Rattle.ms_relate.proofs.Growing.{Extends}
@@ -37,11 +36,10 @@ use Rattle.c_runs.proofs.Related.{AreOf, Env, FiledIn, IsValue, Kept, Now, are_s
 use Rattle.c_runs.proofs.Ops.{GoodIn, ToIn, at_work, Stack}
 use Rattle.c_runs.proofs.Operations.{Linked, Reaches}
 use Rattle.c_runs.proofs.Exprs.{AreScalars, CallsRun}
-use Rattle.c_runs.proofs.Scalars.{data_scalar, data_type}
+use Rattle.c_runs.proofs.Scalars.{AreData, data_scalar}
 use Rattle.c_runs.proofs.Stmts.{neither}
 use Rattle.c_runs.proofs.Entering.{arg_words, callee, deep_call, length_us, shallow_call}
 use Rattle.c_runs.proofs.Ready.{IsCallable}
-use Rattle.c_runs.proofs.Whole.{both}
 use Rattle.c_runs.proofs.Callees.{Compiled, get_within, E, Enters, K, begun_with, does, flat_enters, flat_fits, flat_of, home, in_front, long, object_is, slots, tg}
 use Rattle.c_runs.proofs.Entering.{length_args}
 use Rattle.c_runs.proofs.Copied.{copied_enters, copied_fits}
@@ -66,9 +64,9 @@ some_numbers : (P : ℕ → Bool) (k : ℕ) → list_any P (numbers k) ≡ true 
 some_numbers P zero e = absurd cc
 some_numbers P (suc k) e = grind arith
 
-all_scalars : (E : Env) (hs : List Home) (ps : Tys) → are_data ps ≡ true → AreScalarsOf E hs ps
+all_scalars : (E : Env) (hs : List Home) (ps : Tys) → AreData ps → AreScalarsOf E hs ps
 all_scalars E hs no_types e = tt
-all_scalars E hs (types t ts) e = let q = both (is_data t) (are_data ts) e in (data_scalar t (data_type t q.0), all_scalars E hs ts q.1)
+all_scalars E hs (types t ts) e = (data_scalar t e.0, all_scalars E hs ts e.1)
 
 -- with these arguments in front
 abbrev at_args : {S : Site} {unit : Typed} {f : ℕ} {t : Ty} {ps : Tys} (p : Compiled S unit f t ps) (front : List Word) → (target_of unit p.function_is p.stmt_is).first ≡ length front → Compiled S unit f t ps
@@ -106,11 +104,11 @@ at_args p front e = record {
 -- ---- all calls, by the bound
 
 module _ (S : Site) (L : Linked S) (unit : Typed) (all : (f : ℕ) (t : Ty) (ps : Tys) → slice_get (map (λ (g : Function). g.ty) unit.functions) f ≡ Some (function t ps) → IsCallable unit f → Compiled S unit f t ps)
-    (par_ints : (f : ℕ) (t : Ty) (ps : Tys) → slice_get (map (λ (g : Function). g.ty) unit.functions) f ≡ Some (function t ps) → are_data ps ≡ true) where
+    (par_ints : (f : ℕ) (t : Ty) (ps : Tys) → slice_get (map (λ (g : Function). g.ty) unit.functions) f ≡ Some (function t ps) → AreData ps) where
   module _ (i f d : ℕ) (t : Ty) (ps : Tys) (p : Compiled S unit f t ps) where
-    are_ints : (qs : Tys) → are_data qs ≡ true → AreScalars (E S L unit i f d t ps p) L (home S L unit i f d t ps p) (K S L unit i f d t ps p) refl qs
+    are_ints : (qs : Tys) → AreData qs → AreScalars (E S L unit i f d t ps p) L (home S L unit i f d t ps p) (K S L unit i f d t ps p) refl qs
     are_ints no_types e = tt
-    are_ints (types q qs) e = let b = both (is_data q) (are_data qs) e in (data_scalar q (data_type q b.0), are_ints qs b.1)
+    are_ints (types q qs) e = (data_scalar q e.0, are_ints qs e.1)
 
     pub ints_of : (g : ℕ) (s : Ty) (qs : Tys) → slice_get (map (λ (h : Function). h.ty) unit.functions) g ≡ Some (function s qs) → AreScalars (E S L unit i f d t ps p) L (home S L unit i f d t ps p) (K S L unit i f d t ps p) refl qs
     ints_of g s qs e = are_ints qs (par_ints g s qs e)
@@ -119,7 +117,7 @@ module _ (S : Site) (L : Linked S) (unit : Typed) (all : (f : ℕ) (t : Ty) (ps 
     Callees = CallsRun (E S L unit i f d t ps p) L (home S L unit i f d t ps p) (K S L unit i f d t ps p) refl
 
   -- a call that is entered, from its start to the caller
-  module _ (i f d : ℕ) (t : Ty) (ps : Tys) (p : Compiled S unit f t ps) (callees : (q : Compiled S unit f t ps) → Callees i f d t ps q) (data_are : are_data ps ≡ true) (hs : List Home) (us : List Value) (ok : AreOf (E S L unit i f d t ps p) ps hs us) where
+  module _ (i f d : ℕ) (t : Ty) (ps : Tys) (p : Compiled S unit f t ps) (callees : (q : Compiled S unit f t ps) → Callees i f d t ps q) (data_are : AreData ps) (hs : List Home) (us : List Value) (ok : AreOf (E S L unit i f d t ps p) ps hs us) where
     abbrev target : Target
     target = tg S L unit i f d t ps p
 
@@ -167,7 +165,7 @@ module _ (S : Site) (L : Linked S) (unit : Typed) (all : (f : ℕ) (t : Ty) (ps 
     enters = by_kind (list_any is_param_object (numbers (length (params_in p.function_is.ty)))) refl
 
   -- one call, where those of its body do what is meant
-  module _ (i f0 d : ℕ) (t0 : Ty) (ps0 : Tys) (p0 : Compiled S unit f0 t0 ps0) (f : ℕ) (t : Ty) (ps : Tys) (p : Compiled S unit f t ps) (instr : Instr) (above : Stack) (reach : Reaches (E S L unit (suc i) f0 d t0 ps0 p0) instr above (index_of unit f)) (hs : List Home) (us : List Value) (ok : AreOf (E S L unit (suc i) f0 d t0 ps0 p0) ps hs us) (callees : (q : Compiled S unit f t ps) → Callees i f (suc d) t ps q) (data_are : are_data ps ≡ true)
+  module _ (i f0 d : ℕ) (t0 : Ty) (ps0 : Tys) (p0 : Compiled S unit f0 t0 ps0) (f : ℕ) (t : Ty) (ps : Tys) (p : Compiled S unit f t ps) (instr : Instr) (above : Stack) (reach : Reaches (E S L unit (suc i) f0 d t0 ps0 p0) instr above (index_of unit f)) (hs : List Home) (us : List Value) (ok : AreOf (E S L unit (suc i) f0 d t0 ps0 p0) ps hs us) (callees : (q : Compiled S unit f t ps) → Callees i f (suc d) t ps q) (data_are : AreData ps)
       (now : Now) (le : now.below ≤ suc i) (vs : List Word) (r : List Item) (dep : depth_of r ≡ d) (w : World) (m : Mem) (more : Extends hs m.homes) (k : Kept (E S L unit (suc i) f0 d t0 ps0 p0) now w m) where
     abbrev C : Env
     C = E S L unit (suc i) f0 d t0 ps0 p0

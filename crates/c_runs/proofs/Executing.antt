@@ -1,41 +1,38 @@
--- What is run of a unit that was linked alone where its `main` is the one task: that task, behind a start function with no instruction.
+-- What is run of a unit that was linked alone where its `main` is the one task: that task, behind the start function.
 use Rattle.std.proofs.Common.{◌≡◌, ℕ, zero, suc, ◌+◌, ◌/◌, ◌<◌, List, [], ◌∷◌, ◌++◌, length, map, Bool, true, false, Option, Some, None, Ok, Err, refl, sym, ap, ◌∙◌, arith, subst}
-use Rattle.std.specs.Prelude.{Result, codes, cond, filter, find, is_some, nat_lt, not, option_and_then, option_map, replicate, slice_get, if◌then◌else◌}
+use Rattle.std.specs.Prelude.{Result, codes, cond, filter, find, is_some, nat_lt, not, option_and_then, replicate, slice_get, if◌then◌else◌, ◌&&◌}
 use Rattle.std.specs.List.{position_or_len}
 use Rattle.std.specs.Str.{bytes_eq}
-use Rattle.std.proofs.lemmas.Option.{slice_get-map, slice_get_within}
+use Rattle.std.proofs.lemmas.Option.{slice_get_within}
 use Rattle.std.proofs.lemmas.Slice.Eq.{bytes_eq-Decides}
 use Rattle.std.proofs.Math.Nat.{mod-one}
-use Rattle.ms_linear.specs.Values.{default_of}
-use Rattle.ms_module.specs.Numbered.{sequence_at}
-use Rattle.ms_module.specs.declared.instr.Instr.{Instr}
 use Rattle.ms_module.specs.declared.module.Export.{Export}
 use Rattle.ms_module.specs.declared.module.ExportDesc.TheVariants as exports
 use Rattle.ms_types.specs.declared.types.FuncType.{FuncType}
 use Rattle.ms_types.specs.declared.types.ValType.{ValType}
-use Rattle.ms_machine.specs.Crews.{Input, ahead, by_work, run_entries, run_of, turns_from}
-use Rattle.ms_machine.specs.Linked.{instance_in, linked, nothing_made, own_func, start_chain, with_start}
-use Rattle.ms_machine.specs.Running.{AreBytes, func_thread, start_of}
+use Rattle.ms_machine.specs.Crews.{Input, run_of, turns_from}
+use Rattle.ms_machine.specs.Linked.{instance_in, linked, nothing_made, own_func}
+use Rattle.ms_machine.specs.Running.{AreBytes, func_thread}
 use Rattle.ms_machine.specs.Store.{Store}
 use Rattle.ms_machine.specs.declared.store.Instance.{Instance}
-use Rattle.ms_task.specs.Control.{exit_ended, nobody}
 use Rattle.ms_task.specs.declared.func.FuncInst.{FuncInst}
-use Rattle.ms_task.specs.Thread.{Activation, Item, Thread, body_in, result_of, sequence}
+use Rattle.ms_task.specs.Thread.{Thread}
 use Rattle.ms_tasks.specs.Tasks.{and_thread, crew_of, exported_task, is_task_result, is_task_type, of_task_type, takes_nothing, task_address, thread_at, threads_from}
-use Rattle.c_types.specs.Types.{Ty, function, Tys, no_types, types}
-use Rattle.c_typed.specs.Tree.{Function, Made, Stmt, Typed}
+use Rattle.c_types.specs.Types.{Ty, void, integer, pointer, function, is_function, Tys, no_types, types}
+use Rattle.c_types.specs.declared.types.Scalar.TheVariants as scalars
+use Rattle.c_typed.specs.refinement.Types.{IsType, IsValue}
+use Rattle.c_typed.specs.Tree.{Function, Stmt, Typed}
 use Rattle.c_typed.specs.Units.{HaveNames, IsFunction, IsWellTyped, list_of, numbers}
 use Rattle.c_meaning.specs.Units.{main_number}
-use Rattle.c_code.specs.Functions.{held_as, params_in, start}
-use Rattle.c_code.specs.Modules.{compiled, defined, export_of, exports_of, funcs_from, function_at, imported, index_of, is_defined, is_defined_at, is_exported, named, start_func, start_target}
-use Rattle.c_stage.specs.Stage.{in_stage}
-use Rattle.c_runs.specs.Correct.{Behaves, MeansRun}
-use Rattle.c_runs.specs.Crews.{crew_of_one}
+use Rattle.c_code.specs.Functions.{held_as, listed, params_in, result_in}
+use Rattle.c_code.specs.Operations.{val_of, val_option}
+use Rattle.c_code.specs.Modules.{compiled, export_of, exports_of, function_at, gives_function, imported, index_of, is_defined, is_defined_at, is_exported, named}
+use Rattle.c_runs.proofs.Fits.{IsMost}
+use Rattle.c_runs.specs.Correct.{Behaves, MeansRun, gives_integer}
 use Rattle.c_runs.specs.Placed.{IsFunctionAt, IsPlaced}
-use Rattle.c_runs.proofs.Linking.{address_at, defined_are, few_named_in, is_made, none_imported, own_funcs, placed, st, three_hosts}
+use Rattle.c_runs.proofs.Linking.{address_at, few_named_in, is_made, none_imported, placed, st, three_hosts}
 use Rattle.c_runs.proofs.Numbers.{is_below}
-use Rattle.c_runs.proofs.Placed.{all_at, none_made, same_one, seq_is}
-use Rattle.c_runs.proofs.Related.{front}
+use Rattle.c_runs.proofs.Placed.{all_at, same_one}
 use Rattle.c_runs.proofs.Top.{compiled_behaves}
 use Rattle.c_runs.proofs.Whole.{both}
 
@@ -46,12 +43,6 @@ turns_are turns i zero = refl
 turns_are turns i (suc count) =
     ap (λ (k : ℕ). k ∷ turns_from turns 1 (suc i) count) (mod-one (i / turns))
     ∙ ap (λ (ks : List ℕ). 0 ∷ ks) (turns_are turns (suc i) count)
-
--- ---- lists
-
-at_end : {A : Type 0} (xs : List A) (y : A) → slice_get (xs ++ y ∷ []) (length xs) ≡ Some y
-at_end [] y = refl
-at_end (x ∷ xs) y = at_end xs y
 
 -- ---- the first function of a name is the one that has it
 
@@ -98,6 +89,7 @@ pub record IsMain (u : Typed) (funcs : List FuncInst) (i : Instance) (address : 
   pub at : slice_get u.functions number ≡ Some function_is
   pub has_body : function_is.body ≡ Some stmt_is
   pub named : is_main function_is ≡ true
+  pub exported : is_exported u function_is ≡ true
   pub found : option_and_then (of_task_type funcs) (slice_get i.funcs (index_of u number)) ≡ Some address
 
 module _ (u : Typed) (funcs : List FuncInst) (i : Instance) (address : ℕ) where
@@ -105,23 +97,23 @@ module _ (u : Typed) (funcs : List FuncInst) (i : Instance) (address : ℕ) wher
   in_exports es = option_and_then (exported_task funcs i) (find (λ (e : Export). bytes_eq (codes "main") e.name) es)
 
   module _ (m : ℕ) (ns : List ℕ) (further : in_exports (exports_of u ns) ≡ Some address → IsMain u funcs i address) where
-    named_so : (f : Function) (s : Stmt) → slice_get u.functions m ≡ Some f → f.body ≡ Some s → (b : Bool) → is_main f ≡ b
+    named_so : (f : Function) (s : Stmt) → slice_get u.functions m ≡ Some f → f.body ≡ Some s → is_exported u f ≡ true → (b : Bool) → is_main f ≡ b
         → option_and_then (exported_task funcs i) (cond b (Some (record { name = f.name; desc = exports.Func (index_of u m) })) (find (λ (e : Export). bytes_eq (codes "main") e.name) (exports_of u ns))) ≡ Some address
         → IsMain u funcs i address
-    named_so f s q d true n e = record { number = m; function_is = f; stmt_is = s; at = q; has_body = d; named = n; found = e }
-    named_so f s q d false n e = further e
+    named_so f s q d x true n e = record { number = m; function_is = f; stmt_is = s; at = q; has_body = d; named = n; exported = x; found = e }
+    named_so f s q d x false n e = further e
 
-    exported : (f : Function) (s : Stmt) → slice_get u.functions m ≡ Some f → f.body ≡ Some s → (b : Bool)
+    exported : (f : Function) (s : Stmt) → slice_get u.functions m ≡ Some f → f.body ≡ Some s → (b : Bool) → is_exported u f ≡ b
         → in_exports ((cond b (record { name = f.name; desc = exports.Func (index_of u m) } ∷ []) []) ++ exports_of u ns) ≡ Some address
         → IsMain u funcs i address
-    exported f s q d true e = named_so f s q d (is_main f) refl e
-    exported f s q d false e = further e
+    exported f s q d true x e = named_so f s q d x (is_main f) refl e
+    exported f s q d false x e = further e
 
     with_body : (f : Function) → slice_get u.functions m ≡ Some f → (o : Option Stmt) → f.body ≡ o
         → in_exports (exports_of u (cond (is_some o) (m ∷ ns) ns)) ≡ Some address → IsMain u funcs i address
     with_body f q None d e = further e
     with_body f q (Some s) d e =
-        exported f s q d (is_exported u f) (subst (λ (o : Option Function). in_exports (export_of u m o ++ exports_of u ns) ≡ Some address) q e)
+        exported f s q d (is_exported u f) refl (subst (λ (o : Option Function). in_exports (export_of u m o ++ exports_of u ns) ≡ Some address) q e)
 
     of_number : (o : Option Function) → slice_get u.functions m ≡ o → in_exports (exports_of u (cond (is_defined o) (m ∷ ns) ns)) ≡ Some address → IsMain u funcs i address
     of_number None q e = further e
@@ -137,7 +129,7 @@ if_true x a false e = absurd cc
 
 -- ---- the store of a unit that was linked alone
 
-module _ (u : Typed) (name : List ℕ) (c : ℕ) (well : IsWellTyped u) (staged : in_stage u ≡ true) (none : imported u ≡ []) (few : length (named u) < 4294967295) where
+module _ (u : Typed) (name : List ℕ) (c : ℕ) (well : IsWellTyped u) (most : IsMost u) (none : imported u ≡ []) (few : length (named u) < 4294967295) where
   abbrev s : Store
   s = st u name c none
 
@@ -150,49 +142,9 @@ module _ (u : Typed) (name : List ℕ) (c : ℕ) (well : IsWellTyped u) (staged 
   its_address : (x : ℕ) → x < length s.funcs → slice_get i.funcs x ≡ Some x
   its_address x lt = address_at (compiled u).funcs (own_func (compiled u) 0) x lt
 
-  -- ---- the start function
-
-  abbrev start_number : ℕ
-  start_number = 3 + length (imported u) + length (defined u)
-
-  start_number_is : start_number ≡ suc (suc (suc (length (funcs_from u 0 u.functions))))
-  start_number_is =
-      let a = ap (λ (l : List ℕ). length l) none in
-      let b = ap (λ (l : List ℕ). length l) (defined_are u) in
-      let d = own_funcs u 0 u.functions in
-      omega (arith, a, b, d)
-
-  abbrev start_inst : FuncInst
-  start_inst = own_func (compiled u) 0 (start_func u)
-
-  start_there : slice_get s.funcs start_number ≡ Some start_inst
-  start_there =
-      let k = length (funcs_from u 0 u.functions) in
-      ap (slice_get s.funcs) start_number_is ∙ slice_get-map (own_func (compiled u) 0) (compiled u).funcs k
-      ∙ ap (option_map (own_func (compiled u) 0)) (at_end (funcs_from u 0 u.functions) (start_func u))
-
-  start_sequence : sequence s.funcs start_number 0 ≡ []
-  start_sequence =
-      seq_is s.funcs start_number 0 ∙ ap (λ (o : Option FuncInst). sequence_at (body_in o) 0) start_there
-      ∙ ap (λ (ms : List Made). sequence_at (start (start_target u) u.globals ms) 0) (none_made u s well staged there)
-
-  -- so it has ended before its first turn
-  start_ended : (func_thread s start_number).work ≡ []
-  start_ended =
-      ap (λ (o : Option FuncInst). (start_of s start_number o).work) start_there
-      ∙ ap (λ (is : List Instr). (exit_ended (record { function = start_number; locals = map default_of start_inst.locals }) [] (front is (Activation (result_of start_inst) 0 (nobody s.funcs) ∷ []))).work) start_sequence
-
-  chain_is : ahead (map (func_thread s) (start_chain s.instances)) ≡ []
-  chain_is =
-      ap (λ (o : Option ℕ). ahead (map (func_thread s) (with_start o [])))
-      (its_address start_number (slice_get_within s.funcs start_number start_inst start_there))
-      ∙ ap (λ (w : List Item). by_work w [] (func_thread s start_number ∷ [])) start_ended
-
   run_is : (turns budget : ℕ) (t : Thread) (input : Input)
-      → run_of (turns_from turns 1 0 budget) (crew_of s (t ∷ [])) input ≡ run_of (replicate budget 0) (crew_of_one s t) input
-  run_is turns budget t input =
-      ap (λ (ts : List Thread). run_entries (turns_from turns 1 0 budget) (record { store = s; chain = ts; tasks = t ∷ [] }) input) chain_is
-      ∙ ap (λ (ks : List ℕ). run_of ks (crew_of_one s t) input) (turns_are turns 0 budget)
+      → run_of (turns_from turns 1 0 budget) (crew_of s (t ∷ [])) input ≡ run_of (replicate budget 0) (crew_of s (t ∷ [])) input
+  run_is turns budget t input = ap (λ (ks : List ℕ). run_of ks (crew_of s (t ∷ [])) input) (turns_are turns 0 budget)
 
   -- ---- the task
 
@@ -217,10 +169,27 @@ module _ (u : Typed) (name : List ℕ) (c : ℕ) (well : IsWellTyped u) (staged 
         let ps = none_mapped (held_as false) (params_in p.function_is.ty) (sym (ap (λ (ty : FuncType). ty.params) inst.type_is) ∙ none) in
         (here.0, here.2 ∙ ap (function here.0) (no_parameters here.1 (ap params_in (sym here.2) ∙ ps)))
 
+    -- it gives no pointer: none to an object, which no task gives, and none to a function, which isn't exported
+    numeric : gives_integer typed.0 ≡ true
+    numeric = by typed.0 (subst (IsType u.structs) typed.1 (all_at (IsFunction u) u.functions p.number p.function_is p.at well.functions).3).0
+        (ap (λ (ty : Ty). is_task_result (listed (val_of (result_in ty)))) (sym typed.1) ∙ ap (λ (ty : FuncType). is_task_result ty.results) (sym inst.type_is) ∙ (both (takes_nothing inst.inst.ty.params) (is_task_result inst.inst.ty.results) if_task.0).1)
+        (ap (λ (ty : Ty). not (bytes_eq (codes "main") p.function_is.name && gives_function u ty)) (sym typed.1) ∙ p.exported)
+      where
+        no_function : (b n : Bool) → n ≡ true → is_task_result (listed (val_option (Some (if b then scalars.Function else scalars.Pointer)))) ≡ true → not (n && b) ≡ true → false ≡ true
+        no_function true true h e x = x
+        no_function false true h e x = e
+        no_function b false h e x = h
+
+        by : (t : Ty) → IsValue t → is_task_result (listed (val_of t)) ≡ true → not (bytes_eq (codes "main") p.function_is.name && gives_function u (function t no_types)) ≡ true → gives_integer t ≡ true
+        by void v e x = refl
+        by (integer i) v e x = refl
+        by (pointer q) v e x = no_function (is_function q) (bytes_eq (codes "main") p.function_is.name) p.named e x
+        by _ v e x = absurd v
+
     main_behaves : Behaves u s a
     main_behaves =
         subst (Behaves u s) if_task.1
-        (compiled_behaves u s p.number p.function_is p.stmt_is typed.0 well staged (number_is u p.number p.function_is p.at p.named well.distinct) p.at p.has_body typed.1 there)
+        (compiled_behaves u s p.number p.function_is p.stmt_is typed.0 well most (number_is u p.number p.function_is p.at p.named well.distinct) p.at p.has_body typed.1 numeric there)
 
   one_thread : (threads : List Thread) (o : Option ℕ) → and_thread (thread_at s o) 0 (Ok []) ≡ Ok threads → (a : ℕ) × (o ≡ Some a) × (func_thread s a ∷ [] ≡ threads)
   one_thread threads None e = absurd cc
@@ -237,10 +206,10 @@ module _ (u : Typed) (name : List ℕ) (c : ℕ) (well : IsWellTyped u) (staged 
       (subst (MeansRun u input budget) (sym (run_is turns budget (func_thread s q.0) input))
       (main_behaves q.0 (exported_main u s.funcs i q.0 (numbers (length u.functions)) q.1) input bytes budget))
 
-pub executed_behaves : (u : Typed) (c turns budget : ℕ) (s : Store) (threads : List Thread) (input : Input) → IsWellTyped u → in_stage u ≡ true
-    → linked (([], compiled u) ∷ []) c ≡ Ok s → threads_from s ((0, codes "main") ∷ []) 0 ≡ Ok threads
+pub executed_behaves : (u : Typed) (name : List ℕ) (c turns budget : ℕ) (s : Store) (threads : List Thread) (input : Input) → IsWellTyped u → IsMost u
+    → linked ((name, compiled u) ∷ []) c ≡ Ok s → threads_from s ((0, codes "main") ∷ []) 0 ≡ Ok threads
     → AreBytes input → MeansRun u input budget (run_of (turns_from turns 1 0 budget) (crew_of s threads) input)
-executed_behaves u c turns budget s threads input well staged e tasks bytes =
-    let none = none_imported u [] c s e in
+executed_behaves u name c turns budget s threads input well most e tasks bytes =
+    let none = none_imported u name c s e in
     subst (λ (t : Store). threads_from t ((0, codes "main") ∷ []) 0 ≡ Ok threads → MeansRun u input budget (run_of (turns_from turns 1 0 budget) (crew_of t threads) input))
-    (is_made u [] c none s e) (λ tasks'. executed u [] c well staged none (few_named_in u [] c s e) turns budget threads input tasks' bytes) tasks
+    (is_made u name c none s e) (λ tasks'. executed u name c well most none (few_named_in u name c s e) turns budget threads input tasks' bytes) tasks

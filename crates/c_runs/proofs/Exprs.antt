@@ -1,10 +1,11 @@
 -- Expressions do what is meant.
-use Rattle.std.proofs.Common.{◌≡◌, ℕ, zero, suc, ◌+◌, ◌*◌, ◌^◌, ◌<◌, ◌≤◌, List, [], ◌∷◌, ◌++◌, Bool, true, false, T, ltb→lt, Option, Some, None, refl, sym, ap, ◌∙◌, arith, subst}
-use Rattle.std.specs.Prelude.{ℤ, pos, ◌&&◌, get_or, not, slice_get, if◌then◌else◌}
+use Rattle.std.proofs.Common.{◌≡◌, ℕ, zero, suc, ◌+◌, ◌*◌, ◌^◌, ◌<◌, ◌≤◌, List, [], ◌∷◌, ◌++◌, Bool, true, false, Option, Some, None, refl, sym, ap, ◌∙◌, arith, subst}
+use Rattle.std.specs.Prelude.{ℤ, pos, get_or, not, slice_get, if◌then◌else◌}
 use Rattle.ms_linear.specs.declared.value.Value.{Value as Word}
 use Rattle.ms_types.specs.declared.types.ValType.TheVariants as vals
 use Rattle.ms_module.specs.declared.access.Segment.TheVariants as segment
-use Rattle.ms_module.specs.declared.instr.Instr.TheVariants.{Call, Drop, GlobalGet, Segment, CallIndirect, LocalGet, LocalSet}
+use Rattle.ms_module.specs.declared.instr.Instr.TheVariants.{Call, Drop, GlobalGet, I32Const, Segment, CallIndirect, LocalGet, LocalSet}
+use Rattle.ms_num.specs.Integers.{signed, wrapped}
 use Rattle.ms_module.specs.declared.instr.Instr.{Instr}
 use Rattle.ms_module.specs.declared.numeric.Width.TheVariants.{W32}
 use Rattle.c_types.specs.declared.integers.IntType.{IntType}
@@ -37,10 +38,9 @@ use Rattle.ms_emit.specs.Codes.{Code, plain, one, ◌⨾◌, choice}
 use Rattle.c_code.specs.Expressions as code
 use Rattle.c_code.specs.Expressions.{allocated, as_bit, begun, bytes_in, converted, ended, fetched, int, is_bit, is_null, left, number_in, of_type, product_allocated, updated, moved, decayed, is_deref}
 use Rattle.c_code.specs.Operations.{constant, convert, eqz, i32, operated, truth, val_option, width_of, compared, i64, slice}
-use Rattle.c_stage.specs.Stage.{in_expr, in_exprs, in_place}
 use Rattle.c_code.specs.Targets.{get, plain_in, scratch_i64, waiting}
 use Rattle.c_code.specs.Uses as uses
-use Rattle.c_code.specs.Uses.{calls, copies}
+use Rattle.c_code.specs.Uses.{copies}
 use Rattle.c_numbers.proofs.Ranges.{value_in, wrap_in}
 use Rattle.c_typing.proofs.Sound.{AreSound, AreSoundNames, Sound, sound_expr, sound_place}
 use Rattle.c_runs.specs.Words.{pushed}
@@ -127,26 +127,26 @@ module _ (E : Env) where
   order_given o a b w =
       given_after E IsBit (value a w) _ (λ p w1. given_after E IsBit (value b w1) _ (λ q w2. given_after E IsBit (ask (λ os. distance os p q) w2) _ (λ d w3. (meant.compared o d (pos 0), refl))))
 
-  bit_given : (e : Expr) → is_bit e ≡ true → in_expr e ≡ true → (w : World) → AllGiven E IsBit (value e w)
-  bit_given (tree.truth s a) b h w = given_after E IsBit (meaning.test (value a) w) _ (λ x w1. (x, refl))
-  bit_given (tree.not a) b h w = given_after E IsBit (meaning.test (value a) w) _ (λ x w1. (not x, refl))
-  bit_given (tree.compare o t x y) b h w = given_after E IsBit (meaning.integer (value x) w) _ (λ p w1. given_after E IsBit (meaning.integer (value y) w1) _ (λ q w2. (meant.compared o p q, refl)))
-  bit_given (tree.compare_pointers relations.Equal x y) b h w =
+  bit_given : (e : Expr) → is_bit e ≡ true → (w : World) → AllGiven E IsBit (value e w)
+  bit_given (tree.truth s a) b w = given_after E IsBit (meaning.test (value a) w) _ (λ x w1. (x, refl))
+  bit_given (tree.not a) b w = given_after E IsBit (meaning.test (value a) w) _ (λ x w1. (not x, refl))
+  bit_given (tree.compare o t x y) b w = given_after E IsBit (meaning.integer (value x) w) _ (λ p w1. given_after E IsBit (meaning.integer (value y) w1) _ (λ q w2. (meant.compared o p q, refl)))
+  bit_given (tree.compare_pointers relations.Equal x y) b w =
       given_after E IsBit (value x w) _ (λ p w1. given_after E IsBit (value y w1) _ (λ q w2. given_after E IsBit (ask (λ os. same_place os p q) w2) _ (λ r w3. (r, refl))))
-  bit_given (tree.compare_pointers relations.NotEqual x y) b h w =
+  bit_given (tree.compare_pointers relations.NotEqual x y) b w =
       given_after E IsBit (value x w) _ (λ p w1. given_after E IsBit (value y w1) _ (λ q w2. given_after E IsBit (ask (λ os. same_place os p q) w2) _ (λ r w3. (not r, refl))))
-  bit_given (tree.compare_pointers relations.Less x y) b h w = order_given relations.Less x y w
-  bit_given (tree.compare_pointers relations.LessEqual x y) b h w = order_given relations.LessEqual x y w
-  bit_given (tree.compare_pointers relations.Greater x y) b h w = order_given relations.Greater x y w
-  bit_given (tree.compare_pointers relations.GreaterEqual x y) b h w = order_given relations.GreaterEqual x y w
-  bit_given (tree.same_function alike x y) b h w = given_after E IsBit (value x w) _ (λ p w1. given_after E IsBit (value y w1) _ (λ q w2. (meaning.same_named alike p q, refl)))
-  bit_given (tree.and x y) b h w =
+  bit_given (tree.compare_pointers relations.Less x y) b w = order_given relations.Less x y w
+  bit_given (tree.compare_pointers relations.LessEqual x y) b w = order_given relations.LessEqual x y w
+  bit_given (tree.compare_pointers relations.Greater x y) b w = order_given relations.Greater x y w
+  bit_given (tree.compare_pointers relations.GreaterEqual x y) b w = order_given relations.GreaterEqual x y w
+  bit_given (tree.same_function alike x y) b w = given_after E IsBit (value x w) _ (λ p w1. given_after E IsBit (value y w1) _ (λ q w2. (meaning.same_named alike p q, refl)))
+  bit_given (tree.and x y) b w =
       given_after E IsBit (meaning.test (value x) w) _
       (λ p. if_given p (meaning.test (value y) >>= (λ q. pure (meaning.truth q))) (pure (meaning.truth false)) (λ w1. given_after E IsBit (meaning.test (value y) w1) _ (λ q w2. (q, refl))) (λ w1. (false, refl)))
-  bit_given (tree.or x y) b h w =
+  bit_given (tree.or x y) b w =
       given_after E IsBit (meaning.test (value x) w) _
       (λ p. if_given p (pure (meaning.truth true)) (meaning.test (value y) >>= (λ q. pure (meaning.truth q))) (λ w1. (true, refl)) (λ w1. given_after E IsBit (meaning.test (value y) w1) _ (λ q w2. (q, refl))))
-  bit_given _ b h w = absurd cc
+  bit_given _ b w = absurd cc
 
   truth_again : (b : Bool) → (is_true (meaning.truth b) >>= (λ q. pure (meaning.truth q))) ≡ pure (meaning.truth b)
   truth_again true = refl
@@ -160,20 +160,20 @@ module _ (E : Env) where
       (op_given E c same (pushed (integer Int)) (IsOf (integer Int)) IsBit x all h)
       (λ v ok. (v, ap (λ (u : Value). is_true u >>= (λ q. pure (meaning.truth q))) ok.1.1 ∙ truth_again ok.1.0 ∙ ap (λ (u : Value). pure u) (sym ok.1.1), refl, ok.0)))
 
-  bit_type : (k : well.Context) (e : Expr) (t : Ty) → is_bit e ≡ true → in_expr e ≡ true → HasType k e t → t ≡ integer Int
-  bit_type k (tree.truth s a) t b h ty = ty.1
-  bit_type k (tree.not a) t b h ty = ty.1
-  bit_type k (tree.compare o u x y) t b h ty = ty.0
-  bit_type k (tree.compare_pointers o x y) t b h ty = ty.1
-  bit_type k (tree.same_function alike x y) t b h ty = ty.1
-  bit_type k (tree.and x y) t b h ty = ty.2
-  bit_type k (tree.or x y) t b h ty = ty.2
-  bit_type k _ t b h ty = absurd cc
+  bit_type : (k : well.Context) (e : Expr) (t : Ty) → is_bit e ≡ true → HasType k e t → t ≡ integer Int
+  bit_type k (tree.truth s a) t b ty = ty.1
+  bit_type k (tree.not a) t b ty = ty.1
+  bit_type k (tree.compare o u x y) t b ty = ty.0
+  bit_type k (tree.compare_pointers o x y) t b ty = ty.1
+  bit_type k (tree.same_function alike x y) t b ty = ty.1
+  bit_type k (tree.and x y) t b ty = ty.2
+  bit_type k (tree.or x y) t b ty = ty.2
+  bit_type k _ t b ty = absurd cc
 
-  as_bit_runs : (k : well.Context) (e : Expr) (u : IntType) (c : Code) (b : Bool) → is_bit e ≡ b → in_expr e ≡ true → width_of u ≡ W32 → HasType k e (integer u) → Leaves E c (integer u) (value e)
+  as_bit_runs : (k : well.Context) (e : Expr) (u : IntType) (c : Code) (b : Bool) → is_bit e ≡ b → width_of u ≡ W32 → HasType k e (integer u) → Leaves E c (integer u) (value e)
       → Leaves E (as_bit b c) (integer Int) (meaning.test (value e) >>= (λ q. pure (meaning.truth q)))
-  as_bit_runs k e u c true is h n ty r = bit_runs c (value e) (bit_given e is h) (subst (λ (t : Ty). Leaves E c t (value e)) (bit_type k e (integer u) is h ty) r)
-  as_bit_runs k e u c false is h n ty r = narrow_truth_runs E u c (value e) n r
+  as_bit_runs k e u c true is n ty r = bit_runs c (value e) (bit_given e is) (subst (λ (t : Ty). Leaves E c t (value e)) (bit_type k e (integer u) is ty) r)
+  as_bit_runs k e u c false is n ty r = narrow_truth_runs E u c (value e) n r
 
   null_is : (a : Expr) → is_null a ≡ true → value a ≡ pure null
   null_is tree.null e = refl
@@ -209,7 +209,7 @@ module _ (E : Env) (L : Linked E.site) (home : AtHome E) (k : well.Context) (slo
   -- the arguments of a call through a pointer, which waits beside d other values
   abbrev pub ArgsRun : Type 0
   ArgsRun =
-      (d : ℕ) → E.pending ≤ d → (es : Exprs) (ts : Tys) → IsReady E.may_call E.target.is_object E.unit (suc d) (suc d) E.waits (in_exprs es) (uses.in_exprs es) (in_exprs_of es) → HaveTypes k es ts → AreScalars ts
+      (d : ℕ) → E.pending ≤ d → (es : Exprs) (ts : Tys) → IsReady E.may_call E.target.is_object E.unit (suc d) (suc d) E.waits (uses.in_exprs es) (in_exprs_of es) → HaveTypes k es ts → AreScalars ts
       → OpIn (beside (suc d) E) [] (code.exprs E.target (suc d) es) same (λ hs us vs. piled E ts hs us vs) (λ hs us. AreOf E ts hs us) (exprs E.unit E.calls es)
 
   pub sound_scalars : (ts : Tys) → AreSound ts → AreScalars ts
@@ -327,54 +327,54 @@ module _ (E : Env) (L : Linked E.site) (home : AtHome E) (k : well.Context) (slo
     pointer_scalar : (t : Ty) → is_function t ≡ false → scalar_of (pointer t) ≡ Some scalars.Pointer
     pointer_scalar t e = ap (λ (b : Bool). Some (if b then scalars.Function else scalars.Pointer)) e
 
-    read_runs : (d : ℕ) (s : Scalar) (p : Place) (t : Ty) → IsScalar t → in_place p ≡ true → scalar_of t ≡ Some s → IsPlace k p t → LeadsIn d p t → Leaves E (fetched E.target (plain_in E.target p) (code.place E.target d p) s) t (place E.unit E.calls p >>= meaning.fetch)
-    read_runs d s (of x) t sc l e h leads = by (E.target.is_object x) refl where
+    read_runs : (d : ℕ) (s : Scalar) (p : Place) (t : Ty) → IsScalar t → scalar_of t ≡ Some s → IsPlace k p t → LeadsIn d p t → Leaves E (fetched E.target (plain_in E.target p) (code.place E.target d p) s) t (place E.unit E.calls p >>= meaning.fetch)
+    read_runs d s (of x) t sc e h leads = by (E.target.is_object x) refl where
       by : (b : Bool) → E.target.is_object x ≡ b → Leaves E (fetched E.target (variable_in b x) (one (get E.target x)) s) t (place E.unit E.calls (of x) >>= meaning.fetch)
       by true q = read_there E t s sc e (one (get E.target x)) (place E.unit E.calls (of x)) (leads q)
       by false q = let p = plain_at x t sc h q in behind_place E x t p (one (get E.target x)) same (pushes E t) (IsValue E t) meaning.fetch p.fetches
-    read_runs d s (deref a) t sc l e h leads = read_there E t s sc e (code.place E.target d (deref a)) (place E.unit E.calls (deref a)) (leads tt)
-    read_runs d s (member p n m) t sc l e h leads = read_there E t s sc e (code.place E.target d (member p n m)) (place E.unit E.calls (member p n m)) (leads tt)
+    read_runs d s (deref a) t sc e h leads = read_there E t s sc e (code.place E.target d (deref a)) (place E.unit E.calls (deref a)) (leads tt)
+    read_runs d s (member p n m) t sc e h leads = read_there E t s sc e (code.place E.target d (member p n m)) (place E.unit E.calls (member p n m)) (leads tt)
 
-    assigned : (kept : Bool) (d : ℕ) (s : Scalar) (p : Place) (t : Ty) → IsScalar t → (c : Code) (y : Does Value) → in_place p ≡ true → scalar_of t ≡ Some s → IsPlace k p t → LeadsIn d p t → Leaves E c t y
+    assigned : (kept : Bool) (d : ℕ) (s : Scalar) (p : Place) (t : Ty) → IsScalar t → (c : Code) (y : Does Value) → scalar_of t ≡ Some s → IsPlace k p t → LeadsIn d p t → Leaves E c t y
         → Carries E kept (begun E.target (plain_in E.target p) (code.place E.target d p) ⨾ c ⨾ ended E.target kept (plain_in E.target p) s) t (place E.unit E.calls p >>= (λ q. y >>= (λ v. store q v >> pure v)))
-    assigned kept d s (of x) t sc c y l e h leads r = by (E.target.is_object x) refl where
+    assigned kept d s (of x) t sc c y e h leads r = by (E.target.is_object x) refl where
       by : (b : Bool) → E.target.is_object x ≡ b
           → Carries E kept (begun E.target (variable_in b x) (one (get E.target x)) ⨾ c ⨾ ended E.target kept (variable_in b x) s) t (place E.unit E.calls (of x) >>= (λ q. y >>= (λ v. store q v >> pure v)))
       by true q = assign_there E t s sc e kept (one (get E.target x)) c (place E.unit E.calls (of x)) y (leads q) r
       by false q = assign_runs E x t (plain_at x t sc h q) kept s c y r
-    assigned kept d s (deref a) t sc c y l e h leads r = assign_there E t s sc e kept (code.place E.target d (deref a)) c (place E.unit E.calls (deref a)) y (leads tt) r
-    assigned kept d s (member p n m) t sc c y l e h leads r = assign_there E t s sc e kept (code.place E.target d (member p n m)) c (place E.unit E.calls (member p n m)) y (leads tt) r
+    assigned kept d s (deref a) t sc c y e h leads r = assign_there E t s sc e kept (code.place E.target d (deref a)) c (place E.unit E.calls (deref a)) y (leads tt) r
+    assigned kept d s (member p n m) t sc c y e h leads r = assign_there E t s sc e kept (code.place E.target d (member p n m)) c (place E.unit E.calls (member p n m)) y (leads tt) r
 
     abbrev updating : Bool → (u v : IntType) → BinaryOp → Place → Does Value → Does Value
     updating old u v o p y =
         place E.unit E.calls p >>= (λ q. meaning.fetch q >>= (λ w0. as_number w0 >>= (λ z. meaning.integer y >>= (λ q'. meant.operated o v (wrap v z) q' >>= (λ p'.
         let new = number (wrap u p') in store q new >> pure (if old then w0 else new))))))
 
-    updates : (kept old : Bool) (d : ℕ) (u v : IntType) (o : BinaryOp) (p : Place) (c : Code) (y : Does Value) → in_place p ≡ true → well.IsPromoted v → IsPlace k p (integer u) → LeadsIn d p (integer u) → Leaves E c (integer v) y
+    updates : (kept old : Bool) (d : ℕ) (u v : IntType) (o : BinaryOp) (p : Place) (c : Code) (y : Does Value) → well.IsPromoted v → IsPlace k p (integer u) → LeadsIn d p (integer u) → Leaves E c (integer v) y
         → Carries E kept (updated E.target kept old (plain_in E.target p) (code.place E.target d p) (scalars.Int u) (convert u v ⨾ c ⨾ one (operated o v) ⨾ convert v u)) (integer u)
         (updating old u v o p y)
-    updates kept old d u v o (of x) c y l pr h leads r = by (E.target.is_object x) refl where
+    updates kept old d u v o (of x) c y pr h leads r = by (E.target.is_object x) refl where
       by : (b : Bool) → E.target.is_object x ≡ b
           → Carries E kept (updated E.target kept old (variable_in b x) (one (get E.target x)) (scalars.Int u) (convert u v ⨾ c ⨾ one (operated o v) ⨾ convert v u)) (integer u) (updating old u v o (of x) y)
       by true q = update_there E o u v (one (get E.target x)) (place E.unit E.calls (of x)) (leads q) c y pr r kept old
       by false q = update_runs E o u v x (plain_at x (integer u) tt h q) c y pr r kept old (one (get E.target x)) (scalars.Int u)
-    updates kept old d u v o (deref e) c y l pr h leads r = update_there E o u v (code.place E.target d (deref e)) (place E.unit E.calls (deref e)) (leads tt) c y pr r kept old
-    updates kept old d u v o (member p n m) c y l pr h leads r = update_there E o u v (code.place E.target d (member p n m)) (place E.unit E.calls (member p n m)) (leads tt) c y pr r kept old
+    updates kept old d u v o (deref e) c y pr h leads r = update_there E o u v (code.place E.target d (deref e)) (place E.unit E.calls (deref e)) (leads tt) c y pr r kept old
+    updates kept old d u v o (member p n m) c y pr h leads r = update_there E o u v (code.place E.target d (member p n m)) (place E.unit E.calls (member p n m)) (leads tt) c y pr r kept old
 
     abbrev advancing : Bool → ℕ → Bool → Place → Does Value → Does Value
     advancing old n back p y =
         place E.unit E.calls p >>= (λ q. meaning.fetch q >>= (λ v. meaning.integer y >>= (λ i.
         let new = objects.moved n (meaning.back_if back i) v in store q new >> pure (if old then v else new))))
 
-    advances : (kept old : Bool) (d : ℕ) (u : Ty) (back : Bool) (p : Place) (c : Code) (y : Does Value) (slot : IsSlot E.unit.structs u) → in_place p ≡ true → IsPlace k p (pointer u) → LeadsIn d p (pointer u) → Leaves E c (integer LongLong) y
+    advances : (kept old : Bool) (d : ℕ) (u : Ty) (back : Bool) (p : Place) (c : Code) (y : Does Value) (slot : IsSlot E.unit.structs u) → IsPlace k p (pointer u) → LeadsIn d p (pointer u) → Leaves E c (integer LongLong) y
         → Carries E kept (updated E.target kept old (plain_in E.target p) (code.place E.target d p) scalars.Pointer (moved (bytes E u slot) back c)) (pointer u) (advancing old (bytes E u slot) back p y)
-    advances kept old d u back (of x) c y slot l h leads r = by (E.target.is_object x) refl where
+    advances kept old d u back (of x) c y slot h leads r = by (E.target.is_object x) refl where
       by : (b : Bool) → E.target.is_object x ≡ b
           → Carries E kept (updated E.target kept old (variable_in b x) (one (get E.target x)) scalars.Pointer (moved (bytes E u slot) back c)) (pointer u) (advancing old (bytes E u slot) back (of x) y)
       by true q = advance_there E u slot back c y r (one (get E.target x)) (place E.unit E.calls (of x)) (leads q) kept old
       by false q = advance_plain E u slot back c y r x (plain_at x (pointer u) tt h q) kept old (one (get E.target x))
-    advances kept old d u back (deref e) c y slot l h leads r = advance_there E u slot back c y r (code.place E.target d (deref e)) (place E.unit E.calls (deref e)) (leads tt) kept old
-    advances kept old d u back (member p n m) c y slot l h leads r = advance_there E u slot back c y r (code.place E.target d (member p n m)) (place E.unit E.calls (member p n m)) (leads tt) kept old
+    advances kept old d u back (deref e) c y slot h leads r = advance_there E u slot back c y r (code.place E.target d (deref e)) (place E.unit E.calls (deref e)) (leads tt) kept old
+    advances kept old d u back (member p n m) c y slot h leads r = advance_there E u slot back c y r (code.place E.target d (member p n m)) (place E.unit E.calls (member p n m)) (leads tt) kept old
 
     -- a pointer is left
     left_pointer : (kept : Bool) (c : Code) (t u : Ty) (x : Does Value) → t ≡ pointer u → is_function u ≡ false → Leaves E c (pointer u) x → Carries E kept (left kept code.pointer c) t x
@@ -393,6 +393,15 @@ module _ (E : Env) (L : Linked E.site) (home : AtHome E) (k : well.Context) (slo
     size_runs : (kept : Bool) (n : ℕ) (t : Ty) → t ≡ integer UnsignedInt → n < 2 ^ 32 → Carries E kept (left kept (of_type UnsignedInt) (one (i32 n))) t (pure (number (pos n)))
     size_runs kept n t e lt = left_int kept (one (i32 n)) t UnsignedInt (pure (number (pos n))) e (constant_runs E UnsignedInt (pos n) (value_in UnsignedInt n lt))
 
+    -- modulo 2^32
+    once_more : (n : ℕ) → wrapped 32 (pos (wrapped 32 (pos n))) ≡ wrapped 32 (pos n)
+    once_more n = omega arith
+
+    size_type_runs : (kept : Bool) (n : ℕ) (t : Ty) → t ≡ integer UnsignedInt → Carries E kept (left kept (of_type UnsignedInt) (one (i32 n))) t (pure (number (wrap UnsignedInt (pos n))))
+    size_type_runs kept n t e =
+        left_int kept (one (i32 n)) t UnsignedInt (pure (number (wrap UnsignedInt (pos n)))) e
+        (subst (λ (k : ℕ). Leaves E (one (I32Const (signed 32 k))) (integer UnsignedInt) (pure (number (wrap UnsignedInt (pos n))))) (once_more n) (constant_runs E UnsignedInt (wrap UnsignedInt (pos n)) (wrap_in UnsignedInt (pos n))))
+
     small_size : (n m : ℕ) → n ≡ m → m ≤ most_bytes → n < 2 ^ 32
     small_size n m e le = omega (arith, e, le)
 
@@ -405,14 +414,14 @@ module _ (E : Env) (L : Linked E.site) (home : AtHome E) (k : well.Context) (slo
     arg_is t sc gs hs grown v vs ok = pushed_is E.unit.structs E.places gs t v vs sc ∙ ap (λ (u : Word). u ∷ vs) (sym (word_still E.unit.structs E.places gs hs grown t v ok))
 
     -- what an address is taken of
-    cell : (d : ℕ) (p : Place) → IsReady E.may_call E.target.is_object E.unit E.pending d E.waits (in_place p) (uses.in_place p) (in_expr_of (tree.address p)) → IsCell p
-    cell d (of (Local x)) i = taken E.may_call E.target.is_object E.unit E.pending d E.waits true [] (Local x) i
-    cell d (of (Global x)) i = taken E.may_call E.target.is_object E.unit E.pending d E.waits (in_place (of (Global x))) [] (Global x) i
+    cell : (d : ℕ) (p : Place) → IsReady E.may_call E.target.is_object E.unit E.pending d E.waits (uses.in_place p) (in_expr_of (tree.address p)) → IsCell p
+    cell d (of (Local x)) i = taken E.may_call E.target.is_object E.unit E.pending d E.waits [] (Local x) i
+    cell d (of (Global x)) i = taken E.may_call E.target.is_object E.unit E.pending d E.waits [] (Global x) i
     cell d (deref a) i = tt
     cell d (member p n m) i = tt
 
     mutual
-      leads_run : (d : ℕ) (p : Place) (t : Ty) → IsReady E.may_call E.target.is_object E.unit E.pending d E.waits (in_place p) (uses.in_place p) (in_place_of p) → IsPlace k p t → LeadsIn d p t
+      leads_run : (d : ℕ) (p : Place) (t : Ty) → IsReady E.may_call E.target.is_object E.unit E.pending d E.waits (uses.in_place p) (in_place_of p) → IsPlace k p t → LeadsIn d p t
       leads_run d (of x) t i h q = leads_all E (one (get E.target x)) t (place E.unit E.calls (of x)) (all_at x t h q)
       leads_run d (deref a) t i h q = deref_leads E (code_of true d a) t (value_in_E a) h.0 (expr_runs true d a (pointer t) i h.1)
       leads_run d (member p n m) t i h q =
@@ -420,7 +429,7 @@ module _ (E : Env) (L : Linked E.site) (home : AtHome E) (k : well.Context) (slo
           (member_leads d p n m t h.1 (slices_run d p n (offset E.target.structs (struct n) m) (code.member_size E.target n m) i h.0 (some_there n m t h.1) (within_there n m t h.1)))
 
       -- a part of a struct
-      slices_run : (d : ℕ) (p : Place) (n from len : ℕ) → IsReady E.may_call E.target.is_object E.unit E.pending d E.waits (in_place p) (uses.in_place p) (in_place_of p) → IsPlace k p (struct n) → 0 < len → from + len ≤ size (shape E.unit.structs (struct n)) → SlicesIn d p n from len
+      slices_run : (d : ℕ) (p : Place) (n from len : ℕ) → IsReady E.may_call E.target.is_object E.unit E.pending d E.waits (uses.in_place p) (in_place_of p) → IsPlace k p (struct n) → 0 < len → from + len ≤ size (shape E.unit.structs (struct n)) → SlicesIn d p n from len
       slices_run d (of x) n from len i h some within =
           let c = one (get E.target x) in
           let y = place E.unit E.calls (of x) in
@@ -437,7 +446,7 @@ module _ (E : Env) (L : Linked E.site) (home : AtHome E) (k : well.Context) (slo
           member_slices E n' m (struct n) l c x from len some within
           (subst (λ (q : ℕ). Slices E c (struct n') (q + from) len x) is (slices_run d p n' (o + from) len i h.0 some (omega (arith, is, end, within))))
 
-      pub decays_run : (d : ℕ) (p : Place) (u : Ty) (n : ℕ) → IsReady E.may_call E.target.is_object E.unit E.pending d E.waits (in_place p) (uses.in_place p) (in_place_of p) → IsPlace k p (array u n) → DecaysTo d p u n
+      pub decays_run : (d : ℕ) (p : Place) (u : Ty) (n : ℕ) → IsReady E.may_call E.target.is_object E.unit E.pending d E.waits (uses.in_place p) (in_place_of p) → IsPlace k p (array u n) → DecaysTo d p u n
       decays_run d (of x) u n i h =
           decay_all E u n (sound_place k sound (of x) (array u n) h).1.0 (one (get E.target x)) (place E.unit E.calls (of x)) (all_at x (array u n) h (whole_slot x (array u n) (λ never. never) h))
       decays_run d (deref a) u n i h =
@@ -451,7 +460,7 @@ module _ (E : Env) (L : Linked E.site) (home : AtHome E) (k : well.Context) (slo
           decay_all E u n (sound_place k sound (member p n' m) (array u n) h).1.0 (code.place E.target d (member p n' m)) (place E.unit E.calls (member p n' m))
           (member_leads d p n' m (array u n) h.1 (slices_run d p n' (offset E.target.structs (struct n') m) (code.member_size E.target n' m) i h.0 (some_there n' m (array u n) h.1) (within_there n' m (array u n) h.1)))
 
-      pub expr_runs : (kept : Bool) (d : ℕ) (e : Expr) (t : Ty) → IsReady E.may_call E.target.is_object E.unit E.pending d E.waits (in_expr e) (uses.in_expr e) (in_expr_of e) → HasType k e t → Carries E kept (code_of kept d e) t (value_in_E e)
+      pub expr_runs : (kept : Bool) (d : ℕ) (e : Expr) (t : Ty) → IsReady E.may_call E.target.is_object E.unit E.pending d E.waits (uses.in_expr e) (in_expr_of e) → HasType k e t → Carries E kept (code_of kept d e) t (value_in_E e)
       expr_runs kept d (tree.number u n) t x h = left_int kept (one (constant (width_of u) (value_of u n))) t u (value_in_E (tree.number u n)) h.0 (constant_runs E u (value_of u n) (value_in u n h.1))
       expr_runs kept d tree.null t x h =
           subst (λ (r : Ty). Carries E kept (left kept (Some scalars.Pointer) (one (Segment segment.Null))) r (value_in_E tree.null)) (sym h.1)
@@ -468,13 +477,13 @@ module _ (E : Env) (L : Linked E.site) (home : AtHome E) (k : well.Context) (slo
           left_function kept (one (i32 (E.target.entry n))) t h.0 (value_in_E (tree.function n)) h.1 is (function_runs E h.0 is n (subst (λ (ts : List Ty). slice_get ts n ≡ Some h.0) functions_are h.2) x.known.0)
       expr_runs kept d (tree.read s p) t x h =
           left_runs E kept (Some s) t (fetched E.target (plain_in E.target p) (code.place E.target d p) s) (value_in_E (tree.read s p)) h.0
-          (read_runs d s p t (scalar_type t s h.0) x.in_stage h.0 h.1 (leads_run d p t x h.1))
+          (read_runs d s p t (scalar_type t s h.0) h.0 h.1 (leads_run d p t x h.1))
       expr_runs kept d (tree.decay u n p) t x h =
           let c = decayed (is_deref p) (n * type_size E.target.structs u) (code.place E.target d p) in
           subst (λ (r : Ty). Carries E kept (left kept (Some scalars.Pointer) c) r (value_in_E (tree.decay u n p))) (sym h.0)
           (left_runs E kept (Some scalars.Pointer) (pointer u) c (value_in_E (tree.decay u n p)) (pointer_scalar u (sound_place k sound p (array u n) h.1).1.0) (decays_run d p u n x h.1))
       expr_runs kept d (tree.address p) t x h =
-          let i = addressed E.may_call E.target.is_object E.unit E.pending d E.waits (in_place p) (uses.in_place p) p x in
+          let i = addressed E.may_call E.target.is_object E.unit E.pending d E.waits (uses.in_place p) p x in
           let plain_type = is_data p h.0 h.2 in
           subst (λ (r : Ty). Carries E kept (left kept (Some scalars.Pointer) (code.place E.target d p)) r (value_in_E (tree.address p))) (sym h.1)
           (left_runs E kept (Some scalars.Pointer) (pointer h.0) (code.place E.target d p) (value_in_E (tree.address p)) (pointer_scalar h.0 plain_type)
@@ -499,101 +508,101 @@ module _ (E : Env) (L : Linked E.site) (home : AtHome E) (k : well.Context) (slo
       expr_runs kept d (tree.unary signs.Negate u a) t x h = left_int kept _ t u (value_in_E (tree.unary signs.Negate u a)) h.0 (negate_runs E u (code_of true d a) (value_in_E a) h.1 (expr_runs true d a (integer u) x h.2))
       expr_runs kept d (tree.unary signs.Complement u a) t x h = left_int kept _ t u (value_in_E (tree.unary signs.Complement u a)) h.0 (complement_runs E u (code_of true d a) (value_in_E a) h.1 (expr_runs true d a (integer u) x h.2))
       expr_runs kept d (tree.binary o u a b) t x h =
-          let q = parts E.may_call E.target.is_object E.unit E.pending d E.waits (in_expr a) (in_expr b) (uses.in_expr a) (uses.in_expr b) (in_expr_of a) (in_expr_of b) x in
+          let q = parts E.may_call E.target.is_object E.unit E.pending d E.waits (uses.in_expr a) (uses.in_expr b) (in_expr_of a) (in_expr_of b) x in
           left_int kept _ t u (value_in_E (tree.binary o u a b)) h.0 (binary_runs E o u (code_of true d a) (code_of true d b) (value_in_E a) (value_in_E b) h.1 (expr_runs true d a (integer u) q.0 h.2) (expr_runs true d b (integer u) q.1 h.3))
       expr_runs kept d (tree.compare o u a b) t x h =
-          let q = parts E.may_call E.target.is_object E.unit E.pending d E.waits (in_expr a) (in_expr b) (uses.in_expr a) (uses.in_expr b) (in_expr_of a) (in_expr_of b) x in
+          let q = parts E.may_call E.target.is_object E.unit E.pending d E.waits (uses.in_expr a) (uses.in_expr b) (in_expr_of a) (in_expr_of b) x in
           left_int kept _ t Int (value_in_E (tree.compare o u a b)) h.0 (compare_runs E o u (code_of true d a) (code_of true d b) (value_in_E a) (value_in_E b) h.1 (expr_runs true d a (integer u) q.0 h.2) (expr_runs true d b (integer u) q.1 h.3))
       expr_runs kept d (tree.compare_pointers relations.Equal a b) t x h =
-          let q = parts E.may_call E.target.is_object E.unit E.pending d E.waits (in_expr a) (in_expr b) (uses.in_expr a) (uses.in_expr b) (in_expr_of a) (in_expr_of b) x in
+          let q = parts E.may_call E.target.is_object E.unit E.pending d E.waits (uses.in_expr a) (uses.in_expr b) (in_expr_of a) (in_expr_of b) x in
           left_int kept _ t Int (value_in_E (tree.compare_pointers relations.Equal a b)) h.1
           (equal_runs E h.0 h.2 (is_null b) (code_of true d a) (code_of true d b) (value_in_E a) (value_in_E b) (null_is E b) (expr_runs true d a (pointer h.0) q.0 h.3) (expr_runs true d b (pointer h.0) q.1 h.4))
       expr_runs kept d (tree.compare_pointers relations.NotEqual a b) t x h =
-          let q = parts E.may_call E.target.is_object E.unit E.pending d E.waits (in_expr a) (in_expr b) (uses.in_expr a) (uses.in_expr b) (in_expr_of a) (in_expr_of b) x in
+          let q = parts E.may_call E.target.is_object E.unit E.pending d E.waits (uses.in_expr a) (uses.in_expr b) (in_expr_of a) (in_expr_of b) x in
           left_int kept _ t Int (value_in_E (tree.compare_pointers relations.NotEqual a b)) h.1
           (unequal_runs E h.0 h.2 (is_null b) (code_of true d a) (code_of true d b) (value_in_E a) (value_in_E b) (null_is E b) (expr_runs true d a (pointer h.0) q.0 h.3) (expr_runs true d b (pointer h.0) q.1 h.4))
       expr_runs kept d (tree.compare_pointers relations.Less a b) t x h =
-          let q = parts E.may_call E.target.is_object E.unit E.pending d E.waits (in_expr a) (in_expr b) (uses.in_expr a) (uses.in_expr b) (in_expr_of a) (in_expr_of b) x in
+          let q = parts E.may_call E.target.is_object E.unit E.pending d E.waits (uses.in_expr a) (uses.in_expr b) (in_expr_of a) (in_expr_of b) x in
           ordered kept relations.Less (code_of true d a) (code_of true d b) (value_in_E a) (value_in_E b) t h.0 h.1 h.2 (expr_runs true d a (pointer h.0) q.0 h.3) (expr_runs true d b (pointer h.0) q.1 h.4)
       expr_runs kept d (tree.compare_pointers relations.LessEqual a b) t x h =
-          let q = parts E.may_call E.target.is_object E.unit E.pending d E.waits (in_expr a) (in_expr b) (uses.in_expr a) (uses.in_expr b) (in_expr_of a) (in_expr_of b) x in
+          let q = parts E.may_call E.target.is_object E.unit E.pending d E.waits (uses.in_expr a) (uses.in_expr b) (in_expr_of a) (in_expr_of b) x in
           ordered kept relations.LessEqual (code_of true d a) (code_of true d b) (value_in_E a) (value_in_E b) t h.0 h.1 h.2 (expr_runs true d a (pointer h.0) q.0 h.3) (expr_runs true d b (pointer h.0) q.1 h.4)
       expr_runs kept d (tree.compare_pointers relations.Greater a b) t x h =
-          let q = parts E.may_call E.target.is_object E.unit E.pending d E.waits (in_expr a) (in_expr b) (uses.in_expr a) (uses.in_expr b) (in_expr_of a) (in_expr_of b) x in
+          let q = parts E.may_call E.target.is_object E.unit E.pending d E.waits (uses.in_expr a) (uses.in_expr b) (in_expr_of a) (in_expr_of b) x in
           ordered kept relations.Greater (code_of true d a) (code_of true d b) (value_in_E a) (value_in_E b) t h.0 h.1 h.2 (expr_runs true d a (pointer h.0) q.0 h.3) (expr_runs true d b (pointer h.0) q.1 h.4)
       expr_runs kept d (tree.compare_pointers relations.GreaterEqual a b) t x h =
-          let q = parts E.may_call E.target.is_object E.unit E.pending d E.waits (in_expr a) (in_expr b) (uses.in_expr a) (uses.in_expr b) (in_expr_of a) (in_expr_of b) x in
+          let q = parts E.may_call E.target.is_object E.unit E.pending d E.waits (uses.in_expr a) (uses.in_expr b) (in_expr_of a) (in_expr_of b) x in
           ordered kept relations.GreaterEqual (code_of true d a) (code_of true d b) (value_in_E a) (value_in_E b) t h.0 h.1 h.2 (expr_runs true d a (pointer h.0) q.0 h.3) (expr_runs true d b (pointer h.0) q.1 h.4)
       expr_runs kept d (tree.same_function alike a b) t x h =
-          let q = parts E.may_call E.target.is_object E.unit E.pending d E.waits (in_expr a) (in_expr b) (uses.in_expr a) (uses.in_expr b) (in_expr_of a) (in_expr_of b) x in
+          let q = parts E.may_call E.target.is_object E.unit E.pending d E.waits (uses.in_expr a) (uses.in_expr b) (in_expr_of a) (in_expr_of b) x in
           left_int kept _ t Int (value_in_E (tree.same_function alike a b)) h.1
           (same_function_runs E h.0 h.2 alike (code_of true d a) (code_of true d b) (value_in_E a) (value_in_E b) (expr_runs true d a (pointer h.0) q.0 h.3) (expr_runs true d b (pointer h.0) q.1 h.4))
       expr_runs kept d (tree.difference u a b) t x h =
-          let q = parts E.may_call E.target.is_object E.unit E.pending d E.waits (in_expr a) (in_expr b) (uses.in_expr a) (uses.in_expr b) (in_expr_of a) (in_expr_of b) x in
+          let q = parts E.may_call E.target.is_object E.unit E.pending d E.waits (uses.in_expr a) (uses.in_expr b) (in_expr_of a) (in_expr_of b) x in
           left_int kept _ t LongLong (value_in_E (tree.difference u a b)) h.0
           (difference_runs E u (sized u h.1) (code_of true d a) (code_of true d b) (value_in_E a) (value_in_E b) (expr_runs true d a (pointer u) q.0 h.2) (expr_runs true d b (pointer u) q.1 h.3))
       expr_runs kept d (tree.move u back a b) t x h =
-          let q = parts E.may_call E.target.is_object E.unit E.pending d E.waits (in_expr a) (in_expr b) (uses.in_expr a) (uses.in_expr b) (in_expr_of a) (in_expr_of b) x in
+          let q = parts E.may_call E.target.is_object E.unit E.pending d E.waits (uses.in_expr a) (uses.in_expr b) (in_expr_of a) (in_expr_of b) x in
           let slot = sized u h.1 in
           left_pointer kept _ t u (value_in_E (tree.move u back a b)) h.0 slot.is_data
           (move_runs E u slot back (code_of true d a) (code_of true d b) (value_in_E a) (value_in_E b) (expr_runs true d a (pointer u) q.0 h.2) (expr_runs true d b (integer LongLong) q.1 h.3))
       expr_runs kept d (tree.move_by u a b) t x h =
-          let q = parts E.may_call E.target.is_object E.unit E.pending d E.waits (in_expr a) (in_expr b) (uses.in_expr a) (uses.in_expr b) (in_expr_of a) (in_expr_of b) x in
+          let q = parts E.may_call E.target.is_object E.unit E.pending d E.waits (uses.in_expr a) (uses.in_expr b) (in_expr_of a) (in_expr_of b) x in
           let slot = sized u h.1 in
           left_pointer kept _ t u (value_in_E (tree.move_by u a b)) h.0 slot.is_data
           (move_by_runs E u slot (code_of true d a) (code_of true d b) (value_in_E a) (value_in_E b) (expr_runs true d a (integer LongLong) q.0 h.2) (expr_runs true d b (pointer u) q.1 h.3))
       expr_runs kept d (tree.and a b) t x h =
-          let q = parts E.may_call E.target.is_object E.unit E.pending d E.waits (in_expr a) (in_expr b) (uses.in_expr a) (uses.in_expr b) (in_expr_of a) (in_expr_of b) x in
+          let q = parts E.may_call E.target.is_object E.unit E.pending d E.waits (uses.in_expr a) (uses.in_expr b) (in_expr_of a) (in_expr_of b) x in
           let y = as_bit (is_bit b) (code_of true d b) in
           left_int kept (code_of true d a ⨾ choice (Some vals.I32) y (one (i32 0))) t Int (value_in_E (tree.and a b)) h.2
           (chosen_runs E h.0 (code_of true d a) y (one (i32 0)) (Some vals.I32) (value_in_E a) (meaning.test (value_in_E b) >>= (λ p. pure (meaning.truth p))) (pure (meaning.truth false)) (pushes E (integer Int)) (IsValue E (integer Int)) (narrow_width h.0 h.3) (whole_plain _)
           (expr_runs true d a (integer h.0) q.0 h.5)
-          (as_bit_runs E k b h.1 (code_of true d b) (is_bit b) refl q.1.in_stage (narrow_width h.1 h.4) h.6 (expr_runs true d b (integer h.1) q.1 h.6))
+          (as_bit_runs E k b h.1 (code_of true d b) (is_bit b) refl (narrow_width h.1 h.4) h.6 (expr_runs true d b (integer h.1) q.1 h.6))
           (constant_runs E Int (pos 0) (truth_in false)))
       expr_runs kept d (tree.or a b) t x h =
-          let q = parts E.may_call E.target.is_object E.unit E.pending d E.waits (in_expr a) (in_expr b) (uses.in_expr a) (uses.in_expr b) (in_expr_of a) (in_expr_of b) x in
+          let q = parts E.may_call E.target.is_object E.unit E.pending d E.waits (uses.in_expr a) (uses.in_expr b) (in_expr_of a) (in_expr_of b) x in
           let y = as_bit (is_bit b) (code_of true d b) in
           left_int kept (code_of true d a ⨾ choice (Some vals.I32) (one (i32 1)) y) t Int (value_in_E (tree.or a b)) h.2
           (chosen_runs E h.0 (code_of true d a) (one (i32 1)) y (Some vals.I32) (value_in_E a) (pure (meaning.truth true)) (meaning.test (value_in_E b) >>= (λ p. pure (meaning.truth p))) (pushes E (integer Int)) (IsValue E (integer Int)) (narrow_width h.0 h.3)
-          (whole_as_bit (is_bit b) (code_of true d b) (whole_expr E.target true d b q.1.in_stage))
+          (whole_as_bit (is_bit b) (code_of true d b) (whole_expr E.target true d b))
           (expr_runs true d a (integer h.0) q.0 h.5)
           (constant_runs E Int (pos 1) (truth_in true))
-          (as_bit_runs E k b h.1 (code_of true d b) (is_bit b) refl q.1.in_stage (narrow_width h.1 h.4) h.6 (expr_runs true d b (integer h.1) q.1 h.6)))
+          (as_bit_runs E k b h.1 (code_of true d b) (is_bit b) refl (narrow_width h.1 h.4) h.6 (expr_runs true d b (integer h.1) q.1 h.6)))
       expr_runs kept d (tree.choose s e a b) t x h =
-          let p = parts E.may_call E.target.is_object E.unit E.pending d E.waits (in_expr e) (in_expr a && in_expr b) (uses.in_expr e) (uses.in_expr a ++ uses.in_expr b) (in_expr_of e) (either (in_expr_of a) (in_expr_of b)) x in
-          let r = parts E.may_call E.target.is_object E.unit E.pending d E.waits (in_expr a) (in_expr b) (uses.in_expr a) (uses.in_expr b) (in_expr_of a) (in_expr_of b) p.1 in
+          let p = parts E.may_call E.target.is_object E.unit E.pending d E.waits (uses.in_expr e) (uses.in_expr a ++ uses.in_expr b) (in_expr_of e) (either (in_expr_of a) (in_expr_of b)) x in
+          let r = parts E.may_call E.target.is_object E.unit E.pending d E.waits (uses.in_expr a) (uses.in_expr b) (in_expr_of a) (in_expr_of b) p.1 in
           left_runs E kept s t (code_of true d e ⨾ choice (val_option s) (code_of true d a) (code_of true d b)) (value_in_E (tree.choose s e a b)) h.1
-          (chosen_runs E h.0 (code_of true d e) (code_of true d a) (code_of true d b) (val_option s) (value_in_E e) (value_in_E a) (value_in_E b) (pushes E t) (IsValue E t) (narrow_width h.0 h.2) (whole_expr E.target true d b r.1.in_stage)
+          (chosen_runs E h.0 (code_of true d e) (code_of true d a) (code_of true d b) (val_option s) (value_in_E e) (value_in_E a) (value_in_E b) (pushes E t) (IsValue E t) (narrow_width h.0 h.2) (whole_expr E.target true d b)
           (expr_runs true d e (integer h.0) p.0 h.3) (expr_runs true d a t r.0 h.4) (expr_runs true d b t r.1 h.5))
       expr_runs kept d (tree.comma a b) t x h =
-          let q = parts E.may_call E.target.is_object E.unit E.pending d E.waits (in_expr a) (in_expr b) (uses.in_expr a) (uses.in_expr b) (in_expr_of a) (in_expr_of b) x in
+          let q = parts E.may_call E.target.is_object E.unit E.pending d E.waits (uses.in_expr a) (uses.in_expr b) (in_expr_of a) (in_expr_of b) x in
           op_then_in E [] (code_of false d a) (code_of kept d b) same (λ hs. gone E) (remains E kept t) (IsValue E h.0) (IsValue E t) (value_in_E a) (λ v. value_in_E b) (expr_runs false d a h.0 q.0 h.1)
           (λ gs grown v ok. op_any E gs (code_of kept d b) same (remains E kept t) (IsValue E t) (value_in_E b) (expr_runs kept d b t q.1 h.2))
       expr_runs kept d (tree.assign s p e) t x h =
-          let q = parts E.may_call E.target.is_object E.unit E.pending d E.waits (in_place p) (in_expr e) (uses.in_place p) (uses.in_expr e) (in_place_of p) (in_expr_of e) x in
-          assigned kept d s p t (scalar_type t s h.0) (code_of true d e) (value_in_E e) q.0.in_stage h.0 h.1 (leads_run d p t q.0 h.1) (expr_runs true d e t q.1 h.2)
+          let q = parts E.may_call E.target.is_object E.unit E.pending d E.waits (uses.in_place p) (uses.in_expr e) (in_place_of p) (in_expr_of e) x in
+          assigned kept d s p t (scalar_type t s h.0) (code_of true d e) (value_in_E e) h.0 h.1 (leads_run d p t q.0 h.1) (expr_runs true d e t q.1 h.2)
       expr_runs kept d (tree.update old u o v p e) t x h =
-          let q = parts E.may_call E.target.is_object E.unit E.pending d E.waits (in_place p) (in_expr e) (uses.in_place p) (uses.in_expr e) (in_place_of p) (in_expr_of e) x in
-          as_type kept (code_of kept d (tree.update old u o v p e)) t u (value_in_E (tree.update old u o v p e)) h.0 (updates kept old d u v o p (code_of true d e) (value_in_E e) q.0.in_stage h.1 h.2 (leads_run d p (integer u) q.0 h.2) (expr_runs true d e (integer v) q.1 h.3))
+          let q = parts E.may_call E.target.is_object E.unit E.pending d E.waits (uses.in_place p) (uses.in_expr e) (in_place_of p) (in_expr_of e) x in
+          as_type kept (code_of kept d (tree.update old u o v p e)) t u (value_in_E (tree.update old u o v p e)) h.0 (updates kept old d u v o p (code_of true d e) (value_in_E e) h.1 h.2 (leads_run d p (integer u) q.0 h.2) (expr_runs true d e (integer v) q.1 h.3))
       expr_runs kept d (tree.advance old u back p e) t x h =
-          let q = parts E.may_call E.target.is_object E.unit E.pending d E.waits (in_place p) (in_expr e) (uses.in_place p) (uses.in_expr e) (in_place_of p) (in_expr_of e) x in
+          let q = parts E.may_call E.target.is_object E.unit E.pending d E.waits (uses.in_place p) (uses.in_expr e) (in_place_of p) (in_expr_of e) x in
           let slot = sized u h.1 in
           subst (λ (r : Ty). Carries E kept (code_of kept d (tree.advance old u back p e)) r (value_in_E (tree.advance old u back p e))) (sym h.0)
           (by_size E u slot (λ c m. Carries E kept (updated E.target kept old (plain_in E.target p) (code.place E.target d p) scalars.Pointer (moved c back (code_of true d e))) (pointer u) (advancing old m back p (value_in_E e)))
-          (advances kept old d u back p (code_of true d e) (value_in_E e) slot q.0.in_stage h.2 (leads_run d p (pointer u) q.0 h.2) (expr_runs true d e (integer LongLong) q.1 h.3)))
+          (advances kept old d u back p (code_of true d e) (value_in_E e) slot h.2 (leads_run d p (pointer u) q.0 h.2) (expr_runs true d e (integer LongLong) q.1 h.3)))
       expr_runs kept d (tree.copy n p q) t x h =
-          let both = behind_use E.may_call E.target.is_object E.unit E.pending d E.waits (copies n) (in_place p && in_place q) (uses.in_place p ++ uses.in_place q) (either (in_place_of p) (in_place_of q)) x in
-          let r = parts E.may_call E.target.is_object E.unit E.pending d E.waits (in_place p) (in_place q) (uses.in_place p) (uses.in_place q) (in_place_of p) (in_place_of q) both in
+          let both = behind_use E.may_call E.target.is_object E.unit E.pending d E.waits (copies n) (uses.in_place p ++ uses.in_place q) (either (in_place_of p) (in_place_of q)) x in
+          let r = parts E.may_call E.target.is_object E.unit E.pending d E.waits (uses.in_place p) (uses.in_place q) (in_place_of p) (in_place_of q) both in
           subst (λ (s : Ty). Carries E kept (code_of kept d (tree.copy n p q)) s (value_in_E (tree.copy n p q))) (sym h.0)
           (copy_runs E n (sized (struct n) h.1) kept (code.place E.target d p) (code.place E.target d q) (place E.unit E.calls p) (place E.unit E.calls q)
           (leads_run d p (struct n) r.0 h.2 (whole_cell p (struct n) (λ never. never) h.2)) (leads_run d q (struct n) r.1 h.3 (whole_cell q (struct n) (λ never. never) h.3)))
       expr_runs kept d (tree.call f s es) t x h =
-          let c = called E.may_call E.target.is_object E.unit E.pending d E.waits f (in_exprs es) (uses.in_exprs es) (in_exprs_of es) x in
+          let c = called E.may_call E.target.is_object E.unit E.pending d E.waits f (uses.in_exprs es) (in_exprs_of es) x in
           left_runs E kept s t (code.exprs E.target d es ⨾ one (Call (E.target.index f))) (value_in_E (tree.call f s es)) h.2
           (op_then_in E [] (code.exprs E.target d es) (one (Call (E.target.index f))) same (λ hs us vs. piled E h.0 hs us vs) (pushes E t) (λ hs us. AreOf E h.0 hs us) (IsValue E t) (exprs E.unit E.calls es) (E.calls f) (exprs_run d es h.0 c.1 h.3 (scalars_are f t h.0 h.1))
           (λ gs grown us ok. calls_run c.0.0 E.pending f t h.0 h.1 c.0.1 (Call (E.target.index f)) same (λ lt m w vs r. call_is E L home m w (E.target.index f) vs r lt) gs us ok))
       expr_runs kept d (tree.call_through f s e es) t x h =
-          let q = through_parts E.may_call E.target.is_object E.unit E.pending d E.waits f (in_expr e) (in_exprs es) (uses.in_expr e) (uses.in_exprs es) (in_expr_of e) (in_exprs_of es) x in
+          let q = through_parts E.may_call E.target.is_object E.unit E.pending d E.waits f (uses.in_expr e) (uses.in_exprs es) (in_expr_of e) (in_exprs_of es) x in
           let room = q.2.room in
           let c = code.exprs E.target (suc d) es in
           let y = exprs E.unit E.calls es in
@@ -610,9 +619,9 @@ module _ (E : Env) (L : Linked E.site) (home : AtHome E) (k : well.Context) (slo
           let c = allocated (type_size E.target.structs u) (bytes_in e) (code_of true d e) in
           subst (λ (r : Ty). Carries E kept (left kept (Some scalars.Pointer) c) r (value_in_E (tree.malloc u e))) (sym h.0)
           (left_runs E kept (Some scalars.Pointer) (pointer u) c (value_in_E (tree.malloc u e)) (pointer_scalar u slot.is_data)
-          (malloc_runs E u slot (type_size E.target.structs u) (size_is u h.2) (bytes_in e) (code_of true d e) (value_in_E e) (λ b q. known_bytes E k e b q x.in_stage h.3) (expr_runs true d e (integer UnsignedInt) x h.3)))
+          (malloc_runs E u slot (type_size E.target.structs u) (size_is u h.2) (bytes_in e) (code_of true d e) (value_in_E e) (λ b q. known_bytes E k e b q h.3) (expr_runs true d e (integer UnsignedInt) x h.3)))
       expr_runs kept d (tree.calloc u a b) t x h =
-          let q = parts E.may_call E.target.is_object E.unit E.pending d E.waits (in_expr a) (in_expr b) (uses.in_expr a) (uses.in_expr b) (in_expr_of a) (in_expr_of b) x in
+          let q = parts E.may_call E.target.is_object E.unit E.pending d E.waits (uses.in_expr a) (uses.in_expr b) (in_expr_of a) (in_expr_of b) x in
           let slot = sized u h.2 in
           let c = product_allocated (scratch_i64 E.target) (type_size E.target.structs u) (code_of true d a) (code_of true d b) in
           subst (λ (r : Ty). Carries E kept (left kept (Some scalars.Pointer) c) r (value_in_E (tree.calloc u a b))) (sym h.0)
@@ -630,13 +639,13 @@ module _ (E : Env) (L : Linked E.site) (home : AtHome E) (k : well.Context) (slo
           (visit_runs E kept (code.place E.target d p) (struct h.0) (place E.unit E.calls p) (leads_run d p (struct h.0) x h.3 (whole_cell p (struct h.0) (λ never. never) h.3)))
       expr_runs kept d (tree.size_of_place n p) t x h = size_runs kept n t h.2 (small_size n _ h.4 h.3.1)
       expr_runs kept d (tree.size_of_value n e) t x h = size_runs kept n t h.2 (small_size n _ h.4 h.3.1)
-      expr_runs kept d (tree.size_of_type n) t x h = size_runs kept n t h (ltb→lt n 4294967296 (subst T (sym x.in_stage) tt))
+      expr_runs kept d (tree.size_of_type n) t x h = size_type_runs kept n t h
 
-      pub exprs_run : (d : ℕ) (es : Exprs) (ts : Tys) → IsReady E.may_call E.target.is_object E.unit E.pending d E.waits (in_exprs es) (uses.in_exprs es) (in_exprs_of es) → HaveTypes k es ts → AreScalars ts
+      pub exprs_run : (d : ℕ) (es : Exprs) (ts : Tys) → IsReady E.may_call E.target.is_object E.unit E.pending d E.waits (uses.in_exprs es) (in_exprs_of es) → HaveTypes k es ts → AreScalars ts
           → OpIn E [] (code.exprs E.target d es) same (λ hs us vs. piled E ts hs us vs) (λ hs us. AreOf E ts hs us) (exprs E.unit E.calls es)
       exprs_run d none no_types x h i = op_none_in E [] same (λ hs us vs. piled E no_types hs us vs) (λ hs us. AreOf E no_types hs us) [] (λ gs grown. tt) (λ gs vs grown. refl)
       exprs_run d (more e es) (ty.types t ts) x h i =
-          let q = parts E.may_call E.target.is_object E.unit E.pending d E.waits (in_expr e) (in_exprs es) (uses.in_expr e) (uses.in_exprs es) (in_expr_of e) (in_exprs_of es) x in
+          let q = parts E.may_call E.target.is_object E.unit E.pending d E.waits (uses.in_expr e) (uses.in_exprs es) (in_expr_of e) (in_exprs_of es) x in
           let all = λ (hs : List Home) (us : List Value) (vs : List Word). piled E (ty.types t ts) hs us vs in
           op_then_in E [] (code_of true d e) (code.exprs E.target d es) same (pushes E t) all (IsValue E t) (λ hs us. AreOf E (ty.types t ts) hs us) (value_in_E e) (λ v. exprs E.unit E.calls es >>= (λ vs. pure (v ∷ vs))) (expr_runs true d e t q.0 h.0)
           (λ gs grown v ok.

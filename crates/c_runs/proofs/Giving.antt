@@ -1,8 +1,7 @@
 -- Before `main`: variables at file scope are given their values, and string literals their bytes, in the order of their tokens. A
 -- literal is sealed then.
 use Rattle.std.proofs.Common.{◌≡◌, ℕ, suc, ◌+◌, ◌*◌, ◌<◌, ◌≤◌, List, [], ◌∷◌, length, Bool, true, false, Option, Some, refl, sym, ap, ◌∙◌, arith, subst, T, ltb→lt}
-use Rattle.std.specs.Prelude.{nat_lt, slice_get, slice_set, ◌&&◌}
-use Rattle.std.specs.List.{All}
+use Rattle.std.specs.Prelude.{slice_get, slice_set}
 use Rattle.std.proofs.lemmas.List.Elements.{All-nil}
 use Rattle.ms_handle.specs.declared.handle.Handle.{Handle as HandleOf}
 use Rattle.ms_handle.specs.Handle.{seal}
@@ -14,7 +13,7 @@ use Rattle.ms_task.specs.Thread.{Do, Item, thread, depth_of}
 use Rattle.c_types.specs.declared.integers.IntType.TheVariants.{Char}
 use Rattle.c_types.specs.Types.{Ty, integer, pointer, array, function, Tys}
 use Rattle.c_typed.specs.Tree as tree
-use Rattle.c_typed.specs.Tree.{Expr, Made as IsMade, Place, Stmt, Typed}
+use Rattle.c_typed.specs.Tree.{Made as IsMade, Stmt, Typed}
 use Rattle.c_typed.specs.refinement.Expressions as well
 use Rattle.c_typed.specs.refinement.Expressions.{HasType, IsPlace}
 use Rattle.c_typed.specs.refinement.Types.{IsObject}
@@ -23,7 +22,7 @@ use Rattle.c_meaning.specs.Values.{Value, inside, points}
 use Rattle.c_meaning.specs.Objects.{Outcome, to_object, write_all}
 use Rattle.c_meaning.specs.World.{World, Result, gives, Does, after, alter, as_done, known, look, ◌>>=◌, pure}
 use Rattle.c_meaning.specs.Expressions as meaning
-use Rattle.c_meaning.specs.Expressions.{expr, further, place}
+use Rattle.c_meaning.specs.Expressions.{char_of, expr, further, place}
 use Rattle.c_meaning.specs.Statements.{Flow, next, stmt}
 use Rattle.c_meaning.specs.Units.{fill_literal, give_each, no_calls, run_each}
 use Rattle.ms_emit.specs.Codes.{Code, plain, one, ◌⨾◌, size_of}
@@ -32,7 +31,7 @@ use Rattle.c_code.specs.Functions.{gives as gives_code, values}
 use Rattle.c_code.specs.Statements as scheme
 use Rattle.c_code.specs.Statements.{at_body, filled}
 use Rattle.c_code.specs.Uses as uses
-use Rattle.c_stage.specs.Stage.{are_bytes, in_expr, in_place}
+use Rattle.c_runs.proofs.Small.{is_short}
 use Rattle.c_code.specs.Modules.{waits_made}
 use Rattle.c_typing.proofs.Frames.{sound_with}
 use Rattle.c_typing.proofs.Sound.{AreSoundNames}
@@ -45,10 +44,9 @@ use Rattle.c_runs.proofs.Ops.{GoodIn, OpIn, ToIn, at_work, op_any, op_look_in, o
 use Rattle.c_runs.proofs.Operations.{Linked}
 use Rattle.c_runs.proofs.Nodes.{Always, Leaves, gone}
 use Rattle.c_runs.proofs.Exprs.{AreScalars, ArgsRun, CallsRun, args_all, decays_run, expr_runs, sound_scalars}
-use Rattle.c_runs.proofs.Strings.{char_of, fill_runs}
+use Rattle.c_runs.proofs.Strings.{fill_runs}
 use Rattle.c_runs.proofs.Rooms.{IsReady, Needs, in_expr_of, in_place_of}
 use Rattle.c_runs.proofs.Scalars.{IsData}
-use Rattle.c_runs.proofs.Whole.{both}
 use Rattle.c_runs.proofs.Globals.{NamesOf, all_reached, at_text, file_slots, got, inside_text, seals, sealed_once, set_global, text_is}
 use Rattle.c_runs.proofs.Entries.{places_of, types_of}
 use Rattle.c_runs.proofs.Filing.{files_long}
@@ -60,14 +58,14 @@ still u = context_of u [] 0
 
 module _ (S : Site) (L : Linked S) (u : Typed) (well : IsWellTyped u) (bound : ℕ) (p : HasStart S u) where
   -- of a part in which no call stands
-  abbrev IsStill : Bool → List uses.Use → Needs → Type 0
+  abbrev IsStill : List uses.Use → Needs → Type 0
   IsStill = IsReady false (tg S L u well bound p).is_object u 0 0 (waits_made u u.made)
 
   -- an assignment, or a string
   abbrev pub IsGiven : Stmt → Type 0
-  IsGiven (tree.perform e) = (t : Ty) × HasType (still u) e t × IsStill (in_expr e) (uses.in_expr e) (in_expr_of e)
+  IsGiven (tree.perform e) = (t : Ty) × HasType (still u) e t × IsStill (uses.in_expr e) (in_expr_of e)
   IsGiven (tree.fill q n bytes) =
-      (length bytes ≤ n) × ((nat_lt n 4294967296 && are_bytes bytes) ≡ true) × IsPlace (still u) q (array (integer Char) n) × IsStill (in_place q) (uses.in_place q) (in_place_of q)
+      (is_short bytes ≡ true) × IsPlace (still u) q (array (integer Char) n) × IsStill (uses.in_place q) (in_place_of q)
   IsGiven _ = ⊥
 
   abbrev pub AreGiven : List Stmt → Type 0
@@ -77,7 +75,7 @@ module _ (S : Site) (L : Linked S) (u : Typed) (well : IsWellTyped u) (bound : �
   abbrev pub AllGiven : List IsMade → Type 0
   AllGiven [] = Unit {0}
   AllGiven (tree.global n ss ∷ ms) = AreGiven ss × AllGiven ms
-  AllGiven (tree.text bytes ∷ ms) = ((are_bytes bytes ≡ true) × (length bytes < 4294967295)) × AllGiven ms
+  AllGiven (tree.text bytes ∷ ms) = (length bytes < 4294967295) × AllGiven ms
 
   module _ (names : NamesOf u.structs (file_slots u) (all_reached u) (tg S L u well bound p) u.globals (literals_in u.made)) where
     -- where so many literals are sealed
@@ -113,15 +111,13 @@ module _ (S : Site) (L : Linked S) (u : Typed) (well : IsWellTyped u) (bound : �
         (expr_runs (E k) L (home S L u well bound p (giving k)) (still u) refl (no_calls_run k) (no_args_run k) (no_scalars k) (no_slots_data k) refl refl refl sound (names_at k) false 0 e g.0 g.2 g.1)
         (λ gs more q ok. (next, refl, λ vs. refl, tt))
     given_runs k (tree.fill q n bytes) g =
-        let fit = both (nat_lt n 4294967296) (are_bytes bytes) g.1 in
-        let less = ltb→lt n 4294967296 (subst T (sym fit.0) tt) in
-        let few = g.0 in
+        let less = ltb→lt (length bytes) 4294967295 (subst T (sym g.0) tt) in
         let size : n * 1 ≡ n = omega arith in
-        let there = decays_run (E k) L (home S L u well bound p (giving k)) (still u) refl (no_calls_run k) (no_args_run k) (no_scalars k) (no_slots_data k) refl refl refl sound (names_at k) 0 q (integer Char) n g.3 g.2 in
+        let there = decays_run (E k) L (home S L u well bound p (giving k)) (still u) refl (no_calls_run k) (no_args_run k) (no_scalars k) (no_slots_data k) refl refl refl sound (names_at k) 0 q (integer Char) n g.2 g.1 in
         let x = meaning.pointer (place u no_calls q) >>= meaning.further inside in
         let code_of : ℕ → Code = λ i. code.decayed (code.is_deref q) i (code.place (tg S L u well bound p) 0 q) in
         op_look_in (E k) [] (filled (tg S L u well bound p) (code_of n) bytes) same (λ hs. gone (E k)) (λ hs (f : Flow). gone (E k) f) (λ hs. Always (E k)) (λ hs f. Unit {0}) (x >>= (λ a. alter (write_all 1 a 0 (Rattle.std.specs.Prelude.map char_of bytes)))) (λ z. pure next)
-        (fill_runs (E k) bytes fit.1 (omega (arith, few, less)) (code_of n) x (subst (λ (i : ℕ). Leaves (E k) (code_of i) (pointer (integer Char)) x) size there))
+        (fill_runs (E k) bytes (omega (arith, less)) (code_of n) x (subst (λ (i : ℕ). Leaves (E k) (code_of i) (pointer (integer Char)) x) size there))
         (λ gs more z ok. (next, refl, λ vs. refl, tt))
     given_runs k _ g = absurd g
 
@@ -158,8 +154,8 @@ module _ (S : Site) (L : Linked S) (u : Typed) (well : IsWellTyped u) (bound : �
                 (got (E k) L h0 k less names.behind now w m kept vs r),
           )
 
-      literal_fills : (bytes : List ℕ) → are_bytes bytes ≡ true → length bytes < 4294967295 → OpIn (E k) [] (filled (tg S L u well bound p) (one (GlobalGet X)) bytes) same (λ hs. gone (E k)) (λ hs. Always (E k)) (fill_literal u k bytes)
-      literal_fills bytes are few = fill_runs (E k) bytes are (omega (arith, few)) (one (GlobalGet X)) pointed text_leaves
+      literal_fills : (bytes : List ℕ) → length bytes < 4294967295 → OpIn (E k) [] (filled (tg S L u well bound p) (one (GlobalGet X)) bytes) same (λ hs. gone (E k)) (λ hs. Always (E k)) (fill_literal u k bytes)
+      literal_fills bytes few = fill_runs (E k) bytes (omega (arith, few)) (one (GlobalGet X)) pointed text_leaves
 
       -- it is sealed
       seal_runs : (now : Now) (vs : List Word) (r : List Item) (w : World) (m : Mem) → Kept (E k) now w m
@@ -220,7 +216,7 @@ module _ (S : Site) (L : Linked S) (u : Typed) (well : IsWellTyped u) (bound : �
         subst (λ (i : ℕ). Runs S (size_of ((a ⨾ (b ⨾ c)) j)) m (at_work (E k) m w vs (front ((a ⨾ (b ⨾ c)) j).instrs r)) w (To S L u well bound p (giving i) vs r) (Good S L u well bound p (giving i) now) (give_each u k (tree.text bytes ∷ ms) w)) z
         (joins S L u well bound p a (b ⨾ c) j m w vs r (giving k) (λ r'. To S L u well bound p (giving k) vs r') (Good S L u well bound p (giving k) now) (To S L u well bound p end vs r) (Good S L u well bound p end now) (fill_literal u k bytes w) (λ q. give_each u (suc k) ms)
         (goes.weaker S (size_of (a j)) m (at_work (E k) m w vs (front (a j).instrs rest)) w (To S L u well bound p (giving k) vs rest) (GoodIn (E k) (λ hs. Always (E k)) now) (Good S L u well bound p (giving k) now) (fill_literal u k bytes w) (λ q w1 m1 g. g.1)
-        (literal_fills k less bytes all.0.0 all.0.1 j (has_front S.funcs (E k).fn j (a j).seqs ((b ⨾ c) j1).seqs has) now (starts_here k now below few) vs rest (depth_front ((b ⨾ c) j1).instrs r ∙ dep) w m kept))
+        (literal_fills k less bytes all.0 j (has_front S.funcs (E k).fn j (a j).seqs ((b ⨾ c) j1).seqs has) now (starts_here k now below few) vs rest (depth_front ((b ⨾ c) j1).instrs r ∙ dep) w m kept))
         (λ q w1 m1 k1.
         joins S L u well bound p b c j1 m1 w1 vs r (giving k) (λ r'. To S L u well bound p (giving (suc k)) vs r') (Good S L u well bound p (giving (suc k)) now) (To S L u well bound p end vs r) (Good S L u well bound p end now) (gives tt w1) (λ q. give_each u (suc k) ms)
         (seal_runs k less now vs (front (c j2).instrs r) w1 m1 k1)

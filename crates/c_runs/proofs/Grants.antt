@@ -1,5 +1,5 @@
 -- Grants that a thread's run agrees with, however many steps it has.
-use Rattle.std.proofs.Common.{◌≡◌, ℕ, ◌+◌, List, [], ◌∷◌, ◌++◌, ◌⊎◌, inl, inr, ⊎_elim, Option, Bool, true, false, refl, ap, ◌∙◌, subst, drop}
+use Rattle.std.proofs.Common.{◌≡◌, ℕ, ◌+◌, List, [], ◌∷◌, ◌++◌, ◌⊎◌, inl, inr, ⊎_elim, Option, Bool, true, false, refl, sym, ap, ◌∙◌, subst, drop, append_assoc}
 use Rattle.ms_event.specs.declared.event.Event.{Event}
 use Rattle.ms_event.specs.declared.event.Event.TheVariants.{Alloc, Free, Read, Refused, Seal, Slice, Write}
 use Rattle.ms_event.specs.Monitor.{grants}
@@ -25,6 +25,24 @@ fit_tail x a b h = ⊎_elim (λ p. inl (begins_tail x a b p)) (λ p. inr (begins
 pub fit_behind : (p a b : List Bool) → Fit (p ++ a) (p ++ b) → Fit a b
 fit_behind [] a b h = h
 fit_behind (x ∷ p) a b h = fit_behind p a b (fit_tail x (p ++ a) (p ++ b) h)
+
+-- two that are fronts of one
+fronts_fit : (a x b y : List Bool) → a ++ x ≡ b ++ y → Fit a b
+fronts_fit [] x b y e = inl (b, refl)
+fronts_fit (p ∷ a) x [] y e = inr (p ∷ a, refl)
+fronts_fit (p ∷ a) x (q ∷ b) y e =
+    let first : p ≡ q = ap (λ (l : List Bool). first_or p l) e in
+    ⊎_elim
+    (λ h. inl (h.0, ap (λ (l : List Bool). q ∷ l) h.1 ∙ ap (λ (c : Bool). c ∷ (a ++ h.0)) (sym first)))
+    (λ h. inr (h.0, ap (λ (l : List Bool). p ∷ l) h.1 ∙ ap (λ (c : Bool). c ∷ (b ++ h.0)) first))
+    (fronts_fit a x b y (ap (drop 1) e))
+  where
+    first_or : Bool → List Bool → Bool
+    first_or c [] = c
+    first_or c (d ∷ l) = d
+
+pub fit_front : (a x b : List Bool) → Fit (a ++ x) b → Fit a b
+fit_front a x b h = ⊎_elim (λ p. inl (x ++ p.0, p.1 ∙ append_assoc a x p.0)) (λ p. fronts_fit a x b p.0 p.1) h
 
 pub grants_append : (a b : List Event) → grants (a ++ b) ≡ grants a ++ grants b
 grants_append [] b = refl

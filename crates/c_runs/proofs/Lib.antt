@@ -51,12 +51,17 @@ pub mod Starting
 pub mod Giving
 pub mod Begun
 pub mod Went
+pub mod Mains
+pub mod Behind
 pub mod Callees
 pub mod Params
 pub mod Copied
 pub mod Calls
 pub mod Numbers
+pub mod Small
+pub mod Fits
 pub mod Placed
+pub mod Constants
 pub mod Top
 pub mod Linking
 pub mod Executing

@@ -15,7 +15,7 @@ use Rattle.ms_types.specs.declared.types.ValType.{ValType}
 use Rattle.ms_types.specs.declared.types.ValType.TheVariants as vals
 use Rattle.ms_machine.specs.Externs.{Fault, Made, externs, fault_at, with_rest}
 use Rattle.ms_machine.specs.Linked as linking
-use Rattle.ms_machine.specs.Linked.{all_more, and_then, if_small, globals_in, instance_in, linked, no_type, nothing_made, or_next, outside, own_func, own_global, sizes_fit, store_of, stored, too_large, unless, values_at, with_externs, with_module, entry_in}
+use Rattle.ms_machine.specs.Linked.{with_start, all_more, and_then, if_small, globals_in, instance_in, linked, no_type, nothing_made, or_next, outside, own_func, own_global, sizes_fit, store_of, stored, too_large, unless, values_at, with_externs, with_module, entry_in}
 use Rattle.ms_machine.specs.Store.{Store}
 use Rattle.ms_machine.specs.declared.store.Instance.{Instance}
 use Rattle.ms_machine.specs.Writing.{empty_table, with_entries}
@@ -34,11 +34,11 @@ use Rattle.c_code.specs.Functions.{body, held_as, locals, params_in, signature}
 use Rattle.c_code.specs.Limits as limits
 use Rattle.c_code.specs.Limits.{first_true, has_many_slots, is_long_copy, limit_of, most_named}
 use Rattle.c_code.specs.Modules.{compiled, defined, func_of, funcs_from, global_of, globals_from, import_from_c, imported, index_of, is_defined, is_defined_at, literal_globals, named, no_slots, rank_in, sigs_through, start_func, target_of, entry_of}
-use Rattle.c_stage.specs.Stage.{in_stage}
+use Rattle.c_runs.proofs.Fits.{IsMost}
 use Rattle.c_code.specs.Uses.{uses, waits_stmt}
 use Rattle.c_typing.proofs.Indices.{rank_is}
-use Rattle.c_runs.specs.Correct.{Behaves}
-use Rattle.c_runs.specs.Placed.{IsFunctionAt, IsPlaced, begun_as, first_globals}
+use Rattle.c_runs.specs.Correct.{Behaves, gives_integer}
+use Rattle.c_runs.specs.Placed.{IsFunctionAt, IsPlaced, begun_as, first_globals, start_index}
 use Rattle.c_runs.proofs.Numbers.{from, is_below, numbers_are, or_zero, other, same, slice_left}
 use Rattle.c_runs.proofs.Placed.{same_one}
 use Rattle.ms_relate.proofs.Growing.{related_new}
@@ -168,6 +168,10 @@ is_stored c s None None made e = ap (λ (r : Result Store Fault). or r) e where
 is_stored c s None (Some f) made e = absurd cc
 is_stored c s (Some f) b made e = absurd cc
 
+at_end : {A : Type 0} (xs : List A) (y : A) → slice_get (xs ++ y ∷ []) (length xs) ≡ Some y
+at_end [] y = refl
+at_end (x ∷ xs) y = at_end xs y
+
 abbrev no_entry : Option Entry
 no_entry = None
 
@@ -199,6 +203,24 @@ module _ (u : Typed) (name : List ℕ) (c : ℕ) (none : imported u ≡ []) wher
         locals_are = refl;
         body_is = refl;
       }
+
+  -- ---- the start function, behind all others
+
+  start_index_is : start_index u ≡ suc (suc (suc (length (funcs_from u 0 u.functions))))
+  start_index_is =
+      let a = ap (λ (l : List ℕ). length l) none in
+      let b = ap (λ (l : List ℕ). length l) (defined_are u) in
+      let d = own_funcs u 0 u.functions in
+      omega (arith, a, b, d)
+
+  abbrev start_inst : FuncInst
+  start_inst = own_func (compiled u) 0 (start_func u)
+
+  start_there : slice_get st.funcs (start_index u) ≡ Some start_inst
+  start_there =
+      let k = length (funcs_from u 0 u.functions) in
+      ap (slice_get st.funcs) start_index_is ∙ slice_get-map (own_func (compiled u) 0) (compiled u).funcs k
+      ∙ ap (option_map (own_func (compiled u) 0)) (at_end (funcs_from u 0 u.functions) (start_func u))
 
   -- ---- the globals
 
@@ -269,6 +291,14 @@ module _ (u : Typed) (name : List ℕ) (c : ℕ) (none : imported u ≡ []) wher
     all = address_at (compiled u).funcs (own_func (compiled u) 0);
     globals = globals_begin;
     shared = global_address;
+    start = record {
+      inst = start_inst;
+      is_at = start_there;
+      at_home = refl;
+      locals_are = refl;
+      body_is = refl;
+    };
+    begins = ap (λ (o : Option ℕ). with_start o []) (address_at (compiled u).funcs (own_func (compiled u) 0) (start_index u) (slice_get_within st.funcs (start_index u) start_inst start_there));
     three = omega arith;
     putchar = refl;
     getchar = refl;
@@ -397,8 +427,8 @@ compiled_is_placed u name c s e =
     subst (λ (t : Store). IsPlaced u t) (is_made u name c none s e) (placed u name c none (few_named_in u name c s e))
 
 pub linked_behaves : (u : Typed) (name : List ℕ) (c : ℕ) (s : Store) (n : ℕ) (f : Function) (b : Stmt) (t : Ty)
-    → IsWellTyped u → in_stage u ≡ true → main_number u ≡ Some n
-    → slice_get u.functions n ≡ Some f → f.body ≡ Some b → f.ty ≡ function t no_types
+    → IsWellTyped u → IsMost u → main_number u ≡ Some n
+    → slice_get u.functions n ≡ Some f → f.body ≡ Some b → f.ty ≡ function t no_types → gives_integer t ≡ true
     → linked ((name, compiled u) ∷ []) c ≡ Ok s → Behaves u s (index_of u n)
-linked_behaves u name c s n f b t well staged is_main at has_body ty e =
-    compiled_behaves u s n f b t well staged is_main at has_body ty (compiled_is_placed u name c s e)
+linked_behaves u name c s n f b t well most is_main at has_body ty numeric e =
+    compiled_behaves u s n f b t well most is_main at has_body ty numeric (compiled_is_placed u name c s e)

@@ -1,17 +1,17 @@
 -- Longer runs of a thread go on as shorter ones do; and the run of a crew of one task.
-use Rattle.std.proofs.Common.{◌≡◌, inl, inr, ℕ, zero, suc, ◌≤◌, List, [], ◌∷◌, ◌++◌, replicate, Option, Some, None, refl, sym, ap, ◌∙◌, arith, append-nil}
+use Rattle.std.proofs.Common.{◌≡◌, ℕ, zero, suc, ◌≤◌, List, [], ◌∷◌, ◌++◌, replicate, Option, Some, None, refl, sym, ap, ◌∙◌, arith, append-nil}
 use Rattle.std.specs.Prelude.{slice_get}
 use Rattle.ms_event.specs.declared.event.Event.{Event}
 use Rattle.ms_linear.specs.declared.value.Value.{Value}
 use Rattle.ms_machine.specs.Crews as crews
-use Rattle.ms_machine.specs.Crews.{Crew, End, Input, Run, Start, Task, bytes_of, deed, events_of, moved, run_entries, with_start, with_task}
+use Rattle.ms_machine.specs.Crews.{Crew, Input, Run, Start, Task, Whose, deed, moved, run_entries, with_start, with_task}
 use Rattle.ms_machine.specs.Moves as moves
 use Rattle.ms_machine.specs.Moves.{Goes, Move, move_of, rest_of}
 use Rattle.ms_machine.specs.Running.{with_event}
 use Rattle.ms_machine.specs.Store.{Store}
 use Rattle.ms_task.specs.Thread.{Frame, Item, Thread, thread}
 use Rattle.c_runs.specs.Threads.{Ended, Trapped, Paused, Stuck, Stop, Ran, ran, before, after_move, steps, steps_to, with_put}
-use Rattle.c_runs.specs.Crews.{EndsAs, Extends, Same, Shows, crew_behind, crew_end, crew_of_one, steps_behind, then_steps}
+use Rattle.c_runs.specs.Crews.{Extends, Same, Shows, crew_behind, crew_end, crew_of_one, reported, steps_behind, then_steps, whose_at}
 
 extends_same : (r : Ran) → Extends r r
 extends_same r = record { puts = []; events = []; puts_are = sym (append-nil r.puts); events_are = sym (append-nil r.events); over = λ n. refl }
@@ -91,33 +91,69 @@ extends_last last h (suc n) (suc m) le s input fr vs (i ∷ w) =
 pub longer_behind : (start t : Thread) (n m : ℕ) → n ≤ m → (s : Store) (input : Input) → Extends (steps_behind start t n s input) (steps_behind start t m s input)
 longer_behind start t n m le s input = extends_last (then_steps t) (λ a b le' s' v i. longer a b le' s' t i) n m le s input start.frame start.operands start.work
 
-as_shown : (r : Run) (q : Ran) → Same r q → Shows r q
+-- what the steps of the first thread tell is told in front of what goes on behind its end, and where they are used up all are
+pub record Foretells (q r : Ran) : Type 0 where
+  pub later : List Event
+  pub events : r.events ≡ q.events ++ later
+  pub waits : q.stop ≡ Paused → r.stop ≡ Paused
+
+foretells_same : (r : Ran) → Foretells r r
+foretells_same r = record { later = []; events = sym (append-nil r.events); waits = λ e. e }
+
+foretells_end : (v : Option Value) (r : Ran) → Foretells (ran (Ended v)) r
+foretells_end v r = record { later = r.events; events = refl; waits = λ e. absurd cc }
+
+foretells_before : (put : Option ℕ) (event : Option Event) (q r : Ran) → Foretells q r → Foretells (before put event q) (before put event r)
+foretells_before put event q r h = record { later = h.later; events = ap (with_event event) h.events ∙ event_append event q.events h.later; waits = h.waits }
+
+foretells_move : (mv : Move) (input : Input) (go go' : Store → Thread → Input → Ran) → ((s : Store) (t : Thread) (i : Input) → Foretells (go s t i) (go' s t i)) → Foretells (after_move mv input go) (after_move mv input go')
+foretells_move (Goes s t took put event) input go go' h = foretells_before put event (go s t (rest_of took input)) (go' s t (rest_of took input)) (h s t (rest_of took input))
+foretells_move (moves.Trap k) input go go' h = foretells_same (ran (Trapped k))
+foretells_move moves.Stuck input go go' h = foretells_same (ran Stuck)
+
+foretells_at : (last : ℕ → Store → Option Value → Input → Ran) (n : ℕ) (s : Store) (input : Input) (fr : Frame) (vs : List Value) (w : List Item) → Foretells (steps n s (thread fr vs w) input) (steps_to last n s (thread fr vs w) input)
+foretells_at last zero s input fr vs [] = foretells_end (slice_get vs 0) (last 0 s (slice_get vs 0) input)
+foretells_at last zero s input fr vs (i ∷ w) = foretells_same (ran Paused)
+foretells_at last (suc n) s input fr vs [] = foretells_end (slice_get vs 0) (last (suc n) s (slice_get vs 0) input)
+foretells_at last (suc n) s input fr vs (i ∷ w) =
+    foretells_move (move_of s (thread fr vs (i ∷ w)) input) input (steps n) (steps_to last n) (λ s' t' i'. foretells_at last n s' i' t'.frame t'.operands t'.work)
+
+pub foretells : (start t : Thread) (n : ℕ) (s : Store) (input : Input) → Foretells (steps n s start input) (steps_behind start t n s input)
+foretells start t n s input = foretells_at (then_steps t) n s input start.frame start.operands start.work
+
+-- ---- the run of the crew
+
+as_shown : (r : Run) (q : Ran) → Same r q → Shows r (Task 0) q
 as_shown r q h = record { bytes = h.bytes; events = h.events; ends = by q.stop h.ends } where
-  by : (st : Stop) → r.end ≡ crew_end st → EndsAs st r.end
+  by : (st : Stop) → r.end ≡ crew_end st → reported (Task 0) st r.end
   by (Ended v) e = e
-  by (Trapped k) e = inl e
+  by (Trapped k) e = e
   by Paused e = e
   by Stuck e = e
 
-shows_before : (put : Option ℕ) (event : Option Event) (r : Run) (q : Ran) → Shows r q → Shows (crews.behind (deed Start put event) r) (before put event q)
-shows_before None None r q h = record { bytes = h.bytes; events = h.events; ends = h.ends }
-shows_before (Some b) None r q h = record { bytes = ap (λ (l : List ℕ). b ∷ l) h.bytes; events = h.events; ends = h.ends }
-shows_before None (Some e) r q h = record { bytes = h.bytes; events = ap (λ (l : List Event). e ∷ l) h.events; ends = h.ends }
-shows_before (Some b) (Some e) r q h = record { bytes = ap (λ (l : List ℕ). b ∷ l) h.bytes; events = ap (λ (l : List Event). e ∷ l) h.events; ends = h.ends }
+shows_before : (put : Option ℕ) (event : Option Event) (r : Run) (whose : Whose) (q : Ran) → Shows r whose q → Shows (crews.behind (deed Start put event) r) whose (before put event q)
+shows_before None None r whose q h = record { bytes = h.bytes; events = h.events; ends = h.ends }
+shows_before (Some b) None r whose q h = record { bytes = ap (λ (l : List ℕ). b ∷ l) h.bytes; events = h.events; ends = h.ends }
+shows_before None (Some e) r whose q h = record { bytes = h.bytes; events = ap (λ (l : List Event). e ∷ l) h.events; ends = h.ends }
+shows_before (Some b) (Some e) r whose q h = record { bytes = ap (λ (l : List ℕ). b ∷ l) h.bytes; events = ap (λ (l : List Event). e ∷ l) h.events; ends = h.ends }
 
-shows_move : (mv : Move) (s : Store) (c : Crew) (t : Thread) (input : Input) (go : Crew → Input → Run) (go' : Store → Thread → Input → Ran) → c.tasks ≡ t ∷ [] → ((s' : Store) (t' : Thread) (i : Input) → Shows (go (with_start c [] s' t') i) (go' s' t' i))
-    → Shows (moved Start mv c input (with_start c []) go) (after_move mv input go')
-shows_move (Goes s' t' took put event) s c t input go go' e h = shows_before put event (go (with_start c [] s' t') (rest_of took input)) (go' s' t' (rest_of took input)) (h s' t' (rest_of took input))
-shows_move (moves.Trap k) s c t input go go' e h = record { bytes = refl; events = refl; ends = inr refl }
-shows_move moves.Stuck s c t input go go' e h = record { bytes = refl; events = refl; ends = refl }
+-- the run of the crew, the steps of the start function alone, and all
+shows_move : (mv : Move) (s : Store) (c : Crew) (t : Thread) (input : Input) (go : Crew → Input → Run) (alone go' : Store → Thread → Input → Ran) → c.tasks ≡ t ∷ []
+    → ((s' : Store) (t' : Thread) (i : Input) → Shows (go (with_start c [] s' t') i) (whose_at (alone s' t' i).stop) (go' s' t' i))
+    → Shows (moved Start mv c input (with_start c []) go) (whose_at (after_move mv input alone).stop) (after_move mv input go')
+shows_move (Goes s' t' took put event) s c t input go alone go' e h =
+    let i = rest_of took input in shows_before put event (go (with_start c [] s' t') i) (whose_at (alone s' t' i).stop) (go' s' t' i) (h s' t' i)
+shows_move (moves.Trap k) s c t input go alone go' e h = record { bytes = refl; events = refl; ends = refl }
+shows_move moves.Stuck s c t input go alone go' e h = record { bytes = refl; events = refl; ends = refl }
 
-shows_at : (t : Thread) (n : ℕ) (s : Store) (input : Input) (fr : Frame) (vs : List Value) (w : List Item) → Shows (run_entries (replicate n 0) (crew_behind s (thread fr vs w) t) input) (steps_behind (thread fr vs w) t n s input)
+shows_at : (t : Thread) (n : ℕ) (s : Store) (input : Input) (fr : Frame) (vs : List Value) (w : List Item)
+    → Shows (run_entries (replicate n 0) (crew_behind s (thread fr vs w) t) input) (whose_at (steps n s (thread fr vs w) input).stop) (steps_behind (thread fr vs w) t n s input)
 shows_at t zero s input fr vs [] = as_shown (run_entries [] (crew_of_one s t) input) (steps 0 s t input) (same_run 0 s t input)
 shows_at t zero s input fr vs (i ∷ w) = record { bytes = refl; events = refl; ends = refl }
 shows_at t (suc n) s input fr vs [] = as_shown (run_entries (replicate (suc n) 0) (crew_of_one s t) input) (steps (suc n) s t input) (same_run (suc n) s t input)
 shows_at t (suc n) s input fr vs (i ∷ w) =
-    shows_move (move_of s (thread fr vs (i ∷ w)) input) s (crew_behind s (thread fr vs (i ∷ w)) t) t input (run_entries (replicate n 0)) (steps_to (then_steps t) n) refl (λ s' t' i'. shows_at t n s' i' t'.frame t'.operands t'.work)
+    shows_move (move_of s (thread fr vs (i ∷ w)) input) s (crew_behind s (thread fr vs (i ∷ w)) t) t input (run_entries (replicate n 0)) (steps n) (steps_to (then_steps t) n) refl (λ s' t' i'. shows_at t n s' i' t'.frame t'.operands t'.work)
 
 -- a run of the crew tells what so many steps do
-pub shows_behind : (start t : Thread) (n : ℕ) (s : Store) (input : Input) → Shows (run_entries (replicate n 0) (crew_behind s start t) input) (steps_behind start t n s input)
+pub shows_behind : (start t : Thread) (n : ℕ) (s : Store) (input : Input) → Shows (run_entries (replicate n 0) (crew_behind s start t) input) (whose_at (steps n s start input).stop) (steps_behind start t n s input)
 shows_behind start t n s input = shows_at t n s input start.frame start.operands start.work

@@ -1,5 +1,5 @@
 -- Pointers that are moved by a number of elements (C11, 6.5.6).
-use Rattle.std.proofs.Common.{◌≡◌, ◌⊎◌, inl, inr, ℕ, zero, suc, ◌+◌, ◌<◌, ◌≤◌, List, [], ◌∷◌, length, Bool, true, false, Some, None, refl, sym, ap, ◌∙◌, arith, subst}
+use Rattle.std.proofs.Common.{◌≡◌, ◌⊎◌, inl, inr, ℕ, zero, suc, ◌<◌, ◌≤◌, List, [], ◌∷◌, length, Bool, true, false, Some, None, refl, sym, ap, ◌∙◌, arith, subst}
 use Rattle.std.specs.Prelude.{ℤ, pos, negsuc, neg_ℤ, slice_get}
 use Rattle.std.proofs.lemmas.Bool.{cases_lt}
 use Rattle.ms_linear.specs.declared.value.Value.{Value as Word}
@@ -10,17 +10,16 @@ use Rattle.ms_module.specs.declared.access.Segment.TheVariants as segment
 use Rattle.ms_module.specs.declared.instr.Instr.TheVariants.{LocalGet, LocalSet, Segment}
 use Rattle.ms_module.specs.declared.numeric.BinOp.TheVariants as bins
 use Rattle.ms_module.specs.declared.numeric.Width.TheVariants.{W64}
-use Rattle.ms_num.specs.Integers.{signed, wrapped}
+use Rattle.ms_num.specs.Integers.{wrapped}
 use Rattle.ms_task.specs.Thread.{Do, Frame, Item, thread}
 use Rattle.c_types.specs.declared.integers.IntType.TheVariants.{LongLong}
-use Rattle.c_types.specs.declared.types.Scalar.TheVariants as scalars
 use Rattle.c_types.specs.Layout.{Table, size as type_size}
 use Rattle.c_types.specs.Types.{Ty, integer, pointer, is_function}
 use Rattle.c_meaning.specs.Integers.{wrap}
 use Rattle.c_meaning.specs.Shapes.{shape, size}
 use Rattle.c_meaning.specs.Values.{Value}
 use Rattle.c_meaning.specs.Objects as objects
-use Rattle.c_meaning.specs.World.{World, Result, gives, Does, ◌>>=◌, pure}
+use Rattle.c_meaning.specs.World.{gives, Does, ◌>>=◌, pure}
 use Rattle.c_meaning.specs.Expressions as meaning
 use Rattle.c_meaning.specs.Expressions.{back_if}
 use Rattle.ms_emit.specs.Codes.{Code, plain, one, ◌⨾◌}
@@ -43,8 +42,8 @@ use Rattle.c_runs.proofs.Goes as goes
 use Rattle.c_runs.proofs.Goes.{Goes, Mem, Runs, RunsTo, behind_goes, goes_on, one_here}
 use Rattle.c_runs.proofs.Held.{set_elsewhere, set_there}
 use Rattle.c_runs.proofs.Values.{value_still, word_of, word_still}
-use Rattle.c_runs.proofs.Related.{Env, IsSlot, IsValue, Kept, Now, extends_trans, frame_of, pushes}
-use Rattle.c_runs.proofs.Ops.{GoodIn, OpIn, Stack, ToIn, at_work, op_any, op_carried, op_over_in, op_seen_in, op_then_in, same}
+use Rattle.c_runs.proofs.Related.{Env, IsSlot, IsValue, Kept, extends_trans, frame_of, pushes}
+use Rattle.c_runs.proofs.Ops.{OpIn, Stack, at_work, op_any, op_carried, op_over_in, op_seen_in, op_then_in, same}
 use Rattle.c_runs.proofs.Nodes.{Always, Leaves, Num, op_integer}
 use Rattle.c_runs.proofs.Switches.{IsTemp, get_temp, set_goes, set_stays, with_temp}
 use Rattle.c_runs.proofs.Cells.{pointer_word}

@@ -1,6 +1,6 @@
 -- How far apart two pointers are, and which of them comes first (C11, 6.5.6 and 6.5.8).
-use Rattle.std.proofs.Common.{◌≡◌, ℕ, zero, suc, ◌+◌, ◌/◌, ◌<◌, ◌≤◌, ◌≤ℤ◌, List, [], ◌∷◌, Bool, true, false, None, refl, sym, ap, ◌∙◌, arith, subst, div-le_self}
-use Rattle.std.specs.Prelude.{ℤ, pos, negsuc, neg_ℤ, int_div, int_le, slice_get, if◌then◌else◌}
+use Rattle.std.proofs.Common.{◌≡◌, ℕ, zero, suc, ◌/◌, ◌<◌, ◌≤◌, ◌≤ℤ◌, List, [], ◌∷◌, Bool, false, None, refl, sym, ap, ◌∙◌, arith, subst, div-le_self}
+use Rattle.std.specs.Prelude.{ℤ, pos, negsuc, neg_ℤ, int_div, int_le, if◌then◌else◌}
 use Rattle.std.proofs.lemmas.Int.{ints}
 use Rattle.ms_linear.specs.declared.value.Value.{Value as Word}
 use Rattle.ms_linear.specs.declared.value.Value.TheVariants.{Handle, I64}

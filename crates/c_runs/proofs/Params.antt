@@ -1,7 +1,7 @@
 -- Parameters of a function of which one is an object: each is copied from its argument, which stands in front of all slots, and the
 -- objects are made in their order.
 use Rattle.std.proofs.Common.{◌≡◌, ◌≢◌, ℕ, zero, suc, ◌+◌, ◌<◌, ◌≤◌, List, [], ◌∷◌, ◌++◌, length, length-append, append_assoc, append-nil, drop, map, Bool, true, false, Option, Some, None, refl, sym, ap, ◌∙◌, arith, subst}
-use Rattle.std.specs.Prelude.{slice_get, slice_set, ◌==◌, ◌||◌, ◌*◌}
+use Rattle.std.specs.Prelude.{slice_get, slice_set, ◌||◌, ◌*◌}
 use Rattle.std.proofs.lemmas.Bool.{ne_eqb}
 use Rattle.std.proofs.lemmas.Option.{slice_get_within}
 use Rattle.ms_linear.specs.declared.value.Value.{Value as Word}
@@ -16,7 +16,7 @@ use Rattle.c_typed.specs.declared.ops.Variable.TheVariants.{Local}
 use Rattle.c_typed.specs.Tree.{Function, Typed, of}
 use Rattle.c_typed.specs.refinement.Expressions.{is_visible}
 use Rattle.c_typed.specs.Units.{list_of, numbers}
-use Rattle.c_meaning.specs.Values.{Value, zero_value}
+use Rattle.c_meaning.specs.Values.{Value}
 use Rattle.c_meaning.specs.Objects as objects
 use Rattle.c_meaning.specs.Objects.{Object, Outcome, to_object, write}
 use Rattle.c_meaning.specs.World.{End, Held, plain, object, World, Result, gives, ends, Does, after, ◌>>=◌, ◌>>◌, pure, alter, as_done, known}
@@ -39,7 +39,7 @@ use Rattle.c_runs.proofs.Held.{Slot, get_behind, length_held, set_behind, set_th
 use Rattle.c_runs.proofs.Ending.{Differ, visible_first, visible_left, visible_right}
 use Rattle.c_runs.proofs.Values.{pushed_is, value_still, word_of, word_still}
 use Rattle.c_runs.proofs.Related.{AreOf, Env, HasAll, IsValue, Kept, Now, Starts, depth_front, extends_trans, frame_of, front, front_append, get_in, has_back, has_front, kept_seen, locals_of, pushes, seeing}
-use Rattle.c_runs.proofs.Ops.{GoodIn, OpIn, Stack, ToIn, at_work, op_any, op_over_in, op_then_in, same, size_joined}
+use Rattle.c_runs.proofs.Ops.{GoodIn, OpIn, Stack, at_work, op_any, op_over_in, op_then_in, same, size_joined}
 use Rattle.c_runs.proofs.Nodes.{Always, gone, set_runs}
 use Rattle.c_runs.proofs.Cells.{IsSpot, lead_still, over_handle, spot_pushed, variable_leads}
 use Rattle.c_runs.proofs.Steps.{op_store}

@@ -1,7 +1,6 @@
 -- What a call needs of each function, from what a store has of the unit.
 use Rattle.std.proofs.Common.{◌≡◌, ◌≢◌, ℕ, zero, suc, ◌+◌, ◌<◌, ◌≤◌, List, [], ◌∷◌, length, map, max, Bool, true, false, cond, is_some, Option, Some, None, refl, sym, ap, ◌∙◌, arith, subst, ◌++◌, append_assoc, Ok, Err}
-use Rattle.std.specs.Prelude.{get_or, nat_lt, not, position, replicate, slice_get, ◌&&◌, ◌||◌, filter, ◌==◌}
-use Rattle.std.specs.List.{position_or_len}
+use Rattle.std.specs.Prelude.{get_or, not, replicate, slice_get, ◌&&◌, ◌||◌, filter, ◌==◌}
 use Rattle.std.specs.List.{All, list_any}
 use Rattle.std.proofs.lemmas.Option.{slice_get_within}
 use Rattle.std.proofs.lemmas.List.{length-map, length-replicate}
@@ -18,14 +17,14 @@ use Rattle.ms_task.specs.declared.func.FuncInst.{FuncInst}
 use Rattle.ms_task.specs.Thread.{body_in, body_of, sequence}
 use Rattle.ms_linear.specs.declared.value.Value.TheVariants.{I32}
 use Rattle.c_meaning.specs.Units as file
-use Rattle.c_meaning.specs.Units.{in_made, main_number}
+use Rattle.c_meaning.specs.Units.{in_made}
 use Rattle.c_typed.specs.declared.ops.Variable.{Variable}
 use Rattle.c_typed.specs.declared.ops.Variable.TheVariants.{Local, Global}
 use Rattle.c_types.specs.Types.{Ty, void, integer, pointer, function, Tys, no_types}
 use Rattle.c_typed.specs.Objects.{is_whole}
-use Rattle.c_typed.specs.Tree.{Function, Made, Stmt, Typed}
+use Rattle.c_typed.specs.Tree.{Function, Stmt, Typed}
 use Rattle.c_typed.specs.Units.{IsBody, IsFunction, IsWellTyped, list_of}
-use Rattle.c_typed.specs.refinement.Types.{IsObject}
+use Rattle.c_typed.specs.refinement.Types.{IsObject, IsType, IsValue}
 use Rattle.c_typing.proofs.Frames.{sound_with}
 use Rattle.c_typing.proofs.Indices.{sig_through}
 use Rattle.c_typing.proofs.Lists.{equal_is}
@@ -34,22 +33,35 @@ use Rattle.ms_emit.specs.Codes.{total}
 use Rattle.c_code.specs.Functions.{body, held_as, listed, locals, params_in, result_in, signature}
 use Rattle.c_code.specs.Modules.{index_of, is_call_of, is_defined, is_defined_at, is_name_of, target_of, all_functions, named, rank_in}
 use Rattle.c_code.specs.Operations.{val_of}
-use Rattle.c_stage.specs.Stage.{are_data, are_slots, in_body, in_functions, in_stage, in_stmt, is_empty, is_main, is_plain_function, is_result}
+use Rattle.c_runs.proofs.Fits.{IsMost, body_fits_in}
 use Rattle.c_code.specs.Uses as uses
 use Rattle.c_code.specs.Uses.{waits_stmt}
-use Rattle.c_runs.specs.Threads.{over}
-use Rattle.c_runs.specs.Placed.{IsPlaced, instructions_in, longest_in, longest_of}
+use Rattle.c_runs.specs.Crews.{then_steps}
+use Rattle.c_runs.specs.Threads.{Paused, Ran, over, ran}
+use Rattle.ms_machine.specs.Crews.{Input, by_work}
+use Rattle.ms_machine.specs.Store.{number_of_instance}
+use Rattle.ms_task.specs.Thread.{Item, Thread}
+use Rattle.ms_linear.specs.declared.value.Value.{Value}
+use Rattle.ms_linear.specs.declared.global.GlobalInst.{GlobalInst}
+use Rattle.std.proofs.Common.{length-append}
+use Rattle.c_code.specs.Functions.{start}
+use Rattle.c_code.specs.Modules.{globals_from, literal_globals, start_target}
+use Rattle.c_typed.specs.Units.{literals_in}
+use Rattle.c_runs.proofs.Starting.{HasStart}
+use Rattle.c_runs.specs.Placed.{IsPlaced, begun_as, start_index, instructions_in, longest_in, longest_of}
 use Rattle.c_runs.proofs.Goes.{Mem, Site}
 use Rattle.c_runs.proofs.Operations.{Linked}
 use Rattle.c_runs.proofs.Related.{HasAll}
-use Rattle.c_runs.proofs.Bodies.{IsResult, is_integer_or_void, is_pointer, is_void}
+use Rattle.c_runs.proofs.Bodies.{IsResult, is_pointer, is_void}
 use Rattle.c_runs.proofs.Callees.{Compiled, slots_of}
+use Rattle.c_meaning.specs.Units.{is_global_object}
+use Rattle.c_code.specs.Targets.{Target}
+use Rattle.c_runs.proofs.Globals.{NamesOf, all_reached, file_slots}
 use Rattle.c_runs.proofs.Filing.{names_of}
 use Rattle.c_runs.proofs.Numbers.{never_passes}
 use Rattle.c_runs.proofs.Ready.{AreCallable, IsCallable, any_left, any_right, in_stmt_of, left_of, right_of, IsKnown, same_number}
-use Rattle.c_runs.proofs.Scalars.{IsVariable}
+use Rattle.c_runs.proofs.Scalars.{AreData, IsVariable, parameters_data, variable_type}
 use Rattle.c_runs.proofs.Entries.{IsTable, IsEntry}
-use Rattle.c_runs.proofs.Whole.{both}
 
 -- ---- one of a list
 
@@ -68,16 +80,6 @@ get_mapped : (fs : List Function) (n : ℕ) (t : Ty) → slice_get (map (λ (g :
 get_mapped [] n t e = absurd cc
 get_mapped (f ∷ fs) zero t e = (f, refl, same_one f.ty t e)
 get_mapped (f ∷ fs) (suc n) t e = get_mapped fs n t e
-
-abbrev IsStaged : Function → Type 0
-IsStaged f = (is_plain_function f f.ty ≡ true) × (in_body f f.body ≡ true)
-
-staged_at : (fs : List Function) (n : ℕ) (f : Function) → slice_get fs n ≡ Some f → in_functions fs ≡ true → IsStaged f
-staged_at [] n f e h = absurd cc
-staged_at (g ∷ fs) zero f e h =
-    let q = both (is_plain_function g g.ty) (in_body g g.body && in_functions fs) h in subst IsStaged (same_one g f e) (q.0, (both (in_body g g.body) (in_functions fs) q.1).0)
-staged_at (g ∷ fs) (suc n) f e h =
-    let q = both (is_plain_function g g.ty) (in_body g g.body && in_functions fs) h in staged_at fs n f e (both (in_body g g.body) (in_functions fs) q.1).1
 
 pub defined_by : (o : Option Stmt) → is_some o ≡ true → (b : Stmt) × (o ≡ Some b)
 defined_by None e = absurd cc
@@ -193,31 +195,11 @@ not_empty : (ts : List Ty) → 0 < length ts → ts ≢ []
 not_empty [] lt e = absurd (omega (arith, lt))
 not_empty (t ∷ ts) lt e = absurd cc
 
-result_kind : (f : Function) (t : Ty) → is_result f t ≡ true → IsResult t
-result_kind f void e = is_void refl
-result_kind f (integer u) e = Rattle.c_runs.proofs.Bodies.is_integer u refl
-result_kind f (pointer s) e = is_pointer s refl
-result_kind f _ e = absurd cc
-
--- `main` gives no pointer
-main_kind : (f : Function) (t : Ty) → is_main f ≡ true → is_result f t ≡ true → is_integer_or_void t ≡ true
-main_kind f void m e = refl
-main_kind f (integer u) m e = refl
-main_kind f (pointer s) m e = absurd (let z : not (is_main f) ≡ false = ap not m in let w : true ≡ false = sym e ∙ z in cc)
-main_kind f _ m e = absurd cc
-
-at_first : (p : Function → Bool) (fs : List Function) (f : Function) → slice_get fs (position_or_len p fs) ≡ Some f → p f ≡ true
-at_first p [] f h = absurd cc
-at_first p (g ∷ fs) f h = by (p g) refl h (at_first p fs f) where
-  by : (b : Bool) → p g ≡ b → slice_get (g ∷ fs) (cond (not b) (1 + position_or_len p fs) 0) ≡ Some f → (slice_get fs (position_or_len p fs) ≡ Some f → p f ≡ true) → p f ≡ true
-  by true e h' rest = ap p (sym (same_one g f h')) ∙ e
-  by false e h' rest = let z : 1 + position_or_len p fs ≡ suc (position_or_len p fs) = omega arith in rest (ap (slice_get (g ∷ fs)) (sym z) ∙ h')
-
-named_main : (fs : List Function) (n : ℕ) (f : Function) → position is_main fs ≡ Some n → slice_get fs n ≡ Some f → is_main f ≡ true
-named_main fs n f e h = by (nat_lt (position_or_len is_main fs) (length fs)) e where
-  by : (b : Bool) → cond b (Some (position_or_len is_main fs)) None ≡ Some n → is_main f ≡ true
-  by true e' = at_first is_main fs f (ap (slice_get fs) (same_one (position_or_len is_main fs) n e') ∙ h)
-  by false e' = absurd cc
+result_kind : (t : Ty) → IsValue t → IsResult t
+result_kind void h = is_void refl
+result_kind (integer u) h = Rattle.c_runs.proofs.Bodies.is_integer u refl
+result_kind (pointer s) h = is_pointer s refl
+result_kind _ h = absurd h
 
 -- ---- the site of a store
 
@@ -227,7 +209,14 @@ site_of u s = record { funcs = s.funcs; instances = s.instances; tables = s.tabl
 abbrev pub mem_of : Store → Mem
 mem_of s = record { globals = s.globals; segments = s.segments; homes = []; temps = [] }
 
-module _ (u : Typed) (s : Store) (well : IsWellTyped u) (staged : in_stage u ≡ true) (placed : IsPlaced u s) where
+-- by itself a thread tells of nothing at once
+pub still_steps : (t : Thread) (s : Store) (v : Option Value) (input : Input) → (then_steps t 0 s v input).events ≡ []
+still_steps t s v input = by t.work where
+  by : (r : List Item) → (by_work r (over 0 s (slice_get t.operands 0) input) (ran Paused)).events ≡ []
+  by [] = refl
+  by (i ∷ r) = refl
+
+module _ (u : Typed) (s : Store) (well : IsWellTyped u) (most : IsMost u) (placed : IsPlaced u s) where
   pub linked : Linked (site_of u s)
   linked = record { inst = placed.inst; alone = placed.alone; all = placed.all; shared = placed.shared; three = placed.three; putchar = placed.putchar; getchar = placed.getchar; abort = placed.abort }
 
@@ -260,21 +249,55 @@ module _ (u : Typed) (s : Store) (well : IsWellTyped u) (staged : in_stage u ≡
     callable = named_callable;
   }
 
-  split : (is_empty u.made ≡ true) × (in_functions u.functions ≡ true)
-  split = let q = both (is_empty u.made) (is_empty u.globals && in_functions u.functions) staged in (q.0, (both (is_empty u.globals) (in_functions u.functions) q.1).1)
+  -- ---- the start function, where another site has the same functions and table
 
-  pub none_made : u.made ≡ []
-  none_made = by u.made split.0 where
-    by : (ms : List Made) → is_empty ms ≡ true → ms ≡ []
-    by [] e = refl
-    by (m ∷ ms) e = absurd cc
+  globals_long : (n : ℕ) (ts : List Ty) → length (globals_from u n ts) ≡ length ts
+  globals_long n [] = refl
+  globals_long n (x ∷ xs) = ap suc (globals_long (suc n) xs)
 
-  -- no variable stands at file scope
+  literals_long : (n : ℕ) → length (literal_globals u n) ≡ n
+  literals_long zero = refl
+  literals_long (suc n) = ap suc (literals_long n)
+
+  room : length s.globals ≡ length u.globals + literals_in u.made
+  room =
+      ap (λ (l : List GlobalInst). length l) placed.globals ∙ length-map (globals_from u 0 u.globals ++ literal_globals u (literals_in u.made)) begun_as
+      ∙ length-append (globals_from u 0 u.globals) (literal_globals u (literals_in u.made))
+      ∙ (let a = globals_long 0 u.globals in let b = literals_long (literals_in u.made) in omega (arith, a, b))
+
+  abbrev pub ahead_of : Thread → Site
+  ahead_of t = record (site_of u s) { last = then_steps t; still = still_steps t }
+
+  pub linked_ahead : (t : Thread) → Linked (ahead_of t)
+  linked_ahead t = record { inst = placed.inst; alone = placed.alone; all = placed.all; shared = placed.shared; three = placed.three; putchar = placed.putchar; getchar = placed.getchar; abort = placed.abort }
+
+  -- whatever goes on behind it
+  pub has_start : (last : ℕ → Store → Option Value → Input → Ran) (still : (s' : Store) (v : Option Value) (input : Input) → (last 0 s' v input).events ≡ [])
+      → HasStart (record (site_of u s) { last = last; still = still }) u
+  has_start last still = record {
+    at_home = ap number_of_instance placed.start.is_at ∙ ap Some placed.start.at_home;
+    code = has_all s.funcs (start_index u) (start (start_target u) u.globals u.made) (ap body_in placed.start.is_at ∙ placed.start.body_is);
+    room = room;
+    table = record {
+      few = placed.few;
+      inst = placed.inst;
+      alone = placed.alone;
+      has_table = placed.has_table;
+      types = placed.types;
+      table = placed.table;
+      tables = placed.tables;
+      empty = placed.empty;
+      entries = table_entries;
+      callable = named_callable;
+    };
+  }
+
   pub file_types : (x : ℕ) (t : Ty) → slice_get u.globals x ≡ Some t → IsVariable t
-  file_types x t e = by u.globals (both (is_empty u.globals) (in_functions u.functions) (both (is_empty u.made) (is_empty u.globals && in_functions u.functions) staged).1).0 e where
-    by : (ts : List Ty) → is_empty ts ≡ true → slice_get ts x ≡ Some t → IsVariable t
-    by [] q e = absurd cc
-    by (s ∷ ts) q e = absurd cc
+  file_types x t e = variable_type u.structs t (all_at (IsObject u.structs) u.globals x t e well.globals)
+
+  -- what code may name at file scope
+  pub names_at : (tg : Target) → tg.globals ≡ length u.globals → ((x : ℕ) → tg.is_object (Global x) ≡ is_global_object u x (get_or u.globals x void)) → NamesOf u.structs (file_slots u) (all_reached u) tg u.globals (literals_in u.made)
+  names_at tg behind object_is = names_of u well file_types tg behind object_is (λ x q e. all_at (IsObject u.structs) u.globals x q e well.globals)
 
   -- a variable whose address a body takes is an object
   objects_taken : (f : Function) (n : ℕ) (b : Stmt) → slice_get u.functions n ≡ Some f → f.body ≡ Some b → (x : Variable) → in_stmt_of b x ≡ true → (target_of u f b).is_object x ≡ true
@@ -282,18 +305,25 @@ module _ (u : Typed) (s : Store) (well : IsWellTyped u) (staged : in_stage u ≡
   objects_taken f n b at has (Global x) e =
       right_of (is_whole (get_or u.globals x void)) (in_made x u.made || file.in_functions x u.functions) (right_of (in_made x u.made) (file.in_functions x u.functions) (taken_at x u.functions n f b at has e))
 
+  -- what stands at file scope uses what is defined
+  pub made_callable : AreCallable u (uses.in_made u.made)
+  made_callable m used lt =
+      defined_or (is_defined_at u m) (list_any (is_call_of m) (uses.uses u))
+      (never_passes (λ k. not (is_defined_at u k) && list_any (is_call_of k) (uses.uses u)) (length u.functions) placed.none_imported m lt)
+      (any_left (is_call_of m) (uses.in_made u.made) (uses.in_functions u.functions) used)
+
+  pub made_known : Each (IsKnown true u) (uses.in_made u.made)
+  made_known = each_front (IsKnown true u) (uses.in_made u.made) (uses.in_functions u.functions) (all_known u [] (uses.uses u) refl)
+
   module _ (n : ℕ) (t : Ty) (ps : Tys) (e : slice_get (map (λ (g : Function). g.ty) u.functions) n ≡ Some (function t ps)) where
     found : (f : Function) × (slice_get u.functions n ≡ Some f) × (f.ty ≡ function t ps)
     found = get_mapped u.functions n (function t ps) e
 
-    in_stage_here : IsStaged found.0
-    in_stage_here = staged_at u.functions n found.0 found.1 split.1
+    type_here : IsType u.structs (function t ps)
+    type_here = subst (IsType u.structs) found.2 (all_at (IsFunction u) u.functions n found.0 found.1 well.functions).3
 
-    plain_here : (is_result found.0 t ≡ true) × (are_data ps ≡ true)
-    plain_here = both (is_result found.0 t) (are_data ps) (ap (is_plain_function found.0) (sym found.2) ∙ in_stage_here.0)
-
-    pub params_are : are_data ps ≡ true
-    params_are = plain_here.1
+    pub params_are : AreData ps
+    params_are = parameters_data u.structs ps type_here.2
 
     callable : (b : Stmt) → found.0.body ≡ Some b → AreCallable u (uses.in_stmt b)
     callable b e' m used lt =
@@ -317,7 +347,6 @@ module _ (u : Typed) (s : Store) (well : IsWellTyped u) (staged : in_stage u ≡
         let ps_is : here.1 ≡ ps = ap types_in (sym here.2 ∙ ty_is) in
         let bd : IsBody u t ps f.slots (Some b.0) =
         subst (λ (r : Ty). IsBody u r ps f.slots (Some b.0)) r_is (subst (λ (qs : Tys). IsBody u here.0 qs f.slots (Some b.0)) ps_is (subst (λ (o : Option Stmt). IsBody u here.0 here.1 f.slots o) b.1 here.4)) in
-        let st = both (are_slots f.slots) (in_stmt b.0) (ap (in_body f) (sym b.1) ∙ in_stage_here.1) in
         let as_many : length (params_in f.ty) ≡ length (list_of ps) = ap (λ (ty : Ty). length (params_in ty)) ty_is in
         record {
           inst = at.inst;
@@ -337,9 +366,9 @@ module _ (u : Typed) (s : Store) (well : IsWellTyped u) (staged : in_stage u ≡
           others = bd.0.0;
           begins = bd.0.1;
           well = bd.2;
-          slots_are = slots_of f.slots st.0;
-          ready = record { in_stage = st.1; callable = callable b.0 b.1; known = known b.0 b.1; objects = objects_taken f n b.0 found.1 b.1 };
-          result = result_kind f t plain_here.0;
+          slots_are = slots_of u.structs f.slots bd.1;
+          ready = record { fits = body_fits_in u most n f b.0 found.1 b.1; callable = callable b.0 b.1; known = known b.0 b.1; objects = objects_taken f n b.0 found.1 b.1 };
+          result = result_kind t type_here.0;
           table = table;
           args = replicate (target_of u f b.0).first (I32 0);
           first_is = sym (length-replicate (target_of u f b.0).first (I32 0));
@@ -347,9 +376,5 @@ module _ (u : Typed) (s : Store) (well : IsWellTyped u) (staged : in_stage u ≡
           has_members = λ n l e. not_empty l.members (well.structs n l e).0;
           sizes = λ x s' e'. (all_at (IsObject u.structs) f.slots x s' e' bd.1).1;
           sound = sound_with u well f.slots bd.1;
-          names = names_of u well file_types (target_of u f b.0) refl (λ x. refl) (λ x q e. all_at (IsObject u.structs) u.globals x q e well.globals);
+          names = names_at (target_of u f b.0) refl (λ x. refl);
         }
-
-    -- of `main`
-    pub main_result : main_number u ≡ Some n → is_integer_or_void t ≡ true
-    main_result is_number = main_kind found.0 t (named_main u.functions n found.0 is_number found.1) plain_here.0

@@ -1,4 +1,4 @@
--- What is asked of a part of a function: it is of the stage, each function that it uses is defined, each that is a value in it is one
+-- What is asked of a part of a function: an i32 counts its strings and switches, each function that it uses is defined, each that is a value in it is one
 -- that the unit uses so, each type that is called through has its number, and each variable whose address it takes is an object.
 use Rattle.std.proofs.Common.{◌≡◌, ℕ, ◌<◌, List, [], ◌∷◌, ◌++◌, length, Bool, true, false, Option, Some, None, refl, ap, arith}
 use Rattle.std.specs.Prelude.{◌==◌, ◌&&◌, ◌||◌, slice_get}
@@ -28,8 +28,8 @@ IsKnown may u (calls n) = may ≡ true
 IsKnown may u (through t) = (may ≡ true) × (slice_get (compiled u).sigs (sig_of u t) ≡ Some (signature t))
 IsKnown may u _ = Unit {0}
 
-pub record IsReady (may : Bool) (is_object : Variable → Bool) (u : Typed) (staged : Bool) (us : List Use) (taken : Variable → Bool) : Type 0 where
-  pub in_stage : staged ≡ true
+pub record IsReady (may : Bool) (is_object : Variable → Bool) (u : Typed) (counted : Bool) (us : List Use) (taken : Variable → Bool) : Type 0 where
+  pub fits : counted ≡ true
   pub callable : AreCallable u us
   pub known : Each (IsKnown may u) us
   pub objects : (x : Variable) → taken x ≡ true → is_object x ≡ true
@@ -93,25 +93,25 @@ module _ (may : Bool) (is_object : Variable → Bool) (u : Typed) where
   -- two parts
   pub parts : (a b : Bool) (us vs : List Use) (f g : Variable → Bool) → IsReady may is_object u (a && b) (us ++ vs) (either f g) → IsReady may is_object u a us f × IsReady may is_object u b vs g
   parts a b us vs f g h =
-      let q = both a b h.in_stage in (
-        record { in_stage = q.0; callable = λ n e. h.callable n (any_left (is_call_of n) us vs e); known = each_front (IsKnown may u) us vs h.known; objects = λ x e. h.objects x (left_of (f x) (g x) e) },
-        record { in_stage = q.1; callable = λ n e. h.callable n (any_right (is_call_of n) us vs e); known = each_back (IsKnown may u) us vs h.known; objects = λ x e. h.objects x (right_of (f x) (g x) e) },
+      let q = both a b h.fits in (
+        record { fits = q.0; callable = λ n e. h.callable n (any_left (is_call_of n) us vs e); known = each_front (IsKnown may u) us vs h.known; objects = λ x e. h.objects x (left_of (f x) (g x) e) },
+        record { fits = q.1; callable = λ n e. h.callable n (any_right (is_call_of n) us vs e); known = each_back (IsKnown may u) us vs h.known; objects = λ x e. h.objects x (right_of (f x) (g x) e) },
       )
 
   -- a part behind a test
   pub behind_test : (a b : Bool) (us : List Use) (f : Variable → Bool) → IsReady may is_object u (a && b) us f → (a ≡ true) × IsReady may is_object u b us f
-  behind_test a b us f h = let q = both a b h.in_stage in (q.0, record { in_stage = q.1; callable = h.callable; known = h.known; objects = h.objects })
+  behind_test a b us f h = let q = both a b h.fits in (q.0, record { fits = q.1; callable = h.callable; known = h.known; objects = h.objects })
 
   -- the function that is called first, and the part behind it
   pub called : (n : ℕ) (b : Bool) (us : List Use) (f : Variable → Bool) → IsReady may is_object u b (calls n ∷ us) f → ((may ≡ true) × IsCallable u n) × IsReady may is_object u b us f
   called n b us f h = (
     (h.known.0, h.callable n (same_number n (list_any (is_call_of n) us))),
-    record { in_stage = h.in_stage; callable = λ m e. h.callable m (any_right (is_call_of m) (calls n ∷ []) us e); known = h.known.1; objects = h.objects },
+    record { fits = h.fits; callable = λ m e. h.callable m (any_right (is_call_of m) (calls n ∷ []) us e); known = h.known.1; objects = h.objects },
   )
 
   -- the place of an address
   pub addressed : (b : Bool) (us : List Use) (p : Place) → IsReady may is_object u b us (in_expr_of (address p)) → IsReady may is_object u b us (in_place_of p)
-  addressed b us p h = record { in_stage = h.in_stage; callable = h.callable; known = h.known; objects = λ x e. h.objects x (right_of (addresses.is_of x p) (in_place_of p x) e) }
+  addressed b us p h = record { fits = h.fits; callable = h.callable; known = h.known; objects = λ x e. h.objects x (right_of (addresses.is_of x p) (in_place_of p x) e) }
 
   -- of a variable
   pub taken : (b : Bool) (us : List Use) (x : Variable) → IsReady may is_object u b us (in_expr_of (address (of x))) → is_object x ≡ true

@@ -1,6 +1,6 @@
 -- A unit that is compiled, linked alone, and run, and does what is meant: the premises can be met at once.
-use Rattle.std.proofs.Common.{◌≡◌, ℕ, true, [], ◌∷◌, Some, None, Ok, Err, refl, arith}
-use Rattle.std.specs.Prelude.{Result, codes}
+use Rattle.std.proofs.Common.{◌≡◌, ℕ, ◌≤◌, true, [], ◌∷◌, Some, None, Ok, Err, refl, arith}
+use Rattle.std.specs.Prelude.{Result, codes, nat_le}
 use Rattle.std.proofs.lemmas.List.Elements.{All-nil, All-cons}
 use Rattle.ms_host.specs.declared.trap.TrapKind.TheVariants as traps
 use Rattle.ms_machine.specs.Crews.{Input, Task, Trap, bytes_of, run_of, turns_from}
@@ -17,7 +17,7 @@ use Rattle.c_types.specs.Types.{Ty, integer, pointer, function, no_types, types}
 use Rattle.c_typed.specs.declared.ops.BinaryOp.TheVariants as ops
 use Rattle.c_typed.specs.declared.ops.Variable.TheVariants.{Local}
 use Rattle.c_typed.specs.Tree as tree
-use Rattle.c_typed.specs.Tree.{Expr, Function, Made, Stmt, Typed}
+use Rattle.c_typed.specs.Tree.{Expr, Function, Stmt, Typed}
 use Rattle.c_typed.specs.declared.tree.Case.{Case}
 use Rattle.c_typed.specs.refinement.Expressions.{Context, opened}
 use Rattle.c_typed.specs.Statements.{IsCase, IsStatement, in_loop}
@@ -25,6 +25,7 @@ use Rattle.c_typed.specs.refinement.Types.{IsObject}
 use Rattle.c_typed.specs.Units.{HasIdentifier, IsFunction, IsMade, IsWellTyped, context_of}
 use Rattle.c_meaning.specs.Units.{means}
 use Rattle.c_meaning.specs.World.{zero_divide}
+use Rattle.c_code.specs.Limits.{instructions_of, most_instructions}
 use Rattle.c_code.specs.Modules.{compiled}
 use Rattle.c_runs.specs.Correct.{MeansRun, run_at}
 use Rattle.c_runs.proofs.Executing.{executed_behaves}
@@ -203,11 +204,18 @@ linked_is = refl
 tasks_are : threads_from st ((0, codes "main") ∷ []) 0 ≡ Ok (func_thread st 3 ∷ [])
 tasks_are = refl
 
+at_most : (m n : ℕ) → nat_le m n ≡ true → m ≤ n
+at_most m n e = grind (arith, e)
+
+-- its module has so few instructions
+few : instructions_of (compiled unit).funcs ≤ most_instructions
+few = at_most (instructions_of (compiled unit).funcs) most_instructions refl
+
 -- ---- so it does what is meant; and both, computed
 
 sample_executed : (input : Input) → AreBytes input → (budget : ℕ) → MeansRun unit input budget (run_of (turns_from 1000 1 0 budget) (crew_of st (func_thread st 3 ∷ [])) input)
 sample_executed input bytes budget =
-    executed_behaves unit 64 1000 budget st (func_thread st 3 ∷ []) input well refl linked_is tasks_are bytes
+    executed_behaves unit [] 64 1000 budget st (func_thread st 3 ∷ []) input well few linked_is tasks_are bytes
 
 sample_run : bytes_of (run_at st 3 [] 300).deeds ≡ codes "321"
 unfolding sequence

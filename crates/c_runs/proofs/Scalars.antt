@@ -15,12 +15,13 @@ use Rattle.ms_machine.specs.Segments.{is_null as is_no_handle}
 use Rattle.ms_module.specs.declared.numeric.Width.{Width}
 use Rattle.ms_module.specs.declared.numeric.Width.TheVariants.{W32, W64}
 use Rattle.ms_task.specs.Thread.{thread}
+use Rattle.c_typed.specs.refinement.Types.{AreParameters, IsObject}
 use Rattle.c_types.specs.Layout.{IsLaidOut, IsSmall, Layout, Table, layout_at}
 use Rattle.c_types.specs.declared.integers.IntType.{IntType}
 use Rattle.c_types.specs.declared.integers.IntType.TheVariants.{Char, SignedChar, UnsignedChar, Short, UnsignedShort, Int, UnsignedInt, Long, UnsignedLong, LongLong, UnsignedLongLong}
 use Rattle.c_types.specs.declared.types.Scalar.{Scalar}
 use Rattle.c_types.specs.declared.types.Scalar.TheVariants as scalars
-use Rattle.c_types.specs.Types.{Ty, void, integer, pointer, struct, array, function, is_function, scalar_of}
+use Rattle.c_types.specs.Types.{Ty, void, integer, pointer, struct, array, function, is_function, scalar_of, Tys, no_types, types}
 use Rattle.c_typed.specs.Objects.{is_object}
 use Rattle.c_typed.specs.Tree.{Stmt}
 use Rattle.c_meaning.specs.Values.{Value, Pointer, null, no_function, zero_value}
@@ -32,7 +33,6 @@ use Rattle.c_meaning.specs.World.{Does, ◌>>=◌, pure}
 use Rattle.ms_emit.specs.Codes.{Code, one, ◌⨾◌}
 use Rattle.c_code.specs.Functions.{held_as, val_or_handle}
 use Rattle.c_code.specs.Operations.{eqz, integer_type, truth, val_type, width_of}
-use Rattle.c_stage.specs.Stage.{is_data, is_variable}
 use Rattle.c_numbers.specs.Operands.{IsIn, carried, operand, word}
 use Rattle.ms_relate.specs.refinement.Homes as homes
 use Rattle.ms_relate.specs.refinement.Homes.{Home, IsScalar, handle, handle_in, handle_to, is_no_function, is_null, span_of}
@@ -40,7 +40,7 @@ use Rattle.ms_relate.proofs.Acts.{act_gives}
 use Rattle.ms_relate.proofs.Shapes.{shape_good}
 use Rattle.c_typing.proofs.Sound.{sized_is}
 use Rattle.c_runs.proofs.Goes as goes
-use Rattle.c_runs.proofs.Goes.{Goes, one_here}
+use Rattle.c_runs.proofs.Goes.{one_here}
 use Rattle.c_runs.proofs.Values.{IsOf, IsValueOf, word_of}
 use Rattle.c_runs.proofs.Related.{Env, IsSlot, IsValue, frame_of, pushes}
 use Rattle.c_runs.proofs.Ops.{OpIn, op_any, op_assoc, op_carried, op_then_in, same}
@@ -54,10 +54,16 @@ IsData (integer u) = Unit {0}
 IsData (pointer t) = Unit {0}
 IsData _ = ⊥
 
-pub data_type : (t : Ty) → is_data t ≡ true → IsData t
-data_type (integer u) e = tt
-data_type (pointer t) e = tt
-data_type _ e = absurd cc
+abbrev pub AreData : Tys → Type 0
+AreData no_types = Unit {0}
+AreData (types t ts) = IsData t × AreData ts
+
+-- parameters of a function are of one value each
+pub parameters_data : (table : Table) (ps : Tys) → AreParameters table ps → AreData ps
+parameters_data table no_types h = tt
+parameters_data table (types (integer u) ts) h = (tt, parameters_data table ts h.2)
+parameters_data table (types (pointer t) ts) h = (tt, parameters_data table ts h.2)
+parameters_data table (types _ ts) h = absurd h.0
 
 -- a variable that is an array or a struct is an object
 abbrev pub IsVariable : Ty → Type 0
@@ -65,12 +71,13 @@ IsVariable (array t n) = Unit {0}
 IsVariable (struct n) = Unit {0}
 IsVariable t = IsData t
 
-pub variable_type : (t : Ty) → is_variable t ≡ true → IsVariable t
-variable_type (integer u) e = tt
-variable_type (pointer t) e = tt
-variable_type (array t n) e = tt
-variable_type (struct n) e = tt
-variable_type _ e = absurd cc
+pub variable_type : (table : Table) (t : Ty) → IsObject table t → IsVariable t
+variable_type table (integer u) h = tt
+variable_type table (pointer t) h = tt
+variable_type table (array t n) h = tt
+variable_type table (struct n) h = tt
+variable_type table void h = absurd h.1.0
+variable_type table (function r ps) h = absurd h.1.0
 
 -- one that is no object is of one value
 pub plain_data : (s : Stmt) (n : ℕ) (t : Ty) → IsVariable t → is_object s n t ≡ false → IsData t

@@ -30,13 +30,13 @@ use Rattle.c_meaning.specs.World.{Held, plain, World, Result, gives, Does, after
 use Rattle.c_meaning.specs.Integers.{bits_of, is_zero}
 use Rattle.c_meaning.specs.Accesses.{hold}
 use Rattle.c_meaning.specs.Expressions as meaning
-use Rattle.c_meaning.specs.Expressions.{expr, is_true, place}
+use Rattle.c_meaning.specs.Expressions.{char_of, expr, is_true, place}
 use Rattle.c_meaning.specs.Statements as meant
-use Rattle.c_meaning.specs.Statements.{Flow, next, broken, continued, returned, behind_switch, goes_to, enter, enter_slot, leave, leave_held, loops, step_of, stmts_from}
+use Rattle.c_meaning.specs.Statements.{Flow, next, broken, continued, returned, behind_switch, goes_to, enter, leave, leave_held, step_of, stmts_from}
 use Rattle.ms_emit.specs.Codes.{Code, one, no_code, ◌⨾◌, block, choice, size_of}
 use Rattle.c_code.specs.Expressions as code
 use Rattle.c_code.specs.Operations.{constant, i32, width_of}
-use Rattle.c_stage.specs.Stage.{are_bytes, in_expr, in_place, in_step, in_stmt, in_stmts}
+use Rattle.c_runs.proofs.Small.{are_small, is_short, is_small}
 use Rattle.c_code.specs.Statements as scheme
 use Rattle.c_code.specs.Statements.{Exits, any_continues, continues, entered, enters, freed, iterated, objects_in, with_objects, within}
 use Rattle.c_code.specs.Targets.{Target, set, waiting}
@@ -60,7 +60,7 @@ use Rattle.c_runs.proofs.Operations.{AtHome, Linked}
 use Rattle.c_runs.proofs.Scalars.{IsData, null_runs, zero_in}
 use Rattle.c_runs.proofs.Entries.{types_of}
 use Rattle.c_runs.proofs.Functions.{no_function_runs}
-use Rattle.c_runs.proofs.Strings.{char_of, fill_runs, whole_filled}
+use Rattle.c_runs.proofs.Strings.{fill_runs, whole_filled}
 use Rattle.c_runs.proofs.Globals.{NamesOf}
 use Rattle.c_runs.proofs.Exprs.{AreScalars, CallsRun, decays_run, expr_runs, narrow_width, ArgsRun, args_all}
 use Rattle.c_runs.proofs.Rooms.{ready_at}
@@ -68,7 +68,7 @@ use Rattle.c_runs.proofs.Flows.{FlowIn, FlowOut, FlowRuns, GoodFlow, Off, ahead,
 use Rattle.c_runs.proofs.Dos.{do_runs}
 use Rattle.c_runs.proofs.Loops.{inside, iterated_is, jumps_in, while_runs}
 use Rattle.c_runs.proofs.Ready.{IsReady, behind_test, either, in_expr_of, in_place_of, in_step_of, in_stmt_of, in_stmts_of, looped, parts}
-use Rattle.c_runs.proofs.Whole.{IsWhole, both, whole_choice, whole_expr, whole_plain, whole_then}
+use Rattle.c_runs.proofs.Whole.{IsWhole, whole_choice, whole_expr, whole_plain, whole_then}
 
 -- ---- a statement without a `continue` of its own is one where none may stand
 
@@ -208,10 +208,10 @@ module _ (E0 : Env) (L : Linked E0.site) (home : AtHome E0) (k : well.Context) (
   args_at : (v : List ℕ) (d : ℕ) → ArgsRun (at_depth v d) L home (in_blocks v) slots_are
   args_at v d = args_all E0.waits (at_depth v d) L home (in_blocks v) slots_are (calls_at v) scalars_are slots_data refl structs_same functions_are sound names (omega arith)
 
-  run_expr : (v : List ℕ) (kept : Bool) (d : ℕ) (e : Expr) (t : Ty) → d + waits e ≤ E0.waits → IsReady E0.may_call E0.target.is_object E0.unit (in_expr e) (uses.in_expr e) (in_expr_of e) → HasType (in_blocks v) e t → OpIn (at_depth v d) [] (code.expr E0.target kept d e) same (remains (at v) kept t) (IsValue (at v) t) (value e)
+  run_expr : (v : List ℕ) (kept : Bool) (d : ℕ) (e : Expr) (t : Ty) → d + waits e ≤ E0.waits → IsReady E0.may_call E0.target.is_object E0.unit true (uses.in_expr e) (in_expr_of e) → HasType (in_blocks v) e t → OpIn (at_depth v d) [] (code.expr E0.target kept d e) same (remains (at v) kept t) (IsValue (at v) t) (value e)
   run_expr v kept d e t room x h =
       expr_runs (at_depth v d) L home (in_blocks v) slots_are (calls_at v) (args_at v d) scalars_are slots_data refl structs_same functions_are sound names kept d e t
-      (ready_at E0.may_call E0.target.is_object E0.unit d d E0.waits (in_expr e) (uses.in_expr e) (in_expr_of e) (waits e) (omega arith) room x) h
+      (ready_at E0.may_call E0.target.is_object E0.unit d d E0.waits true (uses.in_expr e) (in_expr_of e) (waits e) (omega arith) room x) h
 
   -- ---- blocks
 
@@ -323,33 +323,32 @@ module _ (E0 : Env) (L : Linked E0.site) (home : AtHome E0) (k : well.Context) (
 
   -- ---- what is evaluated for what it does
 
-  perform_runs : (v : List ℕ) (l : Way) (b c : ℕ) (e : Expr) (t : Ty) → l.depth + waits e ≤ E0.waits → IsReady E0.may_call E0.target.is_object E0.unit (in_expr e) (uses.in_expr e) (in_expr_of e) → HasType (in_blocks v) e t → FlowRuns (at v) l b c (code.expr E0.target false l.depth e) same (value e >> pure next)
+  perform_runs : (v : List ℕ) (l : Way) (b c : ℕ) (e : Expr) (t : Ty) → l.depth + waits e ≤ E0.waits → IsReady E0.may_call E0.target.is_object E0.unit true (uses.in_expr e) (in_expr_of e) → HasType (in_blocks v) e t → FlowRuns (at v) l b c (code.expr E0.target false l.depth e) same (value e >> pure next)
   perform_runs v l b c e t room x h = flow_of (at v) l b c (code.expr E0.target false l.depth e) (λ hs. gone (at v)) (IsValue (at v) t) (value e) (run_expr v false l.depth e t room x h) (λ hs a vs. refl)
 
-  step_runs : (v : List ℕ) (d : ℕ) (s : Option Expr) → d + waits_step s ≤ E0.waits → IsReady E0.may_call E0.target.is_object E0.unit (in_step s) (uses.in_step s) (in_step_of s) → IsStep (in_blocks v) s → Op (at_depth v d) (code.step E0.target d s) same (gone (at v)) (Always (at v)) (step_of E0.unit E0.calls E0.turn_bound s)
+  step_runs : (v : List ℕ) (d : ℕ) (s : Option Expr) → d + waits_step s ≤ E0.waits → IsReady E0.may_call E0.target.is_object E0.unit true (uses.in_step s) (in_step_of s) → IsStep (in_blocks v) s → Op (at_depth v d) (code.step E0.target d s) same (gone (at v)) (Always (at v)) (step_of E0.unit E0.calls E0.turn_bound s)
   step_runs v d None room x h = op_none (at_depth v d) same (gone (at v)) (Always (at v)) tt tt (λ vs. refl)
   step_runs v d (Some e) room x h =
       op_look_in (at_depth v d) [] (code.expr E0.target false d e) same (λ hs. gone (at v)) (λ hs. gone (at v)) (IsValue (at v) h.0) (λ hs. Always (at v)) (value e) (λ q. pure tt) (run_expr v false d e h.0 room x h.1) (λ gs more q ok. (tt, refl, λ vs. refl, tt))
 
   -- ---- a string that initialises an array
 
-  string_runs : (v : List ℕ) (l : Way) (b c : ℕ) (p : Place) (n : ℕ) (bytes : List ℕ) → l.depth + waits_place p ≤ E0.waits → (nat_lt n 4294967296 && are_bytes bytes) ≡ true → IsReady E0.may_call E0.target.is_object E0.unit (in_place p) (uses.in_place p) (in_place_of p) → length bytes ≤ n → well.IsPlace (in_blocks v) p (array (integer Char) n)
+  string_runs : (v : List ℕ) (l : Way) (b c : ℕ) (p : Place) (n : ℕ) (bytes : List ℕ) → l.depth + waits_place p ≤ E0.waits → is_short bytes ≡ true → IsReady E0.may_call E0.target.is_object E0.unit true (uses.in_place p) (in_place_of p) → length bytes ≤ n → well.IsPlace (in_blocks v) p (array (integer Char) n)
       → FlowRuns (at v) l b c (scheme.filled E0.target (code.decayed (code.is_deref p) n (code.place E0.target l.depth p)) bytes) same (meant.stmt E0.unit E0.calls E0.turn_bound E0.kinds (tree.fill p n bytes))
   string_runs v l b c p n bytes room tested ready few h =
       let d = l.depth in
-      let q = both (nat_lt n 4294967296) (are_bytes bytes) tested in
-      let less = ltb→lt n 4294967296 (subst T (sym q.0) tt) in
+      let less = ltb→lt (length bytes) 4294967295 (subst T (sym tested) tt) in
       let size : n * 1 ≡ n = omega arith in
       let there = decays_run (at_depth v d) L home (in_blocks v) slots_are (calls_at v) (args_at v d) scalars_are slots_data refl structs_same functions_are sound names d p (integer Char) n
-      (ready_at E0.may_call E0.target.is_object E0.unit d d E0.waits (in_place p) (uses.in_place p) (in_place_of p) (waits_place p) (omega arith) room ready) h in
+      (ready_at E0.may_call E0.target.is_object E0.unit d d E0.waits true (uses.in_place p) (in_place_of p) (waits_place p) (omega arith) room ready) h in
       let x = meaning.pointer (place E0.unit E0.calls p) >>= meaning.further values.inside in
       let code_of : ℕ → Code = λ k. code.decayed (code.is_deref p) k (code.place E0.target d p) in
       flow_of (at v) l b c (scheme.filled E0.target (code_of n) bytes) (λ hs. gone (at v)) (λ hs. Always (at v)) (x >>= (λ a. alter (write_all 1 a 0 (map char_of bytes))))
-      (fill_runs (at_depth v d) bytes q.1 (omega (arith, few, less)) (code_of n) x (subst (λ (k : ℕ). Leaves (at_depth v d) (code_of k) (pointer (integer Char)) x) size there)) (λ hs a vs. refl)
+      (fill_runs (at_depth v d) bytes (omega (arith, less)) (code_of n) x (subst (λ (k : ℕ). Leaves (at_depth v d) (code_of k) (pointer (integer Char)) x) size there)) (λ hs a vs. refl)
 
   -- ---- if
 
-  if_runs : (v : List ℕ) (l : Way) (b c : ℕ) (e : Expr) (u : IntType) (x y : Code) (f g : Does Flow) → l.depth + waits e ≤ E0.waits → IsReady E0.may_call E0.target.is_object E0.unit (in_expr e) (uses.in_expr e) (in_expr_of e) → well.IsNarrow u → HasType (in_blocks v) e (integer u) → IsWhole y → FlowRuns (at v) l (suc b) (suc c) x same f → FlowRuns (at v) l (suc b) (suc c) y same g
+  if_runs : (v : List ℕ) (l : Way) (b c : ℕ) (e : Expr) (u : IntType) (x y : Code) (f g : Does Flow) → l.depth + waits e ≤ E0.waits → IsReady E0.may_call E0.target.is_object E0.unit true (uses.in_expr e) (in_expr_of e) → well.IsNarrow u → HasType (in_blocks v) e (integer u) → IsWhole y → FlowRuns (at v) l (suc b) (suc c) x same f → FlowRuns (at v) l (suc b) (suc c) y same g
       → FlowRuns (at v) l b c (code.expr E0.target true l.depth e ⨾ choice None x y) same (meaning.test (value e) >>= (λ t. if t then f else g))
   if_runs v l b c e u x y f g room s narrow h whole rx ry n has small now le vs r br cr rr caller a dep w m kp =
       let ce = code.expr E0.target true l.depth e in
@@ -414,32 +413,29 @@ module _ (E0 : Env) (L : Linked E0.site) (home : AtHome E0) (k : well.Context) (
       zero_of v z x t (subst IsData same_type (slots_data x s.0 s.1 (ap (λ (q : Slot). q.1) same_slot))) e
 
   mutual
-    whole_stmt : (v : List ℕ) (d : ℕ) (x : Exits) (l : Jumps) (s : Stmt) → in_stmt s ≡ true → IsStatement (in_blocks v) E0.result l s → IsWhole (codes d x s)
-    whole_stmt v d x l nothing i h = whole_plain []
-    whole_stmt v d x l (perform e) i h = whole_expr E0.target false d e i
-    whole_stmt v d x l (if_else e s t) i h =
-        let q = both (in_expr e) (in_stmt s && in_stmt t) i in
-        whole_then (code.expr E0.target true d e) (choice None (codes d (within x) s) (codes d (within x) t)) (whole_expr E0.target true d e q.0) (whole_choice None (codes d (within x) s) (codes d (within x) t))
-    whole_stmt v d x l (loop e after s) i h =
-        let q = both (in_expr e) (in_step after && in_stmt s) i in
+    whole_stmt : (v : List ℕ) (d : ℕ) (x : Exits) (l : Jumps) (s : Stmt) → IsStatement (in_blocks v) E0.result l s → IsWhole (codes d x s)
+    whole_stmt v d x l nothing h = whole_plain []
+    whole_stmt v d x l (perform e) h = whole_expr E0.target false d e
+    whole_stmt v d x l (if_else e s t) h =
+        whole_then (code.expr E0.target true d e) (choice None (codes d (within x) s) (codes d (within x) t)) (whole_expr E0.target true d e) (whole_choice None (codes d (within x) s) (codes d (within x) t))
+    whole_stmt v d x l (loop e after s) h =
         let y = iterated E0.target (continues s) (codes d (scheme.in_loop (continues s) x) s) (code.step E0.target d after) (code.expr E0.target true d e) in
-        whole_then (code.expr E0.target true d e) (choice None y no_code) (whole_expr E0.target true d e q.0) (whole_choice None y no_code)
-    whole_stmt v d x l (scope ns ss) i h =
+        whole_then (code.expr E0.target true d e) (choice None y no_code) (whole_expr E0.target true d e) (whole_choice None y no_code)
+    whole_stmt v d x l (scope ns ss) h =
         whole_then (enters E0.target E0.slots ns) _ (whole_enters ns) (whole_then (all_codes d (with_objects (objects_in E0.target E0.slots ns) x) ss) (freed E0.target (objects_in E0.target E0.slots ns))
-        (whole_stmts (v ++ ns) d (with_objects (objects_in E0.target E0.slots ns) x) l ss i h.1) (whole_freed (objects_in E0.target E0.slots ns)))
-    whole_stmt v d x l (return e) i h = λ n e'. absurd (never_both (code.expr E0.target true d e n).instrs (freed E0.target x.objects (n + length (code.expr E0.target true d e n).seqs)).instrs Return e')
-    whole_stmt v d x l return_nothing i h = λ n e'. absurd (never_one (freed E0.target x.objects n).instrs Return e')
-    whole_stmt v d x l break i h = λ n e'. absurd (never_both (freed E0.target (take x.left_by_break x.objects) n).instrs (x.leaving (n + length (freed E0.target (take x.left_by_break x.objects) n).seqs)).instrs (Br x.break_label) e')
-    whole_stmt v d x l continue i h = λ n e'. absurd (never_one (freed E0.target (take x.left_by_continue x.objects) n).instrs (Br x.continue_label) e')
-    whole_stmt v d x l (tree.fill q n bytes) i h = whole_filled E0.target _ bytes
-    whole_stmt v d x l (tree.do_while s e) i h = λ n e'. absurd cc
-    whole_stmt v d x l (tree.switch t e ns cases ss) i h = λ n e'. absurd (never_in (code.expr E0.target true d e n).instrs _ _ _ e')
+        (whole_stmts (v ++ ns) d (with_objects (objects_in E0.target E0.slots ns) x) l ss h.1) (whole_freed (objects_in E0.target E0.slots ns)))
+    whole_stmt v d x l (return e) h = λ n e'. absurd (never_both (code.expr E0.target true d e n).instrs (freed E0.target x.objects (n + length (code.expr E0.target true d e n).seqs)).instrs Return e')
+    whole_stmt v d x l return_nothing h = λ n e'. absurd (never_one (freed E0.target x.objects n).instrs Return e')
+    whole_stmt v d x l break h = λ n e'. absurd (never_both (freed E0.target (take x.left_by_break x.objects) n).instrs (x.leaving (n + length (freed E0.target (take x.left_by_break x.objects) n).seqs)).instrs (Br x.break_label) e')
+    whole_stmt v d x l continue h = λ n e'. absurd (never_one (freed E0.target (take x.left_by_continue x.objects) n).instrs (Br x.continue_label) e')
+    whole_stmt v d x l (tree.fill q n bytes) h = whole_filled E0.target _ bytes
+    whole_stmt v d x l (tree.do_while s e) h = λ n e'. absurd cc
+    whole_stmt v d x l (tree.switch t e ns cases ss) h = λ n e'. absurd (never_in (code.expr E0.target true d e n).instrs _ _ _ e')
 
-    whole_stmts : (v : List ℕ) (d : ℕ) (x : Exits) (l : Jumps) (ss : Stmts) → in_stmts ss ≡ true → AreStatements (in_blocks v) E0.result l ss → IsWhole (all_codes d x ss)
-    whole_stmts v d x l done i h = whole_plain []
-    whole_stmts v d x l (seq s ss) i h =
-        let q = both (in_stmt s) (in_stmts ss) i in
-        whole_then (codes d x s) (all_codes d x ss) (whole_stmt v d x l s q.0 h.0) (whole_stmts v d x l ss q.1 h.1)
+    whole_stmts : (v : List ℕ) (d : ℕ) (x : Exits) (l : Jumps) (ss : Stmts) → AreStatements (in_blocks v) E0.result l ss → IsWhole (all_codes d x ss)
+    whole_stmts v d x l done h = whole_plain []
+    whole_stmts v d x l (seq s ss) h =
+        whole_then (codes d x s) (all_codes d x ss) (whole_stmt v d x l s h.0) (whole_stmts v d x l ss h.1)
 
   -- ---- all statements
 
@@ -487,20 +483,20 @@ module _ (E0 : Env) (L : Linked E0.site) (home : AtHome E0) (k : well.Context) (
       (h n has small now le vs r br cr rr caller a dep w m kp held)
 
   mutual
-    pub stmt_runs : (v : List ℕ) (d : ℕ) (o : Option ℕ) (x : Exits) (j : Jumps) (off : Off) (s : Stmt) → IsOut E0 v d o x off → d + waits_stmt s ≤ E0.waits → IsReady E0.may_call E0.target.is_object E0.unit (in_stmt s) (uses.in_stmt s) (in_stmt_of s)
+    pub stmt_runs : (v : List ℕ) (d : ℕ) (o : Option ℕ) (x : Exits) (j : Jumps) (off : Off) (s : Stmt) → IsOut E0 v d o x off → d + waits_stmt s ≤ E0.waits → IsReady E0.may_call E0.target.is_object E0.unit (is_small s) (uses.in_stmt s) (in_stmt_of s)
         → IsStatement (in_blocks v) E0.result j s → FlowRuns (at v) (way j d o off) x.break_label x.continue_label (codes d x s) same (does s)
     stmt_runs v d o x j off nothing out room i h = flow_none (at v) (way j d o off) x.break_label x.continue_label
     stmt_runs v d o x j off (perform e) out room i h = perform_runs v (way j d o off) x.break_label x.continue_label e h.0 (omega (arith, room)) i h.1
     stmt_runs v d o x j off (if_else e s t) out room i h =
-        let q = parts E0.may_call E0.target.is_object E0.unit (in_expr e) (in_stmt s && in_stmt t) (uses.in_expr e) (uses.in_stmt s ++ uses.in_stmt t) (in_expr_of e) (either (in_stmt_of s) (in_stmt_of t)) i in
-        let q' = parts E0.may_call E0.target.is_object E0.unit (in_stmt s) (in_stmt t) (uses.in_stmt s) (uses.in_stmt t) (in_stmt_of s) (in_stmt_of t) q.1 in
+        let q = parts E0.may_call E0.target.is_object E0.unit true (is_small s && is_small t) (uses.in_expr e) (uses.in_stmt s ++ uses.in_stmt t) (in_expr_of e) (either (in_stmt_of s) (in_stmt_of t)) i in
+        let q' = parts E0.may_call E0.target.is_object E0.unit (is_small s) (is_small t) (uses.in_stmt s) (uses.in_stmt t) (in_stmt_of s) (in_stmt_of t) q.1 in
         let out' : IsOut E0 v d o (within x) off = record { objects = out.objects; by_break = out.by_break; by_continue = out.by_continue; leaving = out.leaving; around = out.around; returned' = out.returned'; broken' = out.broken'; continued' = out.continued' } in
-        if_runs v (way j d o off) x.break_label x.continue_label e h.0.0 (codes d (within x) s) (codes d (within x) t) (does s) (does t) (omega (arith, room)) q.0 h.0.1 h.0.2 (whole_stmt v d (within x) j t q'.1.in_stage h.2)
+        if_runs v (way j d o off) x.break_label x.continue_label e h.0.0 (codes d (within x) s) (codes d (within x) t) (does s) (does t) (omega (arith, room)) q.0 h.0.1 h.0.2 (whole_stmt v d (within x) j t h.2)
         (stmt_runs v d o (within x) j off s out' (omega (arith, room)) q'.0 h.1) (stmt_runs v d o (within x) j off t out' (omega (arith, room)) q'.1 h.2)
     stmt_runs v d o x j off (loop e after' s) out room i h =
-        let i' = looped E0.may_call E0.target.is_object E0.unit (in_stmt (loop e after' s)) (uses.in_stmt (loop e after' s)) e after' s i in
-        let q = parts E0.may_call E0.target.is_object E0.unit (in_expr e) (in_step after' && in_stmt s) (uses.in_expr e) (uses.in_step after' ++ uses.in_stmt s) (in_expr_of e) (either (in_step_of after') (in_stmt_of s)) i' in
-        let q' = parts E0.may_call E0.target.is_object E0.unit (in_step after') (in_stmt s) (uses.in_step after') (uses.in_stmt s) (in_step_of after') (in_stmt_of s) q.1 in
+        let i' = looped E0.may_call E0.target.is_object E0.unit (is_small (loop e after' s)) (uses.in_stmt (loop e after' s)) e after' s i in
+        let q = parts E0.may_call E0.target.is_object E0.unit true (is_small s) (uses.in_expr e) (uses.in_step after' ++ uses.in_stmt s) (in_expr_of e) (either (in_step_of after') (in_stmt_of s)) i' in
+        let q' = parts E0.may_call E0.target.is_object E0.unit true (is_small s) (uses.in_step after') (uses.in_stmt s) (in_step_of after') (in_stmt_of s) q.1 in
         let T = code.expr E0.target true d e in
         let S = code.step E0.target d after' in
         let body = codes d (scheme.in_loop (continues s) x) s in
@@ -526,10 +522,11 @@ module _ (E0 : Env) (L : Linked E0.site) (home : AtHome E0) (k : well.Context) (
         out_here v (way j d o off) x.break_label x.continue_label (freed E0.target (take x.left_by_continue x.objects) ⨾ one (Br x.continue_label)) same (pure continued)
         (out_frees v (way j d o off) [] continued x.break_label x.continue_label (one (Br x.continue_label)) same (take x.left_by_continue x.objects) out.by_continue (off_at v off.continued out.continued') (flow_continue (at v) (way j d o off) x.break_label x.continue_label h))
     stmt_runs v d o x j off (tree.fill q n bytes) out room i h =
-        let tested = behind_test E0.may_call E0.target.is_object E0.unit (nat_lt n 4294967296 && are_bytes bytes) (in_place q) (uses.in_place q) (in_place_of q) i in
-        string_runs v (way j d o off) x.break_label x.continue_label q n bytes (omega (arith, room)) tested.0 tested.1 h.0 h.1
+        let ready : IsReady E0.may_call E0.target.is_object E0.unit true (uses.in_place q) (in_place_of q) = record { fits = refl; callable = i.callable; known = i.known; objects = i.objects } in
+        string_runs v (way j d o off) x.break_label x.continue_label q n bytes (omega (arith, room)) i.fits ready h.0 h.1
     stmt_runs v d o x j off (tree.do_while s e) out room i h =
-        let q = parts E0.may_call E0.target.is_object E0.unit (in_stmt s) (in_expr e) (uses.in_stmt s) (uses.in_expr e) (in_stmt_of s) (in_expr_of e) i in
+        let i' : IsReady E0.may_call E0.target.is_object E0.unit (is_small s && true) (uses.in_stmt s ++ uses.in_expr e) (either (in_stmt_of s) (in_expr_of e)) = record { fits = ap (λ (b : Bool). b && true) i.fits; callable = i.callable; known = i.known; objects = i.objects } in
+        let q = parts E0.may_call E0.target.is_object E0.unit (is_small s) true (uses.in_stmt s) (uses.in_expr e) (in_stmt_of s) (in_expr_of e) i' in
         let T = code.expr E0.target true d e in
         let body = codes d (scheme.in_loop (continues s) x) s in
         subst (λ (y : Code). FlowRuns (at v) (way j d o off) x.break_label x.continue_label (block None y) same (does (tree.do_while s e))) (iterated_is E0.target (continues s) body no_code T)
@@ -538,8 +535,8 @@ module _ (E0 : Env) (L : Linked E0.site) (home : AtHome E0) (k : well.Context) (
     stmt_runs v d o x j off (tree.switch t e ns cases ss) out room i h =
         let l = way j d o off in
         let vs = objects_in E0.target E0.slots ns in
-        let counted = behind_test E0.may_call E0.target.is_object E0.unit (nat_lt (count ss) no_group) (in_expr e && in_stmts ss) (uses.in_expr e ++ uses.in_stmts ss) (either (in_expr_of e) (in_stmts_of ss)) i in
-        let q = parts E0.may_call E0.target.is_object E0.unit (in_expr e) (in_stmts ss) (uses.in_expr e) (uses.in_stmts ss) (in_expr_of e) (in_stmts_of ss) counted.1 in
+        let counted = behind_test E0.may_call E0.target.is_object E0.unit (nat_lt (count ss) no_group) (are_small ss) (uses.in_expr e ++ uses.in_stmts ss) (either (in_expr_of e) (in_stmts_of ss)) i in
+        let q = parts E0.may_call E0.target.is_object E0.unit true (are_small ss) (uses.in_expr e) (uses.in_stmts ss) (in_expr_of e) (in_stmts_of ss) counted.1 in
         let few = ltb→lt (count ss) no_group (subst T (sym counted.0) tt) in
         let gs = all_groups d (scheme.in_group (waiting E0.target d) (with_objects vs x)) 0 ss in
         switch_runs (at v) t h.0 (count ss) cases h.3 h.4 (omega (arith, few)) d (omega (arith, room)) (code.expr E0.target true d e) (value e) (run_expr v true d e (integer t) (omega (arith, room)) q.0 h.1) j o off x.break_label x.continue_label
@@ -553,20 +550,20 @@ module _ (E0 : Env) (L : Linked E0.site) (home : AtHome E0) (k : well.Context) (
         (subst (λ (n : ℕ). HeldRuns (at (v ++ ns)) g (way j d o (with_off ns off)) x.break_label x.continue_label gs (switched (do_from n ss))) (let y : g - 0 ≡ g = omega arith in y)
         (groups_run (v ++ ns) d o (with_objects vs x) j (with_off ns off) ss 0 (out_more v ns d o x off h.2 out) (omega (arith, few)) (omega (arith, room)) q.1 h.5 x.break_label g (omega (arith, small, few))))))
 
-    pub stmts_run : (v : List ℕ) (d : ℕ) (o : Option ℕ) (x : Exits) (j : Jumps) (off : Off) (ss : Stmts) → IsOut E0 v d o x off → d + waits_stmts ss ≤ E0.waits → IsReady E0.may_call E0.target.is_object E0.unit (in_stmts ss) (uses.in_stmts ss) (in_stmts_of ss)
+    pub stmts_run : (v : List ℕ) (d : ℕ) (o : Option ℕ) (x : Exits) (j : Jumps) (off : Off) (ss : Stmts) → IsOut E0 v d o x off → d + waits_stmts ss ≤ E0.waits → IsReady E0.may_call E0.target.is_object E0.unit (are_small ss) (uses.in_stmts ss) (in_stmts_of ss)
         → AreStatements (in_blocks v) E0.result j ss → FlowRuns (at v) (way j d o off) x.break_label x.continue_label (all_codes d x ss) same (do_all ss)
     stmts_run v d o x j off done out room i h = flow_none (at v) (way j d o off) x.break_label x.continue_label
     stmts_run v d o x j off (seq s ss) out room i h =
-        let q = parts E0.may_call E0.target.is_object E0.unit (in_stmt s) (in_stmts ss) (uses.in_stmt s) (uses.in_stmts ss) (in_stmt_of s) (in_stmts_of ss) i in
+        let q = parts E0.may_call E0.target.is_object E0.unit (is_small s) (are_small ss) (uses.in_stmt s) (uses.in_stmts ss) (in_stmt_of s) (in_stmts_of ss) i in
         flow_seq (at v) (way j d o off) x.break_label x.continue_label (codes d x s) (all_codes d x ss) (does s) (do_all ss) (stmt_runs v d o x j off s out (omega (arith, room)) q.0 h.0) (stmts_run v d o x j off ss out (omega (arith, room)) q.1 h.1)
 
     -- the groups of a switch, from the i-th on
     groups_run : (v : List ℕ) (d : ℕ) (o : Option ℕ) (x : Exits) (j : Jumps) (off : Off) (ss : Stmts) (i : ℕ) → IsOut E0 v d o x off → i + count ss ≤ no_group → suc d + waits_stmts ss ≤ E0.waits
-        → IsReady E0.may_call E0.target.is_object E0.unit (in_stmts ss) (uses.in_stmts ss) (in_stmts_of ss) → AreStatements (in_blocks v) E0.result (judged.in_switch j) ss → (b g : ℕ) → g ≤ no_group
+        → IsReady E0.may_call E0.target.is_object E0.unit (are_small ss) (uses.in_stmts ss) (in_stmts_of ss) → AreStatements (in_blocks v) E0.result (judged.in_switch j) ss → (b g : ℕ) → g ≤ no_group
         → HeldRuns (at v) g (way j d o off) b x.continue_label (all_groups d (scheme.in_group (waiting E0.target d) x) i ss) (switched (do_from (g - i) ss))
     groups_run v d o x j off done i out few room ready h b g le = no_groups v (way j d o off) b x.continue_label g
     groups_run v d o x j off (seq s ss) i out few room ready h b g le =
-        let q = parts E0.may_call E0.target.is_object E0.unit (in_stmt s) (in_stmts ss) (uses.in_stmt s) (uses.in_stmts ss) (in_stmt_of s) (in_stmts_of ss) ready in
+        let q = parts E0.may_call E0.target.is_object E0.unit (is_small s) (are_small ss) (uses.in_stmt s) (uses.in_stmts ss) (in_stmt_of s) (in_stmts_of ss) ready in
         let xg = scheme.in_group (waiting E0.target d) x in
         let out' : IsOut E0 v (suc d) (Some d) xg (record off { broken = [] }) = record { objects = out.objects; by_break = take_zero x.objects; by_continue = out.by_continue; leaving = refl; around = λ k e. same_below d k e; returned' = out.returned'; broken' = off_none E0 v; continued' = out.continued' } in
         subst (λ (y : Does Flow). HeldRuns (at v) g (way j d o off) b x.continue_label (all_groups d xg i (seq s ss)) (switched y)) (from_group_is s ss (g - i))

@@ -1,11 +1,14 @@
 -- The bytes of a string go into the first elements of an array of char (C11, 6.7.9, paragraph 14), each by way of the array's handle, which
 -- waits in a scratch local.
-use Rattle.std.proofs.Common.{◌≡◌, ℕ, suc, ◌+◌, ◌^◌, ◌<◌, List, [], ◌∷◌, ◌++◌, length, map, true, Some, None, refl, sym, ap, ◌∙◌, arith, subst, T, ltb→lt}
-use Rattle.std.specs.Prelude.{pos, nat_lt, slice_get}
+use Rattle.std.proofs.Common.{◌≡◌, ℕ, suc, ◌+◌, ◌-◌, ◌^◌, ◌<◌, negsuc, List, [], ◌∷◌, ◌++◌, length, map, Bool, true, false, Some, None, refl, sym, ap, ◌∙◌, arith, subst}
+use Rattle.std.specs.Prelude.{pos, nat_lt, slice_get, ◌-ℤ◌, if◌then◌else◌}
+use Rattle.std.proofs.lemmas.Int.{ints}
 use Rattle.ms_handle.specs.declared.handle.Handle.{Handle as HandleOf}
 use Rattle.ms_linear.specs.declared.value.Value.{Value as Word}
 use Rattle.ms_linear.specs.declared.value.Value.TheVariants.{Handle, I32, I64}
-use Rattle.ms_machine.specs.Segments.{segment_on}
+use Rattle.ms_machine.specs.Segments.{Effect, changed as changed_by, segment_on}
+use Rattle.ms_segment.specs.Calls.{store}
+use Rattle.ms_segment.specs.Memory.{Memory}
 use Rattle.ms_module.specs.declared.access.Segment.TheVariants as segment
 use Rattle.ms_module.specs.declared.access.StoreOp.TheVariants as stores
 use Rattle.ms_module.specs.declared.instr.Instr.{Instr}
@@ -15,22 +18,24 @@ use Rattle.ms_num.specs.Integers.{wrapped}
 use Rattle.ms_task.specs.Thread.{Do, Item, Thread, thread}
 use Rattle.c_types.specs.declared.integers.IntType.TheVariants.{Char}
 use Rattle.c_types.specs.Types.{Ty, integer, pointer}
-use Rattle.c_meaning.specs.Values.{Value, number}
+use Rattle.c_meaning.specs.Values.{Value}
 use Rattle.c_meaning.specs.Objects as objects
 use Rattle.c_meaning.specs.Objects.{Object, Outcome, Unsafe, moved, write, write_all}
 use Rattle.c_meaning.specs.World.{World, Result, gives, Does, after, alter, as_done, unsafe, ◌>>=◌}
-use Rattle.c_meaning.specs.Integers.{value_of}
+use Rattle.c_meaning.specs.Integers.{value_of, wrap}
+use Rattle.c_meaning.specs.Expressions.{char_of}
 use Rattle.ms_emit.specs.Codes.{Code, one, ◌⨾◌, size_of}
 use Rattle.c_code.specs.Operations.{i32, i64}
 use Rattle.c_code.specs.Statements.{bytes_put, filled}
 use Rattle.c_code.specs.Targets.{Target, scratch_handle}
-use Rattle.c_stage.specs.Stage.{are_bytes}
 use Rattle.c_numbers.proofs.Conversions.{constant_is}
-use Rattle.c_numbers.proofs.Ranges.{value_in}
+use Rattle.c_numbers.proofs.Ranges.{bits_below, wrap_in}
 use Rattle.c_numbers.proofs.Wrapping.{in_positive}
 use Rattle.ms_relate.specs.refinement.Acts.{ChangeActs, change_traps, changes'}
-use Rattle.ms_relate.specs.refinement.Homes.{Home, handle}
-use Rattle.ms_relate.proofs.Acts.{act_gives, act_traps, add_acts, byte_acts}
+use Rattle.ms_relate.specs.refinement.Homes.{Home, IsOf, handle, is_number}
+use Rattle.ms_relate.specs.refinement.Relation.{Related}
+use Rattle.ms_relate.proofs.Acts.{act_gives, act_traps, add_acts, store_acts}
+use Rattle.ms_relate.proofs.Operands.{store_is}
 use Rattle.ms_relate.proofs.Growing.{handle_still}
 use Rattle.ms_relate.proofs.Moving.{moved_is_of}
 use Rattle.c_runs.proofs.Goes as goes
@@ -44,7 +49,7 @@ use Rattle.c_runs.proofs.Nodes.{Always, Leaves, gone}
 use Rattle.c_runs.proofs.Steps.{Quiet, event_goes, kept_objects, quiet_store, quiet_tells, trap_is}
 use Rattle.c_runs.proofs.Switches.{IsTemp, get_temp, set_goes, set_stays, with_temp}
 use Rattle.c_runs.proofs.Cells.{LeadsTo}
-use Rattle.c_runs.proofs.Whole.{IsWhole, both}
+use Rattle.c_runs.proofs.Whole.{IsWhole}
 
 never_behind : (is js : List Instr) (i : Instr) → is ++ i ∷ js ≡ [] → ⊥
 never_behind [] js i e = absurd cc
@@ -56,9 +61,28 @@ whole_filled t c bytes n e = absurd (never_behind (c n).instrs _ _ e)
 abbrev char : Ty
 char = integer Char
 
--- a byte as a value
-abbrev pub char_of : ℕ → Value
-char_of b = number (value_of Char b)
+-- ---- a byte that is stored, modulo 256, and its number of type char
+
+back_char : (n : ℕ) → n < 256 → wrapped 8 (value_of Char n) ≡ n
+back_char n lt = by (nat_lt n 128) where
+  by : (c : Bool) → wrapped 8 (if c then pos n else pos n -ℤ pos 256) ≡ n
+  by true = omega (arith, lt)
+  by false =
+      let is : pos n -ℤ pos 256 ≡ negsuc (255 - n) = omega (arith, ints, lt) in
+      let low : wrapped 8 (negsuc (255 - n)) ≡ n = omega (arith, lt) in
+      ap (wrapped 8) is ∙ low
+
+as_acts : (E : Env) (hs : List Home) (f g : List Word → Effect) (o : Outcome (List Object)) → ((rest : List Word) → f rest ≡ g rest) → ChangeActs E.unit.structs E.places hs g o → ChangeActs E.unit.structs E.places hs f o
+as_acts E hs f g o same (changes' related is) = changes' related (λ rest. same rest ∙ is rest)
+as_acts E hs f g o same (change_traps ends is) = change_traps ends (λ rest. same rest ∙ is rest)
+
+byte_acts : (E : Env) (hs : List Home) (m : Memory) (objects : List Object) (p : Value) (b : ℕ) → Related E.unit.structs E.places hs objects m → IsOf E.unit.structs E.places hs (pointer (integer Char)) p
+    → ChangeActs E.unit.structs E.places hs (λ rest. segment_on (segment.Store stores.I32Store8) m (I32 (wrapped 32 (pos b)) ∷ Handle (handle hs p) ∷ rest)) (write objects p (char_of b))
+byte_acts E hs m objects p b related of =
+    let h = handle hs p in
+    let same : wrapped 8 (pos b) ≡ wrapped 8 (wrap Char (pos b)) = sym (back_char (wrapped 8 (pos b)) (bits_below Char (pos b))) in
+    as_acts E hs _ _ (write objects p (char_of b)) (λ rest. store_is Char (pos b) m h rest ∙ ap (λ (k : ℕ). changed_by rest (store m h 1 k)) same ∙ sym (store_is Char (wrap Char (pos b)) m h rest))
+    (store_acts E.unit.structs E.places hs m objects (integer Char) p (char_of b) related tt of (is_number (wrap_in Char (pos b))))
 
 -- the objects are these now
 abbrev pub changed : List Object → World → Result (Unit {0})
@@ -149,13 +173,11 @@ module _ (E : Env) where
 
   -- ---- all bytes
 
-  puts : (bytes : List ℕ) → are_bytes bytes ≡ true → (i : ℕ) → i + length bytes < 2 ^ 63 → (n : ℕ) (now : Now) (p : Value) (vs : List Word) (r : List Item) (w : World) (m : Mem) → Kept E now w m → LeadsTo E char m.homes p → slice_get m.temps 2 ≡ Some (Handle (handle m.homes p))
+  puts : (bytes : List ℕ) (i : ℕ) → i + length bytes < 2 ^ 63 → (n : ℕ) (now : Now) (p : Value) (vs : List Word) (r : List Item) (w : World) (m : Mem) → Kept E now w m → LeadsTo E char m.homes p → slice_get m.temps 2 ≡ Some (Handle (handle m.homes p))
       → Runs E.site (size_of (bytes_put E.target i bytes n)) m (at_work E m w vs (front (bytes_put E.target i bytes n).instrs r)) w (to vs r) (Fills now) (alter (write_all 1 p i (map char_of bytes)) w)
-  puts [] are i lt n now p vs r w m k of there = here E.site 0 w m (to vs r) (Fills now) tt (tt, k)
-  puts (b ∷ bytes) are i lt n now p vs r w m k of there =
+  puts [] i lt n now p vs r w m k of there = here E.site 0 w m (to vs r) (Fills now) tt (tt, k)
+  puts (b ∷ bytes) i lt n now p vs r w m k of there =
       let q = moved 1 (pos i) p in
-      let fit = both (nat_lt b 256) (are_bytes bytes) are in
-      let small = ltb→lt b 256 (subst T (sym fit.0) tt) in
       let y = bytes_put E.target (suc i) bytes (n + 0) in
       let next = front y.instrs r in
       let f = write_all 1 p (suc i) (map char_of bytes) in
@@ -167,15 +189,15 @@ module _ (E : Env) where
       resize E.site (4 + (1 + size_of y)) (size_of (bytes_put E.target i (b ∷ bytes) n)) m start w (to vs r) (Fills now) (alter (write_all 1 p i (map char_of (b ∷ bytes))) w) (omega arith)
       (behind_goes E.site 4 (1 + size_of y) w w m m start (at_work E m w us (Do byte_store ∷ next)) (to vs r) (Fills now) (alter (write_all 1 p i (map char_of (b ∷ bytes))) w)
       (element_goes now i b (omega (arith, lt)) p vs (Do byte_store ∷ next) w m k of there)
-      (store_byte now b q vs next r w m k (size_of y) f o refl (byte_acts E.unit.structs E.places m.homes m.segments w.objects q b small (value_in Char b small) k.related of_q)
+      (store_byte now b q vs next r w m k (size_of y) f o refl (byte_acts E m.homes m.segments w.objects q b k.related of_q)
       (λ m1 os eh et k1.
-      puts bytes fit.1 (suc i) (omega (arith, lt)) (n + 0) now p vs r (record w { objects = os }) m1 k1 (subst (λ (hs : List Home). LeadsTo E char hs p) (sym eh) of)
+      puts bytes (suc i) (omega (arith, lt)) (n + 0) now p vs r (record w { objects = os }) m1 k1 (subst (λ (hs : List Home). LeadsTo E char hs p) (sym eh) of)
       (ap (λ (ts : List Word). slice_get ts 2) et ∙ there ∙ ap (λ (hs : List Home). Some (Handle (handle hs p))) (sym eh)))))
 
   -- the pointer on the operands goes into the local first
-  fills : (bytes : List ℕ) → are_bytes bytes ≡ true → length bytes < 2 ^ 63 → (gs : List Home) (p : Value) → IsValue E (pointer char) gs p
+  fills : (bytes : List ℕ) → length bytes < 2 ^ 63 → (gs : List Home) (p : Value) → IsValue E (pointer char) gs p
       → OpIn E gs (one (LocalSet (scratch_handle E.target)) ⨾ bytes_put E.target 0 bytes) (pushes E (pointer char) gs p) (λ hs. gone E) (λ hs. Always E) (alter (write_all 1 p 0 (map char_of bytes)))
-  fills bytes are lt gs p ok n has now le vs r dep w m k =
+  fills bytes lt gs p ok n has now le vs r dep w m k =
       let more = extends_trans gs now.homes m.homes le.grown k.grown in
       let of = value_still E.unit.structs E.places gs m.homes more (pointer char) p ok in
       let x = scratch_handle E.target in
@@ -192,10 +214,10 @@ module _ (E : Env) where
       (resize E.site (1 + size_of y) all m (at_work E m w (H ∷ vs) (Do (LocalSet x) ∷ next)) w (to vs r) (Fills now) z (omega arith)
       (behind_goes E.site 1 (size_of y) w w m m1 (at_work E m w (H ∷ vs) (Do (LocalSet x) ∷ next)) (at_work E m1 w vs next) (to vs r) (Fills now) z
       (set_goes E w m k.held x 2 is_handle inside H vs next)
-      (puts bytes are 0 (omega (arith, lt)) (n + 0) now p vs r w m1 k1 of (set_there m.temps 2 H inside))))
+      (puts bytes 0 (omega (arith, lt)) (n + 0) now p vs r w m1 k1 of (set_there m.temps 2 H inside))))
 
-  pub fill_runs : (bytes : List ℕ) → are_bytes bytes ≡ true → length bytes < 2 ^ 63 → (c : Code) (x : Does Value) → Leaves E c (pointer char) x
+  pub fill_runs : (bytes : List ℕ) → length bytes < 2 ^ 63 → (c : Code) (x : Does Value) → Leaves E c (pointer char) x
       → OpIn E [] (filled E.target c bytes) same (λ hs. gone E) (λ hs. Always E) (x >>= (λ p. alter (write_all 1 p 0 (map char_of bytes))))
-  fill_runs bytes are lt c x h =
+  fill_runs bytes lt c x h =
       op_then_in E [] c (one (LocalSet (scratch_handle E.target)) ⨾ bytes_put E.target 0 bytes) same (pushes E (pointer char)) (λ hs. gone E) (IsValue E (pointer char)) (λ hs. Always E) x (λ p. alter (write_all 1 p 0 (map char_of bytes))) h
-      (λ gs grown p ok. fills bytes are lt gs p ok)
+      (λ gs grown p ok. fills bytes lt gs p ok)

@@ -1,5 +1,5 @@
 -- How far a run went from one world to another, and the same behind steps that come before it.
-use Rattle.std.proofs.Common.{◌≡◌, ℕ, suc, ◌+◌, ◌≤◌, List, [], ◌++◌, length, length-append, Bool, refl, sym, ap, ◌∙◌, arith}
+use Rattle.std.proofs.Common.{◌≡◌, ℕ, suc, ◌+◌, ◌≤◌, List, [], ◌++◌, length, length-append, Bool, ap, ◌∙◌, arith}
 use Rattle.ms_event.specs.declared.event.Event.{Event}
 use Rattle.ms_event.specs.Monitor.{grants}
 use Rattle.c_meaning.specs.World.{End, World}
@@ -18,7 +18,7 @@ pub record Went (R : ℕ → Ran) (most fuel : ℕ) (st : Stop) (e : End) (w w' 
   pub how : How R most fuel st e w' cost events
 
 -- from a world in which nothing was put or asked for
-pub known_of : (R : ℕ → Ran) (most fuel : ℕ) (st : Stop) (e : End) (w w' : World) → w.output ≡ [] → w.sizes ≡ [] → Went R most fuel st e w w' → Known R w.grants st e w'
+abbrev pub known_of : (R : ℕ → Ran) (most fuel : ℕ) (st : Stop) (e : End) (w w' : World) → w.output ≡ [] → w.sizes ≡ [] → Went R most fuel st e w w' → Known R w.grants st e w'
 known_of R most fuel st e w w' none none' h = record {
   puts = h.puts;
   events = h.events;

@@ -1,4 +1,4 @@
--- Code without instructions has no sequences: the code of all expressions of the stage.
+-- Code without instructions has no sequences: the code of all expressions.
 use Rattle.std.proofs.Common.{◌≡◌, ℕ, suc, ◌+◌, List, [], ◌∷◌, ◌++◌, length, Bool, true, false, Option, Some, None, refl, ap, ◌∙◌, cond}
 use Rattle.std.specs.Prelude.{ℤ, ◌&&◌, nat_lt}
 use Rattle.ms_types.specs.declared.types.ValType.{ValType}
@@ -22,7 +22,6 @@ use Rattle.c_typed.specs.Tree.{Place, of, Expr, Exprs, none, more}
 use Rattle.ms_emit.specs.Codes.{Code, plain, one, no_code, ◌⨾◌, choice}
 use Rattle.c_code.specs.Expressions.{allocated, as_bit, begun, begun_with_old, begun_over_old, bytes_in, converted, copied, ended, expr, exprs, fetched, freed, int, is_bit, is_null, leaves_copied, left, number_in, place, pointers_compared, product_allocated, put, updated, moved, decayed, is_deref, part}
 use Rattle.c_code.specs.Operations.{by_width, convert, i32, narrow, to_type, truth, val_option, width_of}
-use Rattle.c_stage.specs.Stage.{in_expr, in_exprs, in_place}
 use Rattle.c_code.specs.Leaves.{leaves}
 use Rattle.c_code.specs.Targets.{Target, plain_in, scratch_handle, scratch_i64, scratch_place, tee}
 
@@ -182,81 +181,77 @@ module _ (t : Target) where
   -- ---- of expressions
 
   mutual
-    whole_place : (d : ℕ) (p : Place) → in_place p ≡ true → IsWhole (place t d p)
-    whole_place d (of (Local n)) e = whole_plain _
-    whole_place d (of (Global n)) e = whole_plain _
-    whole_place d (tree.deref a) e = whole_expr true d a e
-    whole_place d (tree.member p n m) e = whole_part d p _ _ e
+    whole_place : (d : ℕ) (p : Place) → IsWhole (place t d p)
+    whole_place d (of (Local n)) = whole_plain _
+    whole_place d (of (Global n)) = whole_plain _
+    whole_place d (tree.deref a) = whole_expr true d a
+    whole_place d (tree.member p n m) = whole_part d p _ _
 
-    whole_part : (d : ℕ) (p : Place) (from n : ℕ) → in_place p ≡ true → IsWhole (part t d p from n)
-    whole_part d (of (Local v)) from n e = whole_then (one _) _ (whole_plain _) (whole_plain _)
-    whole_part d (of (Global v)) from n e = whole_then (one _) _ (whole_plain _) (whole_plain _)
-    whole_part d (tree.deref a) from n e = whole_then (expr t true d a) _ (whole_expr true d a e) (whole_plain _)
-    whole_part d (tree.member p k m) from n e = whole_part d p _ n e
+    whole_part : (d : ℕ) (p : Place) (from n : ℕ) → IsWhole (part t d p from n)
+    whole_part d (of (Local v)) from n = whole_then (one _) _ (whole_plain _) (whole_plain _)
+    whole_part d (of (Global v)) from n = whole_then (one _) _ (whole_plain _) (whole_plain _)
+    whole_part d (tree.deref a) from n = whole_then (expr t true d a) _ (whole_expr true d a) (whole_plain _)
+    whole_part d (tree.member p k m) from n = whole_part d p _ n
 
-    pub whole_expr : (k : Bool) (d : ℕ) (e : Expr) → in_expr e ≡ true → IsWhole (expr t k d e)
-    whole_expr k d (tree.number u n) h = whole_left k _ _ (whole_plain _)
-    whole_expr k d tree.null h = whole_left k _ _ (whole_plain _)
-    whole_expr k d (tree.literal n) h = whole_left k _ _ (whole_plain _)
-    whole_expr k d tree.no_function h = whole_left k _ _ (whole_plain _)
-    whole_expr k d (tree.function n) h = whole_left k _ _ (whole_plain _)
-    whole_expr k d (tree.same_function is a b) h = let q = both (in_expr a) (in_expr b) h in whole_left k _ _ (whole_two (expr t true d a) (expr t true d b) _ (whole_expr true d a q.0) (whole_expr true d b q.1))
-    whole_expr k d (tree.read s p) h = whole_left k _ _ (whole_fetched (plain_in t p) (place t d p) s (whole_place d p h))
-    whole_expr k d (tree.decay u n p) h = whole_left k _ _ (whole_decayed (is_deref p) _ (place t d p) (whole_place d p h))
-    whole_expr k d (tree.address p) h = whole_left k _ _ (whole_place d p h)
-    whole_expr k d (tree.convert u v a) h = whole_left k _ _ (whole_converted u v (number_in a) (expr t true d a) (whole_expr true d a h))
-    whole_expr k d (tree.truth s a) h = whole_left k _ _ (whole_then (expr t true d a) (truth s) (whole_expr true d a h) (whole_truth s))
-    whole_expr k d (tree.not a) h = whole_left k _ _ (whole_then (expr t true d a) _ (whole_expr true d a h) (whole_plain _))
-    whole_expr k d (tree.unary signs.Negate u a) h = whole_left k _ _ (whole_then (one _) _ (whole_plain _) (whole_then (expr t true d a) _ (whole_expr true d a h) (whole_plain _)))
-    whole_expr k d (tree.unary signs.Complement u a) h = whole_left k _ _ (whole_then (expr t true d a) _ (whole_expr true d a h) (whole_plain _))
-    whole_expr k d (tree.binary o u a b) h = let q = both (in_expr a) (in_expr b) h in whole_left k _ _ (whole_then (expr t true d a) _ (whole_expr true d a q.0) (whole_then (expr t true d b) _ (whole_expr true d b q.1) (whole_plain _)))
-    whole_expr k d (tree.compare o u a b) h = let q = both (in_expr a) (in_expr b) h in whole_left k _ _ (whole_then (expr t true d a) _ (whole_expr true d a q.0) (whole_then (expr t true d b) _ (whole_expr true d b q.1) (whole_plain _)))
-    whole_expr k d (tree.compare_pointers relations.Equal a b) h = let q = both (in_expr a) (in_expr b) h in whole_left k _ _ (whole_equal (is_null b) (expr t true d a) (expr t true d b) (whole_expr true d a q.0) (whole_expr true d b q.1))
-    whole_expr k d (tree.compare_pointers relations.NotEqual a b) h = let q = both (in_expr a) (in_expr b) h in whole_left k _ _ (whole_unequal (is_null b) (expr t true d a) (expr t true d b) (whole_expr true d a q.0) (whole_expr true d b q.1))
-    whole_expr k d (tree.compare_pointers relations.Less a b) h = let q = both (in_expr a) (in_expr b) h in whole_left k _ _ (whole_two (expr t true d a) (expr t true d b) _ (whole_expr true d a q.0) (whole_expr true d b q.1))
-    whole_expr k d (tree.compare_pointers relations.LessEqual a b) h = let q = both (in_expr a) (in_expr b) h in whole_left k _ _ (whole_two (expr t true d a) (expr t true d b) _ (whole_expr true d a q.0) (whole_expr true d b q.1))
-    whole_expr k d (tree.compare_pointers relations.Greater a b) h = let q = both (in_expr a) (in_expr b) h in whole_left k _ _ (whole_two (expr t true d a) (expr t true d b) _ (whole_expr true d a q.0) (whole_expr true d b q.1))
-    whole_expr k d (tree.compare_pointers relations.GreaterEqual a b) h = let q = both (in_expr a) (in_expr b) h in whole_left k _ _ (whole_two (expr t true d a) (expr t true d b) _ (whole_expr true d a q.0) (whole_expr true d b q.1))
-    whole_expr k d (tree.difference u a b) h = let q = both (in_expr a) (in_expr b) h in whole_left k _ _ (whole_two (expr t true d a) (expr t true d b) _ (whole_expr true d a q.0) (whole_expr true d b q.1))
-    whole_expr k d (tree.move u back a b) h = let q = both (in_expr a) (in_expr b) h in whole_left k _ _ (whole_then (expr t true d a) _ (whole_expr true d a q.0) (whole_moved _ back (expr t true d b) (whole_expr true d b q.1)))
-    whole_expr k d (tree.move_by u a b) h = let q = both (in_expr a) (in_expr b) h in whole_left k _ _ (whole_two (expr t true d a) (expr t true d b) _ (whole_expr true d a q.0) (whole_expr true d b q.1))
-    whole_expr k d (tree.and a b) h =
-        let q = both (in_expr a) (in_expr b) h in let y = as_bit (is_bit b) (expr t true d b) in let z = one (i32 0) in
-        whole_left k int _ (whole_then (expr t true d a) (choice (Some vals.I32) y z) (whole_expr true d a q.0) (whole_choice (Some vals.I32) y z))
-    whole_expr k d (tree.or a b) h =
-        let q = both (in_expr a) (in_expr b) h in let y = one (i32 1) in let z = as_bit (is_bit b) (expr t true d b) in
-        whole_left k int _ (whole_then (expr t true d a) (choice (Some vals.I32) y z) (whole_expr true d a q.0) (whole_choice (Some vals.I32) y z))
-    whole_expr k d (tree.choose s c a b) h =
-        let p = both (in_expr c) (in_expr a && in_expr b) h in let y = expr t true d a in let z = expr t true d b in
-        whole_left k s _ (whole_then (expr t true d c) (choice (val_option s) y z) (whole_expr true d c p.0) (whole_choice (val_option s) y z))
-    whole_expr k d (tree.comma a b) h = let q = both (in_expr a) (in_expr b) h in whole_then (expr t false d a) (expr t k d b) (whole_expr false d a q.0) (whole_expr k d b q.1)
-    whole_expr k d (tree.assign s p e) h =
-        let q = both (in_place p) (in_expr e) h in
-        whole_then (begun t (plain_in t p) (place t d p)) _ (whole_begun (plain_in t p) (place t d p) (whole_place d p q.0)) (whole_then (expr t true d e) _ (whole_expr true d e q.1) (whole_ended k (plain_in t p) s))
-    whole_expr k d (tree.update old u o v p e) h =
-        let q = both (in_place p) (in_expr e) h in
-        whole_updated k old (plain_in t p) (place t d p) (scalars.Int u) _ (whole_place d p q.0)
-        (whole_then (convert u v) _ (whole_bare (convert u v) (bare_convert u v)) (whole_then (expr t true d e) _ (whole_expr true d e q.1) (whole_then (one _) (convert v u) (whole_plain _) (whole_bare (convert v u) (bare_convert v u)))))
-    whole_expr k d (tree.advance old u back p e) h =
-        let q = both (in_place p) (in_expr e) h in
-        whole_updated k old (plain_in t p) (place t d p) scalars.Pointer _ (whole_place d p q.0) (whole_moved _ back (expr t true d e) (whole_expr true d e q.1))
-    whole_expr k d (tree.call n s es) h = whole_left k _ _ (whole_then (exprs t d es) _ (whole_exprs d es h) (whole_plain _))
-    whole_expr k d (tree.call_through u s e es) h =
-        let q = both (in_expr e) (in_exprs es) h in
-        whole_left k _ _ (whole_then (expr t true d e) _ (whole_expr true d e q.0) (whole_then (one _) _ (whole_plain _) (whole_then (exprs t (suc d) es) _ (whole_exprs (suc d) es q.1) (whole_plain _))))
-    whole_expr k d (tree.putchar e) h = whole_left k _ _ (whole_then (expr t true d e) _ (whole_expr true d e h) (whole_plain _))
-    whole_expr k d tree.getchar h = whole_left k _ _ (whole_plain _)
-    whole_expr k d tree.abort h = whole_plain _
-    whole_expr k d (tree.malloc u e) h = whole_left k _ _ (whole_allocated (size t.structs u) (bytes_in e) (expr t true d e))
-    whole_expr k d (tree.calloc u a b) h = whole_left k _ _ (whole_product (scratch_i64 t) (size t.structs u) (expr t true d a) (expr t true d b))
-    whole_expr k d (tree.free e) h = whole_freed t (expr t true d e)
-    whole_expr k d (tree.discard e) h = whole_expr false d e h
-    whole_expr k d (tree.copy n p q) h = let r = both (in_place p) (in_place q) h in whole_copied n (place t d p) (place t d q) (whole_place d p r.0) (whole_place d q r.1)
-    whole_expr k d (tree.visit p) h = whole_then (place t d p) _ (whole_place d p h) (whole_plain _)
-    whole_expr k d (tree.size_of_place n p) h = whole_left k _ _ (whole_plain _)
-    whole_expr k d (tree.size_of_value n e) h = whole_left k _ _ (whole_plain _)
-    whole_expr k d (tree.size_of_type n) h = whole_left k _ _ (whole_plain _)
+    pub whole_expr : (k : Bool) (d : ℕ) (e : Expr) → IsWhole (expr t k d e)
+    whole_expr k d (tree.number u n) = whole_left k _ _ (whole_plain _)
+    whole_expr k d tree.null = whole_left k _ _ (whole_plain _)
+    whole_expr k d (tree.literal n) = whole_left k _ _ (whole_plain _)
+    whole_expr k d tree.no_function = whole_left k _ _ (whole_plain _)
+    whole_expr k d (tree.function n) = whole_left k _ _ (whole_plain _)
+    whole_expr k d (tree.same_function is a b) = whole_left k _ _ (whole_two (expr t true d a) (expr t true d b) _ (whole_expr true d a) (whole_expr true d b))
+    whole_expr k d (tree.read s p) = whole_left k _ _ (whole_fetched (plain_in t p) (place t d p) s (whole_place d p))
+    whole_expr k d (tree.decay u n p) = whole_left k _ _ (whole_decayed (is_deref p) _ (place t d p) (whole_place d p))
+    whole_expr k d (tree.address p) = whole_left k _ _ (whole_place d p)
+    whole_expr k d (tree.convert u v a) = whole_left k _ _ (whole_converted u v (number_in a) (expr t true d a) (whole_expr true d a))
+    whole_expr k d (tree.truth s a) = whole_left k _ _ (whole_then (expr t true d a) (truth s) (whole_expr true d a) (whole_truth s))
+    whole_expr k d (tree.not a) = whole_left k _ _ (whole_then (expr t true d a) _ (whole_expr true d a) (whole_plain _))
+    whole_expr k d (tree.unary signs.Negate u a) = whole_left k _ _ (whole_then (one _) _ (whole_plain _) (whole_then (expr t true d a) _ (whole_expr true d a) (whole_plain _)))
+    whole_expr k d (tree.unary signs.Complement u a) = whole_left k _ _ (whole_then (expr t true d a) _ (whole_expr true d a) (whole_plain _))
+    whole_expr k d (tree.binary o u a b) = whole_left k _ _ (whole_then (expr t true d a) _ (whole_expr true d a) (whole_then (expr t true d b) _ (whole_expr true d b) (whole_plain _)))
+    whole_expr k d (tree.compare o u a b) = whole_left k _ _ (whole_then (expr t true d a) _ (whole_expr true d a) (whole_then (expr t true d b) _ (whole_expr true d b) (whole_plain _)))
+    whole_expr k d (tree.compare_pointers relations.Equal a b) = whole_left k _ _ (whole_equal (is_null b) (expr t true d a) (expr t true d b) (whole_expr true d a) (whole_expr true d b))
+    whole_expr k d (tree.compare_pointers relations.NotEqual a b) = whole_left k _ _ (whole_unequal (is_null b) (expr t true d a) (expr t true d b) (whole_expr true d a) (whole_expr true d b))
+    whole_expr k d (tree.compare_pointers relations.Less a b) = whole_left k _ _ (whole_two (expr t true d a) (expr t true d b) _ (whole_expr true d a) (whole_expr true d b))
+    whole_expr k d (tree.compare_pointers relations.LessEqual a b) = whole_left k _ _ (whole_two (expr t true d a) (expr t true d b) _ (whole_expr true d a) (whole_expr true d b))
+    whole_expr k d (tree.compare_pointers relations.Greater a b) = whole_left k _ _ (whole_two (expr t true d a) (expr t true d b) _ (whole_expr true d a) (whole_expr true d b))
+    whole_expr k d (tree.compare_pointers relations.GreaterEqual a b) = whole_left k _ _ (whole_two (expr t true d a) (expr t true d b) _ (whole_expr true d a) (whole_expr true d b))
+    whole_expr k d (tree.difference u a b) = whole_left k _ _ (whole_two (expr t true d a) (expr t true d b) _ (whole_expr true d a) (whole_expr true d b))
+    whole_expr k d (tree.move u back a b) = whole_left k _ _ (whole_then (expr t true d a) _ (whole_expr true d a) (whole_moved _ back (expr t true d b) (whole_expr true d b)))
+    whole_expr k d (tree.move_by u a b) = whole_left k _ _ (whole_two (expr t true d a) (expr t true d b) _ (whole_expr true d a) (whole_expr true d b))
+    whole_expr k d (tree.and a b) =
+        let y = as_bit (is_bit b) (expr t true d b) in let z = one (i32 0) in
+        whole_left k int _ (whole_then (expr t true d a) (choice (Some vals.I32) y z) (whole_expr true d a) (whole_choice (Some vals.I32) y z))
+    whole_expr k d (tree.or a b) =
+        let y = one (i32 1) in let z = as_bit (is_bit b) (expr t true d b) in
+        whole_left k int _ (whole_then (expr t true d a) (choice (Some vals.I32) y z) (whole_expr true d a) (whole_choice (Some vals.I32) y z))
+    whole_expr k d (tree.choose s c a b) =
+        let y = expr t true d a in let z = expr t true d b in
+        whole_left k s _ (whole_then (expr t true d c) (choice (val_option s) y z) (whole_expr true d c) (whole_choice (val_option s) y z))
+    whole_expr k d (tree.comma a b) = whole_then (expr t false d a) (expr t k d b) (whole_expr false d a) (whole_expr k d b)
+    whole_expr k d (tree.assign s p e) =
+        whole_then (begun t (plain_in t p) (place t d p)) _ (whole_begun (plain_in t p) (place t d p) (whole_place d p)) (whole_then (expr t true d e) _ (whole_expr true d e) (whole_ended k (plain_in t p) s))
+    whole_expr k d (tree.update old u o v p e) =
+        whole_updated k old (plain_in t p) (place t d p) (scalars.Int u) _ (whole_place d p)
+        (whole_then (convert u v) _ (whole_bare (convert u v) (bare_convert u v)) (whole_then (expr t true d e) _ (whole_expr true d e) (whole_then (one _) (convert v u) (whole_plain _) (whole_bare (convert v u) (bare_convert v u)))))
+    whole_expr k d (tree.advance old u back p e) =
+        whole_updated k old (plain_in t p) (place t d p) scalars.Pointer _ (whole_place d p) (whole_moved _ back (expr t true d e) (whole_expr true d e))
+    whole_expr k d (tree.call n s es) = whole_left k _ _ (whole_then (exprs t d es) _ (whole_exprs d es) (whole_plain _))
+    whole_expr k d (tree.call_through u s e es) =
+        whole_left k _ _ (whole_then (expr t true d e) _ (whole_expr true d e) (whole_then (one _) _ (whole_plain _) (whole_then (exprs t (suc d) es) _ (whole_exprs (suc d) es) (whole_plain _))))
+    whole_expr k d (tree.putchar e) = whole_left k _ _ (whole_then (expr t true d e) _ (whole_expr true d e) (whole_plain _))
+    whole_expr k d tree.getchar = whole_left k _ _ (whole_plain _)
+    whole_expr k d tree.abort = whole_plain _
+    whole_expr k d (tree.malloc u e) = whole_left k _ _ (whole_allocated (size t.structs u) (bytes_in e) (expr t true d e))
+    whole_expr k d (tree.calloc u a b) = whole_left k _ _ (whole_product (scratch_i64 t) (size t.structs u) (expr t true d a) (expr t true d b))
+    whole_expr k d (tree.free e) = whole_freed t (expr t true d e)
+    whole_expr k d (tree.discard e) = whole_expr false d e
+    whole_expr k d (tree.copy n p q) = whole_copied n (place t d p) (place t d q) (whole_place d p) (whole_place d q)
+    whole_expr k d (tree.visit p) = whole_then (place t d p) _ (whole_place d p) (whole_plain _)
+    whole_expr k d (tree.size_of_place n p) = whole_left k _ _ (whole_plain _)
+    whole_expr k d (tree.size_of_value n e) = whole_left k _ _ (whole_plain _)
+    whole_expr k d (tree.size_of_type n) = whole_left k _ _ (whole_plain _)
 
-    pub whole_exprs : (d : ℕ) (es : Exprs) → in_exprs es ≡ true → IsWhole (exprs t d es)
-    whole_exprs d none h = whole_plain []
-    whole_exprs d (more e es) h = let q = both (in_expr e) (in_exprs es) h in whole_then (expr t true d e) _ (whole_expr true d e q.0) (whole_exprs d es q.1)
+    pub whole_exprs : (d : ℕ) (es : Exprs) → IsWhole (exprs t d es)
+    whole_exprs d none = whole_plain []
+    whole_exprs d (more e es) = whole_then (expr t true d e) _ (whole_expr true d e) (whole_exprs d es)

@@ -1,9 +1,9 @@
 -- The run of a crew of one task, behind a start function, as the steps of their threads; and longer runs.
-use Rattle.std.specs.Prelude.{◌≡◌, ◌≢◌, ◌⊎◌, ℕ, List, [], ◌∷◌, ◌++◌, Option}
+use Rattle.std.specs.Prelude.{◌≡◌, ◌≢◌, ℕ, List, [], ◌∷◌, ◌++◌, Option}
 use Rattle.ms_event.specs.declared.event.Event.{Event}
 use Rattle.ms_machine.specs.Crews as crews
 use Rattle.ms_linear.specs.declared.value.Value.{Value}
-use Rattle.ms_machine.specs.Crews.{Crew, Input, Run, Start, Task, ahead, bytes_of, events_of}
+use Rattle.ms_machine.specs.Crews.{Crew, Input, Run, Start, Task, Whose, ahead, bytes_of, events_of}
 use Rattle.ms_machine.specs.Store.{Store}
 use Rattle.ms_task.specs.Thread.{Thread}
 use Rattle.c_runs.specs.Threads.{Ended, Paused, Ran, Stop, Stuck, Trapped, steps, steps_to}
@@ -44,12 +44,17 @@ then_steps t n s v input = steps n s t input
 abbrev pub steps_behind : (start t : Thread) → ℕ → Store → Input → Ran
 steps_behind start t n s input = steps_to (then_steps t) n s start input
 
--- how a run of the crew ends where its threads stop so: a trap is the start function's or the task's
-abbrev pub EndsAs : Stop → crews.End → Type 0
-EndsAs (Trapped k) end = (end ≡ crews.Trap (Task 0) k) ⊎ (end ≡ crews.Trap Start k)
-EndsAs st end = end ≡ crew_end st
+-- whose a trap is where the start function has stopped so within its own steps: that function's, until it has ended
+abbrev pub whose_at : Stop → Whose
+whose_at (Ended v) = Task 0
+whose_at st = Start
 
-pub record Shows (r : Run) (q : Ran) : Type 0 where
+-- how a run of the crew ends where its threads stop so, and a trap is of this one
+abbrev pub reported : Whose → Stop → crews.End → Type 0
+reported whose (Trapped k) end = end ≡ crews.Trap whose k
+reported whose st end = end ≡ crew_end st
+
+pub record Shows (r : Run) (whose : Whose) (q : Ran) : Type 0 where
   pub bytes : bytes_of r.deeds ≡ q.puts
   pub events : events_of r.deeds ≡ q.events
-  pub ends : EndsAs q.stop r.end
+  pub ends : reported whose q.stop r.end

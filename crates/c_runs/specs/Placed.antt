@@ -5,6 +5,7 @@ use Rattle.ms_host.specs.declared.host.Host.TheVariants as hosts
 use Rattle.ms_linear.specs.declared.global.GlobalInst.{GlobalInst}
 use Rattle.ms_linear.specs.Table.{Table}
 use Rattle.ms_linear.specs.Values.{default_of}
+use Rattle.ms_machine.specs.Linked.{start_chain}
 use Rattle.ms_machine.specs.Step.{host_in}
 use Rattle.ms_machine.specs.Store.{Store}
 use Rattle.ms_machine.specs.declared.store.Instance.{Instance}
@@ -13,8 +14,8 @@ use Rattle.ms_segment.specs.Memory.{Placed}
 use Rattle.ms_task.specs.declared.func.FuncInst.{FuncInst}
 use Rattle.c_typed.specs.Tree.{Function, Stmt, Typed}
 use Rattle.ms_emit.specs.Codes.{total}
-use Rattle.c_code.specs.Functions.{body, locals, params_in, signature}
-use Rattle.c_code.specs.Modules.{compiled, defined, entry_of, imported, index_of, named, target_of}
+use Rattle.c_code.specs.Functions.{body, locals, params_in, signature, start}
+use Rattle.c_code.specs.Modules.{compiled, defined, entry_of, imported, index_of, named, start_target, target_of, waits_made}
 use Rattle.c_code.specs.Uses.{waits_stmt}
 
 -- at the address that is its index, the function of this number, with this body
@@ -30,6 +31,14 @@ pub record IsFunctionAt (u : Typed) (s : Store) (n : ℕ) (f : Function) (b : St
 -- the index of the start function
 abbrev pub start_index : Typed → ℕ
 start_index u = 3 + length (imported u) + length (defined u)
+
+-- at that address, the start function
+pub record IsStartAt (u : Typed) (s : Store) : Type 0 where
+  pub inst : FuncInst
+  pub is_at : slice_get s.funcs (start_index u) ≡ Some inst
+  pub at_home : inst.instance ≡ 0
+  pub locals_are : inst.locals ≡ locals (start_target u) 0 [] (waits_made u u.made)
+  pub body_is : inst.body ≡ start (start_target u) u.globals u.made
 
 -- a global as it begins: zero, or null
 abbrev pub begun_as : Global → GlobalInst
@@ -51,6 +60,9 @@ pub record IsPlaced (u : Typed) (s : Store) : Type 0 where
   pub getchar : host_in (slice_get s.funcs 1) ≡ Some hosts.Getchar
   pub abort : host_in (slice_get s.funcs 2) ≡ Some hosts.Abort
   pub functions : (n : ℕ) (f : Function) (b : Stmt) → slice_get u.functions n ≡ Some f → f.body ≡ Some b → IsFunctionAt u s n f b
+  -- the start function is carried out before any task
+  pub start : IsStartAt u s
+  pub begins : start_chain s.instances ≡ start_index u ∷ []
   -- its one table: at first it has no function, and behind that those that are values, which an i32 counts
   pub few : length (named u) < 4294967295
   pub types : inst.types ≡ (compiled u).sigs
@@ -76,3 +88,7 @@ longest_in u (f ∷ fs) = max (instructions_in u f f.body) (longest_in u fs)
 -- of the functions of the unit
 abbrev pub longest_of : Typed → ℕ
 longest_of u = longest_in u u.functions
+
+-- the start function has so many
+abbrev pub started_of : Typed → ℕ
+started_of u = total (start (start_target u) u.globals u.made)

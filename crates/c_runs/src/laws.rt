@@ -11,10 +11,9 @@ ghost use Rattle.c_types.specs.Types.{Ty, function, no_types};
 ghost use Rattle.c_typed.specs.Tree.{Function, Stmt, Typed};
 ghost use Rattle.c_typed.specs.Units.{IsWellTyped};
 ghost use Rattle.c_meaning.specs.Units.{main_number};
-ghost use Rattle.c_code.specs.Limits.{limit_of};
+ghost use Rattle.c_code.specs.Limits.{instructions_of, limit_of, most_instructions};
 ghost use Rattle.c_code.specs.Modules.{compiled, imported, index_of};
-ghost use Rattle.c_stage.specs.Stage.{in_stage};
-ghost use Rattle.c_runs.specs.Correct.{Behaves, MeansRun};
+ghost use Rattle.c_runs.specs.Correct.{Behaves, MeansRun, gives_integer};
 ghost use Rattle.c_runs.specs.Crews.{Extends, Same, crew_of_one};
 ghost use Rattle.c_runs.specs.Placed.{IsPlaced};
 ghost use Rattle.c_runs.specs.Threads.{steps};
@@ -26,12 +25,13 @@ pub fn threads_run()
     ensures longer { (n m : ℕ) (s : Store) (t : Thread) (input : Input) → n ≤ m → Extends (steps n s t input) (steps m s t input) }
 {}
 
-/// Of a unit that is well-typed and of the stage, where a store has its functions with their code, and all that are used: a run of
-/// `main`, which takes no arguments, does what is meant (C11, 5.1.2.3), whatever its input and its budget are.
+/// Of a unit that is well-typed, and whose module has no more instructions than the compiler makes, where a store has its functions with
+/// their code, and all that are used: a run of `main`, which takes no arguments and gives nothing or an integer, does what is meant (C11,
+/// 5.1.2.3), whatever its input and its budget are.
 pub fn compiled_behaves()
-    ensures { (u : Typed) (s : Store) (n : ℕ) (f : Function) (b : Stmt) (t : Ty) → IsWellTyped u → in_stage u ≡ true
-        → main_number u ≡ Some n → slice_get u.functions n ≡ Some f → f.body ≡ Some b
-        → f.ty ≡ function t no_types → IsPlaced u s → Behaves u s (index_of u n) }
+    ensures { (u : Typed) (s : Store) (n : ℕ) (f : Function) (b : Stmt) (t : Ty) → IsWellTyped u
+        → instructions_of (compiled u).funcs ≤ most_instructions → main_number u ≡ Some n → slice_get u.functions n ≡ Some f
+        → f.body ≡ Some b → f.ty ≡ function t no_types → gives_integer t ≡ true → IsPlaced u s → Behaves u s (index_of u n) }
 {}
 
 /// Where a compiled unit was linked alone, under any name and with segment memory of any size, the store has its functions with their
@@ -50,15 +50,16 @@ pub fn compiled_links()
 /// In that store a run of the `main` of such a unit, where it takes no arguments, does what is meant (`compiled_behaves`).
 pub fn linked_behaves()
     ensures { (u : Typed) (name : List ℕ) (c : ℕ) (s : Store) (n : ℕ) (f : Function) (b : Stmt) (t : Ty) → IsWellTyped u
-        → in_stage u ≡ true → main_number u ≡ Some n → slice_get u.functions n ≡ Some f
-        → f.body ≡ Some b → f.ty ≡ function t no_types → linked ((name, compiled u) ∷ []) c ≡ Ok s → Behaves u s (index_of u n) }
+        → instructions_of (compiled u).funcs ≤ most_instructions → main_number u ≡ Some n → slice_get u.functions n ≡ Some f
+        → f.body ≡ Some b → f.ty ≡ function t no_types → gives_integer t ≡ true → linked ((name, compiled u) ∷ []) c ≡ Ok s
+        → Behaves u s (index_of u n) }
 {}
 
 /// What `exec` runs of such a unit, linked alone, does what is meant, where its `main` is a task: the one task behind the start
-/// function, which has nothing to do.
+/// function, which makes and initializes what stands at file scope.
 pub fn executed_behaves()
-    ensures { (u : Typed) (c turns budget : ℕ) (s : Store) (threads : List Thread) (input : Input) → IsWellTyped u → in_stage u ≡ true
-        → linked (([], compiled u) ∷ []) c ≡ Ok s
+    ensures { (u : Typed) (name : List ℕ) (c turns budget : ℕ) (s : Store) (threads : List Thread) (input : Input) → IsWellTyped u
+        → instructions_of (compiled u).funcs ≤ most_instructions → linked ((name, compiled u) ∷ []) c ≡ Ok s
         → threads_from s ((0, codes "main") ∷ []) 0 ≡ Ok threads → AreBytes input
         → MeansRun u input budget (run_of (turns_from turns 1 0 budget) (crew_of s threads) input) }
 {}

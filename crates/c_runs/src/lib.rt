@@ -1,9 +1,9 @@
 //! The run of a compiled unit of C against its meaning (C11, 5.1.2.3): code that is put together does what is meant, wherever it
-//! stands, and so do units of integers, pointers, objects, functions as values, calls by names and through pointers, and all statements.
+//! stands, and so does each unit that is well-typed, from its start function on.
 //!
 //! There is no code. It stands on the code of units (`c_code`), on their meaning (`c_meaning`), on numbers (`c_numbers`) and on the
-//! machine. Read `specs/Correct.antt` first, then `proofs/Ops.antt`, `Exprs.antt`, `Stmts.antt`, `Callees.antt`, `Top.antt`, `Linking.antt`,
-//! `Executing.antt`, `Sample.antt`.
+//! machine. Read `specs/Correct.antt` first, then `proofs/Ops.antt`, `Exprs.antt`, `Stmts.antt`, `Callees.antt`, `Mains.antt`, `Constants.antt`,
+//! `Behind.antt`, `Top.antt`, `Linking.antt`, `Executing.antt`, `Sample.antt`.
 #![tactic(auto)]
 
 mod laws;

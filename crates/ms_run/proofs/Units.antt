@@ -1,6 +1,6 @@
 -- Bytes are one unit at most, which has one module; and where there is none there is one reason.
 use Rattle.std.proofs.Common.{◌≡◌, ◌∙◌, ℕ, List, [], length, refl, sym, ap, subst}
-use Rattle.std.specs.Prelude.{true, false, Result, Ok, Err, Some, None}
+use Rattle.std.specs.Prelude.{Result, Ok, Err, Some, None}
 use Rattle.c_token.specs.declared.word.Token.{Token}
 use Rattle.c_lex.specs.Fault.{Fault}
 use Rattle.c_lex.specs.Lexing as lexing
@@ -17,7 +17,6 @@ use Rattle.c_check.specs.Units.{typing_of}
 use Rattle.c_check.specs.declared.fault.CCheck.TheVariants.{NoTyping}
 use Rattle.c_typed.specs.Tree.{Typed}
 use Rattle.c_code.specs.Limits.{limit_of}
-use Rattle.c_stage.specs.Stage.{in_stage}
 use Rattle.c_code.specs.Modules.{compiled}
 use Rattle.c_compile.specs.Refusals.{limit}
 use Rattle.c_compile.specs.declared.fault.Limit.{Limit}
@@ -25,7 +24,7 @@ use Rattle.c_compile.specs.declared.fault.Limit.TheVariants as limits
 use Rattle.ms_module.specs.declared.module.Module.{Module}
 use Rattle.ms_run.specs.declared.source.SourceFault.{SourceFault}
 use Rattle.ms_run.specs.declared.source.SourceFault.TheVariants as faults
-use Rattle.ms_run.specs.Source.{IsModule, IsParsed, IsUnit, Stops, Tells, no_tokens, no_typing, no_unit, past, unstaged}
+use Rattle.ms_run.specs.Source.{IsModule, IsParsed, IsUnit, Stops, Tells, no_tokens, no_typing, no_unit, past}
 
 module _ (bytes : List ℕ) where
   -- ---- tokens
@@ -75,12 +74,6 @@ module _ (bytes : List ℕ) where
   limits_of : (u v : Typed) → IsUnit bytes u → IsUnit bytes v → limit_of u ≡ limit_of v
   limits_of u v p q = ap limit_of (one_typed u v p q)
 
-  stages : (u v : Typed) → IsUnit bytes u → IsUnit bytes v → in_stage u ≡ in_stage v
-  stages u v p q = ap in_stage (one_typed u v p q)
-
-  never_staged : (u v : Typed) → IsUnit bytes u → IsUnit bytes v → in_stage u ≡ false → in_stage v ≡ true → ⊥
-  never_staged u v p q h k = let e = sym h ∙ stages u v p q ∙ k in cc
-
   -- ---- reasons
 
   no_tokens_then : (fault : Fault) (m : Module) → lexing.Stops bytes fault → IsModule bytes m → ⊥
@@ -90,15 +83,13 @@ module _ (bytes : List ℕ) where
   never_both _ m (no_tokens f h) p = no_tokens_then f m h p
   never_both _ m (no_unit tokens f h k) p = let q = p.is_unit in no_parsed q.externals tokens f q.parsed h k
   never_both _ m (no_typing xs at h k) p = no_typed p.unit xs at p.is_unit h k
-  never_both _ m (unstaged u h k) p = never_staged u p.unit h p.is_unit k p.staged
-  never_both _ m (past u l h staged k) p = let e = sym k ∙ limits_of u p.unit h p.is_unit ∙ p.within in cc
+  never_both _ m (past u l h k) p = let e = sym k ∙ limits_of u p.unit h p.is_unit ∙ p.within in cc
 
   -- bytes that have a module are stopped by want of memory alone
   pub stopped_only : (fault : SourceFault) (m : Module) → Tells bytes fault → IsModule bytes m → fault ≡ faults.Memory
   stopped_only (faults.Lex e) m h p = absurd (never_both (faults.Lex e) m h p)
   stopped_only (faults.Parse e) m h p = absurd (never_both (faults.Parse e) m h p)
   stopped_only (faults.Check e) m h p = absurd (never_both (faults.Check e) m h p)
-  stopped_only faults.Stage m h p = absurd (never_both faults.Stage m h p)
   stopped_only (faults.Limit l) m h p = absurd (never_both (faults.Limit l) m h p)
   stopped_only faults.Memory m h p = refl
 
@@ -120,26 +111,17 @@ module _ (bytes : List ℕ) where
   one_reason _ _ (no_tokens f h) (no_tokens g k) = ap (λ (x : Fault). faults.Lex (error_of x)) (one_fault f g h k)
   one_reason _ _ (no_tokens f h) (no_unit tokens e k l) = absurd (no_list tokens f k h)
   one_reason _ _ (no_tokens f h) (no_typing xs at k l) = absurd (no_list k.tokens f k.lexes h)
-  one_reason _ _ (no_tokens f h) (past u l k s r) = absurd (no_list k.parsed.tokens f k.parsed.lexes h)
-  one_reason _ _ (no_tokens f h) (unstaged u k r) = absurd (no_list k.parsed.tokens f k.parsed.lexes h)
+  one_reason _ _ (no_tokens f h) (past u l k r) = absurd (no_list k.parsed.tokens f k.parsed.lexes h)
   one_reason _ _ (no_unit tokens e k l) (no_tokens f h) = absurd (no_list tokens f k h)
   one_reason _ _ (no_unit ts e h k) (no_unit us f l r) =
       ap faults.Parse (one_stop ts (length bytes) e f k (same_tokens (λ t. parsing.Stops t (length bytes) f) us ts l h r))
   one_reason _ _ (no_unit ts e h k) (no_typing xs at l r) = absurd (no_parsed xs ts e l h k)
-  one_reason _ _ (no_unit ts e h k) (past u l p s r) = absurd (no_parsed p.externals ts e p.parsed h k)
-  one_reason _ _ (no_unit ts e h k) (unstaged u p r) = absurd (no_parsed p.externals ts e p.parsed h k)
+  one_reason _ _ (no_unit ts e h k) (past u l p r) = absurd (no_parsed p.externals ts e p.parsed h k)
   one_reason _ _ (no_typing xs at k l) (no_tokens f h) = absurd (no_list k.tokens f k.lexes h)
   one_reason _ _ (no_typing xs at l r) (no_unit ts e h k) = absurd (no_parsed xs ts e l h k)
   one_reason _ _ (no_typing xs a h k) (no_typing ys b l r) = ap (λ (x : ℕ). faults.Check (NoTyping x)) (one_place xs ys a b h l k r)
-  one_reason _ _ (no_typing xs a h k) (past u l p s r) = absurd (no_typed u xs a p h k)
-  one_reason _ _ (no_typing xs a h k) (unstaged u p r) = absurd (no_typed u xs a p h k)
-  one_reason _ _ (past u l k s r) (no_tokens f h) = absurd (no_list k.parsed.tokens f k.parsed.lexes h)
-  one_reason _ _ (unstaged u k r) (no_tokens f h) = absurd (no_list k.parsed.tokens f k.parsed.lexes h)
-  one_reason _ _ (past u l p s r) (no_unit ts e h k) = absurd (no_parsed p.externals ts e p.parsed h k)
-  one_reason _ _ (unstaged u p r) (no_unit ts e h k) = absurd (no_parsed p.externals ts e p.parsed h k)
-  one_reason _ _ (past u l p s r) (no_typing xs a h k) = absurd (no_typed u xs a p h k)
-  one_reason _ _ (unstaged u p r) (no_typing xs a h k) = absurd (no_typed u xs a p h k)
-  one_reason _ _ (past u l h s k) (past v r p t q) = ap faults.Limit (same_limit u v l r h p k q)
-  one_reason _ _ (past u l h s k) (unstaged v p q) = absurd (never_staged v u p h q s)
-  one_reason _ _ (unstaged u h k) (past v r p t q) = absurd (never_staged u v h p k t)
-  one_reason _ _ (unstaged u h k) (unstaged v p q) = refl
+  one_reason _ _ (no_typing xs a h k) (past u l p r) = absurd (no_typed u xs a p h k)
+  one_reason _ _ (past u l k r) (no_tokens f h) = absurd (no_list k.parsed.tokens f k.parsed.lexes h)
+  one_reason _ _ (past u l p r) (no_unit ts e h k) = absurd (no_parsed p.externals ts e p.parsed h k)
+  one_reason _ _ (past u l p r) (no_typing xs a h k) = absurd (no_typed u xs a p h k)
+  one_reason _ _ (past u l h k) (past v r p q) = ap faults.Limit (same_limit u v l r h p k q)

@@ -125,7 +125,6 @@ abbrev pub source_fault_words : SourceFault → List ℕ
 source_fault_words (source.Lex fault) = token_words fault
 source_fault_words (source.Parse fault) = parsing_words fault
 source_fault_words (source.Check fault) = typing_words fault
-source_fault_words source.Stage = codes "c limit stage"
 source_fault_words (source.Limit limit) = climit_words limit
 source_fault_words source.Memory = []
 

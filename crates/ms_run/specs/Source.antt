@@ -1,5 +1,5 @@
 -- What the bytes of a file of C are (C11, 5.1.1.2): tokens, a unit of them that has a typing, and its module; or why they are nothing.
-use Rattle.std.specs.Prelude.{◌≡◌, ℕ, true, false, List, length, Ok, Err, Some, None}
+use Rattle.std.specs.Prelude.{◌≡◌, ℕ, ◌≤◌, List, length, Ok, Err, Some, None}
 use Rattle.c_token.specs.declared.word.Token.{Token}
 use Rattle.c_lex.specs.Lexing as lexing
 use Rattle.c_lex.specs.Lexing.{Lexes}
@@ -12,8 +12,7 @@ use Rattle.c_parse.specs.declared.fault.CParse.{CParse}
 use Rattle.c_check.specs.Units.{typing_of}
 use Rattle.c_check.specs.declared.fault.CCheck.TheVariants.{NoTyping}
 use Rattle.c_typed.specs.Tree.{Typed}
-use Rattle.c_stage.specs.Stage.{in_stage}
-use Rattle.c_code.specs.Limits.{limit_of}
+use Rattle.c_code.specs.Limits.{instructions_of, limit_of, most_instructions}
 use Rattle.c_code.specs.Modules.{compiled}
 use Rattle.c_compile.specs.Refusals.{limit}
 use Rattle.c_compile.specs.declared.fault.Limit.{Limit}
@@ -37,9 +36,10 @@ pub record IsUnit (bytes : List ℕ) (u : Typed) : Type 0 where
 pub record IsModule (bytes : List ℕ) (m : Module) : Type 0 where
   pub unit : Typed
   pub is_unit : IsUnit bytes unit
-  pub staged : in_stage unit ≡ true
   pub within : limit_of unit ≡ None
   pub module' : m ≡ compiled unit
+  -- more are want of memory
+  pub small : instructions_of m.funcs ≤ most_instructions
 
 -- why they have none
 pub data Stops (bytes : List ℕ) : SourceFault → Type 0 where
@@ -49,10 +49,8 @@ pub data Stops (bytes : List ℕ) : SourceFault → Type 0 where
   no_unit : (tokens : List Token) (fault : CParse) → Lexes bytes tokens → parsing.Stops tokens (length bytes) fault → Stops bytes (faults.Parse fault)
   -- the unit has no typing
   no_typing : (externals : List External) (at : ℕ) → IsParsed bytes externals → typing_of externals ≡ Err at → Stops bytes (faults.Check (NoTyping at))
-  -- it isn't one of those of which it is shown that their code does what they mean
-  unstaged : (u : Typed) → IsUnit bytes u → in_stage u ≡ false → Stops bytes faults.Stage
   -- it is past a limit of the compiler
-  past : (u : Typed) (l : Limit) → IsUnit bytes u → in_stage u ≡ true → limit_of u ≡ Some (limit l) → Stops bytes (faults.Limit l)
+  past : (u : Typed) (l : Limit) → IsUnit bytes u → limit_of u ≡ Some (limit l) → Stops bytes (faults.Limit l)
 
 -- this is why, unless memory ran out
 abbrev pub Tells : List ℕ → SourceFault → Type 0

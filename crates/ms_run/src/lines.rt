@@ -161,7 +161,6 @@ fn source_fault_words(alloc: Global, fault: SourceFault) -> Result<String, Alloc
         SourceFault::Lex(fault) => token_words(alloc, fault),
         SourceFault::Parse(fault) => parsing_words(alloc, fault),
         SourceFault::Check(fault) => typing_words(alloc, fault),
-        SourceFault::Stage => format!(in alloc; "c limit stage"),
         SourceFault::Limit(limit) => climit_words(alloc, limit),
         SourceFault::Memory => Err(AllocError),
     }

@@ -5,7 +5,6 @@ ghost use Rattle.c_token.specs.declared.word.Token.{Token};
 ghost use Rattle.c_lex.specs.Lexing.{Lexes};
 ghost use Rattle.c_lex.specs.Readers.{FirstFault, fault_of};
 ghost use Rattle.c_parse.specs.Units as parsing;
-ghost use Rattle.c_stage.specs.Stage.{in_stage};
 ghost use Rattle.c_typed.specs.refinement.Views.{typed_of};
 ghost use Rattle.ms_module.specs.declared.module.Module.{Module};
 ghost use Rattle.ms_run.specs.Source.{IsModule, IsParsed, IsUnit, Tells};
@@ -15,7 +14,6 @@ use c_check::{CCheck, check};
 use c_compile::{CFault, Limit, compile};
 use c_lex::{CLex, lex};
 use c_parse::{CParse, parse};
-use c_stage::is_in_stage;
 use c_token::Token;
 use c_tree::Unit;
 use c_typed::Typed;
@@ -35,10 +33,6 @@ pub enum SourceFault {
     /// The unit has no typing: where the first declaration begins up to which there is none.
     #[error("{0}")]
     Check(CCheck),
-    /// The unit has an array, a struct, a pointer's step, a variable at file scope, a string, or a function that is a value, of which the
-    /// laws on the meaning of the code don't speak yet.
-    #[error("not all of it is compiled yet")]
-    Stage,
     /// The unit is past this limit of the compiler.
     #[error("{0}")]
     Limit(Limit),
@@ -113,26 +107,10 @@ fn typed(alloc: Global, bytes: &[u8]) -> Result<Typed, SourceFault>
     }
 }
 
-/// Their unit with its types, which is one of those whose code is shown to do what they mean.
-fn staged(alloc: Global, bytes: &[u8]) -> Result<Typed, SourceFault>
-    ensures found { IfOk result (λ t. IsUnit bytes.now (typed_of t)) }
-    ensures staged { IfOk result (λ t. in_stage (typed_of t) ≡ true) }
-    ensures fault { IfErr result (Tells bytes.now) }
-{
-    let typed = match typed(alloc, bytes) {
-        Ok(typed) => typed,
-        Err(fault) => return Err(fault),
-    };
-    if !is_in_stage(&typed) {
-        return Err(SourceFault::Stage);
-    }
-    Ok(typed)
-}
-
 /// Reads the module of a file of C (C11, 5.1.1.2): the bytes are a unit that has a typing, and this is its module.
 ///
-/// An error is the first thing that is wrong, with its place: the tokens, the syntax, the typing, what isn't compiled
-/// yet, and then a limit of the compiler.
+/// An error is the first thing that is wrong, with its place: the tokens, the syntax, the typing, and then a
+/// limit of the compiler.
 /// `Memory` may stand in place of any answer.
 pub fn module_of(alloc: Global, bytes: &[u8]) -> Result<Module, SourceFault>
     // What is given is the module of the bytes.
@@ -142,7 +120,7 @@ pub fn module_of(alloc: Global, bytes: &[u8]) -> Result<Module, SourceFault>
     // An error is the cause that it names.
     ensures fault { IfErr result (Tells bytes.now) }
 {
-    let typed = match staged(alloc, bytes) {
+    let typed = match typed(alloc, bytes) {
         Ok(typed) => typed,
         Err(fault) => return Err(fault),
     };

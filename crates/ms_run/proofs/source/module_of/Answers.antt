@@ -15,17 +15,17 @@ pub returns-in-Ok-compile-clause-only : goal.returns-in-Ok-compile-clause-only
 returns-in-Ok-compile-clause-only c = λ m h.
     let made = c.in-Ok-compile in
     inl (ap Ok (one_module c.args.bytes.now made.module m
-    (record { unit = typed_of c.in-Ok.typed; is_unit = c.in-Ok.ensures.found; staged = c.in-Ok.ensures.staged; within = made.ensures.within; module' = made.ensures.module }) h))
+    (record { unit = typed_of c.in-Ok.typed; is_unit = c.in-Ok.ensures.found; within = made.ensures.within; module' = made.ensures.module; small = made.ensures.small }) h))
 
 pub returns-in-Err-Limit-clause-only : goal.returns-in-Err-Limit-clause-only
 returns-in-Err-Limit-clause-only c = λ m h.
     let bad = c.in-Err-Limit in
     let u = typed_of c.in-Ok.typed in
     absurd (never_both c.args.bytes.now (faults.Limit bad.limit) m
-    (past u bad.limit c.in-Ok.ensures.found c.in-Ok.ensures.staged (subst (λ (e : CFault). IsRefused u e) bad.field-0-is bad.ensures.refused)) h)
+    (past u bad.limit c.in-Ok.ensures.found (subst (λ (e : CFault). IsRefused u e) bad.field-0-is bad.ensures.refused)) h)
 
 pub returns-in-Err-Limit-clause-fault : goal.returns-in-Err-Limit-clause-fault
 returns-in-Err-Limit-clause-fault c =
     let bad = c.in-Err-Limit in
     let u = typed_of c.in-Ok.typed in
-    past u bad.limit c.in-Ok.ensures.found c.in-Ok.ensures.staged (subst (λ (e : CFault). IsRefused u e) bad.field-0-is bad.ensures.refused)
+    past u bad.limit c.in-Ok.ensures.found (subst (λ (e : CFault). IsRefused u e) bad.field-0-is bad.ensures.refused)
