@@ -33,7 +33,7 @@ use Rattle.ms_run.proofs.Jobs.{flows_more}
 use Rattle.ms_run.proofs.Safe.{run_is_accepted}
 use Rattle.ms_run.proofs.Once.{IsOrdinary, RunsOne, assembles_once, assembles_ordinary, checks_known, checks_once, checks_ordinary, disassembles_once, disassembles_ordinary, file_known, file_once, file_ordinary, found_held, holds_one, judges_known, judges_once, judges_ordinary, runs_file_known, runs_file_once, runs_file_ordinary, runs_job_known, runs_job_once, runs_job_ordinary}
 use Rattle.ms_run.proofs.Targets.{assembled_target, checks_target, disassembled_target, file_target, job_target, judges_target, unfound_target, wrote_none}
-use Rattle.ms_tool.specs.Meaning.{RanAsMeant}
+use Rattle.ms_tool.specs.Meaning.{KeepsRun}
 use Rattle.ms_tool.specs.Outside.{Outside, flow_of, report_of, shelf_of}
 use Rattle.ms_tool.specs.refinement.Responding.{Responded, Responds, gave, nothing, stopped}
 use Rattle.ms_tool.specs.Top.{AsksJob, AsksRun, FlowsFor, Gives, GivesFor, IsAnswer, IsCutOff, IsFaulty, IsOutFault, IsPutFault, IsStarved, IsTarget, IsUnwritten, Keeps, Stays}
@@ -515,15 +515,12 @@ module _ (words : List (List ℕ)) (s : Shelved) (r : Report) (f : Flow) where
     pub nothing_responded : SameCounts s.reads_old s.reads_new → KeepsFiles s → IsKept r → IsQuiet f → Responded words s r f statuses.OutOfMemory
     nothing_responded same files kept still = (given, may, nothing same files kept, quiet_for s given f (asked_of words) still, λ asks end. absurd end)
 
--- ---- a program of C
+-- ---- a run
 
-means_clause : (s : Shelved) (r : Report) (f : Flow) (name : List ℕ) (budget memory : ℕ) (o : Option Asked) (status : Status)
-    → o ≡ Some (Exec name budget memory) → form_of name ≡ Source → IsEnd status
-    → (AsksRun o → IsEnd status → (job : Job) × AsksJob (Holds s.old) o job × RanSafely s r f job status)
-    → RanAsMeant s r f name budget memory status
-means_clause s r f name budget memory o status asked form end safe =
-    let ran = subst (λ (x : Option Asked). AsksRun x → IsEnd status → (job : Job) × AsksJob (Holds s.old) x job × RanSafely s r f job status) asked safe tt end in
-    ran_as_meant s r f name budget memory status form (subst (λ (j : Job). RanSafely s r f j status) ran.1 ran.2)
+run_clause : (words : List (List ℕ)) (s : Shelved) (r : Report) (f : Flow) (status : Status)
+    → ((job : Job) × AsksJob (Holds s.old) (asked_of words) job × RanSafely s r f job status)
+    → (job : Job) × AsksJob (Holds s.old) (asked_of words) job × KeepsRun s r f job status
+run_clause words s r f status ran = (ran.0, ran.1, record { safe = ran.2; means = λ name file program. ran_as_meant s r f ran.0 name file status program ran.2 })
 
 -- ---- the contract
 
@@ -536,8 +533,7 @@ keeps words before after status h = let given = h.0 in record {
   write_fault = write_fault_clause words given before after status h.1 h.2;
   memory = memory_clause words given before after status h.1 h.2;
   complete = λ known ran answer is gives. complete_clause words given before after known (ran given) answer status h.2 is (gives given h.1);
-  safe = h.4;
-  means = λ name budget memory asked form end. means_clause (shelf_of before after) (report_of before after) (flow_of before after) name budget memory (asked_of words) status asked form end h.4;
+  run = λ asks end. run_clause words (shelf_of before after) (report_of before after) (flow_of before after) status (h.4 asks end);
   reads = λ name lt. reads_clause words given before after status h.2 name lt;
   writes = λ lt. writes_clause words given before after status h.2 lt;
   puts = λ lt. puts_clause words given before after status h.2 lt;

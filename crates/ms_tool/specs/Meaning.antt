@@ -1,23 +1,36 @@
--- The run of a program of C that has come to an end: it is the one that the answer tells of, and does what the program means.
-use Rattle.std.specs.Prelude.{ℕ, List}
+-- What is kept of a run that has come to an end: both halves of the theorem, of the run that the answer tells of.
+use Rattle.std.specs.Prelude.{◌≡◌, ℕ, List, [], ◌∷◌, codes, None}
 use Rattle.c_typed.specs.Tree.{Typed}
-use Rattle.ms_run.specs.Source.{IsUnit}
-use Rattle.ms_machine.specs.Running.{AreBytes}
 use Rattle.c_runs.specs.Correct.{MeansRun}
-use Rattle.ms_run.specs.Answers.{HasBytes}
-use Rattle.ms_run.specs.Jobs.{exec_job}
+use Rattle.ms_job.specs.declared.job.Job.{Job}
+use Rattle.ms_machine.specs.Crews.{Input, Run}
+use Rattle.ms_machine.specs.Running.{AreBytes}
+use Rattle.ms_run.specs.Answers.{Finds, HasBytes}
+use Rattle.ms_run.specs.Loading.{Source, form_of}
 use Rattle.ms_run.specs.Observed.{Flow, Report, Shelved}
 use Rattle.ms_run.specs.Reporting.{Holds}
 use Rattle.ms_run.specs.SafeRuns.{RanSafely}
+use Rattle.ms_run.specs.Source.{IsUnit}
 use Rattle.ms_run.specs.declared.status.Status.{Status}
 
-pub record RanAsMeant (s : Shelved) (r : Report) (f : Flow) (name : List ℕ) (budget memory : ℕ) (status : Status) : Type 0 where
-  -- the status, the report and the output are those of this run
-  pub ran : RanSafely s r f (exec_job name budget memory) status
-  -- of the unit that the bytes of the file are
+-- the job is a whole program of C: one module, of this file, whose `main` is the one task, by turns
+pub record IsProgram (job : Job) (name file : List ℕ) : Type 0 where
+  pub module' : job.modules ≡ (name, file) ∷ []
+  pub source : form_of file ≡ Source
+  pub task : job.tasks ≡ (0, codes "main") ∷ []
+  pub in_turns : job.schedule ≡ None
+
+-- the run does what the file's unit means, over what the input gave, where that are bytes
+pub record RanAsMeant (Has : Finds) (file : List ℕ) (budget : ℕ) (given : Input) (run : Run) : Type 0 where
   pub bytes : List ℕ
-  pub found : HasBytes (Holds s.old) name bytes
+  pub found : HasBytes Has file bytes
   pub unit : Typed
   pub is_unit : IsUnit bytes unit
-  -- over what the input gave, where that are bytes, it has the output and the end that are meant
-  pub means : AreBytes ran.given → MeansRun unit ran.given budget ran.run
+  pub means : AreBytes given → MeansRun unit given budget run
+
+pub record KeepsRun (s : Shelved) (r : Report) (f : Flow) (job : Job) (status : Status) : Type 0 where
+  -- Memory safety: the run is one of all modules that link, by the job's tasks, schedule and budget; status, report, the trace's file,
+  -- input and output are its own; and its allocations, slices, reads, writes and frees are a trace that the colour monitor accepts.
+  pub safe : RanSafely s r f job status
+  -- Meaning: that run of a whole program of C has the output and the end that C means.
+  pub means : (name file : List ℕ) → IsProgram job name file → RanAsMeant (Holds s.old) file job.budget safe.given safe.run

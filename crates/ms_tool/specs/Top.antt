@@ -15,14 +15,14 @@ use Rattle.ms_machine.specs.Running.{MayGive}
 use Rattle.ms_run.specs.Flows.{Flows, FlowsAs, IsQuiet}
 use Rattle.ms_run.specs.Jobs.{HasJob, RunOfFile, RunOfJob, RunsFile, RunsJob, exec_job}
 use Rattle.ms_run.specs.Lines.{input_fault_line}
-use Rattle.ms_run.specs.Loading.{Source, Text, form_of}
+use Rattle.ms_run.specs.Loading.{Source, Text}
 use Rattle.ms_run.specs.Observed.{Flow}
 use Rattle.ms_run.specs.Reporting.{AreLines, Grows, HasFailed, HasWritten, Holds, IsFound, KeepsFiles}
-use Rattle.ms_run.specs.SafeRuns.{IsEnd, RanSafely}
+use Rattle.ms_run.specs.SafeRuns.{IsEnd}
 use Rattle.ms_run.specs.declared.gathering.Naming.TheVariants.{Only}
 use Rattle.ms_run.specs.declared.status.Status.{Status}
 use Rattle.ms_run.specs.declared.status.Status.TheVariants.{OutOfMemory, ReadFault, Usage, WriteFault}
-use Rattle.ms_tool.specs.Meaning.{RanAsMeant}
+use Rattle.ms_tool.specs.Meaning.{KeepsRun}
 use Rattle.ms_tool.specs.Outside.{Outside, flow_of, report_of, shelf_of}
 
 -- ---- the table
@@ -174,16 +174,10 @@ pub record Keeps (words : List (List ℕ)) (before after : Outside) (status : St
       → ((given : Input) → MayGive before.left given → Gives words (Holds (Some known)) given (ran given) answer)
       → ((status ≡ answer.status) × Grows (report_of before after) answer.report × HasWritten (shelf_of before after) answer.file)
       ⊎ IsFaulty status
-  -- Where the words ask for a run and it has come to an end, this is a run of all modules that link, by the job's tasks, schedule and
-  -- budget: status, report, the trace's file, input and output are its own; and its allocations, slices, reads, writes and frees
-  -- are a trace that the colour monitor accepts, and its reads and writes are the accesses that were counted.
-  pub safe : AsksRun (asked_of words) → IsEnd status
+  -- Where the words ask for a run and it has come to an end, it is safe, and that of a program of C does what the program means.
+  pub run : AsksRun (asked_of words) → IsEnd status
       → (job : Job) × AsksJob (Holds before.files) (asked_of words) job
-      × RanSafely (shelf_of before after) (report_of before after) (flow_of before after) job status
-  -- Where the words ask for the run of a file of C and it has come to an end, its unit has a typing, and status, report and output are
-  -- those of a run that does what the unit means.
-  pub means : (name : List ℕ) (budget memory : ℕ) → asked_of words ≡ Some (Exec name budget memory) → form_of name ≡ Source → IsEnd status
-      → RanAsMeant (shelf_of before after) (report_of before after) (flow_of before after) name budget memory status
+      × KeepsRun (shelf_of before after) (report_of before after) (flow_of before after) job status
   -- A fault that was counted is never passed over.
   pub reads : (name : List ℕ) → before.read_faults name < after.read_faults name → IsFaulty status
   pub writes : before.write_faults < after.write_faults → IsPutFault status

@@ -2,10 +2,13 @@
 //! byte, and those of the program.
 
 use super::*;
-use ms_job::parse;
+use ms_job::{Job, parse};
 use ms_live::{Gaps, ListGaps, TreeGaps};
 use ms_run::{Naming, run_parsed};
 use ms_tagged::{ByteTags, Granules, Tagged};
+
+/// What stands before the instructions of a module's function.
+const START: &str = "(func (export \"main\") (local $h handle) (local $g handle) ";
 
 /// The instructions of a `main`, and what is wanted of a job that runs them and dumps the live segments: the status, and the report.
 const ROWS: [(&str, Status, &str); 7] = [
@@ -61,29 +64,29 @@ dump 2 32 32 heap 00000000000000000000000000000000000000000000000000000000000000
     ),
 ];
 
-/// What comes of a job over stores of these kinds that runs these instructions: its status, and its report.
-fn printed<G: Gaps, T: Tagged>(alloc: Global, code: &str) -> Result<(Status, MemSink), Fail> {
-    let text = format!(in alloc;
-        "(func (export \"main\") (local $h handle) (local $g handle) {code})"
-    )?;
-    let world = world(alloc, "m.wat", text.as_bytes())?;
-    let job = parse(alloc, b"module m m.wat\ntask m main\nmemory 64\ndump\n")?;
-    let Outside {
-        mut shelf,
-        mut input,
-        mut out,
-        report: mut printed,
-    } = world;
-    let given = run_parsed::<G, T, MemShelf, MemSource, MemSink, MemSink>(
+/// What a job over stores of these kinds ends with.
+fn ran<G: Gaps, T: Tagged>(alloc: Global, job: Job, outside: &mut Outside) -> Status {
+    run_parsed::<G, T, MemShelf, MemSource, MemSink, MemSink>(
         alloc,
         Naming::Numbered,
         job,
-        &mut shelf,
-        &mut input,
-        &mut out,
-        &mut printed,
-    );
-    Ok((given, printed))
+        &mut outside.shelf,
+        &mut outside.input,
+        &mut outside.out,
+        &mut outside.report,
+    )
+}
+
+/// What comes of a job over stores of these kinds that runs these instructions: its status, and its report.
+fn printed<G: Gaps, T: Tagged>(alloc: Global, code: &str) -> Result<(Status, MemSink), Fail> {
+    let mut outside = nothing(alloc, "")?;
+    let shelf = &mut outside.shelf;
+    add_to_file(alloc, shelf, "text", "m.wat", START)?;
+    add_to_file(alloc, shelf, "text", "m.wat", code)?;
+    add_to_file(alloc, shelf, "text", "m.wat", ")")?;
+    let job = parse(alloc, b"module m m.wat\ntask m main\nmemory 64\ndump\n")?;
+    let given = ran::<G, T>(alloc, job, &mut outside);
+    Ok((given, outside.report))
 }
 
 /// Whether each row comes out so over stores of these kinds.
