@@ -28,15 +28,23 @@ struct Outside {
     report: MemSink,
 }
 
-/// What stands in front of the colon of a line, and what behind it.
+/// A text without the blank that it may begin with.
+fn behind_blank(text: &str) -> &str {
+    text.strip_prefix(' ').unwrap_or(text)
+}
+
+/// The key in front of the colon of a line, and the value behind it.
 fn halves(line: &str) -> Result<(&str, &str), Fail> {
-    let (key, value) = line.split_once(':').ok_or(line)?;
-    Ok((key, value.strip_prefix(' ').unwrap_or(value)))
+    let (key, text) = line.split_once(':').ok_or(line)?;
+    Ok((key, behind_blank(text)))
 }
 
 /// The two words of a key, of which the second may be missing.
 fn key_words(key: &str) -> (&str, &str) {
-    key.split_once(' ').unwrap_or((key, ""))
+    match key.split_once(' ') {
+        Some(words) => words,
+        None => (key, ""),
+    }
 }
 
 /// The value of a key that a row has once, or not at all.
@@ -52,6 +60,12 @@ fn field<'a>(row: &'a str, key: &str) -> Result<Option<&'a str>, Fail> {
         }
     }
     Ok(found)
+}
+
+/// The value of a key that a row has once.
+fn needed<'a>(row: &'a str, key: &str) -> Result<&'a str, Fail> {
+    let value = field(row, key)?;
+    Ok(value.ok_or(row)?)
 }
 
 /// Adds lines, between which ` / ` stands.
@@ -138,12 +152,15 @@ fn read_line(alloc: Global, outside: &mut Outside, line: &str) -> Result<(), Fai
 }
 
 /// The objects outside, with no file yet.
-fn nothing(alloc: Global, input: &str) -> Result<Outside, Fail> {
+fn nothing(alloc: Global, input: &str) -> Result<Outside, AllocError> {
+    let bytes = Vec::from_slice(alloc, input.as_bytes())?;
+    let out = MemSink::new(alloc, 16)?;
+    let report = MemSink::new(alloc, 256)?;
     Ok(Outside {
         shelf: MemShelf::new(alloc),
-        input: MemSource::new(alloc, Vec::from_slice(alloc, input.as_bytes())?),
-        out: MemSink::new(alloc, 16)?,
-        report: MemSink::new(alloc, 256)?,
+        input: MemSource::new(alloc, bytes),
+        out,
+        report,
     })
 }
 
@@ -179,14 +196,11 @@ fn answer_to_line(alloc: Global, line: &str, outside: &mut Outside) -> Result<St
     Ok(answer_to(alloc, words.as_slice(), outside))
 }
 
-/// What the lines of a row with this key say of the bytes that are wanted.
+/// The bytes that a row wants by the value of this key, none where it is missing.
 fn wanted(alloc: Global, row: &str, key: &str, way: &str) -> Result<Vec<u8>, Fail> {
     let mut bytes = Vec::new(alloc);
-    for line in row.lines() {
-        let (left, value) = halves(line)?;
-        if left == key {
-            add(&mut bytes, way, value)?;
-        }
+    if let Some(value) = field(row, key)? {
+        add(&mut bytes, way, value)?;
     }
     Ok(bytes)
 }
@@ -210,9 +224,15 @@ fn expect_bytes(rt: &impl Abort, row: &str, what: &str, held: &[u8], wanted: &[u
     assert!(rt; held == wanted, "{what} is {held_text} in {row}");
 }
 
+/// The status that is wanted.
+fn wanted_status(row: &str) -> Result<u8, Fail> {
+    let number = needed(row, "status")?;
+    Ok(number.parse::<u8>()?)
+}
+
 /// Whether the status is the one that is wanted.
 fn expect_status(rt: &impl Abort, row: &str, status: Status) -> Result<(), Fail> {
-    let wanted = field(row, "status")?.ok_or(row)?.parse::<u8>()?;
+    let wanted = wanted_status(row)?;
     assert_eq!(rt; status.code(), wanted, "the status in {row}");
     Ok(())
 }
@@ -272,7 +292,7 @@ fn expect_in<R: Abort + AllocGlobal>(rt: &R, row: &str, outside: &mut Outside) -
         answer_to_line(rt.alloc(), words, outside)?;
         outside.report = MemSink::new(rt.alloc(), 256)?;
     }
-    let words = field(row, "words")?.ok_or(row)?;
+    let words = needed(row, "words")?;
     let status = answer_to_line(rt.alloc(), words, outside)?;
     expect_status(rt, row, status)?;
     expect_sinks(rt, row, &outside.report, &outside.out)?;

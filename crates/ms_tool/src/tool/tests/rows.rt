@@ -1033,9 +1033,7 @@ lines job: module m a.c / task m main / trace o
 words: run job
 status: 0
 report: result 3
-wrote lines: alloc 1 0 4 / write 1 0 4 0 4 / read 1 0 4 0 4 / write 1 0 4 0 4 / read 1 0 4 0 4 / free 1
-wrote lines: alloc 2 0 4 / write 2 0 4 0 4 / read 2 0 4 0 4 / write 2 0 4 0 4 / read 2 0 4 0 4 / free 2
-wrote lines: alloc 3 0 4 / write 3 0 4 0 4 / read 3 0 4 0 4 / write 3 0 4 0 4 / read 3 0 4 0 4 / free 3
+wrote lines: alloc 1 0 4 / write 1 0 4 0 4 / read 1 0 4 0 4 / write 1 0 4 0 4 / read 1 0 4 0 4 / free 1 / alloc 2 0 4 / write 2 0 4 0 4 / read 2 0 4 0 4 / write 2 0 4 0 4 / read 2 0 4 0 4 / free 2 / alloc 3 0 4 / write 3 0 4 0 4 / read 3 0 4 0 4 / write 3 0 4 0 4 / read 3 0 4 0 4 / free 3
 
 row: more bytes than a number of them can say
 text a.c: int main(void){int *p=calloc(65536,65536); return p==0;}
