@@ -72,6 +72,7 @@ module _ (u : Typed) (t : Ty) (S : Site) (size : ℕ) (w0 : World) (m0 : Mem) (s
         went = went_behind R R1 h.cost h.puts h.events by most (S.most * (w1.fuel + 1)) w0.fuel w1.fuel (omega (arith, a, here, all)) h.least b.st (closed u (go z w1)).0 w0 w1 (closed u (go z w1)).1 h.tells b.went;
         reports = b.reports;
         begins = tt;
+        defined = b.defined;
       }
 
 -- ---- behind the start function

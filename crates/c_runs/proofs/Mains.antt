@@ -1,5 +1,5 @@
 -- The run of `main` against its meaning, from whatever world stands before it.
-use Rattle.std.proofs.Common.{◌≡◌, ℕ, suc, ◌+◌, ◌*◌, ◌<◌, ◌≤◌, List, [], ◌∷◌, ◌++◌, map, true, Option, Some, refl, sym, ap, ◌∙◌, arith, subst}
+use Rattle.std.proofs.Common.{◌≡◌, ◌≢◌, ℕ, suc, ◌+◌, ◌*◌, ◌<◌, ◌≤◌, List, [], ◌∷◌, ◌++◌, map, true, Option, Some, refl, sym, ap, ◌∙◌, arith, subst}
 use Rattle.std.specs.Prelude.{slice_get}
 use Rattle.std.proofs.Math.Nat.{mul-suc}
 use Rattle.ms_linear.specs.Values.{default_of}
@@ -60,6 +60,7 @@ module _ (t : Ty) where
     pub went : Went R most fuel st e w w1
     pub reports : (end : crews.End) → reported (whose_of first) st end → Reports t (whose_of first) e end
     pub begins : StopsFirst first st
+    pub defined : e ≢ world.lost
 
   pub ended_so : (first : Result (Unit {0})) (S : Site) (most size : ℕ) (w w1 : World) (m : Mem) (start : Thread) (e : End) → StopsFirst first (stop_of e) → (h : Stops S size w w1 m start e) → counted e h.cost ≤ most
       → Bundle first (λ n. steps_to S.last n (store S m) start w.input) most w.fuel w e w1
@@ -68,6 +69,7 @@ module _ (t : Ty) where
     begins = so;
     went = record { puts = h.puts; events = h.events; cost = h.cost; so = h.so; tells = h.tells; how = how_of e h.is le h.asks };
     reports = reports_of e h.is;
+    defined = λ q. subst (λ (x : End). IsEnd S x w1) q h.is;
   } where
     how_of : (e : End) → IsEnd S e w1 → counted e h.cost ≤ most → Asks S e h.cost m start w h.events → How (λ n. steps_to S.last n (store S m) start w.input) most w.fuel (stop_of e) e w1 h.cost h.events
     how_of (world.result v) is le asks = absurd is
@@ -208,6 +210,7 @@ module _ (u : Typed) (s : Store) (well : IsWellTyped u) (most : IsMost u) (place
           };
           reports = reports_value v;
           begins = tt;
+          defined = λ q. absurd cc;
         }
     bundle_of (ends e w1) r = ended_so t first S (room_for w.fuel) size w w1 m main_thread e tt r (bounded (counted e r.cost) w1.fuel r.greatest)
 

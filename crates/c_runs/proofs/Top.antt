@@ -152,8 +152,11 @@ module _ (u : Typed) (t : Ty) (result_is : main_result u ≡ t) (input : Input) 
         let h = have fuel in
         ap (λ (x : End × World). x.0) (sym (meant_is fuel)) ∙ bound_law R longer_by b (room_for u fuel) fuel h.st (means u input g fuel).0 (means u input g fuel).1 (known fuel) h.went.how le (paused_is e)
 
+    defined_is : (fuel : ℕ) → (meant u input run fuel).0 ≢ world.lost
+    defined_is fuel = subst (λ (q : End × World). q.0 ≢ world.lost) (meant_is fuel) (have fuel).defined
+
     pub means_run : MeansRun u input b run
-    means_run = record { sizes = sizes_are; output = output_is; end = end_is; prints = prints_is; bound = bound_is }
+    means_run = record { sizes = sizes_are; output = output_is; end = end_is; prints = prints_is; defined = defined_is; bound = bound_is }
 
 -- ---- of a store
 

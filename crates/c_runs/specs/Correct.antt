@@ -10,7 +10,7 @@ use Rattle.c_types.specs.Types.{Ty, void, integer}
 use Rattle.c_typed.specs.Tree.{Function, Typed}
 use Rattle.c_meaning.specs.Functions.{result_of}
 use Rattle.c_meaning.specs.Units.{before_main, first_world, main_number, means}
-use Rattle.c_meaning.specs.World.{End, Result, World, ends, gives, out_of_fuel, result}
+use Rattle.c_meaning.specs.World.{End, Result, World, ends, gives, lost, out_of_fuel, result}
 use Rattle.c_runs.specs.Crews.{reported}
 use Rattle.c_runs.specs.Ends.{stop_of}
 use Rattle.c_runs.specs.Placed.{longest_of, started_of}
@@ -61,6 +61,8 @@ pub record MeansRun (u : Typed) (input : Input) (budget : ℕ) (run : Run) : Typ
   pub end : run.end ≢ OutOfBudget → Reports (main_result u) (whose_of (meant_first u input run budget)) (meant u input run budget).0 run.end
   -- out of budget it has printed a prefix
   pub prints : run.end ≡ OutOfBudget → IsPrefix (bytes_of run.deeds) (meant u input run budget).1.output
+  -- the meaning is never lost, with whatever fuel
+  pub defined : (fuel : ℕ) → (meant u input run fuel).0 ≢ lost
   -- with a budget of this it is out of it only where the meaning is out of fuel
   pub bound : (fuel : ℕ) → started_of u + longest_of u * (fuel + 1) ≤ budget → run.end ≡ OutOfBudget → (meant u input run fuel).0 ≡ out_of_fuel
 
