@@ -520,7 +520,7 @@ module _ (words : List (List ℕ)) (s : Shelved) (r : Report) (f : Flow) where
 run_clause : (words : List (List ℕ)) (s : Shelved) (r : Report) (f : Flow) (status : Status)
     → ((job : Job) × AsksJob (Holds s.old) (asked_of words) job × RanSafely s r f job status)
     → (job : Job) × AsksJob (Holds s.old) (asked_of words) job × KeepsRun s r f job status
-run_clause words s r f status ran = (ran.0, ran.1, record { safe = ran.2; means = λ name file program. ran_as_meant s r f ran.0 name file status program ran.2 })
+run_clause words s r f status h = (h.0, h.1, record { safe = h.2; means = λ name file program. ran_as_meant s r f h.0 name file status program h.2 })
 
 -- ---- the contract
 
