@@ -1,6 +1,12 @@
-//! The rows: the files that each has, and the table.
+//! The rows of the program, worked out by hand. A row is a block of lines `KEY: VALUE`; a block that begins with `#` is a heading.
+//!
+//! What is outside: `text F: T` adds T to the file F, `lines F: A / B` adds lines, `hex F: 00 61` bytes, and `many F: 3 T` adds T three times.
+//! `input: T` may be taken (`hi`, if there is none), and `fails D: 2` lets the second call of D (`read`, `write`, `input`, `out`, `report`) fail.
+//! What is asked: the words of `words: W`, after those of `before: W`, of which nothing is compared but what they leave outside.
+//! What is wanted: `status: N`, `report: A / B`, `out: T`, `took: T` of the input, and the file `o` by `wrote lines: A / B` or `wrote hex: 00 61`.
+//! A report of `usage` are the usage lines. Where a line isn't there nothing is wanted: no report, no byte put or taken, no file `o`.
 
-/// The files.
+/// Files that are there in each row.
 pub const FILES: &str = r#"# A module that gives 7, in text, in binary and as a unit of C.
 text seven.wat: (func (export "main") (result i32) i32.const 7)
 hex seven.wasm: 00 61 73 6D 01 00 00 00 01 05 01 60 00 01 7F 03 02 01 00 07 08 01 04 6D 61 69 6E 00 00 0A 06 01 04 00 41 07 0B
@@ -54,7 +60,7 @@ text overrun.c: int main(void){int a[4]; int i; for(i=0;i<=4;i=i+1){putchar(48+i
 text remakes.c: int main(void){int *p=malloc(4); int *q; free(p); q=malloc(4); *q=9; return *p;}
 lines traced-remakes: module m remakes.c / task m main / trace o"#;
 
-/// The table.
+/// The rows.
 pub const ROWS: &str = r#"# Words
 
 row: no command
@@ -118,13 +124,13 @@ words: exec seven.wasm
 status: 0
 report: result 7
 
-row: it gives -1
+row: a module that gives -1
 hex a.wasm: 00 61 73 6D 01 00 00 00 01 05 01 60 00 01 7F 03 02 01 00 07 08 01 04 6D 61 69 6E 00 00 0A 06 01 04 00 41 7F 0B
 words: exec a.wasm
 status: 0
 report: result -1
 
-row: a constant of another type
+row: a result of another type
 hex a.wasm: 00 61 73 6D 01 00 00 00 01 05 01 60 00 01 7F 03 02 01 00 07 08 01 04 6D 61 69 6E 00 00 0A 06 01 04 00 42 07 0B
 words: exec a.wasm
 status: 3
@@ -142,55 +148,55 @@ words: check a.wasm
 status: 0
 report: valid
 
-row: its first 0 bytes
+row: the first 0 bytes of the header
 hex a.wasm:
 words: check a.wasm
 status: 3
 report: refused malformed 0
 
-row: its first byte
+row: the first byte of the header
 hex a.wasm: 00
 words: check a.wasm
 status: 3
 report: refused malformed 0
 
-row: its first 2 bytes
+row: the first 2 bytes of the header
 hex a.wasm: 00 61
 words: check a.wasm
 status: 3
 report: refused malformed 0
 
-row: its first 3 bytes
+row: the first 3 bytes of the header
 hex a.wasm: 00 61 73
 words: check a.wasm
 status: 3
 report: refused malformed 0
 
-row: its first 4 bytes
+row: the first 4 bytes of the header
 hex a.wasm: 00 61 73 6D
 words: check a.wasm
 status: 3
 report: refused malformed 4
 
-row: its first 5 bytes
+row: the first 5 bytes of the header
 hex a.wasm: 00 61 73 6D 01
 words: check a.wasm
 status: 3
 report: refused malformed 4
 
-row: its first 6 bytes
+row: the first 6 bytes of the header
 hex a.wasm: 00 61 73 6D 01 00
 words: check a.wasm
 status: 3
 report: refused malformed 4
 
-row: its first 7 bytes
+row: the first 7 bytes of the header
 hex a.wasm: 00 61 73 6D 01 00 00
 words: check a.wasm
 status: 3
 report: refused malformed 4
 
-row: its first 7 bytes, run
+row: the first 7 bytes of the header, run
 hex a.wasm: 00 61 73 6D 01 00 00
 words: exec a.wasm
 status: 3
@@ -250,7 +256,7 @@ words: exec a.wasm
 status: 1
 report: trap overflow
 
-row: what is left by that division
+row: the remainder of the least number by -1
 hex a.wasm: 00 61 73 6D 01 00 00 00 01 05 01 60 00 01 7F 03 02 01 00 07 08 01 04 6D 61 69 6E 00 00 0A 0D 01 0B 00 41 80 80 80 80 78 41 7F 6F 0B
 words: exec a.wasm
 status: 0
@@ -475,7 +481,7 @@ words: exec a.wat
 status: 0
 report: result 0
 
-row: one call more
+row: 16,385 calls are open at once
 lines a.wat: (func $f (param i32) (result i32) local.get 0
 lines a.wat: if (result i32) local.get 0 i32.const 1 i32.sub call $f else local.get 0 end)
 lines a.wat: (func (export "main") (result i32) i32.const 16383 call $f)
@@ -542,13 +548,13 @@ words: exec slice.wat
 status: 1
 report: trap bounds
 
-row: the trace of that
+row: the trace of a look in front of a slice
 words: run traced-slice
 status: 1
 report: trap bounds
 wrote lines: alloc 1 0 8 / slice 1 0 8 4 8
 
-row: it is accepted
+row: the judge accepts the trace of a look in front of a slice
 before: run traced-slice
 words: judge o
 status: 0
@@ -582,7 +588,7 @@ words: judge t
 status: 1
 report: rejected 2
 
-row: one behind the other at one place
+row: two segments at one place, one after the other
 lines t: alloc 1 0 4 / free 1 / alloc 2 0 4
 words: judge t
 status: 0
@@ -618,7 +624,7 @@ words: judge t
 status: 1
 report: rejected 1
 
-row: a sealed handle that nothing sealed
+row: a read through a sealed handle that nothing sealed
 lines t: alloc 1 0 4 / read 1 0 4 0 4 sealed
 words: judge t
 status: 1
@@ -697,25 +703,25 @@ words: run job
 status: 1
 report: trap bounds
 
-row: the same, two steps a turn
+row: a borrower looks past its part, two steps a turn
 lines job: module v v.wat / module h h.wat / task h main / task v look / turns 2
 words: run job
 status: 1
 report: trap bounds
 
-row: the same, three steps a turn
+row: a borrower looks past its part, three steps a turn
 lines job: module v v.wat / module h h.wat / task h main / task v look / turns 3
 words: run job
 status: 1
 report: trap bounds
 
-row: the same, five steps a turn
+row: a borrower looks past its part, five steps a turn
 lines job: module v v.wat / module h h.wat / task h main / task v look / turns 5
 words: run job
 status: 1
 report: trap bounds
 
-row: the same, 1,000 steps a turn
+row: a borrower looks past its part, 1,000 steps a turn
 lines job: module v v.wat / module h h.wat / task h main / task v look / turns 1000
 words: run job
 status: 1
@@ -727,25 +733,25 @@ words: run job
 status: 1
 report: trap whole
 
-row: the same end, two steps a turn
+row: a borrower ends the segment, two steps a turn
 lines job: module v v.wat / module h ends.wat / task h main / task v look / turns 2
 words: run job
 status: 1
 report: trap whole
 
-row: the same end, three steps a turn
+row: a borrower ends the segment, three steps a turn
 lines job: module v v.wat / module h ends.wat / task h main / task v look / turns 3
 words: run job
 status: 1
 report: trap whole
 
-row: the same end, five steps a turn
+row: a borrower ends the segment, five steps a turn
 lines job: module v v.wat / module h ends.wat / task h main / task v look / turns 5
 words: run job
 status: 1
 report: trap whole
 
-row: the same end, 1,000 steps a turn
+row: a borrower ends the segment, 1,000 steps a turn
 lines job: module v v.wat / module h ends.wat / task h main / task v look / turns 1000
 words: run job
 status: 1
@@ -787,7 +793,7 @@ words: exec a.c
 status: 1
 report: trap overflow
 
-row: what is left by the least int's division
+row: the remainder of the least int by -1
 text a.c: int main(void){return (-2147483647-1)%-1;}
 words: exec a.c
 status: 0
@@ -806,13 +812,13 @@ report: result 0
 out: hi
 took: hi
 
-row: it takes nothing
+row: a unit that puts what it takes, and there is nothing
 input:
 words: exec echo.c
 status: 0
 report: result 0
 
-row: it makes no segment
+row: plain variables make no segment
 lines job: module m echo.c / task m main / trace o
 words: run job
 status: 0
@@ -845,7 +851,7 @@ words: exec a.c
 status: 0
 report: result 0
 
-row: one call of C more
+row: 16,385 calls of C are open at once
 text a.c: int f(int n){if(n==0) return 0; return f(n-1);} int main(void){return f(16383);}
 words: exec a.c
 status: 1
@@ -925,7 +931,7 @@ words: exec remakes.c
 status: 1
 report: trap freed
 
-row: the trace of the freed object
+row: the trace of a read of a freed object
 words: run traced-remakes
 status: 1
 report: trap freed
@@ -1027,7 +1033,7 @@ words: exec a.c
 status: 0
 report: result 3
 
-row: its trace has three objects
+row: the trace of an object of each turn of a loop
 text a.c: int main(void){int x=0; while(1){int y=x; int *p=&y; *p=*p+1; x=y; if(x==3) break;} return x;}
 lines job: module m a.c / task m main / trace o
 words: run job
@@ -1041,7 +1047,7 @@ words: exec a.c
 status: 0
 report: result 1
 
-row: for these no object is made
+row: no object is made for more bytes than a number of them can say
 text a.c: int main(void){int *p=calloc(65536,65536); return p==0;}
 lines job: module m a.c / task m main / trace o
 words: run job
@@ -1055,7 +1061,7 @@ words: exec a.c
 status: 0
 report: result 0
 
-row: the trace of the two ints
+row: the trace of a read of the second of two ints
 text a.c: int main(void){int *p=calloc(2,4); return p[1];}
 lines job: module m a.c / task m main / trace o
 words: run job
@@ -1123,7 +1129,7 @@ words: exec seven.wasm
 status: 5
 report: read fault seven.wasm
 
-row: its result can't be reported
+row: a module's result can't be reported
 fails report: 1
 words: exec seven.wasm
 status: 6
@@ -1157,13 +1163,13 @@ words: run in-order
 status: 5
 report: read fault in-order
 
-row: its module can't be read
+row: a job's module can't be read
 fails read: 2
 words: run in-order
 status: 5
 report: read fault handle.wat
 
-row: its schedule can't be read
+row: a job's schedule can't be read
 fails read: 3
 words: run in-order
 status: 5
@@ -1181,7 +1187,7 @@ words: exec echo.c
 status: 5
 report: read fault
 
-row: its second byte can't be taken
+row: a unit's second byte can't be taken
 fails input: 2
 words: exec echo.c
 status: 5
@@ -1189,7 +1195,7 @@ report: read fault
 out: h
 took: h
 
-row: the end of what it takes can't be seen
+row: a unit's end of input can't be taken
 fails input: 3
 words: exec echo.c
 status: 5
@@ -1203,7 +1209,7 @@ words: exec echo.c
 status: 6
 took: h
 
-row: its second byte can't be put
+row: a unit's second byte can't be put
 fails out: 2
 words: exec echo.c
 status: 6
@@ -1217,7 +1223,7 @@ status: 6
 out: hi
 took: hi
 
-row: that a byte can't be taken can't be reported
+row: that a unit's byte can't be taken can't be reported
 fails input: 1
 fails report: 1
 words: exec echo.c
@@ -1243,7 +1249,7 @@ report: read fault
 out: h
 took: h
 
-row: the end of what a text takes can't be seen
+row: a text's end of input can't be taken
 fails input: 3
 words: exec echo.wat
 status: 5

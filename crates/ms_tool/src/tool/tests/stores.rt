@@ -2,7 +2,7 @@
 //! byte, and those of the program.
 
 use super::*;
-use ms_job::{Job, parse};
+use ms_job::parse;
 use ms_live::{Gaps, ListGaps, TreeGaps};
 use ms_run::{Naming, run_parsed};
 use ms_tagged::{ByteTags, Granules, Tagged};
@@ -65,8 +65,9 @@ dump 2 32 32 heap 00000000000000000000000000000000000000000000000000000000000000
 ];
 
 /// What a job over stores of these kinds ends with.
-fn ran<G: Gaps, T: Tagged>(alloc: Global, job: Job, outside: &mut Outside) -> Status {
-    run_parsed::<G, T, MemShelf, MemSource, MemSink, MemSink>(
+fn ran<G: Gaps, T: Tagged>(alloc: Global, outside: &mut Outside) -> Result<Status, Fail> {
+    let job = parse(alloc, b"module m m.wat\ntask m main\nmemory 64\ndump\n")?;
+    Ok(run_parsed::<G, T, MemShelf, MemSource, MemSink, MemSink>(
         alloc,
         Naming::Numbered,
         job,
@@ -74,18 +75,29 @@ fn ran<G: Gaps, T: Tagged>(alloc: Global, job: Job, outside: &mut Outside) -> St
         &mut outside.input,
         &mut outside.out,
         &mut outside.report,
-    )
+    ))
+}
+
+/// A module whose function has these instructions.
+fn module_of(alloc: Global, code: &str) -> Result<Vec<u8>, AllocError> {
+    let mut text = Vec::from_slice(alloc, START.as_bytes())?;
+    text.extend_from_slice(code.as_bytes())?;
+    text.extend_from_slice(b")")?;
+    Ok(text)
+}
+
+/// What is outside of a job over that module.
+fn outside_of(alloc: Global, code: &str) -> Result<Outside, AllocError> {
+    let text = module_of(alloc, code)?;
+    let mut outside = nothing(alloc, "")?;
+    outside.shelf.add(alloc, "m.wat", text)?;
+    Ok(outside)
 }
 
 /// What comes of a job over stores of these kinds that runs these instructions: its status, and its report.
 fn printed<G: Gaps, T: Tagged>(alloc: Global, code: &str) -> Result<(Status, MemSink), Fail> {
-    let mut outside = nothing(alloc, "")?;
-    let shelf = &mut outside.shelf;
-    add_to_file(alloc, shelf, "text", "m.wat", START)?;
-    add_to_file(alloc, shelf, "text", "m.wat", code)?;
-    add_to_file(alloc, shelf, "text", "m.wat", ")")?;
-    let job = parse(alloc, b"module m m.wat\ntask m main\nmemory 64\ndump\n")?;
-    let given = ran::<G, T>(alloc, job, &mut outside);
+    let mut outside = outside_of(alloc, code)?;
+    let given = ran::<G, T>(alloc, &mut outside)?;
     Ok((given, outside.report))
 }
 
