@@ -19,7 +19,7 @@ use Rattle.clap.specs.declared.builder.action.ArgAction.TheVariants.{Set, Help}
 use Rattle.clap.specs.Takes.{is_given}
 use Rattle.clap.specs.Walk.{action_of, answers_to, arg_by_id, finished, is_empty, most_values, nothing_held, settled, walk, walk_from, with_default}
 use Rattle.clap.specs.declared.error.kind.ErrorKind.TheVariants as kind
-use Rattle.ms_command_line.specs.Commands.{CommandRow, app_of_command, asm, check, compile, dis, exec, judge, mswasm, run}
+use Rattle.ms_command_line.specs.Commands.{CommandRow, app_of_command, asm, check, compile, dis, exec, judge, mswasm, run, stress}
 use Rattle.ms_command_line.specs.Asked.{IsWhole, asked_by, asked_of, is_complete, is_taken}
 use Rattle.std.specs.Prelude.{IfSome}
 use Rattle.ms_command_line.proofs.Walks.{Each, Keeps, Maybe, found, level_keeps, or_left, or_right}
@@ -160,6 +160,11 @@ judge_complete words e =
     let gives = level_gives (below_top judge) words refl (place _ _ refl refl refl refl refl refl, (option _ _ _ refl refl refl refl refl refl refl, (inr (refl, refl), tt))) e in
     both _ _ (both _ _ (gives.0 refl) refl) (both _ _ (gives.1.0 refl) refl)
 
+stress_complete : Complete (below_top stress)
+stress_complete words e =
+    let gives = level_gives (below_top stress) words refl (place _ _ refl refl refl refl refl refl, (place _ _ refl refl refl refl refl refl, (inr (refl, refl), tt))) e in
+    both _ _ (both _ _ (gives.0 refl) (both _ _ (gives.1.0 refl) refl)) refl
+
 -- ---- the words
 
 level_down : (s : Shape) (names : _) (words : List Text) (has : Bool) (below : Kinds) → level_fault s names nothing_held words has below ≡ []
@@ -193,7 +198,7 @@ entered_complete a all (Some q) e h = go (find (λ s. answers_to q.0 (label_of s
     go (Some s) m f h2 = (rows_at s q.1, refl, m q.1 f)
 
 subs_complete : Each Complete (built mswasm).subs
-subs_complete = (exec_complete, (run_complete, (check_complete, (asm_complete, (dis_complete, (compile_complete, (judge_complete, tt)))))))
+subs_complete = (exec_complete, (run_complete, (check_complete, (asm_complete, (dis_complete, (compile_complete, (judge_complete, (stress_complete, tt))))))))
 
 -- words that the definition takes name a subcommand, and give it what it needs
 pub taken_complete : (words : List Text) → fault_of mswasm words ≡ []

@@ -12,7 +12,7 @@ use Rattle.clap.specs.declared.builder.value_parser.ValueParser.TheVariants as p
 use Rattle.clap.proofs.ValueTestLemmas.{accepts-Accepts}
 use Rattle.clap.proofs.WalkLemmas.{first_value-rows}
 use Rattle.ms_command_line.specs.Asked.{has, number}
-use Rattle.ms_command_line.specs.Commands.{IsWithinRange, NumberOption}
+use Rattle.ms_command_line.specs.Commands.{IsWithin}
 
 pub text_there : (o : Option (Bor Text)) (f : Found) (id : Text) (test : Text → Bool) → option_map (λ s. s.now) o ≡ first_value f id
     → has test id (rows_of f) ≡ true → IsSome o
@@ -30,19 +30,19 @@ pub text_passes : (t : Text) (f : Found) (id : Text) (test : Text → Bool) → 
 text_passes t f id test e h = subst (λ (o : Option Text). option_map_or test o false ≡ true) (sym e) h
 
 -- the number that a text in a range reads as
-pub number_reads : {E : Type 0} (o : NumberOption) (t : Text) (r : Result ℕ E) → is_unsigned_in o.least o.most t ≡ true → ParsesUnsigned 64 10 t r
-    → (r ≡ Ok (digits_value 10 (without_leading_plus t))) × IsWithinRange o (digits_value 10 (without_leading_plus t))
-number_reads o t r e p =
-    let passed = accepts-Accepts false (parser.Unsigned o.least o.most) t e in
+pub number_reads : {E : Type 0} (least most : ℕ) (t : Text) (r : Result ℕ E) → is_unsigned_in least most t ≡ true → ParsesUnsigned 64 10 t r
+    → (r ≡ Ok (digits_value 10 (without_leading_plus t))) × IsWithin least most (digits_value 10 (without_leading_plus t))
+number_reads least most t r e p =
+    let passed = accepts-Accepts false (parser.Unsigned least most) t e in
     (Ok-from_Ok_iff r _ _ p (passed.0, passed.1), (passed.2, passed.3))
 
-number_is : (o : NumberOption) (t : Text) (f : Found) → Some t ≡ first_of o.name (rows_of f) → digits_value 10 (without_leading_plus t) ≡ number o (rows_of f)
-number_is o t f e = ap (λ (x : Option Text). digits_value 10 (without_leading_plus (unwrap_or x []))) e
+number_is : (name : Text) (t : Text) (f : Found) → Some t ≡ first_of name (rows_of f) → digits_value 10 (without_leading_plus t) ≡ number name (rows_of f)
+number_is name t f e = ap (λ (x : Option Text). digits_value 10 (without_leading_plus (unwrap_or x []))) e
 
 -- what `unwrap` gives of it
-pub number_given : {E : Type 0} (o : NumberOption) (t : Text) (f : Found) (r : Result ℕ E) (x : ℕ) → Some t ≡ first_of o.name (rows_of f)
-    → is_unsigned_in o.least o.most t ≡ true → ParsesUnsigned 64 10 t r → r ≡ Ok x → (x ≡ number o (rows_of f)) × IsWithinRange o x
-number_given o t f r x is e p ok =
-    let read = number_reads o t r e p in
+pub number_given : {E : Type 0} (name : Text) (least most : ℕ) (t : Text) (f : Found) (r : Result ℕ E) (x : ℕ) → Some t ≡ first_of name (rows_of f)
+    → is_unsigned_in least most t ≡ true → ParsesUnsigned 64 10 t r → r ≡ Ok x → (x ≡ number name (rows_of f)) × IsWithin least most x
+number_given name least most t f r x is e p ok =
+    let read = number_reads least most t r e p in
     let same : x ≡ digits_value 10 (without_leading_plus t) = (OkIff-at_ok r _ _ x p ok).1 in
-    (same ∙ number_is o t f is, rw same read.1)
+    (same ∙ number_is name t f is, rw same read.1)

@@ -7,7 +7,7 @@ use Rattle.std.specs.Str.Parse.{digits_value, without_leading_plus}
 use Rattle.clap.specs.Words.{Row, Text, fault_of, first_of, subcommand_of}
 use Rattle.clap.specs.Walk.{is_empty}
 use Rattle.clap.specs.ValueTests.{is_unsigned_in}
-use Rattle.ms_command_line.specs.Commands.{IsWithinRange, NumberOption, asm, budget, check, commands, compile, dis, exec, file, job, judge, memory, mswasm, out, run}
+use Rattle.ms_command_line.specs.Commands.{IsWithin, asm, budget, check, commands, compile, count, dis, exec, file, job, judge, memory, mswasm, out, run, seed, stress}
 use Rattle.ms_command_line.specs.declared.request.Request.{Request}
 use Rattle.ms_command_line.specs.declared.request.Request.TheVariants as request
 use Rattle.ms_command_line.specs.declared.request.WordsFault.{WordsFault}
@@ -25,6 +25,8 @@ pub data Asked : Type 0 where
   Compile : Text → Text → Asked
   -- the file of a trace, and the bytes of segment memory
   Judge : Text → ℕ → Asked
+  -- the seed and the count
+  Stress : ℕ → ℕ → Asked
 
 -- ---- what a command's matches ask for
 
@@ -32,20 +34,21 @@ pub data Asked : Type 0 where
 abbrev pub word : Text → List Row → Text
 word name rows = unwrap_or (first_of name rows) []
 
--- the number that was given for an option: decimal digits, which a `+` may precede
-abbrev pub number : NumberOption → List Row → ℕ
-number o rows = digits_value 10 (without_leading_plus (word o.name rows))
+-- the number that was given for a name: decimal digits, which a `+` may precede
+abbrev pub number : Text → List Row → ℕ
+number name rows = digits_value 10 (without_leading_plus (word name rows))
 
 abbrev pub asked_by : Text → List Row → Option Asked
 asked_by name rows =
-    if bytes_eq name exec.name then Some (Exec (word file rows) (number budget rows) (number memory rows))
+    if bytes_eq name exec.name then Some (Exec (word file rows) (number budget.name rows) (number memory.name rows))
     else (if bytes_eq name run.name then Some (Run (word job rows))
     else (if bytes_eq name check.name then Some (Check (word file rows))
     else (if bytes_eq name asm.name then Some (Asm (word file rows) (word out rows))
     else (if bytes_eq name dis.name then Some (Dis (word file rows) (word out rows))
     else (if bytes_eq name compile.name then Some (Compile (word file rows) (word out rows))
-    else (if bytes_eq name judge.name then Some (Judge (word file rows) (number memory rows))
-    else None))))))
+    else (if bytes_eq name judge.name then Some (Judge (word file rows) (number memory.name rows))
+    else (if bytes_eq name stress.name then Some (Stress (number seed.name rows) (number count.name rows))
+    else None)))))))
 
 -- ---- what the words ask for
 
@@ -65,14 +68,15 @@ has test name rows = option_map_or test (first_of name rows) false
 abbrev pub has_word : Text → List Row → Bool
 has_word name rows = has (λ _. true) name rows
 
--- a number of the option's range was given
-abbrev pub has_number : NumberOption → List Row → Bool
-has_number o rows = has (is_unsigned_in o.least o.most) o.name rows
+-- a number from `least` to `most` was given for it
+abbrev pub has_number : Text → (least most : ℕ) → List Row → Bool
+has_number name least most rows = has (is_unsigned_in least most) name rows
 
 -- the matches have each word and each number that the command's row names
 abbrev pub is_complete : Text → List Row → Bool
 is_complete name rows = option_map_or
-    (λ c. list_all (λ place. has_word place rows) c.places && list_all (λ o. has_number o rows) c.options)
+    (λ c. list_all (λ place. has_word place rows) c.places && (list_all (λ p. has_number p.name p.least p.most rows) c.numbers
+    && list_all (λ o. has_number o.name o.least o.most rows) c.options))
     (find (λ c. bytes_eq name c.name) commands) false
 
 abbrev pub IsWhole : List Text → Type 0
@@ -88,11 +92,13 @@ view (request.Asm f o) = Asm f.now o.now
 view (request.Dis f o) = Dis f.now o.now
 view (request.Compile f o) = Compile f.now o.now
 view (request.Judge f bytes) = Judge f.now bytes
+view (request.Stress first n) = Stress first n
 
 -- the numbers lie in their ranges
 abbrev pub IsInRange : Request → Type 0
-IsInRange (request.Exec f steps bytes) = IsWithinRange budget steps × IsWithinRange memory bytes
-IsInRange (request.Judge f bytes) = IsWithinRange memory bytes
+IsInRange (request.Exec f steps bytes) = IsWithin budget.least budget.most steps × IsWithin memory.least memory.most bytes
+IsInRange (request.Judge f bytes) = IsWithin memory.least memory.most bytes
+IsInRange (request.Stress first n) = IsWithin seed.least seed.most first × IsWithin count.least count.most n
 IsInRange _ = ⊤
 
 -- the request is what the words ask for, and words are refused only where the definition refuses them

@@ -16,17 +16,24 @@ pub record NumberOption : Type 0 where
   pub most : ℕ
   pub default : Text
 
--- a command, the words that have to follow it, in their order, and its options
+-- a word that has to be a number from `least` to `most`
+pub record NumberPlace : Type 0 where
+  pub name : Text
+  pub least : ℕ
+  pub most : ℕ
+
+-- a command, the words that have to follow it, in their order, those behind them that have to be numbers, and its options
 pub record CommandRow : Type 0 where
   pub name : Text
   pub places : List Text
+  pub numbers : List NumberPlace
   pub options : List NumberOption
 
 abbrev pub default_of : NumberOption → ℕ
 default_of o = digits_value 10 o.default
 
-abbrev pub IsWithinRange : NumberOption → ℕ → Type 0
-IsWithinRange o n = (o.least ≤ n) × (n ≤ o.most)
+abbrev pub IsWithin : (least most : ℕ) → ℕ → Type 0
+IsWithin least most n = (least ≤ n) × (n ≤ most)
 
 -- ---- the rows
 
@@ -42,6 +49,14 @@ out = codes "OUT"
 abbrev pub job : Text
 job = codes "JOB"
 
+-- what the random numbers of `stress` begin with
+abbrev pub seed : NumberPlace
+seed = record { name = codes "SEED"; least = 1; most = 2147483646 }
+
+-- how many of them `stress` takes
+abbrev pub count : NumberPlace
+count = record { name = codes "COUNT"; least = 1; most = 100000 }
+
 -- how many steps a run may take
 abbrev pub budget : NumberOption
 budget = record { name = codes "budget"; least = 0; most = 1000000000000; default = codes "1000000" }
@@ -51,28 +66,31 @@ abbrev pub memory : NumberOption
 memory = record { name = codes "memory"; least = 16; most = 1073741824; default = codes "1048576" }
 
 abbrev pub exec : CommandRow
-exec = record { name = codes "exec"; places = file ∷ []; options = budget ∷ memory ∷ [] }
+exec = record { name = codes "exec"; places = file ∷ []; numbers = []; options = budget ∷ memory ∷ [] }
 
 abbrev pub run : CommandRow
-run = record { name = codes "run"; places = job ∷ []; options = [] }
+run = record { name = codes "run"; places = job ∷ []; numbers = []; options = [] }
 
 abbrev pub check : CommandRow
-check = record { name = codes "check"; places = file ∷ []; options = [] }
+check = record { name = codes "check"; places = file ∷ []; numbers = []; options = [] }
 
 abbrev pub asm : CommandRow
-asm = record { name = codes "asm"; places = file ∷ out ∷ []; options = [] }
+asm = record { name = codes "asm"; places = file ∷ out ∷ []; numbers = []; options = [] }
 
 abbrev pub dis : CommandRow
-dis = record { name = codes "dis"; places = file ∷ out ∷ []; options = [] }
+dis = record { name = codes "dis"; places = file ∷ out ∷ []; numbers = []; options = [] }
 
 abbrev pub compile : CommandRow
-compile = record { name = codes "compile"; places = file ∷ out ∷ []; options = [] }
+compile = record { name = codes "compile"; places = file ∷ out ∷ []; numbers = []; options = [] }
 
 abbrev pub judge : CommandRow
-judge = record { name = codes "judge"; places = file ∷ []; options = memory ∷ [] }
+judge = record { name = codes "judge"; places = file ∷ []; numbers = []; options = memory ∷ [] }
+
+abbrev pub stress : CommandRow
+stress = record { name = codes "stress"; places = []; numbers = seed ∷ count ∷ []; options = [] }
 
 abbrev pub commands : List CommandRow
-commands = exec ∷ run ∷ check ∷ asm ∷ dis ∷ compile ∷ judge ∷ []
+commands = exec ∷ run ∷ check ∷ asm ∷ dis ∷ compile ∷ judge ∷ stress ∷ []
 
 abbrev pub default_budget : ℕ
 default_budget = default_of budget
@@ -85,6 +103,9 @@ default_memory = default_of memory
 abbrev pub place_rule : Text → Rule
 place_rule name = record (new_rule name) { required = true }
 
+abbrev pub number_rule : NumberPlace → Rule
+number_rule p = record (new_rule p.name) { required = true; parser = Some (parser.Unsigned p.least p.most) }
+
 abbrev pub option_rule : NumberOption → Rule
 option_rule o = record (new_rule o.name) {
   long = Some o.name;
@@ -93,7 +114,8 @@ option_rule o = record (new_rule o.name) {
 }
 
 abbrev pub app_of_command : CommandRow → App
-app_of_command c = fold with_rule (fold with_rule (new_app c.name) (map place_rule c.places)) (map option_rule c.options)
+app_of_command c =
+    fold with_rule (fold with_rule (fold with_rule (new_app c.name) (map place_rule c.places)) (map number_rule c.numbers)) (map option_rule c.options)
 
 -- a command has to be named, and `help` names none
 abbrev pub bare : Text → App
@@ -124,6 +146,7 @@ HasCommands rows old new = (app : App) → Is app old → Is (fold with_command 
 -- `usage: mswasm NAME PLACE.. [--OPTION N]..` and LF
 abbrev pub usage_line : CommandRow → Text
 usage_line c = codes "usage: " ++ program ++ codes " " ++ c.name ++ flat_map (λ place. codes " " ++ place) c.places
+    ++ flat_map (λ p. codes " " ++ p.name) c.numbers
     ++ flat_map (λ o. codes " [--" ++ o.name ++ codes " N]") c.options ++ 10 ∷ []
 
 abbrev pub usage_of : List CommandRow → Text

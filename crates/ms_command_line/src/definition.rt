@@ -2,8 +2,8 @@
 
 ghost use Rattle.std.specs.Prelude.{◌≡◌, IfOk, false, map};
 ghost use Rattle.clap.specs.Words.{rule_of};
-ghost use Rattle.ms_command_line.specs.Commands.{HasCommands, Is, app_of_command, mswasm, option_rule, place_rule};
-ghost use Rattle.ms_command_line.specs.refinement.Rows.{command_said, option_said};
+ghost use Rattle.ms_command_line.specs.Commands.{HasCommands, Is, app_of_command, mswasm, number_rule, option_rule, place_rule};
+ghost use Rattle.ms_command_line.specs.refinement.Rows.{command_said, number_said, option_said};
 
 use clap::builder::ValueParser;
 use clap::{Arg, Command};
@@ -18,11 +18,21 @@ pub struct NumberOption {
     pub default: &'static str,
 }
 
-/// A command, the words that have to follow it, in their order, and its options.
+/// A word that has to be a number from `least` to `most`.
+#[derive(Clone, Copy)]
+pub struct NumberPlace {
+    pub name: &'static str,
+    pub least: u64,
+    pub most: u64,
+}
+
+/// A command, the words that have to follow it, in their order, those of them behind the others that have to be numbers, and its
+/// options.
 #[derive(Clone, Copy)]
 pub struct CommandRow {
     pub name: &'static str,
     pub places: &'static [&'static str],
+    pub numbers: &'static [NumberPlace],
     pub options: &'static [NumberOption],
 }
 
@@ -37,6 +47,20 @@ pub const OUT: &str = "OUT";
 
 /// The file of a job.
 pub const JOB: &str = "JOB";
+
+/// What the random numbers of `stress` begin with.
+pub const SEED: NumberPlace = NumberPlace {
+    name: "SEED",
+    least: 1,
+    most: 2_147_483_646,
+};
+
+/// How many of them `stress` takes.
+pub const COUNT: NumberPlace = NumberPlace {
+    name: "COUNT",
+    least: 1,
+    most: 100_000,
+};
 
 /// How many steps a run may take.
 pub const BUDGET: NumberOption = NumberOption {
@@ -64,6 +88,7 @@ pub const DEFAULT_MEMORY: u32 = 1_048_576;
 pub const EXEC: CommandRow = CommandRow {
     name: "exec",
     places: &[FILE],
+    numbers: &[],
     options: &[BUDGET, MEMORY],
 };
 
@@ -71,6 +96,7 @@ pub const EXEC: CommandRow = CommandRow {
 pub const RUN: CommandRow = CommandRow {
     name: "run",
     places: &[JOB],
+    numbers: &[],
     options: &[],
 };
 
@@ -78,6 +104,7 @@ pub const RUN: CommandRow = CommandRow {
 pub const CHECK: CommandRow = CommandRow {
     name: "check",
     places: &[FILE],
+    numbers: &[],
     options: &[],
 };
 
@@ -85,6 +112,7 @@ pub const CHECK: CommandRow = CommandRow {
 pub const ASM: CommandRow = CommandRow {
     name: "asm",
     places: &[FILE, OUT],
+    numbers: &[],
     options: &[],
 };
 
@@ -92,6 +120,7 @@ pub const ASM: CommandRow = CommandRow {
 pub const DIS: CommandRow = CommandRow {
     name: "dis",
     places: &[FILE, OUT],
+    numbers: &[],
     options: &[],
 };
 
@@ -99,6 +128,7 @@ pub const DIS: CommandRow = CommandRow {
 pub const COMPILE: CommandRow = CommandRow {
     name: "compile",
     places: &[FILE, OUT],
+    numbers: &[],
     options: &[],
 };
 
@@ -106,11 +136,20 @@ pub const COMPILE: CommandRow = CommandRow {
 pub const JUDGE: CommandRow = CommandRow {
     name: "judge",
     places: &[FILE],
+    numbers: &[],
     options: &[MEMORY],
 };
 
+/// Runs a program that allocates and frees at random.
+pub const STRESS: CommandRow = CommandRow {
+    name: "stress",
+    places: &[],
+    numbers: &[SEED, COUNT],
+    options: &[],
+};
+
 /// The commands, in the order of their usage lines.
-const COMMANDS: [CommandRow; 7] = [EXEC, RUN, CHECK, ASM, DIS, COMPILE, JUDGE];
+const COMMANDS: [CommandRow; 8] = [EXEC, RUN, CHECK, ASM, DIS, COMPILE, JUDGE, STRESS];
 
 /// The command line of the program.
 pub fn command_line<'a>(alloc: Global) -> Result<Command<'a>, AllocError>
@@ -142,6 +181,9 @@ fn command_of<'a>(alloc: Global, row: CommandRow) -> Result<Command<'a>, AllocEr
     for place in row.places {
         command = command.arg(place_arg(alloc, place))?;
     }
+    for number in row.numbers {
+        command = command.arg(number_arg(alloc, *number))?;
+    }
     for option in row.options {
         command = command.arg(option_arg(alloc, *option))?;
     }
@@ -153,6 +195,15 @@ fn place_arg<'a>(alloc: Global, name: &'a str) -> Arg<'a>
     ensures local { result.global ≡ false }
 {
     Arg::new(alloc, name).required(true)
+}
+
+fn number_arg<'a>(alloc: Global, place: NumberPlace) -> Arg<'a>
+    ensures rule { rule_of result ≡ number_rule (number_said place) }
+    ensures local { result.global ≡ false }
+{
+    Arg::new(alloc, place.name)
+        .required(true)
+        .value_parser(ValueParser::unsigned(place.least, place.most))
 }
 
 fn option_arg<'a>(alloc: Global, option: NumberOption) -> Arg<'a>

@@ -1,4 +1,5 @@
-//! The words of the command line, for the commands `exec`, `run`, `check`, `asm`, `dis`, `compile` and `judge`, and their usage lines.
+//! The words of the command line, for the commands `exec`, `run`, `check`, `asm`, `dis`, `compile`, `judge` and `stress`, and their usage
+//! lines.
 //!
 //! `parse_words` gives what the words ask for exactly where the definition of the commands takes them. It stands on
 //! `clap`. Read `specs/Commands.antt` first: each command is one row, from which the command line and its usage line

@@ -15,5 +15,6 @@ pub fn usage() -> &'static str
         "usage: mswasm dis FILE OUT\n",
         "usage: mswasm compile FILE OUT\n",
         "usage: mswasm judge FILE [--memory N]\n",
+        "usage: mswasm stress SEED COUNT\n",
     )
 }

@@ -4,11 +4,11 @@ ghost use Rattle.std.specs.Prelude.{◌≡◌, Some, option_and_then, true};
 ghost use Rattle.clap.specs.Words.{found_of, rows_of, subcommand_rows_of};
 ghost use Rattle.ms_command_line.specs.Asked.{IsInRange, asked_by, has_number, has_word, is_complete, view};
 ghost use Rattle.ms_command_line.specs.Asked as asked;
-ghost use Rattle.ms_command_line.specs.Commands.{IsWithinRange};
-ghost use Rattle.ms_command_line.specs.refinement.Rows.{option_said};
+ghost use Rattle.ms_command_line.specs.Commands.{IsWithin};
 
 use super::definition::{
-    ASM, BUDGET, CHECK, COMPILE, EXEC, FILE, JOB, JUDGE, MEMORY, NumberOption, OUT, RUN,
+    ASM, BUDGET, CHECK, COMPILE, COUNT, EXEC, FILE, JOB, JUDGE, MEMORY, NumberOption, NumberPlace,
+    OUT, RUN, SEED, STRESS,
 };
 use super::request::Request;
 use clap::ArgMatches;
@@ -28,6 +28,12 @@ fn request_by<'a>(name: &str, matches: &ArgMatches<'a>) -> Request<'a>
     ensures asked { asked_by name.now (rows_of (found_of matches.now)) ≡ Some (view result) }
     ensures ranges { IsInRange result }
 {
+    if name == STRESS.name {
+        return Request::Stress {
+            seed: place_number(matches, SEED),
+            count: place_number(matches, COUNT),
+        };
+    }
     if name == RUN.name {
         let job = word(matches, JOB);
         return Request::Run { job };
@@ -36,8 +42,8 @@ fn request_by<'a>(name: &str, matches: &ArgMatches<'a>) -> Request<'a>
     if name == EXEC.name {
         return Request::Exec {
             file,
-            budget: number(matches, BUDGET),
-            memory: number(matches, MEMORY) as u32,
+            budget: option_number(matches, BUDGET),
+            memory: option_number(matches, MEMORY) as u32,
         };
     }
     if name == CHECK.name {
@@ -46,7 +52,7 @@ fn request_by<'a>(name: &str, matches: &ArgMatches<'a>) -> Request<'a>
     if name == JUDGE.name {
         return Request::Judge {
             file,
-            memory: number(matches, MEMORY) as u32,
+            memory: option_number(matches, MEMORY) as u32,
         };
     }
     let out = word(matches, OUT);
@@ -66,14 +72,26 @@ fn word<'a>(matches: &ArgMatches<'a>, name: &str) -> &'a str
     matches.get_str(name).unwrap()
 }
 
-fn number(matches: &ArgMatches, option: NumberOption) -> u64
-    requires { has_number (option_said option) (rows_of (found_of matches.now)) ≡ true }
-    ensures value { result ≡ asked.number (option_said option) (rows_of (found_of matches.now)) }
-    ensures range { IsWithinRange (option_said option) result }
+fn option_number(matches: &ArgMatches, option: NumberOption) -> u64
+    requires { has_number option.name.now option.least option.most (rows_of (found_of matches.now)) ≡ true }
+    ensures value { result ≡ asked.number option.name.now (rows_of (found_of matches.now)) }
+    ensures range { IsWithin option.least option.most result }
 {
-    matches
-        .get_str(option.name)
-        .unwrap()
-        .parse::<u64>()
-        .unwrap()
+    number(matches, option.name, option.least, option.most)
+}
+
+fn place_number(matches: &ArgMatches, place: NumberPlace) -> u64
+    requires { has_number place.name.now place.least place.most (rows_of (found_of matches.now)) ≡ true }
+    ensures value { result ≡ asked.number place.name.now (rows_of (found_of matches.now)) }
+    ensures range { IsWithin place.least place.most result }
+{
+    number(matches, place.name, place.least, place.most)
+}
+
+fn number(matches: &ArgMatches, name: &str, _least: u64, _most: u64) -> u64
+    requires { has_number name.now _least _most (rows_of (found_of matches.now)) ≡ true }
+    ensures value { result ≡ asked.number name.now (rows_of (found_of matches.now)) }
+    ensures range { IsWithin _least _most result }
+{
+    matches.get_str(name).unwrap().parse::<u64>().unwrap()
 }

@@ -39,6 +39,11 @@ pub enum Request<'a> {
         file: &'a str,
         memory: u32,
     },
+    /// Run the program that allocates and frees by `count` random numbers, which begin with `seed`.
+    Stress {
+        seed: u64,
+        count: u64,
+    },
 }
 
 /// Why words are no request.

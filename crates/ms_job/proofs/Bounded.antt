@@ -1,17 +1,18 @@
 -- Each line keeps the bounds of a draft, and so each job that a text says is within them.
 use Rattle.std.proofs.Common.{◌≡◌, ◌≢◌, ◌∙◌, ℕ, zero, suc, ◌+◌, ◌<◌, ◌≤◌, ◌&&◌, ◌||◌, ◌==◌, Bool, true, false, cond, not, List, [], ◌∷◌, ◌++◌, Option, Some, None, Result, Ok, Err, IfOk, IfSome, is_none, is_some, length, map, nat_le, nat_lt, option_map, option_and_then, unwrap_or, codes, refl, sym, subst, ltb-true, leb-true, length-append, true≢false, arith}
-use Rattle.std.specs.List.{position_from}
+use Rattle.std.specs.List.{All, list_any, position_from, position_or_len}
 use Rattle.std.specs.Option.{option_map_or}
 use Rattle.std.specs.Str.{bytes_eq, is_utf8}
 use Rattle.std.specs.Str.Lines.{lines}
 use Rattle.std.proofs.lemmas.Iterator.Adapters.{position_from-zero}
+use Rattle.std.proofs.lemmas.List.Elements.{All-nil, All-push, All-weaker}
 use Rattle.std.proofs.lemmas.Option.{none-some}
 use Rattle.std.proofs.lemmas.Slice.Eq.{bytes_eq-Decides}
 use Rattle.ms_rules.specs.Modules.{AreDistinct, IsNotAmong}
 use Rattle.ms_command_line.specs.Commands as options
 use Rattle.ms_command_line.specs.Commands.{default_budget, default_memory}
-use Rattle.ms_job.specs.refinement.Bounds.{IsBounded}
-use Rattle.ms_job.specs.Jobs.{checked, has_outer_space, is_name, is_passed_over, job_in, job_of, no_lines, number_of, with_budget, with_dump, with_line, with_lines, with_memory, with_module, with_schedule, with_task, with_trace, with_turns, with_words, most_lines, most_turns}
+use Rattle.ms_job.specs.refinement.Bounds.{AreThere, IsBounded}
+use Rattle.ms_job.specs.Jobs.{checked, has_outer_space, is_name, is_passed_over, job_in, job_of, new_in, no_lines, number_of, set_of, with_budget, with_dump, with_line, with_lines, with_memory, with_module, with_reach, with_schedule, with_set, with_task, with_trace, with_turns, with_words, most_lines, most_turns}
 use Rattle.ms_job.specs.Words.{number_behind, number_within, within, words}
 use Rattle.ms_job.specs.declared.draft.Draft.{Draft}
 use Rattle.ms_job.specs.declared.job.Job.{Job}
@@ -24,6 +25,7 @@ record AreBounded (d : Draft) : Type 0 where
   turns : IfSome d.turns (λ n. 0 < n)
   budget : IfSome d.budget (λ n. n ≤ options.budget.most)
   memory : IfSome d.memory (λ n. n ≤ options.memory.most)
+  reach : All (AreThere (length d.tasks) (length d.modules)) d.reach
 
 -- a line that is taken leaves a draft within the bounds
 abbrev Keeps : Option Draft → Type 0
@@ -49,10 +51,15 @@ where_true : (b : Bool) (x : Option Draft) → (b ≡ true → Keeps x) → Keep
 where_true true x h = h refl
 where_true false x h = tt
 
--- a number that is put into a draft
-put : (o : Option ℕ) (f : ℕ → Draft) → ((n : ℕ) → o ≡ Some n → AreBounded (f n)) → Keeps (option_map f o)
+-- what is put into a draft
+put : {A : Type 0} (o : Option A) (f : A → Draft) → ((n : A) → o ≡ Some n → AreBounded (f n)) → Keeps (option_map f o)
 put None f h = tt
 put (Some n) f h = h n refl
+
+next : {A B : Type 0} (o : Option A) (f : A → Option B) (P : A → Type 0) (Q : B → Type 0) → IfSome o P → ((x : A) → P x → IfSome (f x) Q)
+    → IfSome (option_and_then f o) Q
+next None f P Q h k = tt
+next (Some x) f P Q h k = k x h
 
 -- ---- numbers
 
@@ -106,6 +113,49 @@ distinct_more name file i (m ∷ ms) e h =
     let here = nowhere (bytes_eq m.0 name) i (position_from (λ x. bytes_eq x.0 name) (i + 1) ms) e in
     (not_among_more m.0 name file ms h.0 (differs m.0 name here.0), distinct_more name file (i + 1) ms here.1 h.1)
 
+any : {A : Type 0} (o : Option A) → IfSome o (λ x. Unit {0})
+any None = tt
+any (Some x) = tt
+
+-- ---- what is asked of reach
+
+abbrev AreBelow : ℕ → List ℕ → Type 0
+AreBelow k ns = All (λ number. number < k) ns
+
+below : (n k : ℕ) → IfSome (cond (nat_lt n k) (Some n) None) (λ m. m < k)
+below n k = by (nat_lt n k) refl
+  where
+    by : (b : Bool) → nat_lt n k ≡ b → IfSome (cond b (Some n) None) (λ m. m < k)
+    by true e = ltb-true n k e
+    by false e = tt
+
+kept : (P : ℕ → Type 0) (n : ℕ) (b : Bool) → P n → IfSome (cond b None (Some n)) P
+kept P n true h = tt
+kept P n false h = h
+
+new_below : (d : Draft) (so_far : List ℕ) (name : List ℕ) → IfSome (new_in d so_far name) (λ n. n < length d.modules)
+new_below d so_far name =
+    let P : ℕ → Type 0 = λ n. n < length d.modules in
+    let stands = below (position_or_len (λ (m : Entry). bytes_eq m.0 name) d.modules) (length d.modules) in
+    next (number_of d name) (λ number. cond (list_any (λ n. n == number) so_far) None (Some number)) P P stands
+    (λ n h. kept P n (list_any (λ m. m == n) so_far) h)
+
+set_below : (d : Draft) (so_far : List ℕ) (names : List (List ℕ)) → AreBelow (length d.modules) so_far
+    → IfSome (set_of d so_far names) (AreBelow (length d.modules))
+set_below d so_far [] h = h
+set_below d so_far (name ∷ names) h =
+    next (new_in d so_far name) (λ number. set_of d (so_far ++ number ∷ []) names) (λ n. n < length d.modules) (AreBelow (length d.modules))
+    (new_below d so_far name)
+    (λ n k. set_below d (so_far ++ n ∷ []) names (All-push (λ number. number < length d.modules) so_far n h k))
+
+-- where there are more tasks and modules
+there_still : (tasks modules t m : ℕ) (asked : List (ℕ × List ℕ)) → tasks ≤ t → modules ≤ m → All (AreThere tasks modules) asked
+    → All (AreThere t m) asked
+there_still tasks modules t m asked le lo h =
+    All-weaker (AreThere tasks modules) (AreThere t m)
+    (λ x k. (omega (arith, k.0, le), All-weaker (λ n. n < modules) (λ n. n < m) (λ n e. omega (arith, e, lo)) x.1 k.1))
+    asked h
+
 -- ---- the lines
 
 module _ (d : Draft) (h : AreBounded d) where
@@ -121,6 +171,7 @@ module _ (d : Draft) (h : AreBounded d) where
         turns = h.turns;
         budget = h.budget;
         memory = h.memory;
+        reach = there_still _ (length d.modules) _ _ d.reach (omega arith) (omega (arith, length-append d.modules ((name, file) ∷ []))) h.reach;
       })
 
   task_keeps : (name export : List ℕ) → Keeps (with_task d name export)
@@ -133,6 +184,7 @@ module _ (d : Draft) (h : AreBounded d) where
         turns = h.turns;
         budget = h.budget;
         memory = h.memory;
+        reach = there_still (length d.tasks) _ _ _ d.reach (omega (arith, length-append d.tasks ((n, export) ∷ []))) (omega arith) h.reach;
       }))
 
   turns_keep : (word : List ℕ) → Keeps (with_turns d word)
@@ -144,12 +196,13 @@ module _ (d : Draft) (h : AreBounded d) where
         turns = omega (arith, (in_range 1 most_turns word n is).0);
         budget = h.budget;
         memory = h.memory;
+        reach = h.reach;
       }))
 
   schedule_keeps : (file : List ℕ) → Keeps (with_schedule d file)
   schedule_keeps file =
       unless (is_some d.turns || is_some d.schedule) _
-      (record { names = h.names; few = h.few; turns = h.turns; budget = h.budget; memory = h.memory })
+      (record { names = h.names; few = h.few; turns = h.turns; budget = h.budget; memory = h.memory; reach = h.reach })
 
   budget_keeps : (word : List ℕ) → Keeps (with_budget d word)
   budget_keeps word =
@@ -160,6 +213,7 @@ module _ (d : Draft) (h : AreBounded d) where
         turns = h.turns;
         budget = (in_range options.budget.least options.budget.most word n is).1;
         memory = h.memory;
+        reach = h.reach;
       }))
 
   memory_keeps : (word : List ℕ) → Keeps (with_memory d word)
@@ -171,16 +225,34 @@ module _ (d : Draft) (h : AreBounded d) where
         turns = h.turns;
         budget = h.budget;
         memory = (in_range options.memory.least options.memory.most word n is).1;
+        reach = h.reach;
       }))
 
   trace_keeps : (file : List ℕ) → Keeps (with_trace d file)
   trace_keeps file =
       unless (is_some d.trace) _
-      (record { names = h.names; few = h.few; turns = h.turns; budget = h.budget; memory = h.memory })
+      (record { names = h.names; few = h.few; turns = h.turns; budget = h.budget; memory = h.memory; reach = h.reach })
 
   dump_keeps : Keeps (with_dump d)
   dump_keeps =
-      unless d.dump _ (record { names = h.names; few = h.few; turns = h.turns; budget = h.budget; memory = h.memory })
+      unless d.dump _ (record { names = h.names; few = h.few; turns = h.turns; budget = h.budget; memory = h.memory; reach = h.reach })
+
+  reach_keeps : (word : List ℕ) (names : List (List ℕ)) → Keeps (with_reach d word names)
+  reach_keeps word names =
+      where_true (nat_lt (length d.reach) most_lines && nat_le (length names) most_lines) _ (λ e.
+      next (number_within 0 63 word) (λ task. with_set d task (set_of d [] names)) (λ task. Unit {0}) AreBounded (any (number_within 0 63 word)) (λ task _.
+      where_true (nat_lt task (length d.tasks)) _ (λ lower.
+      put (set_of d [] names) _ (λ set is.
+      let P : Option (List ℕ) → Type 0 = λ o. IfSome o (AreBelow (length d.modules)) in
+      let inside : AreBelow (length d.modules) set = subst P is (set_below d [] names (All-nil _)) in
+      record {
+        names = h.names;
+        few = h.few;
+        turns = h.turns;
+        budget = h.budget;
+        memory = h.memory;
+        reach = All-push (AreThere (length d.tasks) (length d.modules)) d.reach (task, set) h.reach (ltb-true _ _ lower, inside);
+      }))))
 
   words_keep : (words : List (List ℕ)) → Keeps (with_words d words)
   words_keep [] = tt
@@ -193,8 +265,9 @@ module _ (d : Draft) (h : AreBounded d) where
       (either (bytes_eq word (codes "trace")) _ _ (trace_keeps x) tt))))
   words_keep (word ∷ x ∷ y ∷ []) =
       either (bytes_eq word (codes "module")) _ _ (module_keeps x y)
-      (either (bytes_eq word (codes "task")) _ _ (task_keeps x y) tt)
-  words_keep (word ∷ x ∷ y ∷ z ∷ more) = tt
+      (either (bytes_eq word (codes "task")) _ _ (task_keeps x y)
+      (either (bytes_eq word (codes "reach")) _ _ (reach_keeps x (y ∷ [])) tt))
+  words_keep (word ∷ x ∷ y ∷ z ∷ more) = either (bytes_eq word (codes "reach")) _ _ (reach_keeps x (y ∷ z ∷ more)) tt
 
   line_keeps : (line : List ℕ) → Keeps (with_line d line)
   line_keeps line =
@@ -225,6 +298,7 @@ job_bounded d h some = record {
   turns = or_else d.turns 1 (λ n. 0 < n) h.turns (omega arith);
   budget = or_else d.budget default_budget (λ n. n ≤ options.budget.most) h.budget (omega arith);
   memory = or_else d.memory default_memory (λ n. n ≤ options.memory.most) h.memory (omega arith);
+  reach = h.reach;
 }
 
 nonzero : (n : ℕ) → (n == 0) ≡ false → 0 < n
@@ -244,7 +318,7 @@ checked_bounded (Ok d) h = finished (length d.tasks == 0) _ _ _ (job_of d) (λ e
 pub answer_is_bounded : (text : List ℕ) (r : Result Job JobFault) → job_in text ≡ r → IfOk r IsBounded
 answer_is_bounded text r e =
     let P : Result Job JobFault → Type 0 = λ answer. IfOk answer IsBounded in
-    let none : AreBounded no_lines = record { names = tt; few = omega arith; turns = tt; budget = tt; memory = tt } in
+    let none : AreBounded no_lines = record { names = tt; few = omega arith; turns = tt; budget = tt; memory = tt; reach = All-nil _ } in
     subst P e (checked_bounded (with_lines 1 no_lines (lines text)) (lines_keep 1 no_lines (lines text) none))
 
 -- a job that a text says is within the bounds

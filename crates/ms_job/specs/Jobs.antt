@@ -1,7 +1,7 @@
 -- Jobs: what each line says, by the job so far; a text that is a job, and the first fault of another one.
-use Rattle.std.specs.Prelude.{◌==◌, ℕ, ◌+◌, ◌-◌, Bool, true, false, not, ◌&&◌, ◌||◌, List, [], ◌∷◌, ◌++◌, length, nat_lt, nat_le, slice_index, position, codes, unwrap_or, Option, Some, None, is_some, is_none, option_map, Result, Ok, Err, if◌then◌else◌}
+use Rattle.std.specs.Prelude.{◌==◌, ℕ, ◌+◌, ◌-◌, Bool, true, false, not, ◌&&◌, ◌||◌, List, [], ◌∷◌, ◌++◌, length, nat_lt, nat_le, slice_index, position, codes, unwrap_or, Option, Some, None, is_some, is_none, option_and_then, option_map, Result, Ok, Err, if◌then◌else◌}
 use Rattle.std.specs.Char.{is_ascii_alphanumeric}
-use Rattle.std.specs.List.{list_all}
+use Rattle.std.specs.List.{list_all, list_any}
 use Rattle.std.specs.Option.{option_map_or}
 use Rattle.std.specs.Str.{bytes_eq, is_utf8}
 use Rattle.std.specs.Str.Lines.{lines}
@@ -15,7 +15,7 @@ use Rattle.ms_job.specs.declared.fault.JobFault.TheVariants.{Budget, Line, NoTas
 
 -- ---- limits; those of the budget and of the memory are those of the command line
 
--- how many lines may name a module, and how many a task
+-- how many lines may name a module, how many a task, and how many ask what modules reach
 abbrev pub most_lines : ℕ
 most_lines = 64
 
@@ -85,6 +85,28 @@ with_trace d file = if is_some d.trace then None else Some (record d { trace = S
 abbrev pub with_dump : Draft → Option Draft
 with_dump d = if d.dump then None else Some (record d { dump = true })
 
+-- the number of the module of this name, which stands above and isn't among these
+abbrev pub new_in : Draft → (so_far : List ℕ) → List ℕ → Option ℕ
+new_in d so_far name = option_and_then (λ number. if list_any (λ n. n == number) so_far then None else Some number) (number_of d name)
+
+-- the numbers of the modules of these names, none twice
+abbrev pub set_of : Draft → (so_far : List ℕ) → List (List ℕ) → Option (List ℕ)
+set_of d so_far [] = Some so_far
+set_of d so_far (name ∷ names) = option_and_then (λ number. set_of d (so_far ++ number ∷ []) names) (new_in d so_far name)
+
+-- the task of a number that stands above, and the modules
+abbrev pub with_set : Draft → (task : ℕ) → Option (List ℕ) → Option Draft
+with_set d task set =
+    if nat_lt task (length d.tasks) then option_map (λ modules. record d { reach = d.reach ++ (task, modules) ∷ [] }) set else None
+
+-- `reach T MODULE ..`, which asks what these modules reach with a task: of a task above, by its number, and 1 to 64 different modules
+-- named above; at most so many such lines
+abbrev pub with_reach : Draft → List ℕ → List (List ℕ) → Option Draft
+with_reach d word names =
+    if nat_lt (length d.reach) most_lines && nat_le (length names) most_lines
+    then option_and_then (λ task. with_set d task (set_of d [] names)) (number_within 0 63 word)
+    else None
+
 -- a line of these words; any other words break a rule
 abbrev pub with_words : Draft → List (List ℕ) → Option Draft
 with_words d (word ∷ []) = if bytes_eq word (codes "dump") then with_dump d else None
@@ -98,7 +120,9 @@ with_words d (word ∷ x ∷ []) =
 with_words d (word ∷ x ∷ y ∷ []) =
     if bytes_eq word (codes "module") then with_module d x y
     else if bytes_eq word (codes "task") then with_task d x y
+    else if bytes_eq word (codes "reach") then with_reach d x (y ∷ [])
     else None
+with_words d (word ∷ x ∷ y ∷ z ∷ more) = if bytes_eq word (codes "reach") then with_reach d x (y ∷ z ∷ more) else None
 with_words d _ = None
 
 -- an empty line, or one that begins with `#`
@@ -129,6 +153,7 @@ no_lines = record {
   memory = None;
   trace = None;
   dump = false;
+  reach = [];
 }
 
 -- the job behind all lines, or the number of the first that breaks a rule, where n is that of the first one
@@ -147,6 +172,8 @@ job_of d = record {
   memory = unwrap_or d.memory default_memory;
   trace = d.trace;
   dump = d.dump;
+  reach = d.reach;
+  counts = false;
 }
 
 -- the job of what all lines said, or the first fault: of a line, then that there is no task, then the budget

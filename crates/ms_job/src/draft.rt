@@ -1,9 +1,9 @@
 //! A job so far, and what a line makes of it.
 
-ghost use Rattle.std.specs.Prelude.{◌≡◌, ◌∷◌, [], map, position};
+ghost use Rattle.std.specs.Prelude.{◌≡◌, ◌≤◌, ◌∷◌, [], length, map, position};
 ghost use Rattle.std.specs.Str.{bytes_eq};
-ghost use Rattle.ms_job.specs.Jobs.{no_lines, with_budget, with_dump, with_line, with_memory, with_module, with_schedule, with_task, with_trace, with_turns, with_words};
-ghost use Rattle.ms_job.specs.refinement.Reading.{Follows};
+ghost use Rattle.ms_job.specs.Jobs.{new_in, no_lines, set_of, with_budget, with_dump, with_line, with_memory, with_module, with_reach, with_schedule, with_task, with_trace, with_turns, with_words};
+ghost use Rattle.ms_job.specs.refinement.Reading.{Finds, Follows};
 ghost use Rattle.ms_job.specs.Words.{words};
 
 use crate::words::{is_name, number, words_of};
@@ -13,8 +13,11 @@ use ms_names::utf8;
 use ms_types::Vector;
 use std::alloc::{AllocError, AllocFailed, Global};
 
-/// How many lines may name a module, and how many a task.
+/// How many lines may name a module, how many a task, and how many ask what modules reach.
 const MOST_LINES: usize = 64;
+
+/// The greatest number of a task.
+const LAST_TASK: u64 = 63;
 
 /// How many entries in a row may name one task.
 pub const MOST_TURNS: u64 = 1_000_000;
@@ -30,6 +33,7 @@ pub(crate) struct Draft {
     pub(crate) memory: Option<u32>,
     pub(crate) trace: Option<Name>,
     pub(crate) dump: bool,
+    pub(crate) reach: Vector<(u32, Vector<u32>)>,
 }
 
 /// Why a line isn't taken.
@@ -75,6 +79,7 @@ impl Draft {
             memory: None,
             trace: None,
             dump: false,
+            reach: Vector::new(alloc),
         }
     }
 
@@ -93,6 +98,7 @@ impl Draft {
     }
 
     /// Takes a line of words.
+    #[tactic(auto, using(crate::proofs::ManyWords::first_words))]
     fn rule(&mut self, alloc: Global, line: &str) -> Result<(), Stop>
         ensures { Follows (with_words self.old (words line.now)) self.new result }
     {
@@ -101,7 +107,7 @@ impl Draft {
     }
 
     /// Takes the words of a line.
-    #[tactic(auto, using(crate::proofs::TextsOf::two_texts, crate::proofs::TextsOf::three_texts))]
+    #[tactic(auto, using(crate::proofs::TextsOf::two_texts, crate::proofs::TextsOf::three_texts, crate::proofs::TextsOf::more_texts))]
     fn words(&mut self, alloc: Global, words: &[&str]) -> Result<(), Stop>
         ensures { Follows (with_words self.old (map (λ word. word.now) words.now)) self.new result }
     {
@@ -109,6 +115,7 @@ impl Draft {
             [word] => self.word(word),
             [word, argument] => self.option(alloc, word, argument),
             [word, first, second] => self.entry(alloc, word, first, second),
+            [word, first, more @ ..] => self.list(alloc, word, first, more),
             _ => Err(Stop::Broken),
         }
     }
@@ -144,6 +151,18 @@ impl Draft {
         match word {
             "module" => self.module(alloc, first, second),
             "task" => self.task(alloc, first, second),
+            "reach" => self.reach(alloc, first, &[second]),
+            _ => Err(Stop::Broken),
+        }
+    }
+
+    /// A line of four words or more.
+    fn list(&mut self, alloc: Global, word: &str, first: &str, more: &[&str]) -> Result<(), Stop>
+        requires { 2 ≤ length more.now }
+        ensures { Follows (with_words self.old (word.now ∷ first.now ∷ map (λ x. x.now) more.now)) self.new result }
+    {
+        match word {
+            "reach" => self.reach(alloc, first, more),
             _ => Err(Stop::Broken),
         }
     }
@@ -251,6 +270,53 @@ impl Draft {
         }
         self.dump = true;
         Ok(())
+    }
+
+    /// `reach T MODULE ..`
+    fn reach(&mut self, alloc: Global, task: &str, names: &[&str]) -> Result<(), Stop>
+        ensures { Follows (with_reach self.old task.now (map (λ name. name.now) names.now)) self.new result }
+    {
+        if self.reach.len() >= MOST_LINES {
+            return Err(Stop::Broken);
+        }
+        if names.len() > MOST_LINES {
+            return Err(Stop::Broken);
+        }
+        let Some(task) = number(task.as_bytes(), 0, LAST_TASK) else {
+            return Err(Stop::Broken);
+        };
+        if task >= self.tasks.len() as u64 {
+            return Err(Stop::Broken);
+        }
+        let modules = self.set_of(alloc, names)?;
+        self.reach.push((task as u32, modules))?;
+        Ok(())
+    }
+
+    /// The numbers of the modules of these names.
+    fn set_of(&self, alloc: Global, names: &[&str]) -> Result<Vector<u32>, Stop>
+        ensures { Finds (set_of self.now [] (map (λ name. name.now) names.now)) result }
+    {
+        let mut set = Vector::new(alloc);
+        for name in names {
+            let number = self.new_in(set.as_slice(), name)?;
+            set.push(number)?;
+        }
+        Ok(set)
+    }
+
+    /// The number of the module of this name, which isn't in the set yet.
+    fn new_in(&self, set: &[u32], name: &str) -> Result<u32, Stop>
+        ensures { Finds (new_in self.now set.now name.now) result }
+    {
+        let Some(place) = place_of(self.modules.as_slice(), name) else {
+            return Err(Stop::Broken);
+        };
+        let number = u32::try_from(place).map_err(|_| AllocError)?;
+        if set.contains(&number) {
+            return Err(Stop::Broken);
+        }
+        Ok(number)
     }
 }
 

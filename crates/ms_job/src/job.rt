@@ -22,4 +22,8 @@ pub struct Job {
     pub trace: Option<Name>,
     /// Whether the live segments are reported at the end.
     pub dump: bool,
+    /// What is asked of reach, at most 64: for each the number of a task, and those of 1 to 64 different modules.
+    pub reach: Vector<(u32, Vector<u32>)>,
+    /// Whether the numbers of steps and of events are reported in front of the end; no line of a job's text asks for it.
+    pub counts: bool,
 }

@@ -69,5 +69,7 @@ fn finish(draft: Draft) -> Result<Job, JobFault>
         memory: draft.memory.unwrap_or(DEFAULT_MEMORY),
         trace: draft.trace,
         dump: draft.dump,
+        reach: draft.reach,
+        counts: false,
     })
 }

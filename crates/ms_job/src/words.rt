@@ -8,12 +8,12 @@ ghost use Rattle.ms_job.specs.Words.{number_within, words};
 
 use std::alloc::{AllocError, Global};
 
-/// How many words a line has at most, and one more.
-const ENOUGH: usize = 4;
+/// How many words a line has at most, and one more: `reach`, a task, and 64 modules.
+const ENOUGH: usize = 67;
 
 /// The first words of a line, as many as tell whether there are too many.
 pub(crate) fn words_of<'a>(alloc: Global, line: &'a str) -> Result<Vec<&'a str>, AllocError>
-    ensures { IfOk result (λ v. map (λ word. word.now) v.items ≡ take 4 (words line.now)) }
+    ensures { IfOk result (λ v. map (λ word. word.now) v.items ≡ take 67 (words line.now)) }
 {
     line.split(' ')
         .filter(|word| !word.is_empty())

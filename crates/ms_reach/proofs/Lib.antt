@@ -10,3 +10,10 @@ pub mod Looking
 pub mod Reached
 pub mod Confinement
 mod Sample
+pub mod Marks
+pub mod Counts
+pub mod Leads
+pub mod Closings
+pub mod Gathering
+pub mod OwnValues
+pub mod Seeds

@@ -7,8 +7,8 @@ use Rattle.ms_event.specs.declared.event.Event.{Event}
 use Rattle.ms_event.specs.declared.event.Event.TheVariants as events
 use Rattle.ms_task.specs.Thread.{Thread}
 use Rattle.ms_segment.specs.Memory.{risen}
-use Rattle.ms_machine.specs.refinement.Accesses.{counted, counted_all}
-use Rattle.ms_machine.specs.Crews.{Crew, Deeds, Input, OutOfBudget, Results, Run, Start, Task, Trap, Stuck, Whose, begun, behind, deed, ends, events_of, is_over, moved, passed, results, run_entries, run_of, task_turn, turn, with_start, with_task}
+use Rattle.ms_machine.specs.refinement.Accesses.{counted_all}
+use Rattle.ms_machine.specs.Crews.{Crew, Deeds, Input, OutOfBudget, Results, Run, Start, Task, Whose, begun, behind, deed, ends, events_of, is_over, moved, passed, results, run_entries, run_of, task_turn, turn, with_start, with_task}
 use Rattle.ms_machine.specs.Moves as moves
 use Rattle.ms_machine.specs.Moves.{Goes, Move, move_of, rest_of}
 use Rattle.ms_machine.specs.Running.{with_event}

@@ -9,7 +9,7 @@ use Rattle.ms_tasks.proofs.Chaining.{drop_at}
 use Rattle.ms_host.specs.declared.trap.TrapKind.{TrapKind}
 use Rattle.ms_machine.specs.Crews.{Crew, End, Input, OutOfBudget as BudgetEnd, Results, Run, Trap, begun, bytes_of, events_of, results, run_of}
 use Rattle.ms_machine.specs.Running.{IsLeft}
-use Rattle.ms_tasks.specs.refinement.Logs.{Log, Trace, all_seen}
+use Rattle.ms_tasks.specs.refinement.Logs.{Log, Trace, all_seen, logged}
 use Rattle.ms_tasks.proofs.Deeds.{events_kept}
 use Rattle.ms_tasks.specs.refinement.Outside.{HasBegun, HasRun}
 use Rattle.ms_tasks.specs.refinement.Runs.{CountsInput, CountsOut, DoesRun}
@@ -22,11 +22,16 @@ use Rattle.ms_run.specs.Flows.{Flowed, RunsPart, RunsWhole, TellsEnd, end_cut, e
 use Rattle.ms_run.specs.Lines.{budget_line, input_fault_line, result_line, result_lines, trap_line}
 use Rattle.ms_run.specs.Observed.{Flow, Report, Shelved}
 use Rattle.ms_run.specs.Reporting.{Delivers, IsKept, KeepsFiles, Reports, failed, put, starved}
-use Rattle.ms_run.specs.Telling.{dumped, traced}
+use Rattle.ms_run.specs.Reached.{AreReached}
+use Rattle.ms_run.specs.Telling.{counted, dumped, traced}
 use Rattle.ms_run.specs.declared.status.Status.{Status}
 use Rattle.ms_run.specs.declared.status.Status.TheVariants.{Done, OutOfBudget, OutOfMemory, ReadFault, Trapped, WriteFault}
 use Rattle.ms_run.specs.declared.telling.Telling.{Telling}
+use Rattle.ms_run.specs.refinement.Counts.{blank, logged_lines}
+use Rattle.ms_run.specs.refinement.Told.{AreTasks, IsTold, told, untold, whole_report}
 use Rattle.ms_run.proofs.Counting.{run_counts}
+use Rattle.ms_run.proofs.Logged.{lines_logged}
+use Rattle.ms_run.proofs.Reaching.{begun_reached}
 
 -- ---- the status of what was put
 
@@ -81,24 +86,42 @@ traced_name telling events file e = by telling.trace refl e where
 
 -- ---- the answers of the run of a crew
 
+-- all was told, or nothing for want of memory
+told_or : (telling : Telling) (c : Crew) (log : Log) (status : Status) (lines : List ℕ) (s : Shelved) (r : Report) (P : Status → Type 0) (result : Status) → IsTold telling c log status lines s r result
+    → ((reached : List ℕ) → AreReached c 0 telling.reach reached → Delivers (record { status = status; report = whole_report telling c log lines reached; file = traced telling log.trace.events }) s r result → P result)
+    → (KeepsFiles s → IsKept r → P OutOfMemory) → P result
+told_or telling c log status lines s r P result (told reached are delivers) all none = all reached are delivers
+told_or telling c log status lines s r P result (untold files kept) all none = none files kept
+
 module _ (telling : Telling) (run_over : Input → Run) (c : Crew) (s : Shelved) (r : Report) (f : Flow) (old new : Log) (result : Status) where
   -- the answer of a run that ended with these lines
-  abbrev with_lines : Status → List ℕ → Answer
-  with_lines status lines = record { status = status; report = lines ++ dumped telling c.store.segments; file = traced telling new.trace.events }
+  abbrev with_lines : Status → (lines reached : List ℕ) → Answer
+  with_lines status lines reached = record { status = status; report = whole_report telling c new lines reached; file = traced telling new.trace.events }
 
   abbrev Printed_of : Status → List ℕ → Type 0
-  Printed_of status lines = Delivers (with_lines status lines) s r result
+  Printed_of status lines = IsTold telling c new status lines s r result
 
-  module _ (keeps : old.trace.keep ≡ is_some telling.trace) (none : old.trace.events ≡ []) where
+  module _ (is_new : old ≡ blank (is_some telling.trace)) (leaves : (given : Input) → IsLeft (run_over given).input given) where
     ended : (given : Input) (end : End) (status : Status) (lines : List ℕ) → (run_over given).end ≡ end → EndsAs end status lines → (run_over given).crew ≡ begun c → f.takes_new ≡ f.takes_old → f.puts_new ≡ f.puts_old
         → HasRun f.left_old f.left_new f.held_old f.held_new old new given (run_over given) → Printed_of status lines → TellsEnd telling run_over s r f result
-    ended given end status lines is ends crew takes puts has delivers =
+    ended given end status lines is ends crew takes puts has printed =
         let run = run_over given in
         let events : traced telling new.trace.events ≡ traced telling (events_of run.deeds) =
-        ap (λ (x : Log). traced telling x.trace.events) has.log ∙ traced_same telling.trace old.trace (events_of run.deeds) keeps none in
-        let tells : TellsOf telling run (with_lines status lines) =
-        (lines, subst (λ (e : End). EndsAs e status lines) (sym is) ends, ap (λ (x : Crew). lines ++ dumped telling x.store.segments) (sym crew), events) in
-        end_printed given (with_lines status lines) tells (whole_of f old new given run takes puts has) delivers
+        ap (λ (x : Log). traced telling x.trace.events) has.log ∙ traced_same telling.trace old.trace (events_of run.deeds) (ap (λ (l : Log). l.trace.keep) is_new) (ap (λ (l : Log). l.trace.events) is_new) in
+        let numbers : logged_lines telling new ≡ counted telling run.deeds =
+        ap (logged_lines telling) (has.log ∙ ap (logged run.deeds) is_new) ∙ lines_logged (is_some telling.trace) run.deeds telling in
+        let tells : (reached : List ℕ) → AreReached c 0 telling.reach reached → TellsOf telling run (with_lines status lines reached) = λ reached are. (
+          lines,
+          reached,
+          subst (λ (e : End). EndsAs e status lines) (sym is) ends,
+          subst (λ (x : Crew). AreReached x 0 telling.reach reached) (sym crew) (begun_reached c 0 telling.reach reached are),
+          ap (λ (x : List ℕ). x ++ (lines ++ (dumped telling c.store.segments ++ reached))) numbers ∙ ap (λ (x : Crew). counted telling run.deeds ++ (lines ++ (dumped telling x.store.segments ++ reached))) (sym crew),
+          events,
+        ) in
+        let done = whole_of f old new given run takes puts has in
+        told_or telling c new status lines s r (TellsEnd telling run_over s r f) result printed
+        (λ reached are delivers. end_printed given (with_lines status lines reached) (tells reached are) done delivers)
+        (λ files kept. end_unprinted given (whole_part f given run (leaves given) done) files kept)
 
     pub results_printed : CountsInput answers.Results f.takes_old f.takes_new → CountsOut answers.Results f.puts_old f.puts_new → (given : Input) × DoesRun answers.Results c f.left_old f.left_new f.held_old f.held_new old new given (run_over given)
         → Printed_of Done (result_lines (results c.tasks)) → TellsEnd telling run_over s r f result
@@ -141,3 +164,7 @@ lines_grow made more all tasks k t value found is line so_far =
 -- a run that has ended has as many tasks as before
 pub tasks_stay : (entries : List ℕ) (c after : Crew) (given : Input) → (run_of entries c given).crew ≡ begun after → length after.tasks ≡ length c.tasks
 tasks_stay entries c after given e = ap (λ (x : Crew). length x.tasks) (sym e) ∙ run_counts entries c given
+
+-- and so the sets that are asked of reach still stand behind the numbers of tasks
+pub tasks_are : (entries : List ℕ) (c after : Crew) (given : Input) (tasks : ℕ) (asked : List (ℕ × List ℕ)) → tasks ≡ length c.tasks → (run_of entries c given).crew ≡ begun after → AreTasks tasks asked → AreTasks (length after.tasks) asked
+tasks_are entries c after given tasks asked is e h = subst (λ (n : ℕ). AreTasks n asked) (is ∙ sym (tasks_stay entries c after given e)) h

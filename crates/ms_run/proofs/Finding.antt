@@ -4,7 +4,7 @@ use Rattle.std.specs.Prelude.{Option, length}
 use Rattle.ms_module.specs.declared.module.Module.{Module}
 use Rattle.ms_machine.specs.Crews.{Input, Run}
 use Rattle.ms_job.specs.declared.job.Job.{Job}
-use Rattle.ms_run.specs.Answers.{Answer, Contents, Fault, Found, HasBytes, HasModule, Unfound, Unloaded, invalid, no_file, overlong, unfound, unread, unreadable}
+use Rattle.ms_run.specs.Answers.{Answer, Contents, Fault, Found, HasBytes, HasModule, Unfound, Unloaded, invalid, overlong, unfound, unread, unreadable}
 use Rattle.ms_run.specs.Jobs.{AllLoaded, FirstUnloaded, HasEntries, HasNumbers, RunOfJob, RunsJob, Unnumbered, Unscheduled, executed, here, in_turns, later, listed, no_more, no_number, one_more, unlisted, unloaded, unscheduled}
 use Rattle.ms_run.specs.Jobs as jobs
 use Rattle.ms_run.specs.Observed.{Shelved}

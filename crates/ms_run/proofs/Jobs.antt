@@ -1,5 +1,6 @@
 -- What `exec` and `run` did, put together from its parts: reading the files of a job, and running it.
 use Rattle.std.proofs.Common.{◌≡◌, ◌∙◌, ◌≤◌, ◌≢◌, ℕ, inr, List, ◌∷◌, length, map, refl, sym, ap, subst, arith}
+use Rattle.std.proofs.lemmas.List.Elements.{All-nil}
 use Rattle.std.specs.Prelude.{Option, Some, None, Result, Ok, Err}
 use Rattle.ms_command_line.specs.Commands as options
 use Rattle.ms_job.specs.refinement.Bounds.{IsBounded}
@@ -26,7 +27,7 @@ use Rattle.ms_tasks.proofs.Leaving.{run_leaves}
 use Rattle.ms_run.specs.Answers.{Answer, Found, Unfound, HasBytes, says}
 use Rattle.ms_run.specs.Executions.{AnswersAs, EndsAs, Execution, Ran, execution, if_linked, with_threads}
 use Rattle.ms_run.specs.Flows.{DidRun, Flowed, Flows, IsQuiet, IsUnrun, RunsWhole, TellsExecution, cut, delivered, end_cut, end_printed, end_unprinted, nothing_printed, quiet, ran, refused, run_printed, starved_run}
-use Rattle.ms_run.specs.Jobs.{AllLoaded, FirstUnloaded, HasEntries, RunOfFile, RunOfJob, RunsFile, RunsJob, Unscheduled, exec_job, executed, here, job as of_job, no_job, no_job_file, no_more, one_more, unloaded, unscheduled}
+use Rattle.ms_run.specs.Jobs.{AllLoaded, FirstUnloaded, HasEntries, RunOfFile, RunOfJob, RunsFile, RunsJob, Unscheduled, exec_job, executed, job as of_job, no_job, no_job_file, no_more, one_more, unloaded, unscheduled}
 use Rattle.ms_run.specs.Lines.{job_line}
 use Rattle.ms_run.specs.Observed.{Flow, Report, Shelved}
 use Rattle.ms_run.specs.Reporting.{Holds, IsFound, IsKept, IsUntouched, KeepsFiles, Reports, ReportsJobFault, Tells, put, printed, unprinted}
@@ -81,7 +82,7 @@ module _ (Gives : Input → Option Run → Answer → Type 0) (IsRun : Input →
       (input.0, input.1, starved_run counts files kept, quiet tt still)
 
   -- memory ran out before anything was done
-  starved_answered : SameCounts s.reads_old s.reads_new → KeepsFiles s → IsKept r → IsQuiet f → Answered Gives IsRun s r f OutOfMemory
+  pub starved_answered : SameCounts s.reads_old s.reads_new → KeepsFiles s → IsKept r → IsQuiet f → Answered Gives IsRun s r f OutOfMemory
   starved_answered counts files kept still =
       let input = some_input f.left_old in
       (input.0, input.1, starved_run counts files kept, quiet tt still)
@@ -136,7 +137,7 @@ module _ (naming : Naming) (job : Job) (s : Shelved) (r : Report) (f : Flow) whe
           let run = runs given in
           let part = whole_part f given run (execution_leaves modules job.tasks entries job.memory given run (is given)) done in
           let gave = gives given (Some run) a (subst (λ (x : Execution). AnswersAs (telling_of job) x (Some run) a) (sym (is given)) (refl, tells)) in
-          let flowed = of_delivers (Flowed given f run) a s r result (ends_flowed given f run run.end a.status tells.0 tells.1 done) part part delivers in
+          let flowed = of_delivers (Flowed given f run) a s r result (ends_flowed given f run run.end a.status tells.0 tells.2 done) part part delivers in
           (given, done.may, delivered (Some run) a gave (inr counts) done delivers, ran run (is_run given run (is given)) flowed)
       executed_answered result (run_printed runs is (end_cut given part flowed files cuts)) =
           (given, part.may, cut counts files cuts, ran (runs given) (is_run given (runs given) (is given)) flowed)
@@ -253,4 +254,4 @@ pub names_apart : (Has : List ℕ → Found → Type 0) (job : Job) (modules : L
 names_apart Has job modules all bounds = subst AreDistinct (sym (loaded_names Has job.modules modules all)) bounds.names
 
 pub exec_bounded : (file : List ℕ) (budget memory : ℕ) → budget ≤ options.budget.most → memory ≤ options.memory.most → IsBounded (exec_job file budget memory)
-exec_bounded file budget memory few small = record { names = (tt, tt); some = omega arith; few = omega arith; turns = omega arith; budget = few; memory = small }
+exec_bounded file budget memory few small = record { names = (tt, tt); some = omega arith; few = omega arith; turns = omega arith; budget = few; memory = small; reach = All-nil _ }

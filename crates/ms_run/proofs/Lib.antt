@@ -8,6 +8,8 @@ pub mod Done
 pub mod Printed
 pub mod Written
 pub mod Counting
+pub mod Logged
+pub mod Reaching
 pub mod Accesses
 pub mod Ending
 pub mod Executed
@@ -16,3 +18,4 @@ pub mod Jobs
 pub mod Safe
 pub mod Dumping
 pub mod Targets
+pub mod OwnShelf

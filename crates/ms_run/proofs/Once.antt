@@ -38,7 +38,7 @@ use Rattle.ms_run.specs.Lines.{accepted_line, fault_words, job_line, part_words,
 use Rattle.ms_run.specs.Loading.{Binary, Form, Source, Spells, Text, Unread, binary, form_of, source, text}
 use Rattle.ms_run.specs.Observed.{Shelved}
 use Rattle.ms_run.specs.Reporting.{Holds, IsFound}
-use Rattle.ms_run.specs.Telling.{dumped, telling_of}
+use Rattle.ms_run.specs.Telling.{counted, dumped, telling_of}
 use Rattle.ms_run.specs.declared.gathering.Naming.{Naming}
 use Rattle.ms_run.specs.declared.gathering.Naming.TheVariants.{Numbered}
 use Rattle.ms_run.specs.declared.status.Status.{Status}
@@ -47,6 +47,7 @@ use Rattle.ms_run.specs.declared.telling.Telling.{Telling}
 use Rattle.ms_text_grammar.proofs.Files.{one_module as one_text}
 use Rattle.ms_run.proofs.Units as units
 use Rattle.ms_run.proofs.Units.{one_reason}
+use Rattle.ms_run.proofs.Reaching.{one_reached}
 use Rattle.ms_run.proofs.Refusals.{OfRefusals, of_first, of_unfound, of_unloaded, of_unscheduled}
 
 -- ---- bytes that spell no module
@@ -153,8 +154,10 @@ ends_once Stuck s t s' t' h k = absurd h
 
 tells_once : (telling : Telling) (run : Run) → GivesOne (TellsOf telling run)
 tells_once telling run a a' h k =
-    let same = ends_once run.end a.status h.0 a'.status k.0 h.1 k.1 in
-    same_answer a a' same.0 (h.2 ∙ (ap (λ (x : List ℕ). x ++ dumped telling run.crew.store.segments) same.1 ∙ sym k.2)) (h.3 ∙ sym k.3)
+    let same = ends_once run.end a.status h.0 a'.status k.0 h.2 k.2 in
+    let reached = one_reached run.crew 0 telling.reach h.1 k.1 h.3 k.3 in
+    let whole : List ℕ → List ℕ → List ℕ = λ x y. counted telling run.deeds ++ (x ++ (dumped telling run.crew.store.segments ++ y)) in
+    same_answer a a' same.0 (h.4 ∙ (ap (λ (x : List ℕ). whole x h.1) same.1 ∙ (ap (whole k.0) reached ∙ sym k.4))) (h.5 ∙ sym k.5)
 
 pub execution_once : (telling : Telling) (e : Execution) → RunsOne (AnswersAs telling e)
 execution_once telling (Unlinked fault) p a p' a' h k = (h.0 ∙ sym k.0, h.1 ∙ sym k.1)
@@ -497,7 +500,7 @@ ends_ordinary Stuck s t h = absurd h
 execution_ordinary : (telling : Telling) (e : Execution) (p : Option Run) (a : Answer) → AnswersAs telling e p a → IsOrdinary a.status
 execution_ordinary telling (Unlinked fault) p a h = subst (λ (x : Answer). IsOrdinary x.status) (sym h.1) tt
 execution_ordinary telling (NoTask number) p a h = subst (λ (x : Answer). IsOrdinary x.status) (sym h.1) tt
-execution_ordinary telling (Ran run) p a h = ends_ordinary run.end a.status h.1.0 h.1.1
+execution_ordinary telling (Ran run) p a h = ends_ordinary run.end a.status h.1.0 h.1.2
 
 verdict_ordinary : (capacity : ℕ) (bytes : List ℕ) (a : Answer) → Verdict capacity bytes a → IsOrdinary a.status
 verdict_ordinary capacity bytes a (no_event n h) = tt

@@ -135,7 +135,7 @@ no_end status other e not end = not (subst IsEnd e end)
 module _ (s : Shelved) (r : Report) (f : Flow) (naming : Naming) (given : Input) (may : MayGive f.left_old given) (job : Job) (bounds : IsBounded job) where
   module _ (ran : Option Run) (a : Answer) (flows : FlowsAs given f ran) (grown : Grows r a.report) (written : HasWritten s a.file) (result : Status) (status_is : result ≡ a.status) (end : IsEnd a.status) where
     executed_safely : (modules : List (List ℕ × Module)) (entries : List ℕ) → AllLoaded (IsFound s) job.modules modules → HasEntries (IsFound s) job entries
-        → (e : Execution) → execution modules job.tasks entries job.memory given ≡ e → AnswersAs (telling_of job) e ran a → RanSafely s r f job result
+        → (e : Execution) → execution modules job.tasks entries job.memory given ≡ e → AnswersAs (telling_of job) e ran a → RanSafely s.old s r f job result
     executed_safely modules entries all scheduled (Unlinked fault) is h = absurd (no_end a.status statuses.Refused (ap (λ (x : Answer). x.status) h.1) (λ x. x) end)
     executed_safely modules entries all scheduled (NoTask number) is h = absurd (no_end a.status statuses.Refused (ap (λ (x : Answer). x.status) h.1) (λ x. x) end)
     executed_safely modules entries all scheduled (Ran run) is h =
@@ -161,7 +161,7 @@ module _ (s : Shelved) (r : Report) (f : Flow) (naming : Naming) (given : Input)
           counted = run_is_counted (Holds s.old) given job run bounds.budget of_job;
         }
 
-  answer_safely : (ran : Option Run) (a : Answer) → FlowsAs given f ran → Grows r a.report → HasWritten s a.file → (result : Status) → result ≡ a.status → IsEnd a.status → RunsJob (IsFound s) naming given job ran a → RanSafely s r f job result
+  answer_safely : (ran : Option Run) (a : Answer) → FlowsAs given f ran → Grows r a.report → HasWritten s a.file → (result : Status) → result ≡ a.status → IsEnd a.status → RunsJob (IsFound s) naming given job ran a → RanSafely s.old s r f job result
   answer_safely ran a flows grown written result is end (unloaded h) = absurd (never_end a.status (of_first refusals_unrun (IsFound s) naming 0 job.modules a h) end)
   answer_safely ran a flows grown written result is end (unscheduled modules all h) = absurd (never_end a.status (of_unscheduled refusals_unrun (IsFound s) job a h) end)
   answer_safely ran a flows grown written result is end (executed modules entries all scheduled h) =
@@ -184,14 +184,14 @@ delivered_whole Gives given s r f result end (cut counts files (out_failed rose 
 delivered_whole Gives given s r f result end (starved_run counts files kept) = absurd end
 
 module _ (s : Shelved) (r : Report) (f : Flow) (given : Input) (may : MayGive f.left_old given) where
-  job_safely : (naming : Naming) (job : Job) → IsBounded job → (result : Status) → IsEnd result → DidRun (RunsJob (IsFound s) naming given job) given s r f result → RanSafely s r f job result
+  job_safely : (naming : Naming) (job : Job) → IsBounded job → (result : Status) → IsEnd result → DidRun (RunsJob (IsFound s) naming given job) given s r f result → RanSafely s.old s r f job result
   job_safely naming job bounds result end did =
       let whole = delivered_whole (RunsJob (IsFound s) naming given job) given s r f result end did in
       answer_safely s r f naming given may job bounds whole.0 whole.1 whole.3 whole.4 whole.5 result whole.6 (subst IsEnd whole.6 end) whole.2
 
   -- the job of a file
   abbrev pub FileSafely : List ℕ → Status → Type 0
-  FileSafely name result = (job : Job) × HasJob (Holds s.old) name job × RanSafely s r f job result
+  FileSafely name result = (job : Job) × HasJob (Holds s.old) name job × RanSafely s.old s r f job result
 
   file_by : (name : List ℕ) (ran : Option Run) (a : Answer) → FlowsAs given f ran → Grows r a.report → HasWritten s a.file → (result : Status) → result ≡ a.status → IsEnd a.status → RunsFile (IsFound s) given name ran a → FileSafely name result
   file_by name ran a flows grown written result same end (no_job_file h) = absurd (never_end a.status (of_unfound refusals_unrun (IsFound s) name a h) end)
@@ -209,9 +209,9 @@ module _ (s : Shelved) (r : Report) (f : Flow) (given : Input) (may : MayGive f.
 
 module _ (s : Shelved) (r : Report) (f : Flow) where
   pub job_did_safely : (naming : Naming) (job : Job) → IsBounded job → (result : Status) → Answered (λ given. RunsJob (IsFound s) naming given job) (λ given. RunOfJob (Holds s.old) given job) s r f result
-      → IsEnd result → RanSafely s r f job result
+      → IsEnd result → RanSafely s.old s r f job result
   job_did_safely naming job bounds result (given, may, did, flows) end = job_safely s r f given may naming job bounds result end did
 
   pub file_did_safely : (name : List ℕ) (result : Status) → Answered (λ given. RunsFile (IsFound s) given name) (λ given. RunOfFile (Holds s.old) given name) s r f result
-      → IsEnd result → (job : Job) × HasJob (Holds s.old) name job × RanSafely s r f job result
+      → IsEnd result → (job : Job) × HasJob (Holds s.old) name job × RanSafely s.old s r f job result
   file_did_safely name result (given, may, did, flows) end = file_safely s r f given may name result end did

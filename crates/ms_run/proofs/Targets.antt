@@ -59,7 +59,7 @@ module _ (Has : List ℕ → Found → Type 0) where
   execution_target : (telling : Telling) (x : Execution) (which : Option Run) (file : File) (a : Answer) → AnswersAs telling x which a → a.file ≡ Some file → telling.trace ≡ Some file.name
   execution_target telling (Unlinked fault) which file a h e = absurd (wrote_none a _ _ file h.1 e)
   execution_target telling (NoTask number) which file a h e = absurd (wrote_none a _ _ file h.1 e)
-  execution_target telling (Ran run) which file a h e = traced_name telling (events_of run.deeds) file (sym h.1.3 ∙ e)
+  execution_target telling (Ran run) which file a h e = traced_name telling (events_of run.deeds) file (sym h.1.5 ∙ e)
 
   pub job_target : (naming : Naming) (given : Input) (job : Job) (which : Option Run) (file : File) (a : Answer) → RunsJob Has naming given job which a → a.file ≡ Some file → job.trace ≡ Some file.name
   job_target naming given job which file a (jobs.unloaded h) e = absurd (not_both a file (of_first refusals_write_none Has naming 0 job.modules a h) e)

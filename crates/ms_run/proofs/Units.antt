@@ -1,6 +1,6 @@
 -- Bytes are one unit at most, which has one module; and where there is none there is one reason.
 use Rattle.std.proofs.Common.{◌≡◌, ◌∙◌, ℕ, List, [], length, refl, sym, ap, subst}
-use Rattle.std.specs.Prelude.{Result, Ok, Err, Some, None}
+use Rattle.std.specs.Prelude.{Result, Ok, Err, Some}
 use Rattle.c_token.specs.declared.word.Token.{Token}
 use Rattle.c_lex.specs.Fault.{Fault}
 use Rattle.c_lex.specs.Lexing as lexing

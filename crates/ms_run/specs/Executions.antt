@@ -9,7 +9,8 @@ use Rattle.ms_machine.specs.Store.{Store}
 use Rattle.ms_tasks.specs.Tasks.{crew_of, threads_from}
 use Rattle.ms_run.specs.Answers.{Answer, says}
 use Rattle.ms_run.specs.Lines.{budget_line, link_line, result_lines, task_line, trap_line}
-use Rattle.ms_run.specs.Telling.{dumped, traced}
+use Rattle.ms_run.specs.Reached.{AreReached}
+use Rattle.ms_run.specs.Telling.{counted, dumped, traced}
 use Rattle.ms_run.specs.declared.status.Status.{Status}
 use Rattle.ms_run.specs.declared.status.Status.TheVariants.{Done, OutOfBudget, Refused, Trapped}
 use Rattle.ms_run.specs.declared.telling.Telling.{Telling}
@@ -46,11 +47,12 @@ EndsAs (Trap whose kind) status report = (status ≡ Trapped) × (report ≡ tra
 EndsAs BudgetEnd status report = (status ≡ OutOfBudget) × (report ≡ budget_line)
 EndsAs Stuck status report = ⊥
 
--- The answer that tells of a run: the report has the lines of its end and then those of the segments that are live after it, if
--- these are asked for; the file, if one is, has its events.
+-- The answer that tells of a run: the report has the numbers of what it did, the lines of its end, those of the segments that are
+-- live after it, and those of what is reached then, all but its end where they are asked for; the file, if one is, has its events.
 abbrev pub TellsOf : Telling → Run → Answer → Type 0
 TellsOf telling run a =
-    (lines : List ℕ) × EndsAs run.end a.status lines × (a.report ≡ lines ++ dumped telling run.crew.store.segments) × (a.file ≡ traced telling (events_of run.deeds))
+    (lines : List ℕ) × (reached : List ℕ) × EndsAs run.end a.status lines × AreReached run.crew 0 telling.reach reached
+    × (a.report ≡ counted telling run.deeds ++ (lines ++ (dumped telling run.crew.store.segments ++ reached))) × (a.file ≡ traced telling (events_of run.deeds))
 
 -- The answer to an execution, and the run of which it tells.
 abbrev pub AnswersAs : Telling → Execution → Option Run → Answer → Type 0

@@ -89,6 +89,8 @@ exec_job file budget memory = record {
   memory = memory;
   trace = None;
   dump = false;
+  reach = [];
+  counts = false;
 }
 
 -- ---- the runs that such answers tell of

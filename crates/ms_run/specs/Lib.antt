@@ -1,11 +1,13 @@
 pub mod Source
 pub mod Observed
 pub mod Telling
+pub mod Reached
 pub mod Lines
 pub mod Loading
 pub mod Executions
 pub mod Answers
 pub mod Jobs
+pub mod Stress
 pub mod Reporting
 pub mod Flows
 pub mod SafeRuns

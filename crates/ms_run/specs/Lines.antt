@@ -188,6 +188,10 @@ result_line (Some (values.I64 n)) = line (codes "result " ++ signed_decimal (sig
 -- no task has such a type
 result_line (Some (values.Handle h)) = line (codes "done")
 
+-- what is reached for the set of modules of this number: so many live segments have a byte that is, and so many bytes are
+abbrev pub reach_line : (number segments bytes : ℕ) → List ℕ
+reach_line number segments bytes = line (codes "reach " ++ decimal number ++ codes " " ++ decimal segments ++ codes " " ++ decimal bytes)
+
 -- a line for each task, in order
 abbrev pub result_lines : List (Option Value) → List ℕ
 result_lines = flat_map result_line

@@ -1,11 +1,12 @@
 -- The run of which an answer tells that came to an end: what was run, what was told of it, and that it was safe.
-use Rattle.std.specs.Prelude.{◌≡◌, Bool, true, false, filter, length}
+use Rattle.std.specs.Prelude.{◌≡◌, Bool, true, false, filter, length, Option}
 use Rattle.ms_event.specs.Monitor.{Accepts}
 use Rattle.ms_event.specs.declared.event.Event.{Event}
 use Rattle.ms_event.specs.declared.event.Event.TheVariants.{Read, Write}
 use Rattle.ms_job.specs.declared.job.Job.{Job}
 use Rattle.ms_machine.specs.Crews.{Input, Run, events_of}
 use Rattle.ms_machine.specs.Running.{MayGive}
+use Rattle.ms_outside.specs.Files.{Files}
 use Rattle.ms_run.specs.Answers.{Answer}
 use Rattle.ms_run.specs.Executions.{TellsOf}
 use Rattle.ms_run.specs.Flows.{RunsWhole}
@@ -29,12 +30,13 @@ is_access (Read sealed id lo hi address width) = true
 is_access (Write id lo hi address width) = true
 is_access _ = false
 
-pub record RanSafely (s : Shelved) (r : Report) (f : Flow) (job : Job) (status : Status) : Type 0 where
+-- the modules and the schedule of the job are read from these files
+pub record RanSafely (files : Option Files) (s : Shelved) (r : Report) (f : Flow) (job : Job) (status : Status) : Type 0 where
   -- the run of the job's modules and tasks by its schedule, over what the input gave
   pub given : Input
   pub run : Run
   pub may : MayGive f.left_old given
-  pub of_job : RunOfJob (Holds s.old) given job run
+  pub of_job : RunOfJob (Holds files) given job run
   -- the status, the report and the file of the trace are those of its end, its last store and its events
   pub answer : Answer
   pub tells : TellsOf (telling_of job) run answer

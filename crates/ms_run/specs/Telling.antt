@@ -1,12 +1,14 @@
--- What is told of the segment memory beside the end of a run: its events, in a file, and the live segments, a line each.
-use Rattle.std.specs.Prelude.{ℕ, List, [], ◌∷◌, ◌++◌, codes, flat_map, if◌then◌else◌, Option, Some, None, option_map}
+-- What is told of a run beside its end: its events, in a file; how many steps and events there were; and the live segments, a line each.
+use Rattle.std.specs.Prelude.{ℕ, Bool, true, false, List, [], ◌∷◌, ◌++◌, codes, filter, flat_map, length, if◌then◌else◌, Option, Some, None, option_map}
 use Rattle.std.specs.Fmt.{decimal}
 use Rattle.hex.specs.Hex.{encode_lower}
 use Rattle.ms_event.specs.declared.event.Event.{Event}
+use Rattle.ms_event.specs.declared.event.Event.TheVariants.{Alloc, Free, Read, Write}
 use Rattle.ms_handle.specs.declared.handle.Kind.{Kind}
 use Rattle.ms_handle.specs.declared.handle.Kind.TheVariants.{Frame, Heap}
 use Rattle.ms_job.specs.declared.job.Job.{Job}
 use Rattle.ms_live.specs.declared.gaps.Live.{Live}
+use Rattle.ms_machine.specs.Crews.{Deeds, events_of}
 use Rattle.ms_monitor.specs.Traces.{trace_text}
 use Rattle.ms_segment.specs.Memory.{Memory}
 use Rattle.ms_tagged.specs.Bytes.{Byte, range, shown_at}
@@ -16,13 +18,46 @@ use Rattle.ms_run.specs.declared.telling.Telling.{Telling}
 
 -- what a job asks for
 abbrev pub telling_of : Job → Telling
-telling_of job = record { trace = job.trace; dump = job.dump }
+telling_of job = record { trace = job.trace; counts = job.counts; dump = job.dump; reach = job.reach }
 
 -- ---- the events
 
 -- the file of the trace, if one is asked for
 abbrev pub traced : Telling → List Event → Option File
 traced t events = option_map (λ name. record { name = name; bytes = trace_text events }) t.trace
+
+-- ---- how many steps and events there were
+
+abbrev pub is_alloc : Event → Bool
+is_alloc (Alloc id address size) = true
+is_alloc _ = false
+
+abbrev pub is_free : Event → Bool
+is_free (Free id) = true
+is_free _ = false
+
+abbrev pub is_read : Event → Bool
+is_read (Read sealed id lo hi address width) = true
+is_read _ = false
+
+abbrev pub is_write : Event → Bool
+is_write (Write id lo hi address width) = true
+is_write _ = false
+
+abbrev pub count_lines : (steps allocs frees reads writes : ℕ) → List ℕ
+count_lines steps allocs frees reads writes =
+    codes "steps " ++ decimal steps ++ codes "\nallocs " ++ decimal allocs ++ codes "\nfrees " ++ decimal frees
+    ++ codes "\nreads " ++ decimal reads ++ codes "\nwrites " ++ decimal writes ++ codes "\n"
+
+abbrev pub how_many : (Event → Bool) → List Event → ℕ
+how_many test events = length (filter test events)
+
+-- the numbers of what a run did: of the entries that it used, and of its events of four kinds, if they are asked for
+abbrev pub counted : Telling → Deeds → List ℕ
+counted t d =
+    if t.counts
+    then count_lines d.used (how_many is_alloc (events_of d)) (how_many is_free (events_of d)) (how_many is_read (events_of d)) (how_many is_write (events_of d))
+    else []
 
 -- ---- the live segments
 

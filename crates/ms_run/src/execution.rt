@@ -1,6 +1,6 @@
 //! Linking modules and running tasks, and the answer of how that ended.
 
-ghost use Rattle.std.specs.Prelude.{◌≡◌, ℕ, ◌+◌, ◌<◌, ◌≤◌, ◌^◌, ◌++◌, List, IfOk, length, map, string_bytes};
+ghost use Rattle.std.specs.Prelude.{◌≡◌, ℕ, ◌+◌, ◌<◌, ◌≤◌, ◌^◌, ◌++◌, List, IfOk, OnOk, length, map, string_bytes};
 ghost use Rattle.ms_machine.specs.Crews.{results, run_of};
 ghost use Rattle.ms_machine.specs.refinement.Holding.{StoreFits};
 ghost use Rattle.ms_machine.specs.Linked.{StartsTyped};
@@ -11,17 +11,20 @@ ghost use Rattle.ms_run.specs.Flows.{TellsEnd, TellsExecution};
 ghost use Rattle.ms_run.specs.Lines.{result_lines};
 ghost use Rattle.ms_run.specs.Observed.{flowed, reported, shelved};
 ghost use Rattle.ms_run.specs.Reporting.{Delivers};
-ghost use Rattle.ms_run.specs.Telling.{dumped, traced};
+ghost use Rattle.ms_run.specs.Telling.{count_lines, dumped, traced};
+ghost use Rattle.ms_run.specs.Reached.{AreReached};
+ghost use Rattle.ms_run.specs.refinement.Counts.{logged_lines};
+ghost use Rattle.ms_run.specs.refinement.Told.{AreTasks, IsTold, whole_report};
 ghost use Rattle.ms_outside.specs.Shelf.{SameCounts};
 ghost use Rattle.ms_tasks.specs.refinement.Ready.{IsReady};
 ghost use Rattle.ms_tasks.specs.refinement.Schedules.{HasTurns, entries_of};
 
 use crate::dump::dump_all;
 use crate::lines::{budget_line, input_fault_line, link_line, result_line, task_line, trap_line};
+use crate::reached::reach_all;
 use crate::report::{answer, answer_line, write_and_answer};
 use crate::status::Status;
 use crate::telling::Telling;
-use ms_event::Event;
 use ms_link::{LinkFault, link};
 use ms_live::Gaps;
 use ms_machine::Store;
@@ -51,21 +54,107 @@ fn result_lines<G: Gaps, T: Tagged>(
     Ok(lines)
 }
 
-/// The report of a run: the lines of its end, and behind them those of the live segments, if they are asked for.
+/// So many steps and events.
+fn number_lines(
+    alloc: Global,
+    steps: u64,
+    allocs: u64,
+    frees: u64,
+    reads: u64,
+    writes: u64,
+) -> Result<String, AllocError>
+    ensures { IfOk result (λ t. string_bytes t ≡ count_lines steps allocs frees reads writes) }
+{
+    format!(in alloc;
+        "steps {steps}\nallocs {allocs}\nfrees {frees}\nreads {reads}\nwrites {writes}\n"
+    )
+}
+
+/// The numbers of what a run did, as its log tells them, if they are asked for.
+fn counts(alloc: Global, telling: &Telling, log: &Log) -> Result<String, AllocError>
+    ensures { IfOk result (λ t. string_bytes t ≡ logged_lines telling.now log.now) }
+{
+    if !telling.counts {
+        return Ok(String::new(alloc));
+    }
+    number_lines(
+        alloc,
+        log.entries(),
+        log.allocs(),
+        log.frees(),
+        log.reads(),
+        log.writes(),
+    )
+}
+
+/// The lines of the live segments, if they are asked for, behind others.
+fn add_dump<G: Gaps, T: Tagged>(
+    alloc: Global,
+    telling: &Telling,
+    segments: &Segments<G, T>,
+    text: &mut Vec<u8>,
+) -> Result<(), AllocError>
+    ensures { OnOk result (text.new.items ≡ text.old.items ++ dumped telling.now segments.now) }
+{
+    if !telling.dump {
+        return Ok(());
+    }
+    dump_all(alloc, segments, text)
+}
+
+/// The report of a run: the numbers of what it did, the lines of its end, those of the live segments, and those of what is reached,
+/// all but the second where they are asked for.
 fn report_of<G: Gaps, T: Tagged>(
     alloc: Global,
     telling: &Telling,
     lines: Result<String, AllocError>,
-    segments: &Segments<G, T>,
+    log: &Log,
+    crew: &Crew<Segments<G, T>>,
 ) -> Result<Vec<u8>, AllocError>
-    ensures { (text : List ℕ) → IfOk lines (λ t. string_bytes t ≡ text) → IfOk result (λ t. t.items ≡ text ++ dumped telling.now segments.now) }
+    requires ready { IsReady crew.now.crew }
+    requires tasks { AreTasks (length crew.now.tasks) telling.now.reach }
+    ensures { (text : List ℕ) → IfOk lines (λ t. string_bytes t ≡ text) → IfOk result (λ t. (reached : List ℕ) × AreReached crew.now.crew 0 telling.now.reach reached × (t.items ≡ whole_report telling.now crew.now.crew log.now text reached)) }
 {
-    let mut text = lines?.into_bytes();
-    if !telling.dump {
-        return Ok(text);
-    }
-    dump_all(alloc, segments, &mut text)?;
+    let mut text = counts(alloc, telling, log)?.into_bytes();
+    text.extend_from_slice(lines?.as_bytes())?;
+    add_dump(alloc, telling, crew.store().segments(), &mut text)?;
+    reach_all(alloc, crew, telling.reach.as_slice(), &mut text)?;
     Ok(text)
+}
+
+/// Writes the events of a run to the file of the trace, if there is one, and then puts its report. There is memory for the events
+/// before anything is written.
+fn put_report<F: Shelf, R: Sink>(
+    alloc: Global,
+    telling: &Telling,
+    status: Status,
+    text: &[u8],
+    log: &Log,
+    shelf: &mut F,
+    report: &mut R,
+) -> Status
+    ensures printed { Delivers
+        (record { status = status; report = text.now; file = traced telling.now log.now.trace.events })
+        (shelved F.files F.read_faults F.write_faults shelf.old shelf.new)
+        (reported R.held R.faults report.old report.new)
+        result }
+    ensures reads { SameCounts (F.read_faults shelf.old) (F.read_faults shelf.new) }
+{
+    let Some(name) = &telling.trace else {
+        return answer(report, status, text);
+    };
+    let Ok(trace) = print_trace(alloc, log.events()) else {
+        return Status::OutOfMemory;
+    };
+    write_and_answer(
+        alloc,
+        name.as_str(),
+        trace.as_slice(),
+        status,
+        text,
+        shelf,
+        report,
+    )
 }
 
 /// Tells of a run that came to an end: its events are written to the file of the trace, if there is one, and then its report
@@ -76,36 +165,23 @@ fn tell_run<G: Gaps, T: Tagged, F: Shelf, R: Sink>(
     telling: &Telling,
     status: Status,
     lines: Result<String, AllocError>,
-    store: &Store<Segments<G, T>>,
-    events: &[Event],
+    crew: &Crew<Segments<G, T>>,
+    log: &Log,
     shelf: &mut F,
     report: &mut R,
 ) -> Status
-    ensures printed { (text : List ℕ) → IfOk lines (λ t. string_bytes t ≡ text) → Delivers
-        (record { status = status; report = text ++ dumped telling.now store.now.segments; file = traced telling.now events.now })
+    requires ready { IsReady crew.now.crew }
+    requires tasks { AreTasks (length crew.now.tasks) telling.now.reach }
+    ensures printed { (text : List ℕ) → IfOk lines (λ t. string_bytes t ≡ text) → IsTold telling.now crew.now.crew log.now status text
         (shelved F.files F.read_faults F.write_faults shelf.old shelf.new)
         (reported R.held R.faults report.old report.new)
         result }
     ensures reads { SameCounts (F.read_faults shelf.old) (F.read_faults shelf.new) }
 {
-    let Ok(text) = report_of(alloc, telling, lines, store.segments()) else {
+    let Ok(text) = report_of(alloc, telling, lines, log, crew) else {
         return Status::OutOfMemory;
     };
-    let Some(name) = &telling.trace else {
-        return answer(report, status, text.as_slice());
-    };
-    let Ok(trace) = print_trace(alloc, events) else {
-        return Status::OutOfMemory;
-    };
-    write_and_answer(
-        alloc,
-        name.as_str(),
-        trace.as_slice(),
-        status,
-        text.as_slice(),
-        shelf,
-        report,
-    )
+    put_report(alloc, telling, status, text.as_slice(), log, shelf, report)
 }
 
 /// Runs the start functions and so many tasks of a crew, and tells how that ended.
@@ -124,6 +200,7 @@ fn run_crew<G: Gaps, T: Tagged, F: Shelf, I: Source, O: Sink, R: Sink>(
 ) -> Status
     requires ready { IsReady crew.old.crew }
     requires tasks { (tasks ≡ length crew.old.tasks) × (0 < tasks) }
+    requires reach { AreTasks tasks telling.now.reach }
     requires turns { HasTurns schedule.now }
     requires few { crew.old.store.segments.made + budget < 2 ^ 63 }
     ensures printed { TellsEnd telling.now (run_of (entries_of schedule.now (length crew.old.tasks) budget) crew.old.crew)
@@ -142,8 +219,8 @@ fn run_crew<G: Gaps, T: Tagged, F: Shelf, I: Source, O: Sink, R: Sink>(
                 telling,
                 Status::Done,
                 lines,
-                crew.store(),
-                log.events(),
+                crew,
+                &log,
                 shelf,
                 report,
             )
@@ -155,8 +232,8 @@ fn run_crew<G: Gaps, T: Tagged, F: Shelf, I: Source, O: Sink, R: Sink>(
                 telling,
                 Status::Trapped,
                 lines,
-                crew.store(),
-                log.events(),
+                crew,
+                &log,
                 shelf,
                 report,
             )
@@ -168,8 +245,8 @@ fn run_crew<G: Gaps, T: Tagged, F: Shelf, I: Source, O: Sink, R: Sink>(
                 telling,
                 Status::OutOfBudget,
                 lines,
-                crew.store(),
-                log.events(),
+                crew,
+                &log,
                 shelf,
                 report,
             )
@@ -198,6 +275,7 @@ fn run_store<G: Gaps, T: Tagged, F: Shelf, I: Source, O: Sink, R: Sink>(
     requires fits { StoreFits store }
     requires starts { StartsTyped store }
     requires tasks { (0 < length tasks.items) × (length tasks.items < 2 ^ 32) }
+    requires reach { AreTasks (length tasks.items) telling.now.reach }
     requires turns { HasTurns schedule.now }
     requires few { store.segments.made + budget < 2 ^ 63 }
     ensures printed { TellsExecution telling.now (in_store tasks.items (entries_of schedule.now (length tasks.items) budget) store)
@@ -237,6 +315,7 @@ pub fn execute<G: Gaps, T: Tagged, F: Shelf, I: Source, O: Sink, R: Sink>(
 ) -> Status
     requires names { AreDistinct (map (λ m. m.0) modules.items) }
     requires tasks { (0 < length tasks.items) × (length tasks.items < 2 ^ 32) }
+    requires reach { AreTasks (length tasks.items) telling.now.reach }
     requires turns { HasTurns schedule.now }
     requires few { budget < 2 ^ 63 }
     ensures printed { TellsExecution telling.now (execution modules.items tasks.items (entries_of schedule.now (length tasks.items) budget) memory)

@@ -1,4 +1,4 @@
-//! The commands of the program: `exec`, `run`, `check`, `asm`, `dis`, `compile` and `judge`, each a call over a shelf, an input and two sinks.
+//! The commands of the program: `exec`, `run`, `check`, `asm`, `dis`, `compile`, `judge` and `stress`, each a call over a shelf, an input and two sinks.
 //!
 //! It stands on the readers and writers of both forms of modules, on C's lexer, parser, typing and compiler, on validation (`ms_valid`), linking (`ms_link`), runs of tasks
 //! (`ms_tasks`), texts of jobs (`ms_job`), the judge of traces (`ms_monitor`) and the objects outside (`ms_outside`). Read
@@ -15,10 +15,12 @@ mod gathering;
 mod judging;
 mod lines;
 mod loading;
+mod reached;
 mod report;
 mod running;
 mod source;
 mod status;
+mod stressing;
 mod telling;
 
 pub use check::check_file;
@@ -30,3 +32,4 @@ pub use report::answer;
 pub use running::{exec, run_job, run_parsed};
 pub use source::SourceFault;
 pub use status::Status;
+pub use stressing::{stress, stress_over};

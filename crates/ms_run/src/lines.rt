@@ -3,7 +3,7 @@
 ghost use Rattle.std.specs.Prelude.{◌≡◌, ◌++◌, IfOk, codes, string_bytes};
 ghost use Rattle.std.specs.Fmt.{decimal};
 ghost use Rattle.ms_num.specs.Integers.{signed};
-ghost use Rattle.ms_run.specs.Lines.{accepted_line, budget_line, climit_words, counted_word, fault_words, input_fault_line, job_line, large_line, lexing_words, line, link_line, parsing_words, part_words, refused_line, rejected_line, result_line, schedule_line, source_fault_words, task_line, text_counted_word, text_fault_words, token_words, trace_line, trap_line, typing_words, valid_line, why_word, written_line};
+ghost use Rattle.ms_run.specs.Lines.{accepted_line, budget_line, climit_words, counted_word, fault_words, input_fault_line, job_line, large_line, lexing_words, line, link_line, parsing_words, part_words, reach_line, refused_line, rejected_line, result_line, schedule_line, source_fault_words, task_line, text_counted_word, text_fault_words, token_words, trace_line, trap_line, typing_words, valid_line, why_word, written_line};
 ghost use Rattle.ms_run.specs.Loading.{load_words, refusal_words};
 
 use crate::loading::LoadFault;
@@ -317,6 +317,18 @@ pub fn result_line(alloc: Global, value: Option<Value>) -> Result<String, AllocE
         }
         Some(Value::Handle(_)) | None => format!(in alloc; "done\n"),
     }
+}
+
+/// What is reached for the set of modules of this number.
+pub fn reach_line(
+    alloc: Global,
+    number: usize,
+    segments: u32,
+    bytes: u32,
+) -> Result<String, AllocError>
+    ensures { IfOk result (λ t. string_bytes t ≡ reach_line number segments bytes) }
+{
+    format!(in alloc; "reach {number} {segments} {bytes}\n")
 }
 
 fn signed_of_32(n: u32) -> i32

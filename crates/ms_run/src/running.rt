@@ -55,7 +55,7 @@ pub fn run_parsed<G: Gaps, T: Tagged, F: Shelf, I: Source, O: Sink, R: Sink>(
         (flowed I.left I.faults O.held O.faults input.old input.new out.old out.new)
         result }
     // A run that has come to an end is that of the job, and was safe.
-    ensures safe { IsEnd result → RanSafely
+    ensures safe { IsEnd result → RanSafely (F.files shelf.old)
         (shelved F.files F.read_faults F.write_faults shelf.old shelf.new)
         (reported R.held R.faults report.old report.new)
         (flowed I.left I.faults O.held O.faults input.old input.new out.old out.new)
@@ -72,7 +72,9 @@ pub fn run_parsed<G: Gaps, T: Tagged, F: Shelf, I: Source, O: Sink, R: Sink>(
     let tasks = job.tasks.into_vec();
     let telling = Telling {
         trace: job.trace,
+        counts: job.counts,
         dump: job.dump,
+        reach: job.reach,
     };
     execute::<G, T, F, I, O, R>(
         alloc, modules, tasks, &schedule, job.budget, job.memory, &telling, shelf, input, out,
@@ -80,9 +82,15 @@ pub fn run_parsed<G: Gaps, T: Tagged, F: Shelf, I: Source, O: Sink, R: Sink>(
     )
 }
 
-/// The job of one module, whose task is its export `main`.
-fn exec_job(alloc: Global, file: &str, budget: u64, memory: u32) -> Result<Job, AllocError>
-    ensures { IfOk result (λ job. job ≡ exec_job file.now budget memory) }
+/// The job of one module, whose task is its export `main`; `counts` says whether the numbers of what it does are told.
+pub fn job_of(
+    alloc: Global,
+    file: &str,
+    budget: u64,
+    memory: u32,
+    counts: bool,
+) -> Result<Job, AllocError>
+    ensures { IfOk result (λ job. job ≡ record (exec_job file.now budget memory) { counts = counts }) }
 {
     let name = Name::new(alloc, "")?;
     let file = Name::new(alloc, file)?;
@@ -96,6 +104,8 @@ fn exec_job(alloc: Global, file: &str, budget: u64, memory: u32) -> Result<Job, 
         memory,
         trace: None,
         dump: false,
+        reach: Vector::new(alloc),
+        counts,
     })
 }
 
@@ -129,13 +139,13 @@ pub fn exec<F: Shelf, I: Source, O: Sink, R: Sink>(
         (flowed I.left I.faults O.held O.faults input.old input.new out.old out.new)
         result }
     // A run that has come to an end is that of the job, and was safe.
-    ensures safe { IsEnd result → RanSafely
+    ensures safe { IsEnd result → RanSafely (F.files shelf.old)
         (shelved F.files F.read_faults F.write_faults shelf.old shelf.new)
         (reported R.held R.faults report.old report.new)
         (flowed I.left I.faults O.held O.faults input.old input.new out.old out.new)
         (exec_job file.now budget memory) result }
 {
-    match exec_job(alloc, file, budget, memory) {
+    match job_of(alloc, file, budget, memory, false) {
         Ok(job) => run_parsed::<TreeGaps, Granules, F, I, O, R>(
             alloc,
             Naming::Only,
@@ -172,7 +182,7 @@ pub fn run_job<F: Shelf, I: Source, O: Sink, R: Sink>(
         (flowed I.left I.faults O.held O.faults input.old input.new out.old out.new)
         result }
     // A run that has come to an end is that of the job that the file has, and was safe.
-    ensures safe { IsEnd result → (asked : Job) × HasJob (Holds (F.files shelf.old)) job.now asked × RanSafely
+    ensures safe { IsEnd result → (asked : Job) × HasJob (Holds (F.files shelf.old)) job.now asked × RanSafely (F.files shelf.old)
         (shelved F.files F.read_faults F.write_faults shelf.old shelf.new)
         (reported R.held R.faults report.old report.new)
         (flowed I.left I.faults O.held O.faults input.old input.new out.old out.new)

@@ -11,7 +11,7 @@ use Rattle.ms_outside.specs.Shelf.{SameCounts, Writes}
 use Rattle.ms_outside.specs.declared.sink.Put.TheVariants as putting
 use Rattle.ms_job.proofs.Bounded.{job_is_bounded}
 use Rattle.ms_job.specs.declared.job.Job.{Job}
-use Rattle.ms_command_line.specs.Asked.{Asked, Asm, Check, Compile, Dis, Exec, Judge, Run, asked_of, is_taken}
+use Rattle.ms_command_line.specs.Asked.{Asked, Asm, Check, Compile, Dis, Exec, Judge, Run, Stress, asked_of, is_taken}
 use Rattle.ms_command_line.specs.Commands as options
 use Rattle.ms_command_line.specs.Commands.{usage_lines}
 use Rattle.ms_machine.specs.Crews.{Input, Run as MachineRun}
@@ -26,6 +26,7 @@ use Rattle.ms_run.specs.Loading.{Source, Text, form_of}
 use Rattle.ms_run.specs.Observed.{Flow, Report, Shelved}
 use Rattle.ms_run.specs.Reporting.{CountsReads, Delivers, Did, Grows, HasFailed, HasWritten, Holds, IsFound, IsKept, KeepsFiles, Reports, Tells, answered, failed, put, ran_out, starved, printed, unprinted}
 use Rattle.ms_run.specs.SafeRuns.{IsEnd, RanSafely}
+use Rattle.ms_run.specs.Stress.{stress_files, stress_job}
 use Rattle.ms_run.specs.declared.gathering.Naming.TheVariants.{Numbered, Only}
 use Rattle.ms_run.specs.declared.status.Status.{Status}
 use Rattle.ms_run.specs.declared.status.Status.TheVariants as statuses
@@ -36,7 +37,7 @@ use Rattle.ms_run.proofs.Targets.{assembled_target, checks_target, disassembled_
 use Rattle.ms_tool.specs.Meaning.{KeepsRun}
 use Rattle.ms_tool.specs.Outside.{Outside, flow_of, report_of, shelf_of}
 use Rattle.ms_tool.specs.refinement.Responding.{Responded, Responds, gave, nothing, stopped}
-use Rattle.ms_tool.specs.Top.{AsksJob, AsksRun, FlowsFor, Gives, GivesFor, IsAnswer, IsCutOff, IsFaulty, IsOutFault, IsPutFault, IsStarved, IsTarget, IsUnwritten, Keeps, Stays}
+use Rattle.ms_tool.specs.Top.{AsksJob, AsksRun, FlowsFor, Gives, GivesFor, IsAnswer, IsCutOff, IsFaulty, IsOutFault, IsPutFault, IsStarved, IsTarget, IsUnwritten, Keeps, Stays, files_for}
 use Rattle.ms_tool.proofs.Meaning.{ran_as_meant}
 
 -- ---- the table, by what the words ask for
@@ -56,6 +57,8 @@ module _ (Has : List ℕ → Found → Type 0) (given : Input) where
     once (Some (Dis name out)) p a p' a' h k = (h.0 ∙ sym k.0, file_once Has one_found name (Disassembles out) (disassembles_once out) a a' h.1 k.1)
     once (Some (Compile name out)) p a p' a' h k = (h.0 ∙ sym k.0, file_once Has one_found name (Assembles Source out) (assembles_once Source out) a a' h.1 k.1)
     once (Some (Judge name memory)) p a p' a' h k = (h.0 ∙ sym k.0, judges_once Has one_found name memory a a' h.1 k.1)
+    once (Some (Stress seed count)) p a p' a' h k =
+        runs_job_once (Holds (Some (stress_files seed count))) (holds_one (stress_files seed count)) Only given stress_job p a p' a' h k
 
   ordinary : (asked : Asked) (which : Option MachineRun) (a : Answer) → GivesFor Has given asked which a → IsOrdinary a.status
   ordinary (Exec name budget memory) which a h = runs_job_ordinary Has Only given (exec_job name budget memory) which a h
@@ -65,6 +68,7 @@ module _ (Has : List ℕ → Found → Type 0) (given : Input) where
   ordinary (Dis name out) which a h = file_ordinary Has name (Disassembles out) (disassembles_ordinary out) a h.1
   ordinary (Compile name out) which a h = file_ordinary Has name (Assembles Source out) (assembles_ordinary Source out) a h.1
   ordinary (Judge name memory) which a h = judges_ordinary Has name memory a h.1
+  ordinary (Stress seed count) which a h = runs_job_ordinary (Holds (Some (stress_files seed count))) Only given stress_job which a h
 
 -- what it gives for what was found it gives for known files, or a read fault
 given_known : (Has Has' : List ℕ → Found → Type 0) (given : Input) → ((name bytes : List ℕ) → Has name (table.Contents bytes) → Has' name (table.Contents bytes))
@@ -97,6 +101,7 @@ given_known Has Has' given known (Some (Judge name memory)) which a h =
       | inl e ↦ inl e
       | inr k ↦ inr (h.0, k)
     ]
+given_known Has Has' given known (Some (Stress seed count)) which a h = inr h
 
 -- ---- the words
 
@@ -166,6 +171,8 @@ module _ (Has Holds_it : List ℕ → Found → Type 0) (known : (name bytes : L
   target_given given (Some (Dis name out)) which file a h e = file_target Has name out (Disassembles out) file a (λ b x. disassembled_target out b file x) h.1 e
   target_given given (Some (Compile name out)) which file a h e = file_target Has name out (Assembles Source out) file a (λ b x. assembled_target Source out b file x) h.1 e
   target_given given (Some (Judge name memory)) which file a h e = absurd (judges_target Has name memory file a h.1 e)
+  target_given given (Some (Stress seed count)) which file a h e =
+      absurd (let trace = job_target (Holds (Some (stress_files seed count))) Only given stress_job which file a h e in cc)
 
 -- ---- names of files
 
@@ -393,6 +400,7 @@ module _ (s : Shelved) (given : Input) (f : Flow) where
   quiet_for (Some (Dis file out)) still = still
   quiet_for (Some (Compile file out)) still = still
   quiet_for (Some (Judge file memory)) still = still
+  quiet_for (Some (Stress seed count)) still = quiet tt still
 
   takes_still : (result : Status) → IsQuiet f → f.takes_old < f.takes_new → IsFaulty result
   takes_still result still lt = absurd (less_than_itself f.takes_old f.takes_new still.1 lt)
@@ -420,6 +428,7 @@ module _ (s : Shelved) (given : Input) (f : Flow) where
   takes_clause (Some (Dis file out)) result still lt = takes_still result still lt
   takes_clause (Some (Compile file out)) result still lt = takes_still result still lt
   takes_clause (Some (Judge file memory)) result still lt = takes_still result still lt
+  takes_clause (Some (Stress seed count)) result flows lt = takes_run _ result flows lt
 
   outs_still : (result : Status) → IsQuiet f → f.puts_old < f.puts_new → IsPutFault result
   outs_still result still lt = absurd (less_than_itself f.puts_old f.puts_new still.3 lt)
@@ -447,6 +456,7 @@ module _ (s : Shelved) (given : Input) (f : Flow) where
   outs_clause (Some (Dis file out)) result still lt = outs_still result still lt
   outs_clause (Some (Compile file out)) result still lt = outs_still result still lt
   outs_clause (Some (Judge file memory)) result still lt = outs_still result still lt
+  outs_clause (Some (Stress seed count)) result flows lt = outs_run _ result flows lt
 
 module _ (words : List (List ℕ)) (given : Input) (s : Shelved) (r : Report) (f : Flow) where
   takes_both : (result : Status) → Responds words given s r f result → FlowsFor s.old (asked_of words) given f result → f.takes_old < f.takes_new → IsFaulty result
@@ -459,7 +469,7 @@ module _ (words : List (List ℕ)) (given : Input) (s : Shelved) (r : Report) (f
 
 module _ (words : List (List ℕ)) (s : Shelved) (r : Report) (f : Flow) where
   abbrev Safely : Option Asked → Status → Type 0
-  Safely o result = AsksRun o → IsEnd result → (job : Job) × AsksJob (Holds s.old) o job × RanSafely s r f job result
+  Safely o result = AsksRun o → IsEnd result → (job : Job) × AsksJob (Holds s.old) o job × RanSafely (files_for o s.old) s r f job result
 
   module _ (given : Input) (may : MayGive f.left_old given) where
     responded_as : (asked : Asked) (result : Status) → asked_of words ≡ Some asked → Responds words given s r f result → FlowsFor s.old (Some asked) given f result → Safely (Some asked) result → Responded words s r f result
@@ -467,7 +477,7 @@ module _ (words : List (List ℕ)) (s : Shelved) (r : Report) (f : Flow) where
         (given, may, responds, flows_as s given f words (Some asked) result e flows, subst (λ (o : Option Asked). Safely o result) (sym e) safely)
 
     pub exec_responded : (file : List ℕ) (budget memory : ℕ) (result : Status) → memory ≤ options.memory.most → asked_of words ≡ Some (Exec file budget memory) → DidRun (RunsJob (IsFound s) Only given (exec_job file budget memory)) given s r f result
-        → Flows given (RunOfJob (Holds s.old) given (exec_job file budget memory)) f result → (IsEnd result → RanSafely s r f (exec_job file budget memory) result) → Responded words s r f result
+        → Flows given (RunOfJob (Holds s.old) given (exec_job file budget memory)) f result → (IsEnd result → RanSafely s.old s r f (exec_job file budget memory) result) → Responded words s r f result
     exec_responded file budget memory result small e done flows safe =
         let asked = Exec file budget memory in
         let job = exec_job file budget memory in
@@ -476,12 +486,21 @@ module _ (words : List (List ℕ)) (s : Shelved) (r : Report) (f : Flow) where
         (λ asks end. (job, refl, safe end))
 
     pub run_responded : (name : List ℕ) (result : Status) → asked_of words ≡ Some (Run name) → DidRun (RunsFile (IsFound s) given name) given s r f result → Flows given (RunOfFile (Holds s.old) given name) f result
-        → (IsEnd result → (job : Job) × HasJob (Holds s.old) name job × RanSafely s r f job result) → Responded words s r f result
+        → (IsEnd result → (job : Job) × HasJob (Holds s.old) name job × RanSafely s.old s r f job result) → Responded words s r f result
     run_responded name result e done flows safe =
         let asked = Run name in
         responded_as asked result e (run_gave words given s r f asked e (RunsFile (IsFound s) given name) (λ which a gives. gives) tt result done)
         (flows_more given (RunOfFile (Holds s.old) given name) _ (λ run h. (h, run_is_accepted (Holds s.old) given h.job run (job_is_bounded h.bytes h.job h.is_job).memory h.runs)) f result flows)
         (λ asks end. safe end)
+
+    pub stress_responded : (seed count : ℕ) (result : Status) → asked_of words ≡ Some (Stress seed count) → DidRun (RunsJob (Holds (Some (stress_files seed count))) Only given stress_job) given s r f result
+        → Flows given (RunOfJob (Holds (Some (stress_files seed count))) given stress_job) f result → (IsEnd result → RanSafely (Some (stress_files seed count)) s r f stress_job result) → Responded words s r f result
+    stress_responded seed count result e done flows safe =
+        let asked = Stress seed count in
+        let Has = Holds (Some (stress_files seed count)) in
+        responded_as asked result e (run_gave words given s r f asked e (RunsJob Has Only given stress_job) (λ which a gives. gives) tt result done)
+        (flows_more given (RunOfJob Has given stress_job) _ (λ run h. (h, run_is_accepted Has given stress_job run (omega arith) h)) f result flows)
+        (λ asks end. (stress_job, refl, safe end))
 
     pub check_responded : (file : List ℕ) (result : Status) → asked_of words ≡ Some (Check file) → Tells (Checks (IsFound s) file) s r result → IsQuiet f → Responded words s r f result
     check_responded file result e done still =
@@ -518,9 +537,10 @@ module _ (words : List (List ℕ)) (s : Shelved) (r : Report) (f : Flow) where
 -- ---- a run
 
 run_clause : (words : List (List ℕ)) (s : Shelved) (r : Report) (f : Flow) (status : Status)
-    → ((job : Job) × AsksJob (Holds s.old) (asked_of words) job × RanSafely s r f job status)
-    → (job : Job) × AsksJob (Holds s.old) (asked_of words) job × KeepsRun s r f job status
-run_clause words s r f status h = (h.0, h.1, record { safe = h.2; means = λ name file program. ran_as_meant s r f h.0 name file status program h.2 })
+    → ((job : Job) × AsksJob (Holds s.old) (asked_of words) job × RanSafely (files_for (asked_of words) s.old) s r f job status)
+    → (job : Job) × AsksJob (Holds s.old) (asked_of words) job × KeepsRun (files_for (asked_of words) s.old) s r f job status
+run_clause words s r f status h =
+    (h.0, h.1, record { safe = h.2; means = λ name file program. ran_as_meant (files_for (asked_of words) s.old) s r f h.0 name file status program h.2 })
 
 -- ---- the contract
 

@@ -1,6 +1,6 @@
 -- A run of a file of C that has come to an end does what its unit means: it is the run of one module, linked alone, which is compiled.
 use Rattle.std.proofs.Common.{◌≡◌, ◌∙◌, ℕ, ◌≤◌, List, [], ◌∷◌, refl, sym, ap, subst}
-use Rattle.std.specs.Prelude.{None, Result, Ok, Err, codes, length}
+use Rattle.std.specs.Prelude.{Option, None, Result, Ok, Err, codes, length}
 use Rattle.ms_run.specs.Source.{IsModule, IsUnit}
 use Rattle.c_check.proofs.WellTyped.{typing_well}
 use Rattle.c_code.specs.Limits.{instructions_of, most_instructions}
@@ -16,6 +16,7 @@ use Rattle.ms_machine.specs.Externs.{Fault}
 use Rattle.ms_machine.specs.Linked.{linked}
 use Rattle.ms_machine.specs.Store.{Store}
 use Rattle.ms_module.specs.declared.module.Module.{Module}
+use Rattle.ms_outside.specs.Files.{Files}
 use Rattle.ms_run.specs.Answers.{Finds, HasModule}
 use Rattle.ms_run.specs.Executions.{Ran, execution, if_linked, in_store, with_threads}
 use Rattle.ms_run.specs.Jobs.{AllLoaded, HasEntries, RunOfJob, in_turns, listed, no_more, one_more}
@@ -66,9 +67,9 @@ the_entries : (Has : Finds) (job : Job) (entries : List ℕ) → job.schedule �
 the_entries Has job _ e (in_turns none) = refl
 the_entries Has job _ e (listed file numbers some has) = absurd (let q = sym e ∙ some in cc)
 
-module _ (s : Shelved) (r : Report) (f : Flow) (job : Job) (name file : List ℕ) (status : Status) (program : IsProgram job name file) (safe : RanSafely s r f job status) where
+module _ (files : Option Files) (s : Shelved) (r : Report) (f : Flow) (job : Job) (name file : List ℕ) (status : Status) (program : IsProgram job name file) (safe : RanSafely files s r f job status) where
   abbrev Has : Finds
-  Has = Holds s.old
+  Has = Holds files
 
   abbrev the_job : RunOfJob Has safe.given job safe.run
   the_job = safe.of_job

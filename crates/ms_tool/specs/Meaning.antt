@@ -1,10 +1,11 @@
 -- What is kept of a run that has come to an end: both halves of the theorem, of the run that the answer tells of.
-use Rattle.std.specs.Prelude.{◌≡◌, ℕ, List, [], ◌∷◌, codes, None}
+use Rattle.std.specs.Prelude.{◌≡◌, ℕ, List, [], ◌∷◌, codes, Option, None}
 use Rattle.c_typed.specs.Tree.{Typed}
 use Rattle.c_runs.specs.Correct.{MeansRun}
 use Rattle.ms_job.specs.declared.job.Job.{Job}
 use Rattle.ms_machine.specs.Crews.{Input, Run}
 use Rattle.ms_machine.specs.Running.{AreBytes}
+use Rattle.ms_outside.specs.Files.{Files}
 use Rattle.ms_run.specs.Answers.{Finds, HasBytes}
 use Rattle.ms_run.specs.Loading.{Source, form_of}
 use Rattle.ms_run.specs.Observed.{Flow, Report, Shelved}
@@ -28,9 +29,10 @@ pub record RanAsMeant (Has : Finds) (file : List ℕ) (budget : ℕ) (given : In
   pub is_unit : IsUnit bytes unit
   pub means : AreBytes given → MeansRun unit given budget run
 
-pub record KeepsRun (s : Shelved) (r : Report) (f : Flow) (job : Job) (status : Status) : Type 0 where
+-- of a job whose modules and schedule are read from these files
+pub record KeepsRun (files : Option Files) (s : Shelved) (r : Report) (f : Flow) (job : Job) (status : Status) : Type 0 where
   -- Memory safety: the run is one of all modules that link, by the job's tasks, schedule and budget; status, report, the trace's file,
   -- input and output are its own; and its allocations, slices, reads, writes and frees are a trace that the colour monitor accepts.
-  pub safe : RanSafely s r f job status
+  pub safe : RanSafely files s r f job status
   -- Meaning: that run of a whole program of C has the output and the end that C means.
-  pub means : (name file : List ℕ) → IsProgram job name file → RanAsMeant (Holds s.old) file job.budget safe.given safe.run
+  pub means : (name file : List ℕ) → IsProgram job name file → RanAsMeant (Holds files) file job.budget safe.given safe.run

@@ -5,7 +5,7 @@ use Rattle.std.specs.FinMap.{get}
 use Rattle.ms_outside.specs.Faults.{Rose}
 use Rattle.ms_outside.specs.Files.{Files}
 use Rattle.ms_outside.specs.Sink.{IsFront}
-use Rattle.ms_command_line.specs.Asked.{Asked, Asm, Check, Compile, Dis, Exec, Judge, Run, asked_of, is_taken}
+use Rattle.ms_command_line.specs.Asked.{Asked, Asm, Check, Compile, Dis, Exec, Judge, Run, Stress, asked_of, is_taken}
 use Rattle.ms_command_line.specs.Commands.{usage_lines}
 use Rattle.ms_event.specs.Monitor.{Accepts}
 use Rattle.ms_job.specs.declared.job.Job.{Job}
@@ -19,6 +19,7 @@ use Rattle.ms_run.specs.Loading.{Source, Text}
 use Rattle.ms_run.specs.Observed.{Flow}
 use Rattle.ms_run.specs.Reporting.{AreLines, Grows, HasFailed, HasWritten, Holds, IsFound, KeepsFiles}
 use Rattle.ms_run.specs.SafeRuns.{IsEnd}
+use Rattle.ms_run.specs.Stress.{stress_files, stress_job}
 use Rattle.ms_run.specs.declared.gathering.Naming.TheVariants.{Only}
 use Rattle.ms_run.specs.declared.status.Status.{Status}
 use Rattle.ms_run.specs.declared.status.Status.TheVariants.{OutOfMemory, ReadFault, Usage, WriteFault}
@@ -37,6 +38,7 @@ GivesFor Has given (Asm name out) ran answer = (ran ≡ None) × OnFile Has name
 GivesFor Has given (Dis name out) ran answer = (ran ≡ None) × OnFile Has name (Disassembles out) answer
 GivesFor Has given (Compile name out) ran answer = (ran ≡ None) × OnFile Has name (Assembles Source out) answer
 GivesFor Has given (Judge name memory) ran answer = (ran ≡ None) × Judges Has name memory answer
+GivesFor Has given (Stress seed count) ran answer = RunsJob (Holds (Some (stress_files seed count))) Only given stress_job ran answer
 
 -- The words, what was found of files, and what the input gives, give this answer; and it tells of this run, if they ask
 -- for one.
@@ -55,12 +57,19 @@ AsksRun (Some (Asm name out)) = ⊥
 AsksRun (Some (Dis name out)) = ⊥
 AsksRun (Some (Compile name out)) = ⊥
 AsksRun (Some (Judge name memory)) = ⊥
+AsksRun (Some (Stress seed count)) = Unit {0}
 
 -- of this job
 abbrev pub AsksJob : Finds → Option Asked → Job → Type 0
 AsksJob Has (Some (Exec name budget memory)) job = job ≡ exec_job name budget memory
 AsksJob Has (Some (Run name)) job = HasJob Has name job
+AsksJob Has (Some (Stress seed count)) job = job ≡ stress_job
 AsksJob Has _ job = ⊥
+
+-- and the files from which its modules are read: `stress` has one of its own
+abbrev pub files_for : Option Asked → Option Files → Option Files
+files_for (Some (Stress seed count)) files = Some (stress_files seed count)
+files_for _ files = files
 
 -- A run whose input failed has an answer of its own, only where the count of the input rose.
 abbrev pub IsInputFault : List (List ℕ) → (before after : Outside) → Answer → Type 0
@@ -86,6 +95,10 @@ FlowsFor files (Some (Exec name budget memory)) given f status =
 FlowsFor files (Some (Run name)) given f status =
     Flows given
     (λ run. (runs : RunOfFile (Holds files) given name run) × Accepts runs.job.memory (events_of run.deeds))
+    f status
+FlowsFor files (Some (Stress seed count)) given f status =
+    Flows given
+    (λ run. RunOfJob (Holds (Some (stress_files seed count))) given stress_job run × Accepts stress_job.memory (events_of run.deeds))
     f status
 FlowsFor files _ given f status = IsQuiet f
 
@@ -177,7 +190,7 @@ pub record Keeps (words : List (List ℕ)) (before after : Outside) (status : St
   -- Where the words ask for a run and it has come to an end, it is safe, and that of a program of C does what the program means.
   pub run : AsksRun (asked_of words) → IsEnd status
       → (job : Job) × AsksJob (Holds before.files) (asked_of words) job
-      × KeepsRun (shelf_of before after) (report_of before after) (flow_of before after) job status
+      × KeepsRun (files_for (asked_of words) before.files) (shelf_of before after) (report_of before after) (flow_of before after) job status
   -- A fault that was counted is never passed over.
   pub reads : (name : List ℕ) → before.read_faults name < after.read_faults name → IsFaulty status
   pub writes : before.write_faults < after.write_faults → IsPutFault status

@@ -8,13 +8,15 @@ ghost use Rattle.ms_tool.specs.Top.{Keeps};
 
 use ms_command_line::{Request, WordsFault, parse_words, usage};
 use ms_outside::{Shelf, Sink, Source};
-use ms_run::{Status, answer, asm_file, check_file, compile_file, dis_file, exec, judge, run_job};
+use ms_run::{
+    Status, answer, asm_file, check_file, compile_file, dis_file, exec, judge, run_job, stress,
+};
 use std::alloc::Global;
 
 /// Does what the words of the command line ask for, of which the first is the program's name: `exec` reads a file from
 /// the shelf, validates the module that it spells and runs it; `run` does so with the modules and the tasks that a job
 /// names; `check` validates a module; `asm` and `dis` write it in the other form; `compile`
-/// writes that of a unit of C; `judge` judges the trace of a run.
+/// writes that of a unit of C; `judge` judges the trace of a run; `stress` runs a program that allocates and frees at random.
 ///
 /// The line of what came of it goes to the report. `input` and `out` are those of the module that is run.
 pub fn tool<F: Shelf, I: Source, O: Sink, R: Sink>(
@@ -69,6 +71,9 @@ fn respond<F: Shelf, I: Source, O: Sink, R: Sink>(
         }
         Ok(Request::Judge { file, memory }) => {
             judge(alloc, file, memory, shelf, input, out, report)
+        }
+        Ok(Request::Stress { seed, count }) => {
+            stress(alloc, seed, count, shelf, input, out, report)
         }
         Err(WordsFault::Refused) => answer(report, Status::Usage, usage().as_bytes()),
         Err(WordsFault::Memory) => Status::OutOfMemory,

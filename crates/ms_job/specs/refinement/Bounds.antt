@@ -1,9 +1,14 @@
 -- What holds of each job that a text says.
-use Rattle.std.specs.Prelude.{◌<◌, ◌≤◌, length, map}
+use Rattle.std.specs.Prelude.{◌<◌, ◌≤◌, ℕ, List, length, map}
+use Rattle.std.specs.List.{All}
 use Rattle.ms_rules.specs.Modules.{AreDistinct}
 use Rattle.ms_command_line.specs.Commands as options
 use Rattle.ms_job.specs.Jobs.{most_lines}
 use Rattle.ms_job.specs.declared.job.Job.{Job}
+
+-- the numbers of a task and of modules, where there are so many of each
+abbrev pub AreThere : (tasks modules : ℕ) → ℕ × List ℕ → Type 0
+AreThere tasks modules asked = (asked.0 < tasks) × All (λ number. number < modules) asked.1
 
 -- names, tasks and numbers are within what its lines may say
 pub record IsBounded (j : Job) : Type 0 where
@@ -18,3 +23,5 @@ pub record IsBounded (j : Job) : Type 0 where
   pub budget : j.budget ≤ options.budget.most
   -- how many bytes the segment memory has
   pub memory : j.memory ≤ options.memory.most
+  -- what is asked of reach names what there is
+  pub reach : All (AreThere (length j.tasks) (length j.modules)) j.reach

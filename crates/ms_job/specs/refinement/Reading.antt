@@ -27,6 +27,12 @@ Follows answer new (Ok _) = answer ≡ Some new
 Follows answer new (Err Broken) = answer ≡ None
 Follows answer new (Err Memory) = Unit {0}
 
+-- what a name or several stand for, or they break a rule
+abbrev pub Finds : {A : Type 0} → Option A → Result A Stop → Type 0
+Finds answer (Ok x) = answer ≡ Some x
+Finds answer (Err Broken) = answer ≡ None
+Finds answer (Err Memory) = Unit {0}
+
 -- the lines of a text are these, or the number of the first that breaks a rule
 abbrev pub ReadsLines : Result Draft ℕ → Result Draft JobFault → Type 0
 ReadsLines answer (Ok d) = answer ≡ Ok d

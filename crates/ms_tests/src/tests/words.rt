@@ -10,7 +10,7 @@ struct Taken {
     request: Request<'static>,
 }
 
-const TAKEN: [Taken; 19] = [
+const TAKEN: [Taken; 22] = [
     Taken {
         words: &["mswasm", "exec", "a"],
         request: Request::Exec {
@@ -145,9 +145,27 @@ const TAKEN: [Taken; 19] = [
             memory: 64,
         },
     },
+    Taken {
+        words: &["mswasm", "stress", "1", "100000"],
+        request: Request::Stress {
+            seed: 1,
+            count: 100_000,
+        },
+    },
+    Taken {
+        words: &["mswasm", "stress", "2147483646", "1"],
+        request: Request::Stress {
+            seed: 2_147_483_646,
+            count: 1,
+        },
+    },
+    Taken {
+        words: &["mswasm", "stress", "+007", "--", "+3"],
+        request: Request::Stress { seed: 7, count: 3 },
+    },
 ];
 
-const REFUSED: [&[&str]; 46] = [
+const REFUSED: [&[&str]; 55] = [
     &[],
     &["mswasm"],
     &["mswasm", "help"],
@@ -194,6 +212,15 @@ const REFUSED: [&[&str]; 46] = [
     &["mswasm", "judge", "a", "--budget", "5"],
     &["mswasm", "check", "-a"],
     &["mswasm", "check", "--a"],
+    &["mswasm", "stress"],
+    &["mswasm", "stress", "1"],
+    &["mswasm", "stress", "1", "2", "3"],
+    &["mswasm", "stress", "0", "3"],
+    &["mswasm", "stress", "2147483647", "3"],
+    &["mswasm", "stress", "1", "0"],
+    &["mswasm", "stress", "1", "100001"],
+    &["mswasm", "stress", "a", "3"],
+    &["mswasm", "stress", "1", "3", "--budget", "5"],
 ];
 
 fn expect_taken<R: Abort>(rt: &R, alloc: Global, rows: &[Taken]) {
@@ -218,5 +245,5 @@ fn expect_refused<R: Abort>(rt: &R, alloc: Global, rows: &[&[&str]]) {
 fn words_ask_or_are_refused(rt: HostRuntime) {
     expect_taken(&rt, rt.alloc(), &TAKEN);
     expect_refused(&rt, rt.alloc(), &REFUSED);
-    assert_eq!(rt; usage().lines().count(), 7);
+    assert_eq!(rt; usage().lines().count(), 8);
 }

@@ -12,7 +12,7 @@ use Rattle.ms_run.specs.Reporting.{CountsReads, Delivers, Holds, IsFound, IsKept
 use Rattle.ms_run.specs.SafeRuns.{IsEnd, RanSafely}
 use Rattle.ms_run.specs.declared.status.Status.{Status}
 use Rattle.ms_run.specs.declared.status.Status.TheVariants.{OutOfMemory, Usage}
-use Rattle.ms_tool.specs.Top.{AsksJob, AsksRun, FlowsFor, Gives}
+use Rattle.ms_tool.specs.Top.{AsksJob, AsksRun, FlowsFor, Gives, files_for}
 
 -- An answer of the table was delivered, that of usage exactly for words that are refused; or a run was cut short by a
 -- fault of its input or output; or memory ran out before there was an answer.
@@ -30,4 +30,4 @@ pub data Responds (words : List (List ℕ)) (given : Input) (s : Shelved) (r : R
 abbrev pub Responded : List (List ℕ) → Shelved → Report → Flow → Status → Type 0
 Responded words s r f status =
     (given : Input) × MayGive f.left_old given × Responds words given s r f status × FlowsFor s.old (asked_of words) given f status
-    × (AsksRun (asked_of words) → IsEnd status → (job : Job) × AsksJob (Holds s.old) (asked_of words) job × RanSafely s r f job status)
+    × (AsksRun (asked_of words) → IsEnd status → (job : Job) × AsksJob (Holds s.old) (asked_of words) job × RanSafely (files_for (asked_of words) s.old) s r f job status)

@@ -17,6 +17,7 @@ usage: mswasm asm FILE OUT
 usage: mswasm dis FILE OUT
 usage: mswasm compile FILE OUT
 usage: mswasm judge FILE [--memory N]
+usage: mswasm stress SEED COUNT
 ";
 
 /// What is outside.
@@ -144,9 +145,16 @@ fn read_line(alloc: Global, outside: &mut Outside, line: &str) -> Result<(), Fai
             add_to_file(alloc, &mut outside.shelf, way, name, value)
         }
         "fails" => let_fail(outside, name, value.parse::<u64>()?),
-        "row" | "input" | "before" | "words" | "status" | "report" | "out" | "took" | "wrote" => {
-            Ok(())
-        }
+        "row"
+        | "input"
+        | "before"
+        | "words"
+        | "status"
+        | "report"
+        | "rest"
+        | "out"
+        | "took"
+        | "wrote" => Ok(()),
         _ => Err(Fail::new(line)),
     }
 }
@@ -237,6 +245,27 @@ fn expect_status(rt: &impl Abort, row: &str, status: Status) -> Result<(), Fail>
     Ok(())
 }
 
+/// What stands behind the first line of a text.
+fn behind_line(text: &[u8]) -> &[u8] {
+    match text.iter().position(|byte| *byte == b'\n') {
+        Some(end) => &text[end + 1..],
+        None => b"".as_slice(),
+    }
+}
+
+/// Whether the report is the one that is wanted, or what stands behind its first line.
+fn expect_report<R: Abort + AllocGlobal>(rt: &R, row: &str, report: &[u8]) -> Result<(), Fail> {
+    if field(row, "rest")?.is_some() {
+        let lines = wanted(rt.alloc(), row, "rest", "lines")?;
+        let behind = behind_line(report);
+        expect_bytes(rt, row, "the rest of the report", behind, lines.as_slice());
+        return Ok(());
+    }
+    let lines = wanted_report(rt.alloc(), row)?;
+    expect_bytes(rt, row, "the report", report, lines.as_slice());
+    Ok(())
+}
+
 /// Whether the report and the output are those that are wanted.
 fn expect_sinks<R: Abort + AllocGlobal>(
     rt: &R,
@@ -244,8 +273,7 @@ fn expect_sinks<R: Abort + AllocGlobal>(
     report: &MemSink,
     out: &MemSink,
 ) -> Result<(), Fail> {
-    let lines = wanted_report(rt.alloc(), row)?;
-    expect_bytes(rt, row, "the report", report.held(), lines.as_slice());
+    expect_report(rt, row, report.held())?;
     let text = wanted(rt.alloc(), row, "out", "text")?;
     expect_bytes(rt, row, "the output", out.held(), text.as_slice());
     Ok(())
@@ -323,6 +351,6 @@ fn expect_rows<R: Abort + AllocGlobal>(rt: &R, table: &str) -> Result<usize, Fai
 
 #[test]
 fn worked_rows(rt: HostRuntime) -> Result<(), Fail> {
-    assert_eq!(rt; expect_rows(&rt, rows::ROWS)?, 199);
+    assert_eq!(rt; expect_rows(&rt, rows::ROWS)?, 209);
     Ok(())
 }

@@ -13,7 +13,7 @@ loop-row-init c = λ start is. (start, is, refl)
 pub loop-row-preserved : goal.loop-row-preserved
 loop-row-preserved c = λ start is.
     let so_far = c.loop-row.invariant start is in
-    let none : CommandRow = record { name = record { ref_ptr = (0, 0); now = [] }; places = record { ref_ptr = (0, 0); now = [] }; options = record { ref_ptr = (0, 0); now = [] } } in
+    let none : CommandRow = record { name = record { ref_ptr = (0, 0); now = [] }; places = record { ref_ptr = (0, 0); now = [] }; numbers = record { ref_ptr = (0, 0); now = [] }; options = record { ref_ptr = (0, 0); now = [] } } in
     let row : said.CommandRow = command_said (slice_index_or c.args.rows.now c.loop-row.row-index none) in (
       with_command so_far.0 row,
       adds_subcommand so_far.0 (app_of_command row) c.loop-row.program c.in_ok-command_of.field-0 c.in_ok-program.program so_far.1 c.in_ok-command_of.ensures c.in_ok-program.ensures,

@@ -1,4 +1,4 @@
--- The chain from its last call back: the first four of the filled parts between spaces.
+-- The chain from its last call back: the first of the filled parts between spaces.
 use Rattle.std.proofs.Common.{◌==◌, not, length, lit<, rules, tests}
 use Rattle.std.proofs.lemmas.Iterator.{YieldsList-from_take}
 use Rattle.std.proofs.lemmas.Iterator.Consumers.{map_from_collect, YieldsList-at, YieldsList-from_filter}
@@ -8,7 +8,7 @@ use Rattle.ms_job.proofs.words.words_of.Goals as goal
 pub returns : goal.returns
 returns c =
     map_from_collect _ c.collect.ensures.ran
-    (YieldsList-from_take 4
+    (YieldsList-from_take 67
     (YieldsList-at c.take.ensures.source
     (YieldsList-from_filter _ (λ word. not (length word == 0))
     (YieldsList-at c.filter.ensures.source

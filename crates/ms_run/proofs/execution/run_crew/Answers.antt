@@ -1,10 +1,11 @@
 use Rattle.std.proofs.Common.{◌∙◌, ap, length, refl, sym}
-use Rattle.ms_machine.specs.Crews.{results}
-use Rattle.ms_tasks.specs.refinement.Logs.{Log}
+use Rattle.ms_machine.specs.Crews.{Input, begun, results}
+use Rattle.ms_tasks.proofs.Leaving.{run_leaves}
 use Rattle.ms_tasks.specs.refinement.Schedules.{entries_of}
 use Rattle.ms_run.specs.Lines.{budget_line, result_lines, trap_line}
 use Rattle.ms_run.specs.declared.status.Status.TheVariants.{OutOfMemory, WriteFault}
-use Rattle.ms_run.proofs.Ending.{budget_printed, memory_printed, read_fault_printed, results_printed, tasks_stay, trap_printed, write_fault_printed}
+use Rattle.ms_run.specs.refinement.Counts.{blank}
+use Rattle.ms_run.proofs.Ending.{budget_printed, memory_printed, read_fault_printed, results_printed, tasks_are, tasks_stay, trap_printed, write_fault_printed}
 use Rattle.ms_run.proofs.execution.run_crew.Goals as goal
 
 pub result_lines-lines-requires : goal.result_lines-lines-requires
@@ -13,29 +14,53 @@ result_lines-lines-requires g c =
     let crew = c.args.crew.now.crew in
     c.requires.tasks.0 ∙ sym (tasks_stay (entries_of c.args.schedule.now (length crew.tasks) c.args.budget) crew c.run.new.self.crew run.0 run.1.1)
 
+pub tell_run-requires-clause-tasks : goal.tell_run-requires-clause-tasks
+tell_run-requires-clause-tasks g c =
+    let run = c.in-Results.ensures.run in
+    let crew = c.args.crew.now.crew in
+    tasks_are (entries_of c.args.schedule.now (length crew.tasks) c.args.budget) crew c.run.new.self.crew run.0 c.args.tasks c.args.telling.now.reach c.requires.tasks.0 run.1.1 c.requires.reach
+
 pub returns-in-Results-clause-printed : goal.returns-in-Results-clause-printed
 returns-in-Results-clause-printed g c =
     let e = c.in-Results.ensures in
-    let keeps = ap (λ (l : Log). l.trace.keep) c.new-log.ensures ∙ c.is_some.ensures in
+    let is_new = c.new-log.ensures ∙ ap blank c.is_some.ensures in
+    let crew = c.args.crew.now.crew in
+    let leaves = λ (given : Input). run_leaves (entries_of c.args.schedule.now (length crew.tasks) c.args.budget) (begun crew) given in
     let printed = c.tell_run.ensures.printed (result_lines (results c.run.new.self.crew.tasks)) c.result_lines-lines.ensures in
-    results_printed c.args.telling.now _ c.run.new.self.crew _ _ _ c.new-log.result _ c.tell_run.result keeps (ap (λ (l : Log). l.trace.events) c.new-log.ensures) e.input_faults e.out_faults e.run
-    (rw (c.store.ensures, c.events.ensures) at printed)
+    results_printed c.args.telling.now _ c.run.new.self.crew _ _ _ c.new-log.result _ c.tell_run.result is_new leaves e.input_faults e.out_faults e.run
+    printed
+
+pub tell_run-requires-in-Trap-clause-tasks : goal.tell_run-requires-in-Trap-clause-tasks
+tell_run-requires-in-Trap-clause-tasks g c =
+    let run = c.in-Trap.ensures.run in
+    let crew = c.args.crew.now.crew in
+    tasks_are (entries_of c.args.schedule.now (length crew.tasks) c.args.budget) crew c.run.new.self.crew run.0 c.args.tasks c.args.telling.now.reach c.requires.tasks.0 run.1.1 c.requires.reach
 
 pub returns-in-Trap-clause-printed : goal.returns-in-Trap-clause-printed
 returns-in-Trap-clause-printed g c =
     let e = c.in-Trap.ensures in
-    let keeps = ap (λ (l : Log). l.trace.keep) c.new-log.ensures ∙ c.is_some.ensures in
+    let is_new = c.new-log.ensures ∙ ap blank c.is_some.ensures in
+    let crew = c.args.crew.now.crew in
+    let leaves = λ (given : Input). run_leaves (entries_of c.args.schedule.now (length crew.tasks) c.args.budget) (begun crew) given in
     let printed = c.tell_run-in-Trap.ensures.printed (trap_line c.in-Trap.kind) c.trap_line-lines.ensures in
-    trap_printed c.args.telling.now _ c.run.new.self.crew _ _ _ c.new-log.result _ c.tell_run-in-Trap.result keeps (ap (λ (l : Log). l.trace.events) c.new-log.ensures) c.in-Trap.field-0 c.in-Trap.kind e.input_faults e.out_faults e.run
-    (rw (c.store-in-Trap.ensures, c.events-in-Trap.ensures) at printed)
+    trap_printed c.args.telling.now _ c.run.new.self.crew _ _ _ c.new-log.result _ c.tell_run-in-Trap.result is_new leaves c.in-Trap.field-0 c.in-Trap.kind e.input_faults e.out_faults e.run
+    printed
+
+pub tell_run-requires-in-Budget-clause-tasks : goal.tell_run-requires-in-Budget-clause-tasks
+tell_run-requires-in-Budget-clause-tasks g c =
+    let run = c.in-Budget.ensures.run in
+    let crew = c.args.crew.now.crew in
+    tasks_are (entries_of c.args.schedule.now (length crew.tasks) c.args.budget) crew c.run.new.self.crew run.0 c.args.tasks c.args.telling.now.reach c.requires.tasks.0 run.1.1 c.requires.reach
 
 pub returns-in-Budget-clause-printed : goal.returns-in-Budget-clause-printed
 returns-in-Budget-clause-printed g c =
     let e = c.in-Budget.ensures in
-    let keeps = ap (λ (l : Log). l.trace.keep) c.new-log.ensures ∙ c.is_some.ensures in
+    let is_new = c.new-log.ensures ∙ ap blank c.is_some.ensures in
+    let crew = c.args.crew.now.crew in
+    let leaves = λ (given : Input). run_leaves (entries_of c.args.schedule.now (length crew.tasks) c.args.budget) (begun crew) given in
     let printed = c.tell_run-in-Budget.ensures.printed budget_line c.budget_line-lines.ensures in
-    budget_printed c.args.telling.now _ c.run.new.self.crew _ _ _ c.new-log.result _ c.tell_run-in-Budget.result keeps (ap (λ (l : Log). l.trace.events) c.new-log.ensures) e.input_faults e.out_faults e.run
-    (rw (c.store-in-Budget.ensures, c.events-in-Budget.ensures) at printed)
+    budget_printed c.args.telling.now _ c.run.new.self.crew _ _ _ c.new-log.result _ c.tell_run-in-Budget.result is_new leaves e.input_faults e.out_faults e.run
+    printed
 
 pub returns-in-ReadFault-clause-printed : goal.returns-in-ReadFault-clause-printed
 returns-in-ReadFault-clause-printed g c =

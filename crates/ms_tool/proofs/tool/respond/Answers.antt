@@ -4,7 +4,7 @@ use Rattle.ms_machine.proofs.Outsides.{some_input}
 use Rattle.ms_command_line.specs.Asked.{IsRequest, IsInRange, view}
 use Rattle.ms_command_line.specs.declared.request.Request.{Request}
 use Rattle.ms_command_line.specs.declared.request.WordsFault.{WordsFault}
-use Rattle.ms_tool.proofs.Complete.{asm_responded, check_responded, compile_responded, dis_responded, exec_responded, judge_responded, nothing_responded, run_responded, usage_responded}
+use Rattle.ms_tool.proofs.Complete.{asm_responded, check_responded, compile_responded, dis_responded, exec_responded, judge_responded, nothing_responded, run_responded, stress_responded, usage_responded}
 use Rattle.ms_tool.proofs.tool.respond.Goals as goal
 
 pub returns-in-Ok-Exec : goal.returns-in-Ok-Exec
@@ -23,6 +23,14 @@ returns-in-Ok-Run g c =
     let asked = it.ensures.answers ∙ ap (λ (r : Request). Some (view r)) it.field-0-is in
     let e = c.run_job.ensures in
     run_responded words _ _ _ e.did.0 e.did.1 it.job.now c.run_job.result asked e.did.2 e.did.3 e.safe
+
+pub returns-in-Ok-Stress : goal.returns-in-Ok-Stress
+returns-in-Ok-Stress g c =
+    let it = c.in-Ok-Stress in
+    let words = map (λ w. w.now) c.args.words.now in
+    let asked = it.ensures.answers ∙ ap (λ (r : Request). Some (view r)) it.field-0-is in
+    let e = c.stress.ensures in
+    stress_responded words _ _ _ e.did.0 e.did.1 it.seed it.count c.stress.result asked e.did.2 e.did.3 e.safe
 
 pub returns-in-Ok-Check : goal.returns-in-Ok-Check
 returns-in-Ok-Check g c =

@@ -4,7 +4,8 @@
 //! `input: T` may be taken (`hi`, if there is none), and `fails D: 2` lets the second call of D (`read`, `write`, `input`, `out`, `report`) fail.
 //! What is asked: the words of `words: W`, after those of `before: W`, of which nothing is compared but what they leave outside.
 //! What is wanted: `status: N`, `report: A / B`, `out: T`, `took: T` of the input, and the file `o` by `wrote lines: A / B` or `wrote hex: 00 61`.
-//! A report of `usage` are the usage lines. Where a line isn't there nothing is wanted: no report, no byte put or taken, no file `o`.
+//! A report of `usage` are the usage lines; `rest: A / B` is what stands behind the first line of the report.
+//! Where a line isn't there nothing is wanted: no report, no byte put or taken, no file `o`.
 
 /// Files that are there in each row.
 pub const FILES: &str = r#"# A module that gives 7, in text, in binary and as a unit of C.
@@ -101,6 +102,31 @@ report: usage
 row: less memory than a trace may be judged for
 text t:
 words: judge t --memory 8
+status: 2
+report: usage
+
+row: random numbers that begin with 0
+words: stress 0 3
+status: 2
+report: usage
+
+row: random numbers that begin with the modulus
+words: stress 2147483647 3
+status: 2
+report: usage
+
+row: no random number
+words: stress 1 0
+status: 2
+report: usage
+
+row: more random numbers than can be
+words: stress 1 100001
+status: 2
+report: usage
+
+row: a count that isn't given
+words: stress 1
 status: 2
 report: usage
 
@@ -1312,4 +1338,42 @@ row: a dump can't be reported
 fails report: 2
 words: run dumped
 status: 6
-report: done"#;
+report: done
+
+row: the numbers of what a run did can't be reported
+fails report: 1
+words: stress 1 3
+status: 6
+
+# What modules reach
+
+row: the handle in a global reaches its segment, and another module nothing
+text a.wat: (global $g (mut handle) handle.null) (func (export "main") i32.const 8 segment.new heap global.set $g)
+text b.wat: (module)
+lines j: module a a.wat / module b b.wat / task a main / reach 0 a / reach 0 b
+words: run j
+status: 0
+report: done / reach 0 1 8 / reach 1 0 0
+
+row: a slice in a global reaches its bytes
+lines a.wat: (global $g (mut handle) handle.null)
+lines a.wat: (func (export "main") i32.const 8 segment.new heap i32.const 2 i32.const 3 handle.slice global.set $g)
+text b.wat: (module)
+lines j: module a a.wat / module b b.wat / task a main / reach 0 a
+words: run j
+status: 0
+report: done / reach 0 1 3
+
+row: what a module reaches whose task doesn't stand above
+text a.wat: (func (export "main"))
+lines j: module a a.wat / reach 0 a / task a main
+words: run j
+status: 3
+report: refused job line 2
+
+# Random numbers, of which the first three are 48271, 182605794 and 1291394886: places 3215, 2018 and 3910
+
+row: four segments, one for each number and one for the places
+words: stress 1 3
+status: 0
+rest: allocs 4 / frees 4 / reads 4108 / writes 6 / result 963"#;

@@ -4,7 +4,7 @@
 use super::*;
 use ms_job::parse;
 use ms_live::{Gaps, ListGaps, TreeGaps};
-use ms_run::{Naming, run_parsed};
+use ms_run::{Naming, run_parsed, stress_over};
 use ms_tagged::{ByteTags, Granules, Tagged};
 
 /// What stands before the instructions of a module's function.
@@ -123,4 +123,29 @@ fn the_plain_stores(rt: HostRuntime) -> Result<(), Fail> {
 #[test]
 fn the_stores_of_the_program(rt: HostRuntime) -> Result<(), Fail> {
     expect_printed::<TreeGaps, Granules>(&rt, rt.alloc(), &ROWS)
+}
+
+/// What comes of random numbers over stores of these kinds: its status, and its report.
+fn stressed<G: Gaps, T: Tagged>(alloc: Global) -> Result<(Status, MemSink), Fail> {
+    let mut outside = nothing(alloc, "")?;
+    let given = stress_over::<G, T, MemShelf, MemSource, MemSink, MemSink>(
+        alloc,
+        7,
+        100_000,
+        &mut outside.shelf,
+        &mut outside.input,
+        &mut outside.out,
+        &mut outside.report,
+    );
+    Ok((given, outside.report))
+}
+
+#[test]
+fn random_numbers_over_both(rt: HostRuntime) -> Result<(), Fail> {
+    let (given, report) = stressed::<TreeGaps, Granules>(rt.alloc())?;
+    let (plain, lines) = stressed::<ListGaps, ByteTags>(rt.alloc())?;
+    assert!(rt; given == Status::Done);
+    assert!(rt; plain == Status::Done);
+    assert_eq!(rt; report.held(), lines.held());
+    Ok(())
 }
