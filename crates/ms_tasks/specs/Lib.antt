@@ -1,2 +1,4 @@
+pub mod Joined
+pub mod States
 pub mod Tasks
 pub mod refinement

@@ -19,6 +19,7 @@ mod rows;
 mod schedule;
 mod start_chain;
 mod starting;
+mod state;
 mod whose;
 
 pub use crew::Crew;
@@ -27,4 +28,5 @@ pub use log::Log;
 pub use ran::{Ran, Stop};
 pub use refusal::Refusal;
 pub use schedule::Schedule;
+pub use state::TaskState;
 pub use whose::Whose;
