@@ -12,7 +12,7 @@ use Rattle.ms_rules.specs.Modules.{AreDistinct, IsNotAmong}
 use Rattle.ms_command_line.specs.Commands as options
 use Rattle.ms_command_line.specs.Commands.{default_budget, default_memory}
 use Rattle.ms_job.specs.refinement.Bounds.{AreThere, IsBounded}
-use Rattle.ms_job.specs.Jobs.{checked, has_outer_space, is_name, is_passed_over, job_in, job_of, new_in, no_lines, number_of, set_of, with_budget, with_dump, with_line, with_lines, with_memory, with_module, with_reach, with_schedule, with_set, with_task, with_trace, with_turns, with_words, most_lines, most_turns}
+use Rattle.ms_job.specs.Jobs.{checked, has_outer_space, is_name, is_passed_over, job_in, job_of, new_in, no_lines, number_of, set_of, task_of, with_budget, with_dump, with_each, with_line, with_lines, with_memory, with_module, with_only, with_reach, with_schedule, with_task, with_trace, with_turns, with_words, last_task, most_lines, most_turns}
 use Rattle.ms_job.specs.Words.{number_behind, number_within, within, words}
 use Rattle.ms_job.specs.declared.draft.Draft.{Draft}
 use Rattle.ms_job.specs.declared.job.Job.{Job}
@@ -26,6 +26,7 @@ record AreBounded (d : Draft) : Type 0 where
   budget : IfSome d.budget (λ n. n ≤ options.budget.most)
   memory : IfSome d.memory (λ n. n ≤ options.memory.most)
   reach : All (AreThere (length d.tasks) (length d.modules)) d.reach
+  only : IfSome d.only (λ task. task < length d.tasks)
 
 -- a line that is taken leaves a draft within the bounds
 abbrev Keeps : Option Draft → Type 0
@@ -156,6 +157,11 @@ there_still tasks modules t m asked le lo h =
     (λ x k. (omega (arith, k.0, le), All-weaker (λ n. n < modules) (λ n. n < m) (λ n e. omega (arith, e, lo)) x.1 k.1))
     asked h
 
+-- where there are more tasks
+with_more : (o : Option ℕ) (tasks t : ℕ) → tasks ≤ t → IfSome o (λ task. task < tasks) → IfSome o (λ task. task < t)
+with_more None tasks t le h = tt
+with_more (Some n) tasks t le h = omega (arith, h, le)
+
 -- ---- the lines
 
 module _ (d : Draft) (h : AreBounded d) where
@@ -172,6 +178,7 @@ module _ (d : Draft) (h : AreBounded d) where
         budget = h.budget;
         memory = h.memory;
         reach = there_still _ (length d.modules) _ _ d.reach (omega arith) (omega (arith, length-append d.modules ((name, file) ∷ []))) h.reach;
+        only = h.only;
       })
 
   task_keeps : (name export : List ℕ) → Keeps (with_task d name export)
@@ -185,6 +192,7 @@ module _ (d : Draft) (h : AreBounded d) where
         budget = h.budget;
         memory = h.memory;
         reach = there_still (length d.tasks) _ _ _ d.reach (omega (arith, length-append d.tasks ((n, export) ∷ []))) (omega arith) h.reach;
+        only = with_more d.only _ _ (omega (arith, length-append d.tasks ((n, export) ∷ []))) h.only;
       }))
 
   turns_keep : (word : List ℕ) → Keeps (with_turns d word)
@@ -197,12 +205,13 @@ module _ (d : Draft) (h : AreBounded d) where
         budget = h.budget;
         memory = h.memory;
         reach = h.reach;
+        only = h.only;
       }))
 
   schedule_keeps : (file : List ℕ) → Keeps (with_schedule d file)
   schedule_keeps file =
       unless (is_some d.turns || is_some d.schedule) _
-      (record { names = h.names; few = h.few; turns = h.turns; budget = h.budget; memory = h.memory; reach = h.reach })
+      (record { names = h.names; few = h.few; turns = h.turns; budget = h.budget; memory = h.memory; reach = h.reach; only = h.only })
 
   budget_keeps : (word : List ℕ) → Keeps (with_budget d word)
   budget_keeps word =
@@ -214,6 +223,7 @@ module _ (d : Draft) (h : AreBounded d) where
         budget = (in_range options.budget.least options.budget.most word n is).1;
         memory = h.memory;
         reach = h.reach;
+        only = h.only;
       }))
 
   memory_keeps : (word : List ℕ) → Keeps (with_memory d word)
@@ -226,22 +236,44 @@ module _ (d : Draft) (h : AreBounded d) where
         budget = h.budget;
         memory = (in_range options.memory.least options.memory.most word n is).1;
         reach = h.reach;
+        only = h.only;
       }))
 
   trace_keeps : (file : List ℕ) → Keeps (with_trace d file)
   trace_keeps file =
       unless (is_some d.trace) _
-      (record { names = h.names; few = h.few; turns = h.turns; budget = h.budget; memory = h.memory; reach = h.reach })
+      (record { names = h.names; few = h.few; turns = h.turns; budget = h.budget; memory = h.memory; reach = h.reach; only = h.only })
 
   dump_keeps : Keeps (with_dump d)
   dump_keeps =
-      unless d.dump _ (record { names = h.names; few = h.few; turns = h.turns; budget = h.budget; memory = h.memory; reach = h.reach })
+      unless d.dump _ (record { names = h.names; few = h.few; turns = h.turns; budget = h.budget; memory = h.memory; reach = h.reach; only = h.only })
+
+  each_keeps : Keeps (with_each d)
+  each_keeps =
+      unless d.each _ (record { names = h.names; few = h.few; turns = h.turns; budget = h.budget; memory = h.memory; reach = h.reach; only = h.only })
+
+  task_below : (word : List ℕ) → IfSome (task_of d word) (λ task. task < length d.tasks)
+  task_below word =
+      next (number_within 0 last_task word) (λ task. cond (nat_lt task (length d.tasks)) (Some task) None) (λ task. Unit {0}) (λ task. task < length d.tasks)
+      (any (number_within 0 last_task word)) (λ task _. below task (length d.tasks))
+
+  only_keeps : (word : List ℕ) → Keeps (with_only d word)
+  only_keeps word =
+      unless (is_some d.only) _ (put (task_of d word) _ (λ task is.
+      record {
+        names = h.names;
+        few = h.few;
+        turns = h.turns;
+        budget = h.budget;
+        memory = h.memory;
+        reach = h.reach;
+        only = subst (λ (o : Option ℕ). IfSome o (λ task. task < length d.tasks)) is (task_below word);
+      }))
 
   reach_keeps : (word : List ℕ) (names : List (List ℕ)) → Keeps (with_reach d word names)
   reach_keeps word names =
       where_true (nat_lt (length d.reach) most_lines && nat_le (length names) most_lines) _ (λ e.
-      next (number_within 0 63 word) (λ task. with_set d task (set_of d [] names)) (λ task. Unit {0}) AreBounded (any (number_within 0 63 word)) (λ task _.
-      where_true (nat_lt task (length d.tasks)) _ (λ lower.
+      next (task_of d word) _ (λ task. task < length d.tasks) AreBounded (task_below word) (λ task lower.
       put (set_of d [] names) _ (λ set is.
       let P : Option (List ℕ) → Type 0 = λ o. IfSome o (AreBelow (length d.modules)) in
       let inside : AreBelow (length d.modules) set = subst P is (set_below d [] names (All-nil _)) in
@@ -251,18 +283,22 @@ module _ (d : Draft) (h : AreBounded d) where
         turns = h.turns;
         budget = h.budget;
         memory = h.memory;
-        reach = All-push (AreThere (length d.tasks) (length d.modules)) d.reach (task, set) h.reach (ltb-true _ _ lower, inside);
-      }))))
+        reach = All-push (AreThere (length d.tasks) (length d.modules)) d.reach (task, set) h.reach (lower, inside);
+        only = h.only;
+      })))
 
   words_keep : (words : List (List ℕ)) → Keeps (with_words d words)
   words_keep [] = tt
-  words_keep (word ∷ []) = either (bytes_eq word (codes "dump")) _ _ dump_keeps tt
+  words_keep (word ∷ []) =
+      either (bytes_eq word (codes "dump")) _ _ dump_keeps
+      (either (bytes_eq word (codes "each")) _ _ each_keeps tt)
   words_keep (word ∷ x ∷ []) =
       either (bytes_eq word (codes "turns")) _ _ (turns_keep x)
       (either (bytes_eq word (codes "schedule")) _ _ (schedule_keeps x)
       (either (bytes_eq word (codes "budget")) _ _ (budget_keeps x)
       (either (bytes_eq word (codes "memory")) _ _ (memory_keeps x)
-      (either (bytes_eq word (codes "trace")) _ _ (trace_keeps x) tt))))
+      (either (bytes_eq word (codes "trace")) _ _ (trace_keeps x)
+      (either (bytes_eq word (codes "only")) _ _ (only_keeps x) tt)))))
   words_keep (word ∷ x ∷ y ∷ []) =
       either (bytes_eq word (codes "module")) _ _ (module_keeps x y)
       (either (bytes_eq word (codes "task")) _ _ (task_keeps x y)
@@ -299,6 +335,7 @@ job_bounded d h some = record {
   budget = or_else d.budget default_budget (λ n. n ≤ options.budget.most) h.budget (omega arith);
   memory = or_else d.memory default_memory (λ n. n ≤ options.memory.most) h.memory (omega arith);
   reach = h.reach;
+  only = h.only;
 }
 
 nonzero : (n : ℕ) → (n == 0) ≡ false → 0 < n
@@ -318,7 +355,7 @@ checked_bounded (Ok d) h = finished (length d.tasks == 0) _ _ _ (job_of d) (λ e
 pub answer_is_bounded : (text : List ℕ) (r : Result Job JobFault) → job_in text ≡ r → IfOk r IsBounded
 answer_is_bounded text r e =
     let P : Result Job JobFault → Type 0 = λ answer. IfOk answer IsBounded in
-    let none : AreBounded no_lines = record { names = tt; few = omega arith; turns = tt; budget = tt; memory = tt; reach = All-nil _ } in
+    let none : AreBounded no_lines = record { names = tt; few = omega arith; turns = tt; budget = tt; memory = tt; reach = All-nil _; only = tt } in
     subst P e (checked_bounded (with_lines 1 no_lines (lines text)) (lines_keep 1 no_lines (lines text) none))
 
 -- a job that a text says is within the bounds

@@ -19,6 +19,10 @@ use Rattle.ms_job.specs.declared.fault.JobFault.TheVariants.{Budget, Line, NoTas
 abbrev pub most_lines : ℕ
 most_lines = 64
 
+-- the greatest number of a task
+abbrev pub last_task : ℕ
+last_task = 63
+
 -- how many entries in a row may name one task
 abbrev pub most_turns : ℕ
 most_turns = 1000000
@@ -85,6 +89,18 @@ with_trace d file = if is_some d.trace then None else Some (record d { trace = S
 abbrev pub with_dump : Draft → Option Draft
 with_dump d = if d.dump then None else Some (record d { dump = true })
 
+-- `each`, which asks how each task stands: once
+abbrev pub with_each : Draft → Option Draft
+with_each d = if d.each then None else Some (record d { each = true })
+
+-- the number of a task that stands above
+abbrev pub task_of : Draft → List ℕ → Option ℕ
+task_of d word = option_and_then (λ task. if nat_lt task (length d.tasks) then Some task else None) (number_within 0 last_task word)
+
+-- `only N`, by which the entries of all other tasks name none: once, of a task above, by its number
+abbrev pub with_only : Draft → List ℕ → Option Draft
+with_only d word = if is_some d.only then None else option_map (λ task. record d { only = Some task }) (task_of d word)
+
 -- the number of the module of this name, which stands above and isn't among these
 abbrev pub new_in : Draft → (so_far : List ℕ) → List ℕ → Option ℕ
 new_in d so_far name = option_and_then (λ number. if list_any (λ n. n == number) so_far then None else Some number) (number_of d name)
@@ -94,28 +110,27 @@ abbrev pub set_of : Draft → (so_far : List ℕ) → List (List ℕ) → Option
 set_of d so_far [] = Some so_far
 set_of d so_far (name ∷ names) = option_and_then (λ number. set_of d (so_far ++ number ∷ []) names) (new_in d so_far name)
 
--- the task of a number that stands above, and the modules
-abbrev pub with_set : Draft → (task : ℕ) → Option (List ℕ) → Option Draft
-with_set d task set =
-    if nat_lt task (length d.tasks) then option_map (λ modules. record d { reach = d.reach ++ (task, modules) ∷ [] }) set else None
-
 -- `reach T MODULE ..`, which asks what these modules reach with a task: of a task above, by its number, and 1 to 64 different modules
 -- named above; at most so many such lines
 abbrev pub with_reach : Draft → List ℕ → List (List ℕ) → Option Draft
 with_reach d word names =
     if nat_lt (length d.reach) most_lines && nat_le (length names) most_lines
-    then option_and_then (λ task. with_set d task (set_of d [] names)) (number_within 0 63 word)
+    then option_and_then (λ task. option_map (λ modules. record d { reach = d.reach ++ (task, modules) ∷ [] }) (set_of d [] names)) (task_of d word)
     else None
 
 -- a line of these words; any other words break a rule
 abbrev pub with_words : Draft → List (List ℕ) → Option Draft
-with_words d (word ∷ []) = if bytes_eq word (codes "dump") then with_dump d else None
+with_words d (word ∷ []) =
+    if bytes_eq word (codes "dump") then with_dump d
+    else if bytes_eq word (codes "each") then with_each d
+    else None
 with_words d (word ∷ x ∷ []) =
     if bytes_eq word (codes "turns") then with_turns d x
     else if bytes_eq word (codes "schedule") then with_schedule d x
     else if bytes_eq word (codes "budget") then with_budget d x
     else if bytes_eq word (codes "memory") then with_memory d x
     else if bytes_eq word (codes "trace") then with_trace d x
+    else if bytes_eq word (codes "only") then with_only d x
     else None
 with_words d (word ∷ x ∷ y ∷ []) =
     if bytes_eq word (codes "module") then with_module d x y
@@ -154,6 +169,8 @@ no_lines = record {
   trace = None;
   dump = false;
   reach = [];
+  each = false;
+  only = None;
 }
 
 -- the job behind all lines, or the number of the first that breaks a rule, where n is that of the first one
@@ -173,6 +190,8 @@ job_of d = record {
   trace = d.trace;
   dump = d.dump;
   reach = d.reach;
+  each = d.each;
+  only = d.only;
   counts = false;
 }
 

@@ -2,7 +2,7 @@
 
 ghost use Rattle.std.specs.Prelude.{◌≡◌, ◌≤◌, ◌∷◌, [], length, map, position};
 ghost use Rattle.std.specs.Str.{bytes_eq};
-ghost use Rattle.ms_job.specs.Jobs.{new_in, no_lines, set_of, with_budget, with_dump, with_line, with_memory, with_module, with_reach, with_schedule, with_task, with_trace, with_turns, with_words};
+ghost use Rattle.ms_job.specs.Jobs.{new_in, no_lines, set_of, task_of, with_budget, with_dump, with_each, with_line, with_memory, with_module, with_only, with_reach, with_schedule, with_task, with_trace, with_turns, with_words};
 ghost use Rattle.ms_job.specs.refinement.Reading.{Finds, Follows};
 ghost use Rattle.ms_job.specs.Words.{words};
 
@@ -34,6 +34,8 @@ pub(crate) struct Draft {
     pub(crate) trace: Option<Name>,
     pub(crate) dump: bool,
     pub(crate) reach: Vector<(u32, Vector<u32>)>,
+    pub(crate) each: bool,
+    pub(crate) only: Option<u32>,
 }
 
 /// Why a line isn't taken.
@@ -80,6 +82,8 @@ impl Draft {
             trace: None,
             dump: false,
             reach: Vector::new(alloc),
+            each: false,
+            only: None,
         }
     }
 
@@ -126,6 +130,7 @@ impl Draft {
     {
         match word {
             "dump" => self.dump(),
+            "each" => self.each(),
             _ => Err(Stop::Broken),
         }
     }
@@ -140,6 +145,7 @@ impl Draft {
             "budget" => self.budget(argument),
             "memory" => self.memory(argument),
             "trace" => self.trace(alloc, argument),
+            "only" => self.only(argument),
             _ => Err(Stop::Broken),
         }
     }
@@ -272,6 +278,39 @@ impl Draft {
         Ok(())
     }
 
+    /// `each`
+    fn each(&mut self) -> Result<(), Stop>
+        ensures { Follows (with_each self.old) self.new result }
+    {
+        if self.each {
+            return Err(Stop::Broken);
+        }
+        self.each = true;
+        Ok(())
+    }
+
+    /// `only N`
+    fn only(&mut self, word: &str) -> Result<(), Stop>
+        ensures { Follows (with_only self.old word.now) self.new result }
+    {
+        if self.only.is_some() {
+            return Err(Stop::Broken);
+        }
+        let Some(task) = self.task_of(word) else {
+            return Err(Stop::Broken);
+        };
+        self.only = Some(task);
+        Ok(())
+    }
+
+    /// The number of a task that stands above.
+    fn task_of(&self, word: &str) -> Option<u32>
+        ensures { result ≡ task_of self.now word.now }
+    {
+        let number = number(word.as_bytes(), 0, LAST_TASK)?;
+        (number < self.tasks.len() as u64).then_some(number as u32)
+    }
+
     /// `reach T MODULE ..`
     fn reach(&mut self, alloc: Global, task: &str, names: &[&str]) -> Result<(), Stop>
         ensures { Follows (with_reach self.old task.now (map (λ name. name.now) names.now)) self.new result }
@@ -282,14 +321,11 @@ impl Draft {
         if names.len() > MOST_LINES {
             return Err(Stop::Broken);
         }
-        let Some(task) = number(task.as_bytes(), 0, LAST_TASK) else {
+        let Some(task) = self.task_of(task) else {
             return Err(Stop::Broken);
         };
-        if task >= self.tasks.len() as u64 {
-            return Err(Stop::Broken);
-        }
         let modules = self.set_of(alloc, names)?;
-        self.reach.push((task as u32, modules))?;
+        self.reach.push((task, modules))?;
         Ok(())
     }
 

@@ -24,6 +24,10 @@ pub struct Job {
     pub dump: bool,
     /// What is asked of reach, at most 64: for each the number of a task, and those of 1 to 64 different modules.
     pub reach: Vector<(u32, Vector<u32>)>,
+    /// Whether it is reported at the end how each task stands, and whether it is apart from all others.
+    pub each: bool,
+    /// The number of the task whose entries alone name one: those of all others name a task that isn't there.
+    pub only: Option<u32>,
     /// Whether the numbers of steps and of events are reported in front of the end; no line of a job's text asks for it.
     pub counts: bool,
 }

@@ -70,6 +70,8 @@ fn finish(draft: Draft) -> Result<Job, JobFault>
         trace: draft.trace,
         dump: draft.dump,
         reach: draft.reach,
+        each: draft.each,
+        only: draft.only,
         counts: false,
     })
 }

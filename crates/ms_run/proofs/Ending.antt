@@ -11,24 +11,30 @@ use Rattle.ms_machine.specs.Crews.{Crew, End, Input, OutOfBudget as BudgetEnd, R
 use Rattle.ms_machine.specs.Running.{IsLeft}
 use Rattle.ms_tasks.specs.refinement.Logs.{Log, Trace, all_seen, logged}
 use Rattle.ms_tasks.proofs.Deeds.{events_kept}
+use Rattle.ms_tasks.specs.States.{by_stop, by_whose, if_trapped, in_crew}
+use Rattle.ms_tasks.specs.declared.state.TaskState.{TaskState}
+use Rattle.ms_tasks.specs.refinement.Making.{Addressed, AreAddresses}
 use Rattle.ms_tasks.specs.refinement.Outside.{HasBegun, HasRun}
 use Rattle.ms_tasks.specs.refinement.Runs.{CountsInput, CountsOut, DoesRun}
 use Rattle.ms_tasks.specs.declared.ran.Ran.TheVariants as answers
+use Rattle.ms_tasks.specs.declared.ran.Stop.{Stop}
 use Rattle.ms_tasks.specs.declared.whose.Whose.{Whose}
+use Rattle.ms_tasks.specs.declared.whose.Whose.TheVariants as whoses
 use Rattle.ms_tasks.specs.refinement.Steppers.{whose_of}
 use Rattle.ms_run.specs.Answers.{Answer, File}
-use Rattle.ms_run.specs.Executions.{EndsAs, TellsOf}
+use Rattle.ms_run.specs.Executions.{AreLeft, EndsAs, TellsOf}
 use Rattle.ms_run.specs.Flows.{Flowed, RunsPart, RunsWhole, TellsEnd, end_cut, end_printed, end_unprinted, input_failed, out_failed}
 use Rattle.ms_run.specs.Lines.{budget_line, input_fault_line, result_line, result_lines, trap_line}
 use Rattle.ms_run.specs.Observed.{Flow, Report, Shelved}
 use Rattle.ms_run.specs.Reporting.{Delivers, IsKept, KeepsFiles, Reports, failed, put, starved}
 use Rattle.ms_run.specs.Reached.{AreReached}
-use Rattle.ms_run.specs.Telling.{counted, dumped, traced}
+use Rattle.ms_run.specs.Standing.{AreStanding}
+use Rattle.ms_run.specs.Telling.{Asked, counted, dumped, traced}
 use Rattle.ms_run.specs.declared.status.Status.{Status}
 use Rattle.ms_run.specs.declared.status.Status.TheVariants.{Done, OutOfBudget, OutOfMemory, ReadFault, Trapped, WriteFault}
 use Rattle.ms_run.specs.declared.telling.Telling.{Telling}
 use Rattle.ms_run.specs.refinement.Counts.{blank, logged_lines}
-use Rattle.ms_run.specs.refinement.Told.{AreTasks, IsTold, told, untold, whole_report}
+use Rattle.ms_run.specs.refinement.Told.{AreListed, AreTasks, IsTold, state_in, told, untold, whole_report}
 use Rattle.ms_run.proofs.Counting.{run_counts}
 use Rattle.ms_run.proofs.Logged.{lines_logged}
 use Rattle.ms_run.proofs.Reaching.{begun_reached}
@@ -87,67 +93,95 @@ traced_name telling events file e = by telling.trace refl e where
 -- ---- the answers of the run of a crew
 
 -- all was told, or nothing for want of memory
-told_or : (telling : Telling) (c : Crew) (log : Log) (status : Status) (lines : List ℕ) (s : Shelved) (r : Report) (P : Status → Type 0) (result : Status) → IsTold telling c log status lines s r result
-    → ((reached : List ℕ) → AreReached c 0 telling.reach reached → Delivers (record { status = status; report = whole_report telling c log lines reached; file = traced telling log.trace.events }) s r result → P result)
+told_or : (telling : Telling) (c : Addressed) (log : Log) (status : Status) (lines : List ℕ) (s : Shelved) (r : Report) (P : Status → Type 0) (result : Status) → IsTold telling c log status lines s r result
+    → ((left : List ℕ) → AreListed telling c left → Delivers (record { status = status; report = whole_report telling c log lines left; file = traced telling log.trace.events }) s r result → P result)
     → (KeepsFiles s → IsKept r → P OutOfMemory) → P result
-told_or telling c log status lines s r P result (told reached are delivers) all none = all reached are delivers
+told_or telling c log status lines s r P result (told left are delivers) all none = all left are delivers
 told_or telling c log status lines s r P result (untold files kept) all none = none files kept
 
-module _ (telling : Telling) (run_over : Input → Run) (c : Crew) (s : Shelved) (r : Report) (f : Flow) (old new : Log) (result : Status) where
+-- what is told of how tasks stand is told of the run
+module _ (asked : Asked) (c : Addressed) (addresses : AreAddresses c.store asked.tasks c.addresses) where
+  -- where the states of the tasks are those of a run that ended so
+  left_of : (run : Run) (left : List ℕ) → run.crew ≡ begun c.crew → state_in c ≡ (λ n. if_trapped n run.end (in_crew (slice_get c.tasks n))) → AreListed asked.telling c left → AreLeft asked run left
+  left_of run left crew states (reached, standing, are, stand, is) =
+      let state : (x : Crew) → ℕ → TaskState = λ x n. if_trapped n run.end (in_crew (slice_get x.tasks n)) in
+      (
+        reached,
+        standing,
+        c.addresses,
+        subst (λ (x : Crew). AreReached x 0 asked.telling.reach reached) (sym crew) (begun_reached c.crew 0 asked.telling.reach reached are),
+        subst (λ (x : Crew). AreAddresses x.store asked.tasks c.addresses) (sym crew) addresses,
+        subst (λ (x : Crew). AreStanding x.store c.addresses (state x) asked.telling.each standing) (sym crew) (subst (λ (f : ℕ → TaskState). AreStanding c.store c.addresses f asked.telling.each standing) states stand),
+        is,
+      )
+
+module _ (asked : Asked) (run_over : Input → Run) (c : Addressed) (s : Shelved) (r : Report) (f : Flow) (old new : Log) (result : Status) where
+  abbrev telling : Telling
+  telling = asked.telling
+
   -- the answer of a run that ended with these lines
-  abbrev with_lines : Status → (lines reached : List ℕ) → Answer
-  with_lines status lines reached = record { status = status; report = whole_report telling c new lines reached; file = traced telling new.trace.events }
+  abbrev with_lines : Status → (lines left : List ℕ) → Answer
+  with_lines status lines left = record { status = status; report = whole_report telling c new lines left; file = traced telling new.trace.events }
 
   abbrev Printed_of : Status → List ℕ → Type 0
   Printed_of status lines = IsTold telling c new status lines s r result
 
-  module _ (is_new : old ≡ blank (is_some telling.trace)) (leaves : (given : Input) → IsLeft (run_over given).input given) where
-    ended : (given : Input) (end : End) (status : Status) (lines : List ℕ) → (run_over given).end ≡ end → EndsAs end status lines → (run_over given).crew ≡ begun c → f.takes_new ≡ f.takes_old → f.puts_new ≡ f.puts_old
-        → HasRun f.left_old f.left_new f.held_old f.held_new old new given (run_over given) → Printed_of status lines → TellsEnd telling run_over s r f result
-    ended given end status lines is ends crew takes puts has printed =
+  module _ (addresses : AreAddresses c.store asked.tasks c.addresses) (is_new : old ≡ blank (is_some telling.trace)) (leaves : (given : Input) → IsLeft (run_over given).input given) where
+    ended : (given : Input) (end : End) (status : Status) (lines : List ℕ) → state_in c ≡ (λ n. if_trapped n end (in_crew (slice_get c.tasks n))) → (run_over given).end ≡ end → EndsAs end status lines → (run_over given).crew ≡ begun c.crew → f.takes_new ≡ f.takes_old → f.puts_new ≡ f.puts_old
+        → HasRun f.left_old f.left_new f.held_old f.held_new old new given (run_over given) → Printed_of status lines → TellsEnd asked run_over s r f result
+    ended given end status lines states is ends crew takes puts has printed =
         let run = run_over given in
         let events : traced telling new.trace.events ≡ traced telling (events_of run.deeds) =
         ap (λ (x : Log). traced telling x.trace.events) has.log ∙ traced_same telling.trace old.trace (events_of run.deeds) (ap (λ (l : Log). l.trace.keep) is_new) (ap (λ (l : Log). l.trace.events) is_new) in
         let numbers : logged_lines telling new ≡ counted telling run.deeds =
         ap (logged_lines telling) (has.log ∙ ap (logged run.deeds) is_new) ∙ lines_logged (is_some telling.trace) run.deeds telling in
-        let tells : (reached : List ℕ) → AreReached c 0 telling.reach reached → TellsOf telling run (with_lines status lines reached) = λ reached are. (
+        let states_are : state_in c ≡ (λ n. if_trapped n run.end (in_crew (slice_get c.tasks n))) = subst (λ (e : End). state_in c ≡ (λ n. if_trapped n e (in_crew (slice_get c.tasks n)))) (sym is) states in
+        let tells : (left : List ℕ) → AreListed telling c left → TellsOf asked run (with_lines status lines left) = λ left are. (
           lines,
-          reached,
+          left,
           subst (λ (e : End). EndsAs e status lines) (sym is) ends,
-          subst (λ (x : Crew). AreReached x 0 telling.reach reached) (sym crew) (begun_reached c 0 telling.reach reached are),
-          ap (λ (x : List ℕ). x ++ (lines ++ (dumped telling c.store.segments ++ reached))) numbers ∙ ap (λ (x : Crew). counted telling run.deeds ++ (lines ++ (dumped telling x.store.segments ++ reached))) (sym crew),
+          left_of asked c addresses run left crew states_are are,
+          ap (λ (x : List ℕ). x ++ (lines ++ (dumped telling c.store.segments ++ left))) numbers ∙ ap (λ (x : Crew). counted telling run.deeds ++ (lines ++ (dumped telling x.store.segments ++ left))) (sym crew),
           events,
         ) in
         let done = whole_of f old new given run takes puts has in
-        told_or telling c new status lines s r (TellsEnd telling run_over s r f) result printed
-        (λ reached are delivers. end_printed given (with_lines status lines reached) (tells reached are) done delivers)
+        told_or telling c new status lines s r (TellsEnd asked run_over s r f) result printed
+        (λ left are delivers. end_printed given (with_lines status lines left) (tells left are) done delivers)
         (λ files kept. end_unprinted given (whole_part f given run (leaves given) done) files kept)
 
-    pub results_printed : CountsInput answers.Results f.takes_old f.takes_new → CountsOut answers.Results f.puts_old f.puts_new → (given : Input) × DoesRun answers.Results c f.left_old f.left_new f.held_old f.held_new old new given (run_over given)
-        → Printed_of Done (result_lines (results c.tasks)) → TellsEnd telling run_over s r f result
-    results_printed takes puts (given, does) delivers = ended given (Results (results c.tasks)) Done (result_lines (results c.tasks)) does.0 (refl, refl) does.1 takes puts does.2 delivers
+    -- how the tasks stand by the step that stopped the run
+    stopped_by : {stop : Option Stop} → c.trapped ≡ stop → state_in c ≡ (λ n. by_stop n stop (in_crew (slice_get c.tasks n)))
+    stopped_by is = ap (λ (o : Option Stop). λ (n : ℕ). by_stop n o (in_crew (slice_get c.tasks n))) is
 
-    pub trap_printed : (whose : Whose) (kind : TrapKind) → CountsInput (answers.Trap whose kind) f.takes_old f.takes_new → CountsOut (answers.Trap whose kind) f.puts_old f.puts_new → (given : Input) × DoesRun (answers.Trap whose kind) c f.left_old f.left_new f.held_old f.held_new old new given (run_over given)
-        → Printed_of Trapped (trap_line kind) → TellsEnd telling run_over s r f result
-    trap_printed whose kind takes puts (given, does) delivers = ended given (Trap (whose_of whose) kind) Trapped (trap_line kind) does.0 (refl, refl) does.1 takes puts does.2 delivers
+    trapped_as : (whose : Whose) (kind : TrapKind) → (λ (n : ℕ). by_whose n whose kind (in_crew (slice_get c.tasks n))) ≡ (λ n. if_trapped n (Trap (whose_of whose) kind) (in_crew (slice_get c.tasks n)))
+    trapped_as whoses.Start kind = refl
+    trapped_as (whoses.Task k) kind = refl
 
-    pub budget_printed : CountsInput answers.Budget f.takes_old f.takes_new → CountsOut answers.Budget f.puts_old f.puts_new → (given : Input) × DoesRun answers.Budget c f.left_old f.left_new f.held_old f.held_new old new given (run_over given)
-        → Printed_of OutOfBudget budget_line → TellsEnd telling run_over s r f result
-    budget_printed takes puts (given, does) delivers = ended given BudgetEnd OutOfBudget budget_line does.0 (refl, refl) does.1 takes puts does.2 delivers
+    pub results_printed : c.trapped ≡ None → CountsInput answers.Results f.takes_old f.takes_new → CountsOut answers.Results f.puts_old f.puts_new → (given : Input) × DoesRun answers.Results c.crew f.left_old f.left_new f.held_old f.held_new old new given (run_over given)
+        → Printed_of Done (result_lines (results c.tasks)) → TellsEnd asked run_over s r f result
+    results_printed none takes puts (given, does) delivers = ended given (Results (results c.tasks)) Done (result_lines (results c.tasks)) (stopped_by none) does.0 (refl, refl) does.1 takes puts does.2 delivers
 
-  pub read_fault_printed : CountsInput answers.ReadFault f.takes_old f.takes_new → CountsOut answers.ReadFault f.puts_old f.puts_new → (given : Input) × DoesRun answers.ReadFault c f.left_old f.left_new f.held_old f.held_new old new given (run_over given)
-      → KeepsFiles s → Reports ReadFault input_fault_line r result → TellsEnd telling run_over s r f result
+    pub trap_printed : (whose : Whose) (kind : TrapKind) → c.trapped ≡ Some (record { whose = whose; kind = kind }) → CountsInput (answers.Trap whose kind) f.takes_old f.takes_new → CountsOut (answers.Trap whose kind) f.puts_old f.puts_new → (given : Input) × DoesRun (answers.Trap whose kind) c.crew f.left_old f.left_new f.held_old f.held_new old new given (run_over given)
+        → Printed_of Trapped (trap_line kind) → TellsEnd asked run_over s r f result
+    trap_printed whose kind stopped takes puts (given, does) delivers = ended given (Trap (whose_of whose) kind) Trapped (trap_line kind) (stopped_by stopped ∙ trapped_as whose kind) does.0 (refl, refl) does.1 takes puts does.2 delivers
+
+    pub budget_printed : c.trapped ≡ None → CountsInput answers.Budget f.takes_old f.takes_new → CountsOut answers.Budget f.puts_old f.puts_new → (given : Input) × DoesRun answers.Budget c.crew f.left_old f.left_new f.held_old f.held_new old new given (run_over given)
+        → Printed_of OutOfBudget budget_line → TellsEnd asked run_over s r f result
+    budget_printed none takes puts (given, does) delivers = ended given BudgetEnd OutOfBudget budget_line (stopped_by none) does.0 (refl, refl) does.1 takes puts does.2 delivers
+
+  pub read_fault_printed : CountsInput answers.ReadFault f.takes_old f.takes_new → CountsOut answers.ReadFault f.puts_old f.puts_new → (given : Input) × DoesRun answers.ReadFault c.crew f.left_old f.left_new f.held_old f.held_new old new given (run_over given)
+      → KeepsFiles s → Reports ReadFault input_fault_line r result → TellsEnd asked run_over s r f result
   read_fault_printed takes puts (given, does) files reports =
       let part = part_of f old new given (run_over given) does in
       end_cut given part (of_reports (Flowed given f (run_over given)) ReadFault input_fault_line r result (puts, part) part part reports) files (input_failed takes.rose reports)
 
-  pub write_fault_printed : CountsInput answers.WriteFault f.takes_old f.takes_new → CountsOut answers.WriteFault f.puts_old f.puts_new → (given : Input) × DoesRun answers.WriteFault c f.left_old f.left_new f.held_old f.held_new old new given (run_over given)
-      → KeepsFiles s → IsKept r → TellsEnd telling run_over s r f WriteFault
+  pub write_fault_printed : CountsInput answers.WriteFault f.takes_old f.takes_new → CountsOut answers.WriteFault f.puts_old f.puts_new → (given : Input) × DoesRun answers.WriteFault c.crew f.left_old f.left_new f.held_old f.held_new old new given (run_over given)
+      → KeepsFiles s → IsKept r → TellsEnd asked run_over s r f WriteFault
   write_fault_printed takes puts (given, does) files kept =
       let part = part_of f old new given (run_over given) does in
       end_cut given part part files (out_failed puts.rose kept)
 
-  pub memory_printed : (given : Input) × DoesRun answers.Memory c f.left_old f.left_new f.held_old f.held_new old new given (run_over given) → KeepsFiles s → IsKept r → TellsEnd telling run_over s r f OutOfMemory
+  pub memory_printed : (given : Input) × DoesRun answers.Memory c.crew f.left_old f.left_new f.held_old f.held_new old new given (run_over given) → KeepsFiles s → IsKept r → TellsEnd asked run_over s r f OutOfMemory
   memory_printed (given, does) files kept = end_unprinted given (part_of f old new given (run_over given) does) files kept
 
 -- ---- the lines of the tasks

@@ -17,9 +17,9 @@ use Rattle.ms_run.specs.Flows.{IsQuiet, TellsEnd, TellsExecution, nothing_printe
 use Rattle.ms_run.specs.Lines.{link_line, task_line}
 use Rattle.ms_run.specs.Observed.{Flow, Report, Shelved}
 use Rattle.ms_run.specs.Reporting.{KeepsFiles, Reports}
+use Rattle.ms_run.specs.Telling.{Asked}
 use Rattle.ms_run.specs.declared.status.Status.{Status}
 use Rattle.ms_run.specs.declared.status.Status.TheVariants.{Refused}
-use Rattle.ms_run.specs.declared.telling.Telling.{Telling}
 
 -- ---- the crew of a store has a thread for each task
 
@@ -49,27 +49,27 @@ linked_none_made modules capacity s e = let made = linked_made modules capacity 
 
 -- ---- what was told
 
-module _ (telling : Telling) (s : Shelved) (r : Report) (f : Flow) where
-  same_printed : (e e' : Input → Execution) → ((given : Input) → e' given ≡ e given) → (result : Status) → TellsExecution telling e s r f result → TellsExecution telling e' s r f result
+module _ (asked : Asked) (s : Shelved) (r : Report) (f : Flow) where
+  same_printed : (e e' : Input → Execution) → ((given : Input) → e' given ≡ e given) → (result : Status) → TellsExecution asked e s r f result → TellsExecution asked e' s r f result
   same_printed e e' same result (refused x line is answers still files reports) = refused x line (λ given. same given ∙ is given) answers still files reports
   same_printed e e' same result (run_printed runs is tell) = run_printed runs (λ given. same given ∙ is given) tell
   same_printed e e' same result (nothing_printed still files kept) = nothing_printed still files kept
 
   -- the entries are those of a schedule for so many tasks
-  pub crew_printed : (tasks : List (ℕ × List ℕ)) (schedule : Schedule) (budget : ℕ) (store : Store) (c : Crew) → IsCrewOf store tasks c → (result : Status) → TellsEnd telling (run_of (entries_of schedule (length c.tasks) budget) c) s r f result
-      → TellsExecution telling (in_store tasks (entries_of schedule (length tasks) budget) store) s r f result
+  pub crew_printed : (tasks : List (ℕ × List ℕ)) (schedule : Schedule) (budget : ℕ) (store : Store) (c : Crew) → IsCrewOf store tasks c → (result : Status) → TellsEnd asked (run_of (entries_of schedule (length c.tasks) budget) c) s r f result
+      → TellsExecution asked (in_store tasks (entries_of schedule (length tasks) budget) store) s r f result
   crew_printed tasks schedule budget store c (threads, found, is) result tell =
       let entries = entries_of schedule (length tasks) budget in
       run_printed (run_of entries c) (λ given. ap (with_threads entries store given) found ∙ ap (λ (x : Crew). Ran (run_of entries x given)) (sym is))
-      (subst (λ n. TellsEnd telling (run_of (entries_of schedule n budget) c) s r f result) (crew_length store tasks c (threads, found, is)) tell)
+      (subst (λ n. TellsEnd asked (run_of (entries_of schedule n budget) c) s r f result) (crew_length store tasks c (threads, found, is)) tell)
 
   module _ (tasks : List (ℕ × List ℕ)) (entries : List ℕ) where
-    pub no_task_printed : (store : Store) (number : ℕ) → threads_from store tasks 0 ≡ Err number → IsQuiet f → (result : Status) → KeepsFiles s → Reports Refused (task_line number) r result → TellsExecution telling (in_store tasks entries store) s r f result
+    pub no_task_printed : (store : Store) (number : ℕ) → threads_from store tasks 0 ≡ Err number → IsQuiet f → (result : Status) → KeepsFiles s → Reports Refused (task_line number) r result → TellsExecution asked (in_store tasks entries store) s r f result
     no_task_printed store number found still result files reports = refused (NoTask number) (task_line number) (λ given. ap (with_threads entries store given) found) (refl, refl) still files reports
 
     module _ (modules : List (List ℕ × Module)) (capacity : ℕ) where
-      pub linked_printed : (store : Store) → linked modules capacity ≡ Ok store → (result : Status) → TellsExecution telling (in_store tasks entries store) s r f result → TellsExecution telling (execution modules tasks entries capacity) s r f result
+      pub linked_printed : (store : Store) → linked modules capacity ≡ Ok store → (result : Status) → TellsExecution asked (in_store tasks entries store) s r f result → TellsExecution asked (execution modules tasks entries capacity) s r f result
       linked_printed store e result tell = same_printed (in_store tasks entries store) (execution modules tasks entries capacity) (λ given. ap (if_linked tasks entries given) e) result tell
 
-      pub unlinked_printed : (fault : Fault) → linked modules capacity ≡ Err fault → IsQuiet f → (result : Status) → KeepsFiles s → Reports Refused (link_line fault) r result → TellsExecution telling (execution modules tasks entries capacity) s r f result
+      pub unlinked_printed : (fault : Fault) → linked modules capacity ≡ Err fault → IsQuiet f → (result : Status) → KeepsFiles s → Reports Refused (link_line fault) r result → TellsExecution asked (execution modules tasks entries capacity) s r f result
       unlinked_printed fault e still result files reports = refused (Unlinked fault) (link_line fault) (λ given. ap (if_linked tasks entries given) e) (refl, refl) still files reports

@@ -10,9 +10,9 @@ use Rattle.ms_run.specs.Executions.{Execution}
 use Rattle.ms_run.specs.Flows.{Cuts, DidRun, TellsEnd, TellsExecution, cut, delivered, end_cut, end_printed, end_unprinted, nothing_printed, refused, run_printed, starved_run}
 use Rattle.ms_run.specs.Observed.{Flow, Report, Shelved}
 use Rattle.ms_run.specs.Reporting.{CountsReads, Delivers, Did, HasFailed, HasWritten, IsFound, IsKept, IsUntouched, KeepsFiles, Makes, Reports, Tells, answered, failed, made, made_none, put, ran_out, starved, printed, unprinted}
+use Rattle.ms_run.specs.Telling.{Asked}
 use Rattle.ms_run.specs.declared.status.Status.{Status}
 use Rattle.ms_run.specs.declared.status.Status.TheVariants.{Refused}
-use Rattle.ms_run.specs.declared.telling.Telling.{Telling}
 
 -- ---- the report
 
@@ -118,13 +118,13 @@ module _ (old mid new : Option Files) (reads_old reads_mid reads_new : List ℕ 
   run_later Gives Gives' more before given f result (cut counts files h) = cut (λ n. counts n ∙ before.counts n) (files_later before files) (cuts_later before f result h)
   run_later Gives Gives' more before given f result (starved_run counts files kept) = starved_run (λ n. counts n ∙ before.counts n) (files_later before files) (kept_later before kept)
 
-  module _ (telling : Telling) (before : Before) (f : Flow) where
-    end_later : (run_over : Input → Run) (result : Status) → TellsEnd telling run_over second second_report f result → TellsEnd telling run_over whole whole_report f result
+  module _ (asked : Asked) (before : Before) (f : Flow) where
+    end_later : (run_over : Input → Run) (result : Status) → TellsEnd asked run_over second second_report f result → TellsEnd asked run_over whole whole_report f result
     end_later run_over result (end_printed given a tells done delivers) = end_printed given a tells done (delivers_later before a result delivers)
     end_later run_over result (end_cut given part flowed files cuts) = end_cut given part flowed (files_later before files) (cuts_later before f result cuts)
     end_later run_over result (end_unprinted given part files kept) = end_unprinted given part (files_later before files) (kept_later before kept)
 
-    pub execution_later : (executed : Input → Execution) (result : Status) → TellsExecution telling executed second second_report f result → TellsExecution telling executed whole whole_report f result
+    pub execution_later : (executed : Input → Execution) (result : Status) → TellsExecution asked executed second second_report f result → TellsExecution asked executed whole whole_report f result
     execution_later executed result (refused e line is answers still files reports) = refused e line is answers still (files_later before files) (reports_later before Refused line result reports)
     execution_later executed result (run_printed runs is tell) = run_printed runs is (end_later runs result tell)
     execution_later executed result (nothing_printed still files kept) = nothing_printed still (files_later before files) (kept_later before kept)

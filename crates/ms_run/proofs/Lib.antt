@@ -16,6 +16,7 @@ pub mod Executed
 pub mod Gathered
 pub mod Jobs
 pub mod Safe
+pub mod Stood
 pub mod Dumping
 pub mod Targets
 pub mod OwnShelf

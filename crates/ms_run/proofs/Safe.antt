@@ -4,14 +4,14 @@ use Rattle.std.proofs.Common.{◌≡◌, ◌∙◌, ◌<◌, ◌≤◌, ◌^◌,
 use Rattle.std.specs.List.{All}
 use Rattle.std.proofs.lemmas.List.Elements.{All-cons, All-nil}
 use Rattle.std.proofs.lemmas.List.{length-replicate, length-take}
-use Rattle.std.specs.Prelude.{filter}
+use Rattle.std.specs.Prelude.{filter, take}
 use Rattle.ms_event.specs.Monitor.{Accepts}
 use Rattle.ms_module.specs.declared.module.Module.{Module}
 use Rattle.ms_rules.specs.Modules.{WellTyped}
 use Rattle.ms_tagged.specs.Bytes.{Byte, Data}
 use Rattle.ms_task.specs.Thread.{Thread}
 use Rattle.ms_machine.specs.refinement.Accesses.{counted_all}
-use Rattle.ms_machine.specs.Crews.{Input, Run, events_of, run_of}
+use Rattle.ms_machine.specs.Crews.{Input, Run, events_of, run_of, turns_from}
 use Rattle.ms_machine.specs.Running.{MayGive}
 use Rattle.ms_machine.specs.Externs.{Fault}
 use Rattle.ms_machine.specs.Linked.{linked}
@@ -21,7 +21,7 @@ use Rattle.ms_link.proofs.Stores.{linked_made, linked_typed}
 use Rattle.ms_tasks.specs.refinement.Ready.{IsReady}
 use Rattle.ms_tasks.specs.Tasks.{crew_of, threads_from}
 use Rattle.ms_tasks.proofs.Making.{crew_ready, crew_sound}
-use Rattle.ms_tasks.proofs.Outs.{length_turns}
+use Rattle.ms_tasks.proofs.Outs.{length_by_only, length_turns}
 use Rattle.ms_tasks.proofs.Counting.{run_counts}
 use Rattle.ms_tasks.proofs.Safe.{run_accepted}
 use Rattle.ms_command_line.specs.Commands as options
@@ -35,7 +35,7 @@ use Rattle.ms_run.specs.Jobs.{AllLoaded, HasEntries, HasJob, RunOfFile, RunOfJob
 use Rattle.ms_run.specs.Observed.{Flow, Report, Shelved}
 use Rattle.ms_run.specs.Reporting.{Grows, HasWritten, Holds, IsFound, failed, put, starved}
 use Rattle.ms_run.specs.SafeRuns.{IsEnd, RanSafely, is_access}
-use Rattle.ms_run.specs.Telling.{telling_of}
+use Rattle.ms_run.specs.Telling.{asked_of}
 use Rattle.ms_run.specs.declared.gathering.Naming.{Naming}
 use Rattle.ms_run.specs.declared.gathering.Naming.TheVariants.{Numbered}
 use Rattle.ms_run.specs.declared.status.Status.{Status}
@@ -108,8 +108,15 @@ run_is_accepted Has given job run small h =
 
 -- there are no more entries than the budget has
 few_entries : (Has : List ℕ → Found → Type 0) (job : Job) (entries : List ℕ) → HasEntries Has job entries → length entries ≤ job.budget
-few_entries Has job entries (in_turns e) = let same = length_turns job.turns (length job.tasks) 0 job.budget in omega (arith, same)
-few_entries Has job entries (listed name numbers e has) = let same = length-take job.budget numbers in omega (arith, same)
+few_entries Has job entries (in_turns e) =
+    let turns = turns_from job.turns (length job.tasks) 0 job.budget in
+    let named = length_by_only job.only (length job.tasks) turns in
+    let same = length_turns job.turns (length job.tasks) 0 job.budget in
+    omega (arith, named, same)
+few_entries Has job entries (listed name numbers e has) =
+    let named = length_by_only job.only (length job.tasks) (take job.budget numbers) in
+    let same = length-take job.budget numbers in
+    omega (arith, named, same)
 
 run_is_counted : (Has : List ℕ → Found → Type 0) (given : Input) (job : Job) (run : Run) → job.budget ≤ options.budget.most → RunOfJob Has given job run → run.crew.store.segments.accesses ≡ length (filter is_access (events_of run.deeds))
 run_is_counted Has given job run within h =
@@ -135,7 +142,7 @@ no_end status other e not end = not (subst IsEnd e end)
 module _ (s : Shelved) (r : Report) (f : Flow) (naming : Naming) (given : Input) (may : MayGive f.left_old given) (job : Job) (bounds : IsBounded job) where
   module _ (ran : Option Run) (a : Answer) (flows : FlowsAs given f ran) (grown : Grows r a.report) (written : HasWritten s a.file) (result : Status) (status_is : result ≡ a.status) (end : IsEnd a.status) where
     executed_safely : (modules : List (List ℕ × Module)) (entries : List ℕ) → AllLoaded (IsFound s) job.modules modules → HasEntries (IsFound s) job entries
-        → (e : Execution) → execution modules job.tasks entries job.memory given ≡ e → AnswersAs (telling_of job) e ran a → RanSafely s.old s r f job result
+        → (e : Execution) → execution modules job.tasks entries job.memory given ≡ e → AnswersAs (asked_of job) e ran a → RanSafely s.old s r f job result
     executed_safely modules entries all scheduled (Unlinked fault) is h = absurd (no_end a.status statuses.Refused (ap (λ (x : Answer). x.status) h.1) (λ x. x) end)
     executed_safely modules entries all scheduled (NoTask number) is h = absurd (no_end a.status statuses.Refused (ap (λ (x : Answer). x.status) h.1) (λ x. x) end)
     executed_safely modules entries all scheduled (Ran run) is h =

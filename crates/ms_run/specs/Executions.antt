@@ -6,14 +6,16 @@ use Rattle.ms_machine.specs.Crews.{End, Input, OutOfBudget as BudgetEnd, Results
 use Rattle.ms_machine.specs.Externs.{Fault}
 use Rattle.ms_machine.specs.Linked.{linked}
 use Rattle.ms_machine.specs.Store.{Store}
+use Rattle.ms_tasks.specs.States.{state_of}
 use Rattle.ms_tasks.specs.Tasks.{crew_of, threads_from}
+use Rattle.ms_tasks.specs.refinement.Making.{AreAddresses}
 use Rattle.ms_run.specs.Answers.{Answer, says}
 use Rattle.ms_run.specs.Lines.{budget_line, link_line, result_lines, task_line, trap_line}
 use Rattle.ms_run.specs.Reached.{AreReached}
-use Rattle.ms_run.specs.Telling.{counted, dumped, traced}
+use Rattle.ms_run.specs.Standing.{AreStanding}
+use Rattle.ms_run.specs.Telling.{Asked, counted, dumped, traced}
 use Rattle.ms_run.specs.declared.status.Status.{Status}
 use Rattle.ms_run.specs.declared.status.Status.TheVariants.{Done, OutOfBudget, Refused, Trapped}
-use Rattle.ms_run.specs.declared.telling.Telling.{Telling}
 
 pub data Execution : Type 0 where
   -- an item of a module is the first that isn't linked
@@ -47,15 +49,23 @@ EndsAs (Trap whose kind) status report = (status ≡ Trapped) × (report ≡ tra
 EndsAs BudgetEnd status report = (status ≡ OutOfBudget) × (report ≡ budget_line)
 EndsAs Stuck status report = ⊥
 
+-- the lines of what is reached behind a run, and those of how each task stands, where they are asked for
+abbrev pub AreLeft : Asked → Run → List ℕ → Type 0
+AreLeft asked run left =
+    (reached : List ℕ) × (standing : List ℕ) × (addresses : List ℕ) × AreReached run.crew 0 asked.telling.reach reached
+    × AreAddresses run.crew.store asked.tasks addresses × AreStanding run.crew.store addresses (λ n. state_of n run) asked.telling.each standing
+    × (left ≡ reached ++ standing)
+
 -- The answer that tells of a run: the report has the numbers of what it did, the lines of its end, those of the segments that are
--- live after it, and those of what is reached then, all but its end where they are asked for; the file, if one is, has its events.
-abbrev pub TellsOf : Telling → Run → Answer → Type 0
-TellsOf telling run a =
-    (lines : List ℕ) × (reached : List ℕ) × EndsAs run.end a.status lines × AreReached run.crew 0 telling.reach reached
-    × (a.report ≡ counted telling run.deeds ++ (lines ++ (dumped telling run.crew.store.segments ++ reached))) × (a.file ≡ traced telling (events_of run.deeds))
+-- live after it, of what is reached then, and of its tasks, all but its end where they are asked for; the file, if one is, has its events.
+abbrev pub TellsOf : Asked → Run → Answer → Type 0
+TellsOf asked run a =
+    (lines : List ℕ) × (left : List ℕ) × EndsAs run.end a.status lines × AreLeft asked run left
+    × (a.report ≡ counted asked.telling run.deeds ++ (lines ++ (dumped asked.telling run.crew.store.segments ++ left)))
+    × (a.file ≡ traced asked.telling (events_of run.deeds))
 
 -- The answer to an execution, and the run of which it tells.
-abbrev pub AnswersAs : Telling → Execution → Option Run → Answer → Type 0
-AnswersAs telling (Unlinked fault) ran a = (ran ≡ None) × (a ≡ says Refused (link_line fault))
-AnswersAs telling (NoTask number) ran a = (ran ≡ None) × (a ≡ says Refused (task_line number))
-AnswersAs telling (Ran run) ran a = (ran ≡ Some run) × TellsOf telling run a
+abbrev pub AnswersAs : Asked → Execution → Option Run → Answer → Type 0
+AnswersAs asked (Unlinked fault) ran a = (ran ≡ None) × (a ≡ says Refused (link_line fault))
+AnswersAs asked (NoTask number) ran a = (ran ≡ None) × (a ≡ says Refused (task_line number))
+AnswersAs asked (Ran run) ran a = (ran ≡ Some run) × TellsOf asked run a

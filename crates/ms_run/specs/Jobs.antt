@@ -7,10 +7,11 @@ use Rattle.ms_job.specs.declared.fault.SchedFault.TheVariants.{At}
 use Rattle.ms_job.specs.declared.job.Job.{Job}
 use Rattle.ms_module.specs.declared.module.Module.{Module}
 use Rattle.ms_machine.specs.Crews.{Input, Run, turns_from}
+use Rattle.ms_tasks.specs.refinement.Schedules.{by_only}
 use Rattle.ms_run.specs.Answers.{Answer, Found, HasBytes, HasModule, Unfound, Unloaded, says}
 use Rattle.ms_run.specs.Executions.{AnswersAs, Ran, execution}
 use Rattle.ms_run.specs.Lines.{job_line, module_word, schedule_line}
-use Rattle.ms_run.specs.Telling.{telling_of}
+use Rattle.ms_run.specs.Telling.{asked_of}
 use Rattle.ms_run.specs.declared.gathering.Naming.{Naming}
 use Rattle.ms_run.specs.declared.gathering.Naming.TheVariants.{Numbered, Only}
 use Rattle.ms_run.specs.declared.status.Status.TheVariants.{Refused}
@@ -47,10 +48,11 @@ pub data Unnumbered (Has : List ℕ → Found → Type 0) (name : List ℕ) : An
   no_file : {a : Answer} → Unfound Has name a → Unnumbered Has name a
   no_number : (bytes : List ℕ) (at : ℕ) → HasBytes Has name bytes → schedule_in bytes ≡ Err (At at) → Unnumbered Has name (says Refused (schedule_line at))
 
--- the entries: turns of the tasks, or the first numbers of a file, as many as the budget has
+-- the entries: turns of the tasks, or the first numbers of a file, as many as the budget has; where one task is named alone, those of
+-- all others name none
 pub data HasEntries (Has : List ℕ → Found → Type 0) (job : Job) : List ℕ → Type 0 where
-  in_turns : job.schedule ≡ None → HasEntries Has job (turns_from job.turns (length job.tasks) 0 job.budget)
-  listed : (name numbers : List ℕ) → job.schedule ≡ Some name → HasNumbers Has name numbers → HasEntries Has job (take job.budget numbers)
+  in_turns : job.schedule ≡ None → HasEntries Has job (by_only job.only (length job.tasks) (turns_from job.turns (length job.tasks) 0 job.budget))
+  listed : (name numbers : List ℕ) → job.schedule ≡ Some name → HasNumbers Has name numbers → HasEntries Has job (by_only job.only (length job.tasks) (take job.budget numbers))
 
 -- there is a file, and it has none
 pub data Unscheduled (Has : List ℕ → Found → Type 0) (job : Job) : Answer → Type 0 where
@@ -68,7 +70,7 @@ pub data RunsJob (Has : List ℕ → Found → Type 0) (naming : Naming) (given 
   unloaded : {a : Answer} → FirstUnloaded Has naming 0 job.modules a → RunsJob Has naming given job None a
   unscheduled : (modules : List (List ℕ × Module)) {a : Answer} → AllLoaded Has job.modules modules → Unscheduled Has job a → RunsJob Has naming given job None a
   executed : (modules : List (List ℕ × Module)) (entries : List ℕ) {ran : Option Run} {a : Answer} → AllLoaded Has job.modules modules → HasEntries Has job entries
-      → AnswersAs (telling_of job) (execution modules job.tasks entries job.memory given) ran a → RunsJob Has naming given job ran a
+      → AnswersAs (asked_of job) (execution modules job.tasks entries job.memory given) ran a → RunsJob Has naming given job ran a
 
 -- `run`: of the file of a job
 pub data RunsFile (Has : List ℕ → Found → Type 0) (given : Input) (name : List ℕ) : Option Run → Answer → Type 0 where
@@ -90,6 +92,8 @@ exec_job file budget memory = record {
   trace = None;
   dump = false;
   reach = [];
+  each = false;
+  only = None;
   counts = false;
 }
 

@@ -2,6 +2,7 @@ pub mod Source
 pub mod Observed
 pub mod Telling
 pub mod Reached
+pub mod Standing
 pub mod Lines
 pub mod Loading
 pub mod Executions

@@ -13,7 +13,7 @@ use Rattle.ms_run.specs.Flows.{RunsWhole}
 use Rattle.ms_run.specs.Jobs.{RunOfJob}
 use Rattle.ms_run.specs.Observed.{Flow, Report, Shelved}
 use Rattle.ms_run.specs.Reporting.{Grows, HasWritten, Holds}
-use Rattle.ms_run.specs.Telling.{telling_of}
+use Rattle.ms_run.specs.Telling.{asked_of}
 use Rattle.ms_run.specs.declared.status.Status.{Status}
 use Rattle.ms_run.specs.declared.status.Status.TheVariants.{Done, OutOfBudget, Trapped}
 
@@ -39,7 +39,7 @@ pub record RanSafely (files : Option Files) (s : Shelved) (r : Report) (f : Flow
   pub of_job : RunOfJob (Holds files) given job run
   -- the status, the report and the file of the trace are those of its end, its last store and its events
   pub answer : Answer
-  pub tells : TellsOf (telling_of job) run answer
+  pub tells : TellsOf (asked_of job) run answer
   pub status_is : status ≡ answer.status
   pub grown : Grows r answer.report
   pub written : HasWritten s answer.file

@@ -35,5 +35,7 @@ stress_job = record {
   trace = None;
   dump = false;
   reach = [];
+  each = false;
+  only = None;
   counts = true;
 }

@@ -12,10 +12,10 @@ ghost use Rattle.ms_run.specs.Lines.{result_lines};
 ghost use Rattle.ms_run.specs.Observed.{flowed, reported, shelved};
 ghost use Rattle.ms_run.specs.Reporting.{Delivers};
 ghost use Rattle.ms_run.specs.Telling.{count_lines, dumped, traced};
-ghost use Rattle.ms_run.specs.Reached.{AreReached};
 ghost use Rattle.ms_run.specs.refinement.Counts.{logged_lines};
-ghost use Rattle.ms_run.specs.refinement.Told.{AreTasks, IsTold, whole_report};
+ghost use Rattle.ms_run.specs.refinement.Told.{AreListed, AreTasks, IsTold, whole_report};
 ghost use Rattle.ms_outside.specs.Shelf.{SameCounts};
+ghost use Rattle.ms_tasks.specs.refinement.Making.{AreAddresses};
 ghost use Rattle.ms_tasks.specs.refinement.Ready.{IsReady};
 ghost use Rattle.ms_tasks.specs.refinement.Schedules.{HasTurns, entries_of};
 
@@ -23,6 +23,7 @@ use crate::dump::dump_all;
 use crate::lines::{budget_line, input_fault_line, link_line, result_line, task_line, trap_line};
 use crate::reached::reach_all;
 use crate::report::{answer, answer_line, write_and_answer};
+use crate::standing::add_standing;
 use crate::status::Status;
 use crate::telling::Telling;
 use ms_link::{LinkFault, link};
@@ -102,8 +103,8 @@ fn add_dump<G: Gaps, T: Tagged>(
     dump_all(alloc, segments, text)
 }
 
-/// The report of a run: the numbers of what it did, the lines of its end, those of the live segments, and those of what is reached,
-/// all but the second where they are asked for.
+/// The report of a run: the numbers of what it did, the lines of its end, those of the live segments, of what is reached, and of how
+/// each task stands, all but the second where they are asked for.
 fn report_of<G: Gaps, T: Tagged>(
     alloc: Global,
     telling: &Telling,
@@ -113,12 +114,15 @@ fn report_of<G: Gaps, T: Tagged>(
 ) -> Result<Vec<u8>, AllocError>
     requires ready { IsReady crew.now.crew }
     requires tasks { AreTasks (length crew.now.tasks) telling.now.reach }
-    ensures { (text : List ℕ) → IfOk lines (λ t. string_bytes t ≡ text) → IfOk result (λ t. (reached : List ℕ) × AreReached crew.now.crew 0 telling.now.reach reached × (t.items ≡ whole_report telling.now crew.now.crew log.now text reached)) }
+    requires addresses { length crew.now.addresses ≡ length crew.now.tasks }
+    requires few { length crew.now.tasks < 2 ^ 32 }
+    ensures { (text : List ℕ) → IfOk lines (λ t. string_bytes t ≡ text) → IfOk result (λ t. (left : List ℕ) × AreListed telling.now crew.now left × (t.items ≡ whole_report telling.now crew.now log.now text left)) }
 {
     let mut text = counts(alloc, telling, log)?.into_bytes();
     text.extend_from_slice(lines?.as_bytes())?;
     add_dump(alloc, telling, crew.store().segments(), &mut text)?;
     reach_all(alloc, crew, telling.reach.as_slice(), &mut text)?;
+    add_standing(alloc, crew, telling.each, &mut text)?;
     Ok(text)
 }
 
@@ -172,7 +176,9 @@ fn tell_run<G: Gaps, T: Tagged, F: Shelf, R: Sink>(
 ) -> Status
     requires ready { IsReady crew.now.crew }
     requires tasks { AreTasks (length crew.now.tasks) telling.now.reach }
-    ensures printed { (text : List ℕ) → IfOk lines (λ t. string_bytes t ≡ text) → IsTold telling.now crew.now.crew log.now status text
+    requires addresses { length crew.now.addresses ≡ length crew.now.tasks }
+    requires few { length crew.now.tasks < 2 ^ 32 }
+    ensures printed { (text : List ℕ) → IfOk lines (λ t. string_bytes t ≡ text) → IsTold telling.now crew.now log.now status text
         (shelved F.files F.read_faults F.write_faults shelf.old shelf.new)
         (reported R.held R.faults report.old report.new)
         result }
@@ -200,10 +206,12 @@ fn run_crew<G: Gaps, T: Tagged, F: Shelf, I: Source, O: Sink, R: Sink>(
 ) -> Status
     requires ready { IsReady crew.old.crew }
     requires tasks { (tasks ≡ length crew.old.tasks) × (0 < tasks) }
+    requires addresses { length crew.old.addresses ≡ length crew.old.tasks }
     requires reach { AreTasks tasks telling.now.reach }
     requires turns { HasTurns schedule.now }
     requires few { crew.old.store.segments.made + budget < 2 ^ 63 }
-    ensures printed { TellsEnd telling.now (run_of (entries_of schedule.now (length crew.old.tasks) budget) crew.old.crew)
+    ensures printed { (named : List (ℕ × List ℕ)) → AreAddresses crew.old.store named crew.old.addresses
+        → TellsEnd (record { telling = telling.now; tasks = named }) (run_of (entries_of schedule.now (length crew.old.tasks) budget) crew.old.crew)
         (shelved F.files F.read_faults F.write_faults shelf.old shelf.new)
         (reported R.held R.faults report.old report.new)
         (flowed I.left I.faults O.held O.faults input.old input.new out.old out.new)
@@ -278,7 +286,7 @@ fn run_store<G: Gaps, T: Tagged, F: Shelf, I: Source, O: Sink, R: Sink>(
     requires reach { AreTasks (length tasks.items) telling.now.reach }
     requires turns { HasTurns schedule.now }
     requires few { store.segments.made + budget < 2 ^ 63 }
-    ensures printed { TellsExecution telling.now (in_store tasks.items (entries_of schedule.now (length tasks.items) budget) store)
+    ensures printed { TellsExecution (record { telling = telling.now; tasks = tasks.items }) (in_store tasks.items (entries_of schedule.now (length tasks.items) budget) store)
         (shelved F.files F.read_faults F.write_faults shelf.old shelf.new)
         (reported R.held R.faults report.old report.new)
         (flowed I.left I.faults O.held O.faults input.old input.new out.old out.new)
@@ -318,7 +326,7 @@ pub fn execute<G: Gaps, T: Tagged, F: Shelf, I: Source, O: Sink, R: Sink>(
     requires reach { AreTasks (length tasks.items) telling.now.reach }
     requires turns { HasTurns schedule.now }
     requires few { budget < 2 ^ 63 }
-    ensures printed { TellsExecution telling.now (execution modules.items tasks.items (entries_of schedule.now (length tasks.items) budget) memory)
+    ensures printed { TellsExecution (record { telling = telling.now; tasks = tasks.items }) (execution modules.items tasks.items (entries_of schedule.now (length tasks.items) budget) memory)
         (shelved F.files F.read_faults F.write_faults shelf.old shelf.new)
         (reported R.held R.faults report.old report.new)
         (flowed I.left I.faults O.held O.faults input.old input.new out.old out.new)

@@ -15,7 +15,7 @@ use crate::status::Status;
 use ms_job::{Job, SchedFault, schedule};
 use ms_module::Name;
 use ms_outside::{Shelf, Sink};
-use ms_tasks::Schedule;
+use ms_tasks::{Entries, Schedule};
 use ms_valid::Valid;
 use std::alloc::{AllocError, Global};
 
@@ -153,10 +153,17 @@ pub fn schedule_of<F: Shelf, R: Sink>(
         (shelved F.files F.read_faults F.write_faults shelf.old shelf.new)
         (reported R.held R.faults report.old report.new)) }
 {
+    let only = job.only;
     match &job.schedule {
-        None => Ok(Schedule::Turns(job.turns)),
+        None => Ok(Schedule {
+            entries: Entries::Turns(job.turns),
+            only,
+        }),
         Some(file) => match listed(alloc, file.as_str(), shelf, report) {
-            Ok(numbers) => Ok(Schedule::Listed(numbers)),
+            Ok(numbers) => Ok(Schedule {
+                entries: Entries::Listed(numbers),
+                only,
+            }),
             Err(status) => Err(status),
         },
     }

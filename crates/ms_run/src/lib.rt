@@ -19,6 +19,7 @@ mod reached;
 mod report;
 mod running;
 mod source;
+mod standing;
 mod status;
 mod stressing;
 mod telling;

@@ -75,6 +75,7 @@ pub fn run_parsed<G: Gaps, T: Tagged, F: Shelf, I: Source, O: Sink, R: Sink>(
         counts: job.counts,
         dump: job.dump,
         reach: job.reach,
+        each: job.each,
     };
     execute::<G, T, F, I, O, R>(
         alloc, modules, tasks, &schedule, job.budget, job.memory, &telling, shelf, input, out,
@@ -105,6 +106,8 @@ pub fn job_of(
         trace: None,
         dump: false,
         reach: Vector::new(alloc),
+        each: false,
+        only: None,
         counts,
     })
 }

@@ -14,4 +14,6 @@ pub struct Telling {
     pub dump: bool,
     /// Which sets of modules are asked what they reach, each behind the number of a task.
     pub reach: Vector<(u32, Vector<u32>)>,
+    /// Whether it is reported how each task stands.
+    pub each: bool,
 }

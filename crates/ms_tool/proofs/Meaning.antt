@@ -27,6 +27,7 @@ use Rattle.ms_run.specs.SafeRuns.{RanSafely}
 use Rattle.ms_run.specs.declared.status.Status.{Status}
 use Rattle.ms_task.specs.Thread.{Thread}
 use Rattle.ms_tasks.specs.Tasks.{crew_of, threads_from}
+use Rattle.ms_tasks.specs.refinement.Schedules.{by_only}
 use Rattle.ms_tool.specs.Meaning.{IsProgram, RanAsMeant}
 
 module _ (u : Typed) (name : List ℕ) (turns budget memory : ℕ) (given : Input) (bytes : AreBytes given)
@@ -62,10 +63,10 @@ the_one : (Has : Finds) (name file : List ℕ) (modules : List (List ℕ × Modu
 the_one Has name file _ (one_more _ _ m has no_more) = record { m = m; has = has; are = refl }
 
 -- the entries of a job by turns
-the_entries : (Has : Finds) (job : Job) (entries : List ℕ) → job.schedule ≡ None → HasEntries Has job entries
+the_entries : (Has : Finds) (job : Job) (entries : List ℕ) → job.schedule ≡ None → job.only ≡ None → HasEntries Has job entries
     → entries ≡ turns_from job.turns (length job.tasks) 0 job.budget
-the_entries Has job _ e (in_turns none) = refl
-the_entries Has job _ e (listed file numbers some has) = absurd (let q = sym e ∙ some in cc)
+the_entries Has job _ e all (in_turns none) = ap (λ (o : Option ℕ). by_only o (length job.tasks) (turns_from job.turns (length job.tasks) 0 job.budget)) all
+the_entries Has job _ e all (listed file numbers some has) = absurd (let q = sym e ∙ some in cc)
 
 module _ (files : Option Files) (s : Shelved) (r : Report) (f : Flow) (job : Job) (name file : List ℕ) (status : Status) (program : IsProgram job name file) (safe : RanSafely files s r f job status) where
   abbrev Has : Finds
@@ -85,7 +86,7 @@ module _ (files : Option Files) (s : Shelved) (r : Report) (f : Flow) (job : Job
 
   entries_are : the_job.entries ≡ turns_from job.turns 1 0 job.budget
   entries_are =
-      the_entries Has job the_job.entries program.in_turns the_job.scheduled
+      the_entries Has job the_job.entries program.in_turns program.all the_job.scheduled
       ∙ ap (λ (ts : List (ℕ × List ℕ)). turns_from job.turns (length ts) 0 job.budget) program.task
 
   ran : execution ((name, compiled is_module.unit) ∷ []) tasks_are (turns_from job.turns 1 0 job.budget) job.memory safe.given ≡ Ran safe.run

@@ -14,12 +14,13 @@ use Rattle.ms_run.specs.SafeRuns.{RanSafely}
 use Rattle.ms_run.specs.Source.{IsUnit}
 use Rattle.ms_run.specs.declared.status.Status.{Status}
 
--- the job is a whole program of C: one module, of this file, whose `main` is the one task, by turns
+-- the job is a whole program of C: one module, of this file, whose `main` is the one task, by turns, which no line leaves out
 pub record IsProgram (job : Job) (name file : List ℕ) : Type 0 where
   pub module' : job.modules ≡ (name, file) ∷ []
   pub source : form_of file ≡ Source
   pub task : job.tasks ≡ (0, codes "main") ∷ []
   pub in_turns : job.schedule ≡ None
+  pub all : job.only ≡ None
 
 -- the run does what the file's unit means, over what the input gave, where that are bytes
 pub record RanAsMeant (Has : Finds) (file : List ℕ) (budget : ℕ) (given : Input) (run : Run) : Type 0 where

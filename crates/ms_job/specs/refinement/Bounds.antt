@@ -1,5 +1,5 @@
 -- What holds of each job that a text says.
-use Rattle.std.specs.Prelude.{◌<◌, ◌≤◌, ℕ, List, length, map}
+use Rattle.std.specs.Prelude.{◌<◌, ◌≤◌, ℕ, List, IfSome, length, map}
 use Rattle.std.specs.List.{All}
 use Rattle.ms_rules.specs.Modules.{AreDistinct}
 use Rattle.ms_command_line.specs.Commands as options
@@ -25,3 +25,5 @@ pub record IsBounded (j : Job) : Type 0 where
   pub memory : j.memory ≤ options.memory.most
   -- what is asked of reach names what there is
   pub reach : All (AreThere (length j.tasks) (length j.modules)) j.reach
+  -- the task whose entries alone name one is there
+  pub only : IfSome j.only (λ task. task < length j.tasks)

@@ -12,7 +12,7 @@ use Rattle.ms_run.proofs.execution.execute.Goals as goal
 pub returns-in-Ok-clause-printed : goal.returns-in-Ok-clause-printed
 returns-in-Ok-clause-printed g c =
     let tasks = c.args.tasks.items in
-    linked_printed c.args.telling.now _ _ _ tasks (entries_of c.args.schedule.now (length tasks) c.args.budget) c.args.modules.items c.args.memory c.in-Ok.store c.in-Ok.ensures.link c.run_store.result c.run_store.ensures.printed
+    linked_printed (record { telling = c.args.telling.now; tasks = tasks }) _ _ _ tasks (entries_of c.args.schedule.now (length tasks) c.args.budget) c.args.modules.items c.args.memory c.in-Ok.store c.in-Ok.ensures.link c.run_store.result c.run_store.ensures.printed
 
 pub returns-in-Err-Refused-clause-printed : goal.returns-in-Err-Refused-clause-printed
 returns-in-Err-Refused-clause-printed g c =
@@ -21,7 +21,7 @@ returns-in-Err-Refused-clause-printed g c =
     let modules = c.args.modules.items in
     let fault : Fault = record { «module» = it.module; item = it.item; why = it.why } in
     let unlinked = subst (λ (e : LinkFault). DoesLink modules c.args.memory (Err e)) it.field-0-is it.ensures.link in
-    unlinked_printed c.args.telling.now _ _ _ tasks (entries_of c.args.schedule.now (length tasks) c.args.budget) modules c.args.memory fault unlinked (refl, refl, refl, refl)
+    unlinked_printed (record { telling = c.args.telling.now; tasks = tasks }) _ _ _ tasks (entries_of c.args.schedule.now (length tasks) c.args.budget) modules c.args.memory fault unlinked (refl, refl, refl, refl)
     c.answer_line.result (refl, refl) (c.answer_line.ensures (link_line fault) c.link_line.ensures)
 
 pub returns-clause-printed : goal.returns-clause-printed

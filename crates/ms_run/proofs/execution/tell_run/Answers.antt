@@ -12,7 +12,7 @@ pub returns-clause-printed : goal.returns-clause-printed
 returns-clause-printed g c = λ text is.
     let s = shelved g.F.Shelf.files g.F.Shelf.read_faults g.F.Shelf.write_faults c.args.shelf.now c.put_report.new.shelf in
     let r = reported g.R.Sink.held g.R.Sink.faults c.args.report.now c.put_report.new.report in
-    let reached = c.in-Ok.ensures text is in
+    let left = c.in-Ok.ensures text is in
     let file = traced c.args.telling.now c.args.log.now.trace.events in
-    told reached.0 reached.1
-    (subst (λ (t : List ℕ). Delivers (record { status = c.args.status; report = t; file = file }) s r c.put_report.result) (c.as_slice.ensures.value ∙ reached.2) c.put_report.ensures.printed)
+    told left.0 left.1
+    (subst (λ (t : List ℕ). Delivers (record { status = c.args.status; report = t; file = file }) s r c.put_report.result) (c.as_slice.ensures.value ∙ left.2) c.put_report.ensures.printed)
