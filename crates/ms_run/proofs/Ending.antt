@@ -104,8 +104,7 @@ module _ (asked : Asked) (c : Addressed) (addresses : AreAddresses c.store asked
   -- where the states of the tasks are those of a run that ended so
   left_of : (run : Run) (left : List ℕ) → run.crew ≡ begun c.crew → state_in c ≡ (λ n. if_trapped n run.end (in_crew (slice_get c.tasks n))) → AreListed asked.telling c left → AreLeft asked run left
   left_of run left crew states (reached, standing, are, stand, is) =
-      let state : (x : Crew) → ℕ → TaskState = λ x n. if_trapped n run.end (in_crew (slice_get x.tasks n)) in
-      (
+      let state : (x : Crew) → ℕ → TaskState = λ x n. if_trapped n run.end (in_crew (slice_get x.tasks n)) in (
         reached,
         standing,
         c.addresses,

@@ -1371,6 +1371,39 @@ words: run j
 status: 3
 report: refused job line 2
 
+# How each task stands, and whether it is apart from all others
+
+row: a task that has ended and one that stopped the run, apart from each other
+text a.wat: (func (export "main") (result i32) i32.const 1)
+text b.wat: (func (export "main") (result i32) unreachable)
+lines j: module a a.wat / module b b.wat / task a main / task b main / budget 2 / each
+words: run j
+status: 1
+report: trap unreachable / task 0 apart result 1 / task 1 apart trap unreachable
+
+row: the entries of one task alone name one
+text a.wat: (func (export "main") (result i32) i32.const 1)
+text b.wat: (func (export "main") (result i32) unreachable)
+lines j: module a a.wat / module b b.wat / task a main / task b main / budget 2 / each / only 0
+words: run j
+status: 4
+report: out of budget / task 0 apart result 1 / task 1 apart open
+
+row: tasks of one instance are joined
+text a.wat: (func (export "main") (result i32) i32.const 1)
+text b.wat: (func (export "main") (result i32) unreachable)
+lines j: module a a.wat / module b b.wat / task a main / task a main / budget 2 / each
+words: run j
+status: 0
+report: result 1 / result 1 / task 0 joined result 1 / task 1 joined result 1
+
+row: the one task that is named alone doesn't stand above
+text a.wat: (func (export "main"))
+lines j: module a a.wat / only 0 / task a main
+words: run j
+status: 3
+report: refused job line 2
+
 # Random numbers, of which the first three are 48271, 182605794 and 1291394886: places 3215, 2018 and 3910
 
 row: four segments, one for each number and one for the places
