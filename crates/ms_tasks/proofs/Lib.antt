@@ -5,6 +5,7 @@ pub mod Leaving
 pub mod Stepping
 pub mod Entries
 pub mod Turns
+pub mod Only
 pub mod Rowing
 pub mod Chaining
 pub mod Listing

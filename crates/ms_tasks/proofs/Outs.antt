@@ -14,9 +14,11 @@ use Rattle.ms_task.specs.refinement.View.{thread_of}
 use Rattle.ms_task.specs.declared.task.Task.{Task as CodeTask}
 use Rattle.ms_tasks.specs.refinement.Ready.{IsReady}
 use Rattle.ms_tasks.specs.refinement.Rows.{threads_in}
-use Rattle.ms_tasks.specs.refinement.Schedules.{HasEntries, entries_of, part_of}
+use Rattle.ms_tasks.specs.refinement.Schedules.{AreThere, HasEntries, by_only, entries_of, first_of, part_of, some_of}
+use Rattle.ms_tasks.proofs.Only.{drop_by_only, length_by_only}
 use Rattle.ms_tasks.specs.declared.schedule.Schedule.{Schedule}
-use Rattle.ms_tasks.specs.declared.schedule.Schedule.TheVariants.{Listed, Turns}
+use Rattle.ms_tasks.specs.declared.schedule.Entries.{Entries}
+use Rattle.ms_tasks.specs.declared.schedule.Entries.TheVariants.{Listed, Turns}
 use Rattle.ms_tasks.proofs.Listing.{drop_take}
 
 -- ---- entries
@@ -47,20 +49,28 @@ whole_take (suc b) [] = refl
 whole_take (suc b) (x ∷ xs) = ap (λ ys. x ∷ ys) (whole_take b xs)
 
 -- what is left of a schedule is a part of it
-pub part_is : (schedule : Schedule) (n budget from most : ℕ) → from + most ≡ length (entries_of schedule n budget) → drop from (entries_of schedule n budget) ≡ part_of schedule n from most
-part_is (Turns q) n budget from most all =
+some_is : (entries : Entries) (n budget from most : ℕ) → from + most ≡ length (first_of entries n budget) → drop from (first_of entries n budget) ≡ some_of entries n from most
+some_is (Turns q) n budget from most all =
     let e = length_turns q n 0 budget in
     let f : 0 + from ≡ from = omega arith in
     let h : budget - from ≡ most = omega (arith, all, e) in
     drop_turns q n 0 budget from (omega (arith, all, e)) ∙ (ap (λ x. turns_from q n x (budget - from)) f ∙ ap (turns_from q n from) h)
-part_is (Listed entries) n budget from most all =
+some_is (Listed entries) n budget from most all =
     let xs = entries.items in
     let h : length (take budget xs) - from ≡ most = omega (arith, all) in
     ap (drop from) (whole_take budget xs) ∙ (drop_take from (length (take budget xs)) xs ∙ ap (λ m. take m (drop from xs)) h)
 
+pub part_is : (schedule : Schedule) (n budget from most : ℕ) → from + most ≡ length (entries_of schedule n budget) → drop from (entries_of schedule n budget) ≡ part_of schedule n from most
+part_is schedule n budget from most all =
+    let some = some_is schedule.entries n budget from most (all ∙ length_by_only schedule.only n (first_of schedule.entries n budget)) in
+    drop_by_only schedule.only n from (first_of schedule.entries n budget) ∙ ap (by_only schedule.only n) some
+
+are_there : (entries : Entries) (n budget most : ℕ) → most ≡ length (first_of entries n budget) → AreThere entries most
+are_there (Turns q) n budget most is = tt
+are_there (Listed entries) n budget most is = let e = listed_at_most budget entries.items in omega (arith, e, is)
+
 pub has_entries : (schedule : Schedule) (n budget most : ℕ) → most ≡ length (entries_of schedule n budget) → HasEntries schedule most
-has_entries (Turns q) n budget most is = tt
-has_entries (Listed entries) n budget most is = let e = listed_at_most budget entries.items in omega (arith, e, is)
+has_entries schedule n budget most is = are_there schedule.entries n budget most (is ∙ length_by_only schedule.only n (first_of schedule.entries n budget))
 
 -- ---- crews
 

@@ -16,7 +16,7 @@ use crate::by_list::run_listed;
 use crate::by_turns::run_turns;
 use crate::log::Log;
 use crate::rows::all_ended;
-use crate::schedule::Schedule;
+use crate::schedule::{Entries, Schedule};
 use crate::start_chain::run_chain;
 use ms_machine::Store;
 use ms_outside::{Sink, Source};
@@ -53,11 +53,12 @@ fn run_tasks<M: SegmentMemory, I: Source, O: Sink>(
     ensures input_faults { CountsInput result (I.faults input.old) (I.faults input.new) }
     ensures out_faults { CountsOut result (O.faults out.old) (O.faults out.new) }
 {
-    match schedule {
-        Schedule::Turns(q) => run_turns(store, tasks, *q, from, most, input, out, log),
-        Schedule::Listed(entries) => {
+    let only = schedule.only;
+    match &schedule.entries {
+        Entries::Turns(q) => run_turns(store, tasks, only, *q, from, most, input, out, log),
+        Entries::Listed(entries) => {
             let part = &entries[from as usize..(from + most) as usize];
-            run_listed(store, tasks, part, input, out, log)
+            run_listed(store, tasks, only, part, input, out, log)
         }
     }
 }
@@ -81,6 +82,7 @@ pub(crate) fn run_all<M: SegmentMemory, I: Source, O: Sink>(
     requires room { log.old.entries + budget < 2 ^ 63 }
     ensures run { HaltsBy result (run_of (entries_of schedule.now (length tasks.old) budget) (all_in store.old chain.old tasks.old)) (ends (Results (results (threads_in store.new tasks.new))) (begun (all_in store.new chain.new tasks.new))) (ends OutOfBudget (begun (all_in store.new chain.new tasks.new))) (begun (all_in store.new chain.new tasks.new)) (I.left input.old) (I.left input.new) (O.held out.old) (O.held out.new) log.old log.new }
     ensures ready { IsWell result → IsReady (all_in store.new chain.new tasks.new) }
+    ensures outline { IsWell result → outline_of store.new ≡ outline_of store.old }
     ensures made { IsWell result → store.new.segments.made ≤ store.old.segments.made + budget }
     ensures entries { IsWell result → log.new.entries ≤ log.old.entries + budget }
     ensures within { IsWell result → CountsUpTo log.new.entries log.new.trace }

@@ -1,6 +1,6 @@
 //! Runs by turns, where the start functions have ended.
 
-ghost use Rattle.std.specs.Prelude.{◌≡◌, ◌≢◌, ℕ, suc, ◌+◌, ◌%◌, ◌<◌, ◌≤◌, ◌^◌, false, length, replicate};
+ghost use Rattle.std.specs.Prelude.{◌≡◌, ◌≢◌, ℕ, suc, ◌+◌, ◌%◌, ◌<◌, ◌≤◌, ◌^◌, false, length, replicate, IsTrue, None};
 ghost use Rattle.ms_handle.specs.declared.handle.Handle.{Handle};
 ghost use Rattle.ms_segment.specs.Memory.{IsFit};
 ghost use Rattle.ms_machine.specs.Crews.{OutOfBudget, Results, are_ended, ends, results, run_entries, turns_from};
@@ -9,10 +9,12 @@ ghost use Rattle.ms_tasks.specs.refinement.Logs.{CountsUpTo};
 ghost use Rattle.ms_tasks.specs.refinement.Parts.{HaltsBy, CountsInput, CountsOut, IsWell};
 ghost use Rattle.ms_tasks.specs.refinement.Ready.{IsReady};
 ghost use Rattle.ms_tasks.specs.refinement.Rows.{crew_in, threads_in};
+ghost use Rattle.ms_tasks.specs.refinement.Schedules.{by_only};
 
 use crate::burst::Halt;
 use crate::log::Log;
 use crate::rows::turn;
+use crate::schedule::named;
 use ms_machine::Store;
 use ms_outside::{Sink, Source};
 use ms_segment::SegmentMemory;
@@ -64,10 +66,18 @@ fn run_alone<M: SegmentMemory, I: Source, O: Sink>(
     halt
 }
 
-/// The entries of a schedule of turns from one on, so many, where not all tasks have ended.
+/// Whether there is one task, and all entries name one.
+fn is_alone(tasks: &[Task], only: Option<u32>) -> bool
+    ensures { IsTrue result → (length tasks.now ≡ 1) × (only ≡ None) }
+{
+    tasks.len() == 1 && only.is_none()
+}
+
+/// The entries of a schedule of turns from one on, so many, where not all tasks have ended, and perhaps one is named alone.
 pub(crate) fn run_turns<M: SegmentMemory, I: Source, O: Sink>(
     store: &mut Store<M>,
     tasks: &mut [Task],
+    only: Option<u32>,
     q: u32,
     from: u64,
     most: u64,
@@ -83,7 +93,7 @@ pub(crate) fn run_turns<M: SegmentMemory, I: Source, O: Sink>(
     requires within { CountsUpTo log.old.entries log.old.trace }
     requires room { log.old.entries + most < 2 ^ 63 }
     requires all { from + most < 2 ^ 64 }
-    ensures run { HaltsBy result (run_entries (turns_from q (length tasks.old) from most) (crew_in store.old tasks.old)) (ends (Results (results (threads_in store.new tasks.new))) (crew_in store.new tasks.new)) (ends OutOfBudget (crew_in store.new tasks.new)) (crew_in store.new tasks.new) (I.left input.old) (I.left input.new) (O.held out.old) (O.held out.new) log.old log.new }
+    ensures run { HaltsBy result (run_entries (by_only only (length tasks.old) (turns_from q (length tasks.old) from most)) (crew_in store.old tasks.old)) (ends (Results (results (threads_in store.new tasks.new))) (crew_in store.new tasks.new)) (ends OutOfBudget (crew_in store.new tasks.new)) (crew_in store.new tasks.new) (I.left input.old) (I.left input.new) (O.held out.old) (O.held out.new) log.old log.new }
     ensures ready { IsWell result → IsReady (crew_in store.new tasks.new) }
     ensures outline { IsWell result → outline_of store.new ≡ outline_of store.old }
     ensures others { IsWell result → (h : Handle) → IsFit store.old.segments h → IsFit store.new.segments h }
@@ -93,7 +103,7 @@ pub(crate) fn run_turns<M: SegmentMemory, I: Source, O: Sink>(
     ensures input_faults { CountsInput result (I.faults input.old) (I.faults input.new) }
     ensures out_faults { CountsOut result (O.faults out.old) (O.faults out.new) }
 {
-    if tasks.len() == 1 {
+    if is_alone(tasks, only) {
         return run_alone(store, tasks, most, input, out, log);
     }
     let count = tasks.len() as u32;
@@ -103,7 +113,8 @@ pub(crate) fn run_turns<M: SegmentMemory, I: Source, O: Sink>(
     let mut left = most;
     while left > 0 {
         let row = least(room, left);
-        let (halt, _) = turn(store, tasks, k, row, input, out, log);
+        let task = named(only, count, k);
+        let (halt, _) = turn(store, tasks, task, row, input, out, log);
         match halt {
             Halt::Paused => {}
             _ => return halt,

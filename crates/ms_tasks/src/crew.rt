@@ -140,6 +140,8 @@ impl<M: SegmentMemory> Crew<M> {
         ensures run { (given : Input) × DoesRun result self.new.crew (I.left input.old) (I.left input.new) (O.held out.old) (O.held out.new) log.old log.new given (run_of (entries_of schedule.now (length self.old.tasks) budget) self.old.crew given) }
         ensures input_faults { CountsInput result (I.faults input.old) (I.faults input.new) }
         ensures out_faults { CountsOut result (O.faults out.old) (O.faults out.new) }
+        // Functions and instances stay.
+        ensures outline { IsOver result → outline_of self.new.store ≡ outline_of self.old.store }
         ensures addresses { self.new.addresses ≡ self.old.addresses }
         ensures trapped { self.new.trapped ≡ stop_in result }
         ensures ready { IsOver result → IsReady self.new.crew }

@@ -27,6 +27,6 @@ pub use laws::runs_are_safe;
 pub use log::Log;
 pub use ran::{Ran, Stop};
 pub use refusal::Refusal;
-pub use schedule::Schedule;
+pub use schedule::{Entries, Schedule};
 pub use state::TaskState;
 pub use whose::Whose;

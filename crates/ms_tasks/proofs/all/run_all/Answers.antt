@@ -37,6 +37,7 @@ returns-in_default g c =
       ready = λ well.
           subst (λ (l : List Thread). IsReady (record { store = s'; chain = chain'; tasks = l })) (threads_stay s s' tasks (e.outline well))
           (tasks_stay_ready s s' (threads_in s c.args.chain.now) chain' ts c.requires.ready (e.ready well) (e.outline well) (e.others well));
+      outline = e.outline;
       made = λ well. let m = e.made well in let w = c.most-most.ensures.within in omega (arith, m, w);
       entries = λ well. let m = e.entries well in let w = c.most-most.ensures.within in omega (arith, m, w);
       within = e.within;
@@ -140,6 +141,7 @@ returns g c =
       ready = λ fine.
           subst (λ (l : List Thread). IsReady (record { store = s''; chain = l; tasks = threads_in s'' t.new.tasks })) (threads_stay s' s'' r.new.chain (t.ensures.outline fine))
           (chain_stays_ready s' s'' chain' ts (threads_in s'' t.new.tasks) inside (t.ensures.ready fine) (t.ensures.outline fine) (t.ensures.others fine));
+      outline = λ fine. t.ensures.outline fine ∙ e.outline well;
       made = λ fine. let m = e.made well in let y = t.ensures.made fine in let w = c.most-most.ensures.within in omega (arith, m, y, w);
       entries = λ fine. let m = e.entries well in let y = t.ensures.entries fine in let w = c.most-most.ensures.within in omega (arith, m, y, w);
       within = t.ensures.within;

@@ -1,4 +1,4 @@
-use Rattle.std.proofs.Common.{◌≡◌, ◌≤◌, ◌+◌, ◌++◌, drop, length, replicate, get_or, refl, sym, subst, ◌∙◌, arith}
+use Rattle.std.proofs.Common.{◌≡◌, ◌≤◌, ◌+◌, ◌++◌, ℕ, ap, drop, length, replicate, get_or, refl, sym, subst, ◌∙◌, arith}
 use Rattle.std.proofs.lemmas.List.{length-drop}
 use Rattle.std.proofs.lemmas.Option.{slice_get-get_or}
 use Rattle.ms_machine.specs.Crews.{OutOfBudget, Results, ends, results, run_entries}
@@ -8,13 +8,16 @@ use Rattle.ms_tasks.specs.declared.burst.Halt.{Halt}
 use Rattle.ms_tasks.proofs.Chaining.{drop_end}
 use Rattle.ms_tasks.proofs.Coming.{answers_on, not_paused, to_same, to_trans}
 use Rattle.ms_tasks.proofs.Listing.{behind_at, row_at}
+use Rattle.ms_tasks.specs.refinement.Schedules.{by_only}
+use Rattle.ms_tasks.proofs.Only.{by_only_row, none_by_only}
 use Rattle.ms_tasks.proofs.Rowing.{none_comes}
 use Rattle.ms_tasks.proofs.by_list.run_listed.Goals as goal
 
 pub loop-at-init : goal.loop-at-init
 loop-at-init g c = record {
-  runs = to_same (g.I.Source.left c.args.input.now) (g.O.Sink.held c.args.out.now) c.args.log.now (run_entries c.args.entries.now (crew_in c.args.store.now c.args.tasks.now));
+  runs = to_same (g.I.Source.left c.args.input.now) (g.O.Sink.held c.args.out.now) c.args.log.now (run_entries (by_only c.args.only (length c.args.tasks.now) c.args.entries.now) (crew_in c.args.store.now c.args.tasks.now));
   at = omega arith;
+  tasks = refl;
   ready = c.requires.ready;
   outline = refl;
   others = λ h fit. fit;
@@ -36,15 +39,17 @@ returns-in_default g c =
     let k = get_or xs l.at 0 in
     let n = c.row_of-row.result in
     let row = 1 + n in
-    let rest = drop (l.at + row) xs in
+    let task = c.named-task.result in
+    let tasks = length c.args.tasks.now in
+    let rest = by_only c.args.only tasks (drop (l.at + row) xs) in
     let left = g.I.Source.left in
     let held = g.O.Sink.held in
     let before = crew_in l.store l.tasks in
     let after = crew_in r.new.store r.new.tasks in
-    let all = run_entries xs (crew_in c.args.store.now c.args.tasks.now) in
+    let all = run_entries (by_only c.args.only (length c.args.tasks.now) xs) (crew_in c.args.store.now c.args.tasks.now) in
     let ended = ends (Results (results (threads_in r.new.store r.new.tasks))) after in
-    let mid = run_entries (replicate row k ++ rest) before in
-    let first = subst (λ ks. ComesTo (left c.args.input.now) (left l.input) (held c.args.out.now) (held l.out) c.args.log.now l.log all (run_entries ks before)) (row_at xs l.at n k (slice_get-get_or xs l.at 0 c.loop-at-test.true) (subst (λ ys. ys ≡ replicate n k ++ drop n ys) (behind_at (l.at + 1) xs) c.row_of-row.ensures.row)) v.runs in
+    let mid = run_entries (replicate row task ++ rest) before in
+    let first = subst (λ ks. ComesTo (left c.args.input.now) (left l.input) (held c.args.out.now) (held l.out) c.args.log.now l.log all (run_entries ks before)) (ap (by_only c.args.only tasks) (row_at xs l.at n k (slice_get-get_or xs l.at 0 c.loop-at-test.true) (subst (λ ys. ys ≡ replicate n k ++ drop n ys) (behind_at (l.at + 1) xs) c.row_of-row.ensures.row)) ∙ (by_only_row c.args.only tasks row k (drop (l.at + row) xs) ∙ ap (λ (t : ℕ). replicate row t ++ rest) (sym c.named-task.ensures))) v.runs in
     let within = subst (λ ys. n ≤ length ys) (behind_at (l.at + 1) xs) c.row_of-row.ensures.within in
     let some = c.loop-at-test.true in
     let d = length-drop (l.at + 1) xs in
@@ -71,15 +76,17 @@ loop-at-preserved g c =
     let k = get_or xs l.at 0 in
     let n = c.row_of-row.result in
     let row = 1 + n in
-    let rest = drop (l.at + row) xs in
+    let task = c.named-task.result in
+    let tasks = length c.args.tasks.now in
+    let rest = by_only c.args.only tasks (drop (l.at + row) xs) in
     let left = g.I.Source.left in
     let held = g.O.Sink.held in
     let before = crew_in l.store l.tasks in
     let after = crew_in r.new.store r.new.tasks in
-    let all = run_entries xs (crew_in c.args.store.now c.args.tasks.now) in
+    let all = run_entries (by_only c.args.only (length c.args.tasks.now) xs) (crew_in c.args.store.now c.args.tasks.now) in
     let ended = ends (Results (results (threads_in r.new.store r.new.tasks))) after in
-    let mid = run_entries (replicate row k ++ rest) before in
-    let first = subst (λ ks. ComesTo (left c.args.input.now) (left l.input) (held c.args.out.now) (held l.out) c.args.log.now l.log all (run_entries ks before)) (row_at xs l.at n k (slice_get-get_or xs l.at 0 c.loop-at-test.true) (subst (λ ys. ys ≡ replicate n k ++ drop n ys) (behind_at (l.at + 1) xs) c.row_of-row.ensures.row)) v.runs in
+    let mid = run_entries (replicate row task ++ rest) before in
+    let first = subst (λ ks. ComesTo (left c.args.input.now) (left l.input) (held c.args.out.now) (held l.out) c.args.log.now l.log all (run_entries ks before)) (ap (by_only c.args.only tasks) (row_at xs l.at n k (slice_get-get_or xs l.at 0 c.loop-at-test.true) (subst (λ ys. ys ≡ replicate n k ++ drop n ys) (behind_at (l.at + 1) xs) c.row_of-row.ensures.row)) ∙ (by_only_row c.args.only tasks row k (drop (l.at + row) xs) ∙ ap (λ (t : ℕ). replicate row t ++ rest) (sym c.named-task.ensures))) v.runs in
     let well = subst IsWell (sym c.in-Paused.is) tt in
     let paused = e.paused c.in-Paused.is in
     let within = subst (λ ys. n ≤ length ys) (behind_at (l.at + 1) xs) c.row_of-row.ensures.within in
@@ -89,6 +96,7 @@ loop-at-preserved g c =
       runs = to_trans (left c.args.input.now) (left l.input) (left r.new.input) (held c.args.out.now) (held l.out) (held r.new.out) c.args.log.now l.log r.new.log all mid (run_entries rest after) first
           (subst (λ (h : Halt). HaltsBy h mid ended (run_entries rest after) after (left l.input) (left r.new.input) (held l.out) (held r.new.out) l.log r.new.log) c.in-Paused.is (e.run rest));
       at = omega (arith, within, d, some);
+      tasks = r.auto.tasks ∙ v.tasks;
       ready = e.ready well;
       outline = e.outline well ∙ v.outline;
       others = λ h fit. e.others well h (v.others h fit);
@@ -105,5 +113,5 @@ returns-clause-run g c =
     let l = c.loop-at in
     let v = l.invariant in
     let xs = c.args.entries.now in
-    none_comes l.store l.tasks (drop l.at xs) (g.I.Source.left c.args.input.now) (g.I.Source.left l.input) (g.O.Sink.held c.args.out.now) (g.O.Sink.held l.out) c.args.log.now l.log (run_entries xs (crew_in c.args.store.now c.args.tasks.now))
-    (drop_end l.at xs (omega (arith, c.loop-at-test.false))) v.going v.runs
+    none_comes l.store l.tasks (by_only c.args.only (length c.args.tasks.now) (drop l.at xs)) (g.I.Source.left c.args.input.now) (g.I.Source.left l.input) (g.O.Sink.held c.args.out.now) (g.O.Sink.held l.out) c.args.log.now l.log (run_entries (by_only c.args.only (length c.args.tasks.now) xs) (crew_in c.args.store.now c.args.tasks.now))
+    (none_by_only c.args.only (length c.args.tasks.now) (drop l.at xs) (drop_end l.at xs (omega (arith, c.loop-at-test.false)))) v.going v.runs

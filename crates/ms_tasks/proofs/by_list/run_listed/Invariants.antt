@@ -7,12 +7,14 @@ use Rattle.ms_tasks.specs.refinement.Logs.{CountsUpTo}
 use Rattle.ms_tasks.specs.refinement.Parts.{ComesTo}
 use Rattle.ms_tasks.specs.refinement.Ready.{IsReady}
 use Rattle.ms_tasks.specs.refinement.Rows.{crew_in, threads_in}
+use Rattle.ms_tasks.specs.refinement.Schedules.{by_only}
 use Rattle.ms_tasks.proofs.by_list.run_listed.Given as goal
 
 abbrev pub invariant-loop-at : goal.invariant-loop-at
 invariant-loop-at g l = record {
-  runs : ComesTo (g.I.Source.left l.fn.input) (g.I.Source.left l.input) (g.O.Sink.held l.fn.out) (g.O.Sink.held l.out) l.fn.log l.log (run_entries l.entries (crew_in l.fn.store l.fn.tasks)) (run_entries (drop l.at l.entries) (crew_in l.store l.tasks));
+  runs : ComesTo (g.I.Source.left l.fn.input) (g.I.Source.left l.input) (g.O.Sink.held l.fn.out) (g.O.Sink.held l.out) l.fn.log l.log (run_entries (by_only l.only (length l.fn.tasks) l.entries) (crew_in l.fn.store l.fn.tasks)) (run_entries (by_only l.only (length l.fn.tasks) (drop l.at l.entries)) (crew_in l.store l.tasks));
   at : l.at ≤ length l.entries;
+  tasks : length l.tasks ≡ length l.fn.tasks;
   ready : IsReady (crew_in l.store l.tasks);
   outline : outline_of l.store ≡ outline_of l.fn.store;
   others : (h : Handle) → IsFit l.fn.store.segments h → IsFit l.store.segments h;

@@ -1,20 +1,25 @@
-use Rattle.std.proofs.Common.{◌≡◌, ◌/◌, ◌%◌, ◌+◌, ◌-◌, ◌++◌, length, replicate, refl, sym, ap, subst, ◌∙◌, arith}
+use Rattle.std.proofs.Common.{◌≡◌, ◌/◌, ◌%◌, ◌+◌, ◌-◌, ◌++◌, ℕ, IsTrue, Option, length, replicate, refl, sym, ap, subst, ◌∙◌, arith}
 use Rattle.ms_machine.specs.Crews.{OutOfBudget, Results, ends, results, run_entries, turns_from}
 use Rattle.ms_tasks.specs.refinement.Parts.{HaltsBy, ComesTo, CountsInput, CountsOut, IsWell}
 use Rattle.ms_tasks.specs.refinement.Rows.{IsInTurn, crew_in, threads_in}
 use Rattle.ms_tasks.specs.declared.burst.Halt.{Halt}
 use Rattle.ms_tasks.proofs.Coming.{answers_on, not_paused, to_same, to_trans}
 use Rattle.ms_tasks.proofs.Rowing.{none_comes}
-use Rattle.ms_tasks.proofs.Turns.{alone, next_place, place_at, row_first}
+use Rattle.ms_tasks.specs.refinement.Schedules.{by_only}
+use Rattle.ms_tasks.proofs.Only.{none_by_only, row_named}
+use Rattle.ms_tasks.proofs.Turns.{alone, next_place, place_at}
 use Rattle.ms_tasks.proofs.by_turns.run_turns.Goals as goal
 
-pub returns-then-len-clause-run : goal.returns-then-len-clause-run
-returns-then-len-clause-run g c =
+pub returns-then-is_alone-clause-run : goal.returns-then-is_alone-clause-run
+returns-then-is_alone-clause-run g c =
     let r = c.run_alone in
     let n = length c.args.tasks.now in
     let before = crew_in c.args.store.now c.args.tasks.now in
     let after = crew_in r.new.store r.new.tasks in
-    subst (λ ks. HaltsBy r.result (run_entries ks before) (ends (Results (results (threads_in r.new.store r.new.tasks))) after) (ends OutOfBudget after) after (g.I.Source.left c.args.input.now) (g.I.Source.left r.new.input) (g.O.Sink.held c.args.out.now) (g.O.Sink.held r.new.out) c.args.log.now r.new.log) (sym (alone c.args.q n c.args.from c.args.most c.if-len.true)) r.ensures.run
+    let entries = turns_from c.args.q n c.args.from c.args.most in
+    let alone_is = c.is_alone.ensures (subst IsTrue (sym c.if-is_alone.true) tt) in
+    let all : by_only c.args.only n entries ≡ replicate c.args.most 0 = ap (λ (o : Option ℕ). by_only o n entries) alone_is.1 ∙ alone c.args.q n c.args.from c.args.most alone_is.0 in
+    subst (λ ks. HaltsBy r.result (run_entries ks before) (ends (Results (results (threads_in r.new.store r.new.tasks))) after) (ends OutOfBudget after) after (g.I.Source.left c.args.input.now) (g.I.Source.left r.new.input) (g.O.Sink.held c.args.out.now) (g.O.Sink.held r.new.out) c.args.log.now r.new.log) (sym all) r.ensures.run
 
 pub loop-left-init : goal.loop-left-init
 loop-left-init g c =
@@ -26,9 +31,9 @@ loop-left-init g c =
     let log = c.args.log.now in
     let here : from ≡ from + (c.args.most - c.args.most) = omega arith in
     let before = crew_in c.args.store.now c.args.tasks.now in
-    let all = run_entries (turns_from q n from c.args.most) before in
+    let all = run_entries (by_only c.args.only n (turns_from q n from c.args.most)) before in
     record {
-      runs = subst (λ i. ComesTo left left held held log log all (run_entries (turns_from q n i c.args.most) before)) here (to_same left held log all);
+      runs = subst (λ i. ComesTo left left held held log log all (run_entries (by_only c.args.only n (turns_from q n i c.args.most)) before)) here (to_same left held log all);
       place = λ more.
           let q' = c.from-turn_of.result in
           let n' = c.from.result in
@@ -57,17 +62,18 @@ returns-in_default g c =
     let n = length c.args.tasks.now in
     let i = c.args.from + (c.args.most - l.left) in
     let row = c.least-row.result in
-    let rest = turns_from c.args.q n (i + row) (l.left - row) in
+    let task = c.named-task.result in
+    let rest = by_only c.args.only n (turns_from c.args.q n (i + row) (l.left - row)) in
     let left = g.I.Source.left in
     let held = g.O.Sink.held in
     let before = crew_in l.store l.tasks in
     let after = crew_in r.new.store r.new.tasks in
-    let all = run_entries (turns_from c.args.q n c.args.from c.args.most) (crew_in c.args.store.now c.args.tasks.now) in
+    let all = run_entries (by_only c.args.only n (turns_from c.args.q n c.args.from c.args.most)) (crew_in c.args.store.now c.args.tasks.now) in
     let ended = ends (Results (results (threads_in r.new.store r.new.tasks))) after in
-    let first = subst (λ ks. ComesTo (left c.args.input.now) (left l.input) (held c.args.out.now) (held l.out) c.args.log.now l.log all (run_entries ks before)) (row_first c.args.q n i l.k l.room row l.left c.least-row.ensures.under c.least-row.ensures.within (v.place c.loop-left-test.true)) v.runs in
+    let first = subst (λ ks. ComesTo (left c.args.input.now) (left l.input) (held c.args.out.now) (held l.out) c.args.log.now l.log all (run_entries ks before)) (row_named c.args.only c.args.q n i l.k l.room row l.left c.least-row.ensures.under c.least-row.ensures.within (v.place c.loop-left-test.true) ∙ ap (λ (t : ℕ). replicate row t ++ rest) (sym c.named-task.ensures)) v.runs in
     record {
-      run = answers_on r.result.0 (left c.args.input.now) (left l.input) (left r.new.input) (held c.args.out.now) (held l.out) (held r.new.out) c.args.log.now l.log r.new.log all (run_entries (replicate row l.k ++ rest) before) ended (ends OutOfBudget after) after first
-          (not_paused r.result.0 (left l.input) (left r.new.input) (held l.out) (held r.new.out) l.log r.new.log (run_entries (replicate row l.k ++ rest) before) ended (run_entries rest after) (ends OutOfBudget after) after c.in_default.not-Paused (e.run rest));
+      run = answers_on r.result.0 (left c.args.input.now) (left l.input) (left r.new.input) (held c.args.out.now) (held l.out) (held r.new.out) c.args.log.now l.log r.new.log all (run_entries (replicate row task ++ rest) before) ended (ends OutOfBudget after) after first
+          (not_paused r.result.0 (left l.input) (left r.new.input) (held l.out) (held r.new.out) l.log r.new.log (run_entries (replicate row task ++ rest) before) ended (run_entries rest after) (ends OutOfBudget after) after c.in_default.not-Paused (e.run rest));
       ready = e.ready;
       outline = λ well. e.outline well ∙ v.outline;
       others = λ well h fit. e.others well h (v.others h fit);
@@ -99,14 +105,15 @@ loop-left-preserved g c =
     let held = g.O.Sink.held in
     record {
       runs =
-          let all = run_entries (turns_from c.args.q n c.args.from c.args.most) (crew_in c.args.store.now c.args.tasks.now) in
+          let all = run_entries (by_only c.args.only n (turns_from c.args.q n c.args.from c.args.most)) (crew_in c.args.store.now c.args.tasks.now) in
           let before = crew_in l.store l.tasks in
           let after = crew_in r.new.store r.new.tasks in
-          let rest = turns_from c.args.q n (i + row) left' in
-          let mid = run_entries (replicate row l.k ++ rest) before in
-          let first = subst (λ ks. ComesTo (left c.args.input.now) (left l.input) (held c.args.out.now) (held l.out) c.args.log.now l.log all (run_entries ks before)) (row_first c.args.q n i l.k l.room row l.left under within (v.place c.loop-left-test.true)) v.runs in
+          let task = c.named-task.result in
+          let rest = by_only c.args.only n (turns_from c.args.q n (i + row) left') in
+          let mid = run_entries (replicate row task ++ rest) before in
+          let first = subst (λ ks. ComesTo (left c.args.input.now) (left l.input) (held c.args.out.now) (held l.out) c.args.log.now l.log all (run_entries ks before)) (row_named c.args.only c.args.q n i l.k l.room row l.left under within (v.place c.loop-left-test.true) ∙ ap (λ (t : ℕ). replicate row t ++ rest) (sym c.named-task.ensures)) v.runs in
           let turned = subst (λ (h : Halt). HaltsBy h mid (ends (Results (results (threads_in r.new.store r.new.tasks))) after) (run_entries rest after) after (left l.input) (left r.new.input) (held l.out) (held r.new.out) l.log r.new.log) c.in-Paused.is (e.run rest) in
-          subst (λ x. ComesTo (left c.args.input.now) (left r.new.input) (held c.args.out.now) (held r.new.out) c.args.log.now r.new.log all (run_entries (turns_from c.args.q n x left') after)) there
+          subst (λ x. ComesTo (left c.args.input.now) (left r.new.input) (held c.args.out.now) (held r.new.out) c.args.log.now r.new.log all (run_entries (by_only c.args.only n (turns_from c.args.q n x left')) after)) there
           (to_trans (left c.args.input.now) (left l.input) (left r.new.input) (held c.args.out.now) (held l.out) (held r.new.out) c.args.log.now l.log r.new.log all mid (run_entries rest after) first turned);
       place = λ more.
           let whole : row ≡ l.room = c.least-row.ensures.whole (omega (arith, more)) in
@@ -132,5 +139,5 @@ returns-clause-run g c =
     let n = length c.args.tasks.now in
     let i = c.args.from + (c.args.most - l.left) in
     let none : l.left ≡ 0 = omega (arith, c.loop-left-test.false) in
-    none_comes l.store l.tasks (turns_from c.args.q n i l.left) (g.I.Source.left c.args.input.now) (g.I.Source.left l.input) (g.O.Sink.held c.args.out.now) (g.O.Sink.held l.out) c.args.log.now l.log (run_entries (turns_from c.args.q n c.args.from c.args.most) (crew_in c.args.store.now c.args.tasks.now))
-    (ap (turns_from c.args.q n i) none) v.going v.runs
+    none_comes l.store l.tasks (by_only c.args.only n (turns_from c.args.q n i l.left)) (g.I.Source.left c.args.input.now) (g.I.Source.left l.input) (g.O.Sink.held c.args.out.now) (g.O.Sink.held l.out) c.args.log.now l.log (run_entries (by_only c.args.only n (turns_from c.args.q n c.args.from c.args.most)) (crew_in c.args.store.now c.args.tasks.now))
+    (none_by_only c.args.only n (turns_from c.args.q n i l.left) (ap (turns_from c.args.q n i) none)) v.going v.runs

@@ -7,11 +7,12 @@ use Rattle.ms_tasks.specs.refinement.Logs.{CountsUpTo}
 use Rattle.ms_tasks.specs.refinement.Parts.{ComesTo}
 use Rattle.ms_tasks.specs.refinement.Ready.{IsReady}
 use Rattle.ms_tasks.specs.refinement.Rows.{IsInTurn, crew_in, threads_in}
+use Rattle.ms_tasks.specs.refinement.Schedules.{by_only}
 use Rattle.ms_tasks.proofs.by_turns.run_turns.Given as goal
 
 abbrev pub invariant-loop-left : goal.invariant-loop-left
 invariant-loop-left g l = record {
-  runs : ComesTo (g.I.Source.left l.fn.input) (g.I.Source.left l.input) (g.O.Sink.held l.fn.out) (g.O.Sink.held l.out) l.fn.log l.log (run_entries (turns_from l.q (length l.fn.tasks) l.from l.most) (crew_in l.fn.store l.fn.tasks)) (run_entries (turns_from l.q (length l.fn.tasks) (l.from + (l.most - l.left)) l.left) (crew_in l.store l.tasks));
+  runs : ComesTo (g.I.Source.left l.fn.input) (g.I.Source.left l.input) (g.O.Sink.held l.fn.out) (g.O.Sink.held l.out) l.fn.log l.log (run_entries (by_only l.only (length l.fn.tasks) (turns_from l.q (length l.fn.tasks) l.from l.most)) (crew_in l.fn.store l.fn.tasks)) (run_entries (by_only l.only (length l.fn.tasks) (turns_from l.q (length l.fn.tasks) (l.from + (l.most - l.left)) l.left)) (crew_in l.store l.tasks));
   place : 0 < l.left → IsInTurn l.q l.count (l.from + (l.most - l.left)) l.k l.room;
   tasks : length l.tasks ≡ length l.fn.tasks;
   left : l.left ≤ l.most;

@@ -1,9 +1,8 @@
-use Rattle.std.proofs.Common.{◌≡◌, length, sym, subst}
-use Rattle.ms_tasks.specs.refinement.Schedules.{entries_of}
-use Rattle.ms_tasks.specs.declared.schedule.Schedule.{Schedule}
-use Rattle.ms_tasks.proofs.Outs.{length_turns}
+use Rattle.std.proofs.Common.{◌∙◌}
+use Rattle.ms_tasks.specs.refinement.Schedules.{first_of}
+use Rattle.ms_tasks.proofs.Only.{length_by_only}
 use Rattle.ms_tasks.proofs.schedule.Schedule.most.Goals as goal
 
-pub returns-in-Turns-clause-entries : goal.returns-in-Turns-clause-entries
-returns-in-Turns-clause-entries c = λ tasks.
-    subst (λ (x : Schedule). length (entries_of x tasks c.args.budget) ≡ c.args.budget) (sym c.in-Turns.is) (length_turns c.in-Turns.field-0 tasks 0 c.args.budget)
+pub returns-clause-entries : goal.returns-clause-entries
+returns-clause-entries c = λ tasks.
+    length_by_only c.args.self.now.only tasks (first_of c.args.self.now.entries tasks c.args.budget) ∙ c.most.ensures.entries tasks
