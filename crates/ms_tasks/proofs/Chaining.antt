@@ -23,7 +23,7 @@ use Rattle.ms_tasks.specs.refinement.Steppers.{whose_of}
 use Rattle.ms_tasks.specs.declared.burst.Halt.{Halt}
 use Rattle.ms_tasks.specs.declared.burst.Halt.TheVariants as answers
 use Rattle.ms_tasks.proofs.Coming.{answers_on, to_as, to_trans}
-use Rattle.ms_tasks.proofs.Entries.{when_ended, when_going}
+use Rattle.ms_tasks.proofs.EntryRuns.{when_ended, when_going}
 use Rattle.ms_tasks.proofs.Rowing.{turn_end}
 use Rattle.ms_tasks.proofs.Stepping.{entries_on}
 

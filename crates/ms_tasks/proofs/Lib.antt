@@ -3,7 +3,7 @@ pub mod Coming
 pub mod Keeping
 pub mod Leaving
 pub mod Stepping
-pub mod Entries
+pub mod EntryRuns
 pub mod Turns
 pub mod Only
 pub mod Rowing

@@ -21,7 +21,7 @@ use Rattle.ms_tasks.specs.refinement.Rows.{IsIdle, crew_in, threads_in}
 use Rattle.ms_tasks.specs.declared.burst.Halt.{Halt}
 use Rattle.ms_tasks.specs.declared.burst.Halt.TheVariants as halts
 use Rattle.ms_tasks.proofs.Coming.{answers_as, to_as}
-use Rattle.ms_tasks.proofs.Entries.{drop_row, get_set, idle_entries, no_entries, not_ended, over_entries, passes, with_only}
+use Rattle.ms_tasks.proofs.EntryRuns.{drop_row, get_set, idle_entries, no_entries, not_ended, over_entries, passes, with_only}
 
 -- ---- lists
 

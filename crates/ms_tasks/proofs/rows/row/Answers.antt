@@ -7,7 +7,7 @@ use Rattle.ms_task.specs.refinement.View.{thread_of}
 use Rattle.ms_tasks.specs.refinement.Parts.{IsWell}
 use Rattle.ms_tasks.specs.refinement.Ready.{IsReady}
 use Rattle.ms_tasks.specs.refinement.Rows.{IsGoing, threads_in}
-use Rattle.ms_tasks.proofs.Entries.{get_set, task_row, with_only}
+use Rattle.ms_tasks.proofs.EntryRuns.{get_set, task_row, with_only}
 use Rattle.ms_tasks.proofs.Keeping.{all_get}
 use Rattle.ms_tasks.proofs.Rowing.{idle_ended, map_get, row_answers, still_going, turn_end, turn_ready}
 use Rattle.ms_tasks.proofs.rows.row.Goals as goal

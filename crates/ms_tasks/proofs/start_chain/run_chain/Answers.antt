@@ -12,7 +12,7 @@ use Rattle.ms_tasks.specs.refinement.Rows.{begun_with, threads_in}
 use Rattle.ms_tasks.specs.declared.burst.Halt.{Halt}
 use Rattle.ms_tasks.proofs.Chaining.{IsOver, ahead_over, chain_after, chain_ends, chain_ready, chain_stops, drop_at, drop_end, drop_set, left_entries, over_more, over_set}
 use Rattle.ms_tasks.proofs.Coming.{to_same}
-use Rattle.ms_tasks.proofs.Entries.{get_set, start_row}
+use Rattle.ms_tasks.proofs.EntryRuns.{get_set, start_row}
 use Rattle.ms_tasks.proofs.Keeping.{all_get}
 use Rattle.ms_tasks.proofs.Rowing.{map_get}
 use Rattle.ms_tasks.proofs.start_chain.run_chain.Goals as goal

@@ -2,6 +2,7 @@ use Rattle.std.proofs.Common.{◌≡◌, ◌≤◌, ◌+◌, ℕ, List, length, 
 use Rattle.std.proofs.lemmas.List.{length-map, with_items_is}
 use Rattle.std.specs.Vec.{with_items}
 use Rattle.ms_machine.specs.Crews.{Crew, Input, run_of}
+use Rattle.ms_machine.specs.Typing.{outline_of}
 use Rattle.ms_task.specs.refinement.View.{thread_of}
 use Rattle.ms_task.specs.declared.task.Task.{Task as CodeTask}
 use Rattle.ms_tasks.specs.refinement.Making.{Addressed}
@@ -50,6 +51,7 @@ returns g c =
       run = does;
       input_faults = subst (λ (x : Ran). CountsInput x (g.I.Source.faults c.args.input.now) (g.I.Source.faults r.new.input)) (sym c.ran_of-ran.ensures) (counts_input r.result (g.I.Source.faults c.args.input.now) (g.I.Source.faults r.new.input) e.input_faults);
       out_faults = subst (λ (x : Ran). CountsOut x (g.O.Sink.faults c.args.out.now) (g.O.Sink.faults r.new.out)) (sym c.ran_of-ran.ensures) (counts_out r.result (g.O.Sink.faults c.args.out.now) (g.O.Sink.faults r.new.out) e.out_faults);
+      outline = λ over. subst (λ (x : Crew). outline_of r.new.store ≡ outline_of x.store) same (e.outline (well_over r.result (subst IsOver c.ran_of-ran.ensures over)));
       addresses = ap (λ (p : Addressed). p.addresses) c.self.view_is;
       trapped = c.stop_of-self-inside.ensures;
       ready = λ over. subst IsReady viewed (e.ready (well_over r.result (subst IsOver c.ran_of-ran.ensures over)));
