@@ -1,6 +1,6 @@
 //! Runs by turns, where the start functions have ended.
 
-ghost use Rattle.std.specs.Prelude.{◌≡◌, ◌≢◌, ℕ, suc, ◌+◌, ◌%◌, ◌<◌, ◌≤◌, ◌^◌, false, length, replicate, IsTrue, None};
+ghost use Rattle.std.specs.Prelude.{◌≡◌, ◌≢◌, ℕ, suc, ◌+◌, ◌%◌, ◌<◌, ◌≤◌, ◌^◌, false, length, replicate, None, true};
 ghost use Rattle.ms_handle.specs.declared.handle.Handle.{Handle};
 ghost use Rattle.ms_segment.specs.Memory.{IsFit};
 ghost use Rattle.ms_machine.specs.Crews.{OutOfBudget, Results, are_ended, ends, results, run_entries, turns_from};
@@ -68,7 +68,7 @@ fn run_alone<M: SegmentMemory, I: Source, O: Sink>(
 
 /// Whether there is one task, and all entries name one.
 fn is_alone(tasks: &[Task], only: Option<u32>) -> bool
-    ensures { IsTrue result → (length tasks.now ≡ 1) × (only ≡ None) }
+    ensures { result ≡ true → (length tasks.now ≡ 1) × (only ≡ None) }
 {
     tasks.len() == 1 && only.is_none()
 }

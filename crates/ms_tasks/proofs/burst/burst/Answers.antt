@@ -1,4 +1,4 @@
-use Rattle.std.proofs.Common.{◌≡◌, ◌+◌, ◌-◌, ◌≤◌, ap, subst, sym, ◌∙◌, arith}
+use Rattle.std.proofs.Common.{◌≡◌, ◌+◌, ◌-◌, ◌≤◌, refl, ap, subst, sym, ◌∙◌, arith}
 use Rattle.ms_segment.specs.Memory.{Memory}
 use Rattle.ms_task.specs.refinement.View.{thread_of}
 use Rattle.ms_machine.specs.Crews.{run_entries}
@@ -8,7 +8,7 @@ use Rattle.ms_machine.specs.declared.straight.Stretch.{Stretch}
 use Rattle.ms_tasks.specs.refinement.Logs.{CountsUpTo}
 use Rattle.ms_tasks.specs.refinement.Steppers.{whose_of}
 use Rattle.ms_tasks.proofs.Deeds.{within_more}
-use Rattle.ms_tasks.proofs.Stepping.{kept_fit, quiet_comes, quiet_first, way_pauses}
+use Rattle.ms_tasks.proofs.Stepping.{begins_way, kept_fit, quiet_comes, quiet_first, stops_before, way_pauses}
 use Rattle.ms_tasks.proofs.burst.burst.Goals as goal
 
 pub returns-in-Ended-clause-run : goal.returns-in-Ended-clause-run
@@ -27,8 +27,18 @@ returns-in-Ended-clause-run g c = λ next entries row.
     let halted = subst (λ (k : Stretch). IsHalted k (c.args.most - rest) s0 t0 s t) c.in-Ended.is q.steps in
     quiet_comes whose next entries c.args.most rest s0 s t0 t left held log0 c.count.new.self q.left row halted.0 c.count.ensures
 
-pub returns-then-rest-clause-run : goal.returns-then-rest-clause-run
-returns-then-rest-clause-run g c = λ next entries row.
+pub returns-in-Memory-clause-run : goal.returns-in-Memory-clause-run
+returns-in-Memory-clause-run g c = λ next entries row.
+    let whose = whose_of c.args.whose in
+    let s0 = c.args.store.now in
+    let t0 = thread_of s0.funcs c.args.task.now in
+    let log0 = c.args.log.now in
+    let left = g.I.Source.left c.args.input.now in
+    let held = g.O.Sink.held c.args.out.now in
+    stops_before whose next entries c.args.most s0 t0 log0.trace c.args.most s0 t0 log0.trace left left left held held held (begins_way whose next entries c.args.most s0 t0 log0.trace left held row) log0 log0 refl refl refl refl
+
+pub returns-then-rest-eq0-clause-run : goal.returns-then-rest-eq0-clause-run
+returns-then-rest-eq0-clause-run g c = λ next entries row.
     let whose = whose_of c.args.whose in
     let s0 = c.args.store.now in
     let t0 = thread_of s0.funcs c.args.task.now in
@@ -41,7 +51,7 @@ returns-then-rest-clause-run g c = λ next entries row.
     let left = g.I.Source.left c.args.input.now in
     let held = g.O.Sink.held c.args.out.now in
     let halted = subst (λ (k : Stretch). IsHalted k (c.args.most - rest) s0 t0 s t) c.in-Paused.is q.steps in
-    way_pauses whose next entries c.args.most rest c.if-rest.true s t left left held held log0 c.count-2.new.self (run_entries entries (next s0 t0))
+    way_pauses whose next entries c.args.most rest c.if-rest-eq0.true s t left left held held log0 c.count-2.new.self (run_entries entries (next s0 t0))
     (quiet_comes whose next entries c.args.most rest s0 s t0 t left held log0 c.count-2.new.self q.left row halted.0 c.count-2.ensures)
 
 pub go_loudly-requires-clause-store : goal.go_loudly-requires-clause-store

@@ -1,4 +1,4 @@
-use Rattle.std.proofs.Common.{◌≡◌, ◌/◌, ◌%◌, ◌+◌, ◌-◌, ◌++◌, ℕ, IsTrue, Option, length, replicate, refl, sym, ap, subst, ◌∙◌, arith}
+use Rattle.std.proofs.Common.{◌≡◌, ◌/◌, ◌%◌, ◌+◌, ◌-◌, ◌++◌, ℕ, Option, length, replicate, refl, sym, ap, subst, ◌∙◌, arith}
 use Rattle.ms_machine.specs.Crews.{OutOfBudget, Results, ends, results, run_entries, turns_from}
 use Rattle.ms_tasks.specs.refinement.Parts.{HaltsBy, ComesTo, CountsInput, CountsOut, IsWell}
 use Rattle.ms_tasks.specs.refinement.Rows.{IsInTurn, crew_in, threads_in}
@@ -17,7 +17,7 @@ returns-then-is_alone-clause-run g c =
     let before = crew_in c.args.store.now c.args.tasks.now in
     let after = crew_in r.new.store r.new.tasks in
     let entries = turns_from c.args.q n c.args.from c.args.most in
-    let alone_is = c.is_alone.ensures (subst IsTrue (sym c.if-is_alone.true) tt) in
+    let alone_is = c.is_alone.ensures c.if-is_alone.true in
     let all : by_only c.args.only n entries ≡ replicate c.args.most 0 = ap (λ (o : Option ℕ). by_only o n entries) alone_is.1 ∙ alone c.args.q n c.args.from c.args.most alone_is.0 in
     subst (λ ks. HaltsBy r.result (run_entries ks before) (ends (Results (results (threads_in r.new.store r.new.tasks))) after) (ends OutOfBudget after) after (g.I.Source.left c.args.input.now) (g.I.Source.left r.new.input) (g.O.Sink.held c.args.out.now) (g.O.Sink.held r.new.out) c.args.log.now r.new.log) (sym all) r.ensures.run
 
