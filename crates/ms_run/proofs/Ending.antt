@@ -29,7 +29,7 @@ use Rattle.ms_run.specs.Observed.{Flow, Report, Shelved}
 use Rattle.ms_run.specs.Reporting.{Delivers, IsKept, KeepsFiles, Reports, failed, put, starved}
 use Rattle.ms_run.specs.Reached.{AreReached}
 use Rattle.ms_run.specs.Standing.{AreStanding}
-use Rattle.ms_run.specs.Telling.{Asked, counted, dumped, traced}
+use Rattle.ms_run.specs.Telling.{Inquiry, counted, dumped, traced}
 use Rattle.ms_run.specs.declared.status.Status.{Status}
 use Rattle.ms_run.specs.declared.status.Status.TheVariants.{Done, OutOfBudget, OutOfMemory, ReadFault, Trapped, WriteFault}
 use Rattle.ms_run.specs.declared.telling.Telling.{Telling}
@@ -100,7 +100,7 @@ told_or telling c log status lines s r P result (told left are delivers) all non
 told_or telling c log status lines s r P result (untold files kept) all none = none files kept
 
 -- what is told of how tasks stand is told of the run
-module _ (asked : Asked) (c : Addressed) (addresses : AreAddresses c.store asked.tasks c.addresses) where
+module _ (asked : Inquiry) (c : Addressed) (addresses : AreAddresses c.store asked.tasks c.addresses) where
   -- where the states of the tasks are those of a run that ended so
   left_of : (run : Run) (left : List ℕ) → run.crew ≡ begun c.crew → state_in c ≡ (λ n. if_trapped n run.end (in_crew (slice_get c.tasks n))) → AreListed asked.telling c left → AreLeft asked run left
   left_of run left crew states (reached, standing, are, stand, is) =
@@ -114,7 +114,7 @@ module _ (asked : Asked) (c : Addressed) (addresses : AreAddresses c.store asked
         is,
       )
 
-module _ (asked : Asked) (run_over : Input → Run) (c : Addressed) (s : Shelved) (r : Report) (f : Flow) (old new : Log) (result : Status) where
+module _ (asked : Inquiry) (run_over : Input → Run) (c : Addressed) (s : Shelved) (r : Report) (f : Flow) (old new : Log) (result : Status) where
   abbrev telling : Telling
   telling = asked.telling
 

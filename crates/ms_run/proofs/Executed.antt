@@ -17,7 +17,7 @@ use Rattle.ms_run.specs.Flows.{IsQuiet, TellsEnd, TellsExecution, nothing_printe
 use Rattle.ms_run.specs.Lines.{link_line, task_line}
 use Rattle.ms_run.specs.Observed.{Flow, Report, Shelved}
 use Rattle.ms_run.specs.Reporting.{KeepsFiles, Reports}
-use Rattle.ms_run.specs.Telling.{Asked}
+use Rattle.ms_run.specs.Telling.{Inquiry}
 use Rattle.ms_run.specs.declared.status.Status.{Status}
 use Rattle.ms_run.specs.declared.status.Status.TheVariants.{Refused}
 
@@ -49,7 +49,7 @@ linked_none_made modules capacity s e = let made = linked_made modules capacity 
 
 -- ---- what was told
 
-module _ (asked : Asked) (s : Shelved) (r : Report) (f : Flow) where
+module _ (asked : Inquiry) (s : Shelved) (r : Report) (f : Flow) where
   same_printed : (e e' : Input → Execution) → ((given : Input) → e' given ≡ e given) → (result : Status) → TellsExecution asked e s r f result → TellsExecution asked e' s r f result
   same_printed e e' same result (refused x line is answers still files reports) = refused x line (λ given. same given ∙ is given) answers still files reports
   same_printed e e' same result (run_printed runs is tell) = run_printed runs (λ given. same given ∙ is given) tell

@@ -31,7 +31,7 @@ use Rattle.ms_run.specs.Jobs.{AllLoaded, FirstUnloaded, HasEntries, RunOfFile, R
 use Rattle.ms_run.specs.Lines.{job_line}
 use Rattle.ms_run.specs.Observed.{Flow, Report, Shelved}
 use Rattle.ms_run.specs.Reporting.{Holds, IsFound, IsKept, IsUntouched, KeepsFiles, Reports, ReportsJobFault, Tells, put, printed, unprinted}
-use Rattle.ms_run.specs.Telling.{Asked, asked_of}
+use Rattle.ms_run.specs.Telling.{Inquiry, inquiry_of}
 use Rattle.ms_run.specs.declared.gathering.Naming.{Naming}
 use Rattle.ms_run.specs.declared.gathering.Naming.TheVariants.{Numbered}
 use Rattle.ms_run.specs.declared.status.Status.{Status}
@@ -43,7 +43,7 @@ use Rattle.ms_run.proofs.Later.{execution_later, first, first_report, found_late
 
 -- ---- a run takes from the front of what the input gives
 
-same_run : (r s : Run) → ◌≡◌ {A = Execution} (Ran r) (Ran s) → r ≡ s
+pub same_run : (r s : Run) → ◌≡◌ {A = Execution} (Ran r) (Ran s) → r ≡ s
 same_run r s e = cc
 
 module _ (tasks : List (ℕ × List ℕ)) (entries : List ℕ) (given : Input) where
@@ -120,23 +120,23 @@ module _ (naming : Naming) (job : Job) (s : Shelved) (r : Report) (f : Flow) whe
       abbrev run_over : Input → Execution
       run_over = execution modules job.tasks entries job.memory
 
-      gives : (given : Input) (ran : Option Run) (a : Answer) → AnswersAs (asked_of job) (run_over given) ran a → Gives given ran a
+      gives : (given : Input) (ran : Option Run) (a : Answer) → AnswersAs (inquiry_of job) (run_over given) ran a → Gives given ran a
       gives given which a answers =
           executed modules entries (all_more (Holds s.old) (IsFound s) (held_found s) job.modules modules all) (entries_more (Holds s.old) (IsFound s) (held_found s) job entries scheduled) answers
 
       is_run : (given : Input) (run : Run) → run_over given ≡ Ran run → IsRun given run
       is_run given run e = record { modules = modules; entries = entries; loaded = all; scheduled = scheduled; ran = e }
 
-      executed_answered : (result : Status) → TellsExecution (asked_of job) run_over s r f result → Answered Gives IsRun s r f result
+      executed_answered : (result : Status) → TellsExecution (inquiry_of job) run_over s r f result → Answered Gives IsRun s r f result
       executed_answered result (refused e line is answers still files reports) =
           let input = some_input f.left_old in
           let a = says Refused line in
-          let gave = gives input.0 None a (subst (λ (x : Execution). AnswersAs (asked_of job) x None a) (sym (is input.0)) answers) in
+          let gave = gives input.0 None a (subst (λ (x : Execution). AnswersAs (inquiry_of job) x None a) (sym (is input.0)) answers) in
           (input.0, input.1, delivered None a gave (inr counts) still (put files reports), quiet (of_reports IsUnrun Refused line r result tt tt tt reports) still)
       executed_answered result (run_printed runs is (end_printed given a tells done delivers)) =
           let run = runs given in
           let part = whole_part f given run (execution_leaves modules job.tasks entries job.memory given run (is given)) done in
-          let gave = gives given (Some run) a (subst (λ (x : Execution). AnswersAs (asked_of job) x (Some run) a) (sym (is given)) (refl, tells)) in
+          let gave = gives given (Some run) a (subst (λ (x : Execution). AnswersAs (inquiry_of job) x (Some run) a) (sym (is given)) (refl, tells)) in
           let flowed = of_delivers (Flowed given f run) a s r result (ends_flowed given f run run.end a.status tells.0 tells.2 done) part part delivers in
           (given, done.may, delivered (Some run) a gave (inr counts) done delivers, ran run (is_run given run (is given)) flowed)
       executed_answered result (run_printed runs is (end_cut given part flowed files cuts)) =
@@ -204,14 +204,14 @@ module _ (old mid new : Option Files) (reads_old reads_mid reads_new : List ℕ 
       from_new = second old new last reads_old reads_new reads_last writes_old writes_new writes_last held held_new held_last puts puts_new puts_last
 
       pub tasks_answered : (schedule : Schedule) (tasks : List (ℕ × List ℕ)) → tasks ≡ job.tasks → HasEntries (Holds mid) job (entries_of schedule (length job.tasks) job.budget) → IsUntouched after_that report_after
-          → (result : Status) → SameCounts reads_new reads_last → TellsExecution (record { telling = (asked_of job).telling; tasks = tasks }) (execution modules tasks (entries_of schedule (length tasks) job.budget) job.memory) from_new (report_of held_new held_last puts_new puts_last) f result
+          → (result : Status) → SameCounts reads_new reads_last → TellsExecution (record { telling = (inquiry_of job).telling; tasks = tasks }) (execution modules tasks (entries_of schedule (length tasks) job.budget) job.memory) from_new (report_of held_new held_last puts_new puts_last) f result
           → Answered (λ given. RunsJob (IsFound to_last) naming given job) (λ given. RunOfJob (Holds old) given job) to_last (report_of held held_last puts puts_last) f result
       tasks_answered schedule tasks same scheduled after result counts tell =
           let both = untouched_later old mid new reads_old reads_mid reads_new writes_old writes_mid writes_new held held_mid held_new puts puts_mid puts_new before after in
           let entries = entries_of schedule (length job.tasks) job.budget in
-          let here = subst (λ (ts : List (ℕ × List ℕ)). TellsExecution (record { telling = (asked_of job).telling; tasks = ts }) (execution modules ts (entries_of schedule (length ts) job.budget) job.memory) from_new (report_of held_new held_last puts_new puts_last) f result) same tell in
+          let here = subst (λ (ts : List (ℕ × List ℕ)). TellsExecution (record { telling = (inquiry_of job).telling; tasks = ts }) (execution modules ts (entries_of schedule (length ts) job.budget) job.memory) from_new (report_of held_new held_last puts_new puts_last) f result) same tell in
           executed_answered naming job to_last (report_of held held_last puts puts_last) f modules all entries (subst (λ (x : Option Files). HasEntries (Holds x) job entries) before.files.0 scheduled) (λ n. counts n ∙ both.counts n) result
-          (execution_later old new last reads_old reads_new reads_last writes_old writes_new writes_last held held_new held_last puts puts_new puts_last (asked_of job) both f (execution modules job.tasks entries job.memory) result here)
+          (execution_later old new last reads_old reads_new reads_last writes_old writes_new writes_last held held_new held_last puts puts_new puts_last (inquiry_of job) both f (execution modules job.tasks entries job.memory) result here)
 
 -- the file of the job wasn't read, or is none
 module _ (name : List ℕ) (s : Shelved) (r : Report) (f : Flow) where

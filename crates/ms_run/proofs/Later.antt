@@ -10,7 +10,7 @@ use Rattle.ms_run.specs.Executions.{Execution}
 use Rattle.ms_run.specs.Flows.{Cuts, DidRun, TellsEnd, TellsExecution, cut, delivered, end_cut, end_printed, end_unprinted, nothing_printed, refused, run_printed, starved_run}
 use Rattle.ms_run.specs.Observed.{Flow, Report, Shelved}
 use Rattle.ms_run.specs.Reporting.{CountsReads, Delivers, Did, HasFailed, HasWritten, IsFound, IsKept, IsUntouched, KeepsFiles, Makes, Reports, Tells, answered, failed, made, made_none, put, ran_out, starved, printed, unprinted}
-use Rattle.ms_run.specs.Telling.{Asked}
+use Rattle.ms_run.specs.Telling.{Inquiry}
 use Rattle.ms_run.specs.declared.status.Status.{Status}
 use Rattle.ms_run.specs.declared.status.Status.TheVariants.{Refused}
 
@@ -118,7 +118,7 @@ module _ (old mid new : Option Files) (reads_old reads_mid reads_new : List ℕ 
   run_later Gives Gives' more before given f result (cut counts files h) = cut (λ n. counts n ∙ before.counts n) (files_later before files) (cuts_later before f result h)
   run_later Gives Gives' more before given f result (starved_run counts files kept) = starved_run (λ n. counts n ∙ before.counts n) (files_later before files) (kept_later before kept)
 
-  module _ (asked : Asked) (before : Before) (f : Flow) where
+  module _ (asked : Inquiry) (before : Before) (f : Flow) where
     end_later : (run_over : Input → Run) (result : Status) → TellsEnd asked run_over second second_report f result → TellsEnd asked run_over whole whole_report f result
     end_later run_over result (end_printed given a tells done delivers) = end_printed given a tells done (delivers_later before a result delivers)
     end_later run_over result (end_cut given part flowed files cuts) = end_cut given part flowed (files_later before files) (cuts_later before f result cuts)

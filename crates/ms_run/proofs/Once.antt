@@ -38,7 +38,7 @@ use Rattle.ms_run.specs.Lines.{accepted_line, fault_words, job_line, part_words,
 use Rattle.ms_run.specs.Loading.{Binary, Form, Source, Spells, Text, Unread, binary, form_of, source, text}
 use Rattle.ms_run.specs.Observed.{Shelved}
 use Rattle.ms_run.specs.Reporting.{Holds, IsFound}
-use Rattle.ms_run.specs.Telling.{Asked, asked_of, counted, dumped}
+use Rattle.ms_run.specs.Telling.{Inquiry, inquiry_of, counted, dumped}
 use Rattle.ms_run.specs.declared.gathering.Naming.{Naming}
 use Rattle.ms_run.specs.declared.gathering.Naming.TheVariants.{Numbered}
 use Rattle.ms_run.specs.declared.status.Status.{Status}
@@ -151,7 +151,7 @@ ends_once (Trap whose trap) s t s' t' h k = (h.0 ∙ sym k.0, h.1 ∙ sym k.1)
 ends_once OutOfBudget s t s' t' h k = (h.0 ∙ sym k.0, h.1 ∙ sym k.1)
 ends_once Stuck s t s' t' h k = absurd h
 
-tells_once : (asked : Asked) (run : Run) → GivesOne (TellsOf asked run)
+tells_once : (asked : Inquiry) (run : Run) → GivesOne (TellsOf asked run)
 tells_once asked run a a' h k =
     let telling = asked.telling in
     let same = ends_once run.end a.status h.0 a'.status k.0 h.2 k.2 in
@@ -159,7 +159,7 @@ tells_once asked run a a' h k =
     let whole : List ℕ → List ℕ → List ℕ = λ x y. counted telling run.deeds ++ (x ++ (dumped telling run.crew.store.segments ++ y)) in
     same_answer a a' same.0 (h.4 ∙ (ap (λ (x : List ℕ). whole x h.1) same.1 ∙ (ap (whole k.0) left ∙ sym k.4))) (h.5 ∙ sym k.5)
 
-pub execution_once : (asked : Asked) (e : Execution) → RunsOne (AnswersAs asked e)
+pub execution_once : (asked : Inquiry) (e : Execution) → RunsOne (AnswersAs asked e)
 execution_once asked (Unlinked fault) p a p' a' h k = (h.0 ∙ sym k.0, h.1 ∙ sym k.1)
 execution_once asked (NoTask number) p a p' a' h k = (h.0 ∙ sym k.0, h.1 ∙ sym k.1)
 execution_once asked (Ran run) p a p' a' h k = (h.0 ∙ sym k.0, tells_once asked run a a' h.1 k.1)
@@ -329,9 +329,9 @@ module _ (Has : List ℕ → Found → Type 0) (one_found : (name : List ℕ) (a
   runs_job_once naming given job p a p' a' (executed ms entries all h answers) (executed ns entries' all' k answers') =
       let same_entries = entries_once job entries entries' h k in
       let same_modules = all_once job.modules ms ns all all' in
-      execution_once (asked_of job) (execution ns job.tasks entries' job.memory given) p a p' a'
-      (subst (λ (x : List (List ℕ × Module)). AnswersAs (asked_of job) (execution x job.tasks entries' job.memory given) p a) same_modules
-      (subst (λ x. AnswersAs (asked_of job) (execution ms job.tasks x job.memory given) p a) same_entries answers)) answers'
+      execution_once (inquiry_of job) (execution ns job.tasks entries' job.memory given) p a p' a'
+      (subst (λ (x : List (List ℕ × Module)). AnswersAs (inquiry_of job) (execution x job.tasks entries' job.memory given) p a) same_modules
+      (subst (λ x. AnswersAs (inquiry_of job) (execution ms job.tasks x job.memory given) p a) same_entries answers)) answers'
 
   pub runs_file_once : (given : Input) (name : List ℕ) → RunsOne (RunsFile Has given name)
   runs_file_once given name p a p' a' (no_job_file h) (no_job_file k) = (refl, unfound_once name a a' h k)
@@ -497,7 +497,7 @@ ends_ordinary (Trap whose trap) s t h = ordinary_as s statuses.Trapped h.0 tt
 ends_ordinary OutOfBudget s t h = ordinary_as s statuses.OutOfBudget h.0 tt
 ends_ordinary Stuck s t h = absurd h
 
-execution_ordinary : (asked : Asked) (e : Execution) (p : Option Run) (a : Answer) → AnswersAs asked e p a → IsOrdinary a.status
+execution_ordinary : (asked : Inquiry) (e : Execution) (p : Option Run) (a : Answer) → AnswersAs asked e p a → IsOrdinary a.status
 execution_ordinary asked (Unlinked fault) p a h = subst (λ (x : Answer). IsOrdinary x.status) (sym h.1) tt
 execution_ordinary asked (NoTask number) p a h = subst (λ (x : Answer). IsOrdinary x.status) (sym h.1) tt
 execution_ordinary asked (Ran run) p a h = ends_ordinary run.end a.status h.1.0 h.1.2
@@ -536,7 +536,7 @@ module _ (Has : List ℕ → Found → Type 0) where
   pub runs_job_ordinary : (naming : Naming) (given : Input) (job : Job) (p : Option Run) (a : Answer) → RunsJob Has naming given job p a → IsOrdinary a.status
   runs_job_ordinary naming given job p a (unloaded h) = of_first refusals_ordinary Has naming 0 job.modules a h
   runs_job_ordinary naming given job p a (unscheduled ms all h) = of_unscheduled refusals_ordinary Has job a h
-  runs_job_ordinary naming given job p a (executed ms entries all h answers) = execution_ordinary (asked_of job) (execution ms job.tasks entries job.memory given) p a answers
+  runs_job_ordinary naming given job p a (executed ms entries all h answers) = execution_ordinary (inquiry_of job) (execution ms job.tasks entries job.memory given) p a answers
 
   pub runs_file_ordinary : (given : Input) (name : List ℕ) (p : Option Run) (a : Answer) → RunsFile Has given name p a → IsOrdinary a.status
   runs_file_ordinary given name p a (no_job_file h) = of_unfound refusals_ordinary Has name a h

@@ -15,7 +15,7 @@ use Rattle.ms_run.specs.Observed.{Flow, Report, Shelved, shelved}
 use Rattle.ms_run.specs.Reporting.{Delivers, HasFailed, HasWritten, Holds, IsFound, IsKept, KeepsFiles, failed, put, starved}
 use Rattle.ms_run.specs.SafeRuns.{RanSafely}
 use Rattle.ms_run.specs.Stress.{stress_files, stress_job}
-use Rattle.ms_run.specs.Telling.{asked_of}
+use Rattle.ms_run.specs.Telling.{inquiry_of}
 use Rattle.ms_run.specs.declared.gathering.Naming.{Naming}
 use Rattle.ms_run.specs.declared.gathering.Naming.TheVariants.{Only}
 use Rattle.ms_run.specs.declared.status.Status.{Status}
@@ -59,8 +59,9 @@ module _ (files : Files) (own : Shelved) (told : own.old ≡ Some files) (never 
       tells = h.tells;
       status_is = h.status_is;
       grown = h.grown;
-      written = subst (HasWritten s) (sym (h.tells.5 ∙ untraced (asked_of job).telling (events_of h.run.deeds) no_trace)) kept;
+      written = subst (HasWritten s) (sym (h.tells.5 ∙ untraced (inquiry_of job).telling (events_of h.run.deeds) no_trace)) kept;
       flowed = h.flowed;
+      small = h.small;
       accepted = h.accepted;
       counted = h.counted;
     }

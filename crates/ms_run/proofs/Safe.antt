@@ -35,7 +35,7 @@ use Rattle.ms_run.specs.Jobs.{AllLoaded, HasEntries, HasJob, RunOfFile, RunOfJob
 use Rattle.ms_run.specs.Observed.{Flow, Report, Shelved}
 use Rattle.ms_run.specs.Reporting.{Grows, HasWritten, Holds, IsFound, failed, put, starved}
 use Rattle.ms_run.specs.SafeRuns.{IsEnd, RanSafely, is_access}
-use Rattle.ms_run.specs.Telling.{asked_of}
+use Rattle.ms_run.specs.Telling.{inquiry_of}
 use Rattle.ms_run.specs.declared.gathering.Naming.{Naming}
 use Rattle.ms_run.specs.declared.gathering.Naming.TheVariants.{Numbered}
 use Rattle.ms_run.specs.declared.status.Status.{Status}
@@ -98,7 +98,7 @@ module _ (modules : List (List ℕ × Module)) (tasks : List (ℕ × List ℕ)) 
 
 -- ---- the runs of jobs
 
-loaded_typed : (Has : List ℕ → Found → Type 0) (files : List (List ℕ × List ℕ)) (modules : List (List ℕ × Module)) → AllLoaded Has files modules → All (λ (m : List ℕ × Module). WellTyped m.1) modules
+pub loaded_typed : (Has : List ℕ → Found → Type 0) (files : List (List ℕ × List ℕ)) (modules : List (List ℕ × Module)) → AllLoaded Has files modules → All (λ (m : List ℕ × Module). WellTyped m.1) modules
 loaded_typed Has files modules no_more = All-nil (λ (m : List ℕ × Module). WellTyped m.1)
 loaded_typed Has files modules (one_more name file m {files = fs} {modules = ms} h all) = All-cons (λ (m : List ℕ × Module). WellTyped m.1) (name, m) ms h.typed (loaded_typed Has fs ms all)
 
@@ -142,7 +142,7 @@ no_end status other e not end = not (subst IsEnd e end)
 module _ (s : Shelved) (r : Report) (f : Flow) (naming : Naming) (given : Input) (may : MayGive f.left_old given) (job : Job) (bounds : IsBounded job) where
   module _ (ran : Option Run) (a : Answer) (flows : FlowsAs given f ran) (grown : Grows r a.report) (written : HasWritten s a.file) (result : Status) (status_is : result ≡ a.status) (end : IsEnd a.status) where
     executed_safely : (modules : List (List ℕ × Module)) (entries : List ℕ) → AllLoaded (IsFound s) job.modules modules → HasEntries (IsFound s) job entries
-        → (e : Execution) → execution modules job.tasks entries job.memory given ≡ e → AnswersAs (asked_of job) e ran a → RanSafely s.old s r f job result
+        → (e : Execution) → execution modules job.tasks entries job.memory given ≡ e → AnswersAs (inquiry_of job) e ran a → RanSafely s.old s r f job result
     executed_safely modules entries all scheduled (Unlinked fault) is h = absurd (no_end a.status statuses.Refused (ap (λ (x : Answer). x.status) h.1) (λ x. x) end)
     executed_safely modules entries all scheduled (NoTask number) is h = absurd (no_end a.status statuses.Refused (ap (λ (x : Answer). x.status) h.1) (λ x. x) end)
     executed_safely modules entries all scheduled (Ran run) is h =
@@ -164,6 +164,7 @@ module _ (s : Shelved) (r : Report) (f : Flow) (naming : Naming) (given : Input)
           grown = grown;
           written = written;
           flowed = subst (FlowsAs given f) h.0 flows;
+          small = bounds.memory;
           accepted = run_is_accepted (Holds s.old) given job run bounds.memory of_job;
           counted = run_is_counted (Holds s.old) given job run bounds.budget of_job;
         }

@@ -12,7 +12,7 @@ use Rattle.ms_tasks.specs.refinement.Making.{Addressed, AreAddresses, IsCrewOf}
 use Rattle.ms_run.specs.Executions.{AreLeft}
 use Rattle.ms_tasks.proofs.Chaining.{drop_at}
 use Rattle.ms_run.specs.Standing.{AreStanding, asked, standing_line, standing_lines, unasked}
-use Rattle.ms_run.specs.Telling.{Asked}
+use Rattle.ms_run.specs.Telling.{Inquiry}
 use Rattle.ms_run.proofs.Reaching.{one_reached}
 
 -- ---- a task is apart or joined, not both
@@ -55,7 +55,7 @@ same_items [] (y ∷ ys) e = absurd cc
 same_items (x ∷ xs) [] e = absurd cc
 same_items (x ∷ xs) (y ∷ ys) e = ap (λ (n : ℕ). n ∷ xs) (cc) ∙ ap (λ (ns : List ℕ). y ∷ ns) (same_items xs ys cc)
 
-pub one_left : (a : Asked) (run : Run) (left left' : List ℕ) → AreLeft a run left → AreLeft a run left' → left ≡ left'
+pub one_left : (a : Inquiry) (run : Run) (left left' : List ℕ) → AreLeft a run left → AreLeft a run left' → left ≡ left'
 one_left a run left left' (reached, standing, addresses, are, of, stand, is) (reached', standing', addresses', are', of', stand', is') =
     let same : addresses' ≡ addresses = same_items addresses' addresses (of' ∙ sym of) in
     let stand_too = subst (λ (xs : List ℕ). AreStanding run.crew.store xs _ a.telling.each standing') same stand' in

@@ -9,7 +9,7 @@ use Rattle.ms_run.specs.Executions.{AnswersAs, Execution, NoTask, Ran, Unlinked,
 use Rattle.ms_run.specs.Jobs.{RunsJob}
 use Rattle.ms_run.specs.Jobs as jobs
 use Rattle.ms_run.specs.Loading.{Form}
-use Rattle.ms_run.specs.Telling.{Asked, asked_of}
+use Rattle.ms_run.specs.Telling.{Inquiry, inquiry_of}
 use Rattle.ms_run.specs.declared.gathering.Naming.{Naming}
 use Rattle.ms_run.specs.declared.status.Status.{Status}
 use Rattle.ms_run.proofs.Ending.{same_file, traced_name}
@@ -55,7 +55,7 @@ module _ (Has : List ℕ → Found → Type 0) where
   judges_target name capacity file a (table.unjudged h) e = unfound_target Has name file a h e
   judges_target name capacity file a (table.judged bytes h verdict) e = verdict_target capacity bytes file a verdict e
 
-  execution_target : (asked : Asked) (x : Execution) (which : Option Run) (file : File) (a : Answer) → AnswersAs asked x which a → a.file ≡ Some file → asked.telling.trace ≡ Some file.name
+  execution_target : (asked : Inquiry) (x : Execution) (which : Option Run) (file : File) (a : Answer) → AnswersAs asked x which a → a.file ≡ Some file → asked.telling.trace ≡ Some file.name
   execution_target asked (Unlinked fault) which file a h e = absurd (wrote_none a _ _ file h.1 e)
   execution_target asked (NoTask number) which file a h e = absurd (wrote_none a _ _ file h.1 e)
   execution_target asked (Ran run) which file a h e = traced_name asked.telling (events_of run.deeds) file (sym h.1.5 ∙ e)
@@ -63,4 +63,4 @@ module _ (Has : List ℕ → Found → Type 0) where
   pub job_target : (naming : Naming) (given : Input) (job : Job) (which : Option Run) (file : File) (a : Answer) → RunsJob Has naming given job which a → a.file ≡ Some file → job.trace ≡ Some file.name
   job_target naming given job which file a (jobs.unloaded h) e = absurd (not_both a file (of_first refusals_write_none Has naming 0 job.modules a h) e)
   job_target naming given job which file a (jobs.unscheduled ms all h) e = absurd (not_both a file (of_unscheduled refusals_write_none Has job a h) e)
-  job_target naming given job which file a (jobs.executed ms entries all h answers) e = execution_target (asked_of job) (execution ms job.tasks entries job.memory given) which file a answers e
+  job_target naming given job which file a (jobs.executed ms entries all h answers) e = execution_target (inquiry_of job) (execution ms job.tasks entries job.memory given) which file a answers e

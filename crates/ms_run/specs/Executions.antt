@@ -13,7 +13,7 @@ use Rattle.ms_run.specs.Answers.{Answer, says}
 use Rattle.ms_run.specs.Lines.{budget_line, link_line, result_lines, task_line, trap_line}
 use Rattle.ms_run.specs.Reached.{AreReached}
 use Rattle.ms_run.specs.Standing.{AreStanding}
-use Rattle.ms_run.specs.Telling.{Asked, counted, dumped, traced}
+use Rattle.ms_run.specs.Telling.{Inquiry, counted, dumped, traced}
 use Rattle.ms_run.specs.declared.status.Status.{Status}
 use Rattle.ms_run.specs.declared.status.Status.TheVariants.{Done, OutOfBudget, Refused, Trapped}
 
@@ -50,7 +50,7 @@ EndsAs BudgetEnd status report = (status ≡ OutOfBudget) × (report ≡ budget_
 EndsAs Stuck status report = ⊥
 
 -- the lines of what is reached behind a run, and those of how each task stands, where they are asked for
-abbrev pub AreLeft : Asked → Run → List ℕ → Type 0
+abbrev pub AreLeft : Inquiry → Run → List ℕ → Type 0
 AreLeft asked run left =
     (reached : List ℕ) × (standing : List ℕ) × (addresses : List ℕ) × AreReached run.crew 0 asked.telling.reach reached
     × AreAddresses run.crew.store asked.tasks addresses × AreStanding run.crew.store addresses (λ n. state_of n run) asked.telling.each standing
@@ -58,14 +58,14 @@ AreLeft asked run left =
 
 -- The answer that tells of a run: the report has the numbers of what it did, the lines of its end, those of the segments that are
 -- live after it, of what is reached then, and of its tasks, all but its end where they are asked for; the file, if one is, has its events.
-abbrev pub TellsOf : Asked → Run → Answer → Type 0
+abbrev pub TellsOf : Inquiry → Run → Answer → Type 0
 TellsOf asked run a =
     (lines : List ℕ) × (left : List ℕ) × EndsAs run.end a.status lines × AreLeft asked run left
     × (a.report ≡ counted asked.telling run.deeds ++ (lines ++ (dumped asked.telling run.crew.store.segments ++ left)))
     × (a.file ≡ traced asked.telling (events_of run.deeds))
 
 -- The answer to an execution, and the run of which it tells.
-abbrev pub AnswersAs : Asked → Execution → Option Run → Answer → Type 0
+abbrev pub AnswersAs : Inquiry → Execution → Option Run → Answer → Type 0
 AnswersAs asked (Unlinked fault) ran a = (ran ≡ None) × (a ≡ says Refused (link_line fault))
 AnswersAs asked (NoTask number) ran a = (ran ≡ None) × (a ≡ says Refused (task_line number))
 AnswersAs asked (Ran run) ran a = (ran ≡ Some run) × TellsOf asked run a

@@ -12,7 +12,7 @@ use Rattle.ms_run.specs.Executions.{AnswersAs, Execution, Ran, TellsOf}
 use Rattle.ms_run.specs.Lines.{input_fault_line}
 use Rattle.ms_run.specs.Observed.{Flow, Report, Shelved}
 use Rattle.ms_run.specs.Reporting.{CountsReads, Delivers, IsKept, KeepsFiles, Reports}
-use Rattle.ms_run.specs.Telling.{Asked}
+use Rattle.ms_run.specs.Telling.{Inquiry}
 use Rattle.ms_run.specs.declared.status.Status.{Status}
 use Rattle.ms_run.specs.declared.status.Status.TheVariants.{Done, OutOfBudget, OutOfMemory, ReadFault, Refused, TooLong, Trapped, Usage, WriteFault}
 
@@ -91,13 +91,13 @@ pub data DidRun (Gives : Option Run → Answer → Type 0) (given : Input) (s : 
 -- ---- the same in parts
 
 -- What was told of a run over what the input gave, which may be cut short.
-pub data TellsEnd (asked : Asked) (run_over : Input → Run) (s : Shelved) (r : Report) (f : Flow) : Status → Type 0 where
+pub data TellsEnd (asked : Inquiry) (run_over : Input → Run) (s : Shelved) (r : Report) (f : Flow) : Status → Type 0 where
   end_printed : {result : Status} (given : Input) (a : Answer) → TellsOf asked (run_over given) a → RunsWhole given f (run_over given) → Delivers a s r result → TellsEnd asked run_over s r f result
   end_cut : {result : Status} (given : Input) → RunsPart given f (run_over given) → Flowed given f (run_over given) result → KeepsFiles s → Cuts r f result → TellsEnd asked run_over s r f result
   end_unprinted : (given : Input) → RunsPart given f (run_over given) → KeepsFiles s → IsKept r → TellsEnd asked run_over s r f OutOfMemory
 
 -- What was told of an execution: that nothing was run, whatever the input gives; or of its run.
-pub data TellsExecution (asked : Asked) (executed : Input → Execution) (s : Shelved) (r : Report) (f : Flow) : Status → Type 0 where
+pub data TellsExecution (asked : Inquiry) (executed : Input → Execution) (s : Shelved) (r : Report) (f : Flow) : Status → Type 0 where
   refused : {result : Status} (e : Execution) (line : List ℕ) → ((given : Input) → executed given ≡ e) → AnswersAs asked e None (says Refused line) → IsQuiet f → KeepsFiles s → Reports Refused line r result → TellsExecution asked executed s r f result
   run_printed : {result : Status} (run_over : Input → Run) → ((given : Input) → executed given ≡ Ran (run_over given)) → TellsEnd asked run_over s r f result → TellsExecution asked executed s r f result
   nothing_printed : IsQuiet f → KeepsFiles s → IsKept r → TellsExecution asked executed s r f OutOfMemory

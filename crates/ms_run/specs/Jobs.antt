@@ -11,7 +11,7 @@ use Rattle.ms_tasks.specs.refinement.Schedules.{by_only}
 use Rattle.ms_run.specs.Answers.{Answer, Found, HasBytes, HasModule, Unfound, Unloaded, says}
 use Rattle.ms_run.specs.Executions.{AnswersAs, Ran, execution}
 use Rattle.ms_run.specs.Lines.{job_line, module_word, schedule_line}
-use Rattle.ms_run.specs.Telling.{asked_of}
+use Rattle.ms_run.specs.Telling.{inquiry_of}
 use Rattle.ms_run.specs.declared.gathering.Naming.{Naming}
 use Rattle.ms_run.specs.declared.gathering.Naming.TheVariants.{Numbered, Only}
 use Rattle.ms_run.specs.declared.status.Status.TheVariants.{Refused}
@@ -70,7 +70,7 @@ pub data RunsJob (Has : List ℕ → Found → Type 0) (naming : Naming) (given 
   unloaded : {a : Answer} → FirstUnloaded Has naming 0 job.modules a → RunsJob Has naming given job None a
   unscheduled : (modules : List (List ℕ × Module)) {a : Answer} → AllLoaded Has job.modules modules → Unscheduled Has job a → RunsJob Has naming given job None a
   executed : (modules : List (List ℕ × Module)) (entries : List ℕ) {ran : Option Run} {a : Answer} → AllLoaded Has job.modules modules → HasEntries Has job entries
-      → AnswersAs (asked_of job) (execution modules job.tasks entries job.memory given) ran a → RunsJob Has naming given job ran a
+      → AnswersAs (inquiry_of job) (execution modules job.tasks entries job.memory given) ran a → RunsJob Has naming given job ran a
 
 -- `run`: of the file of a job
 pub data RunsFile (Has : List ℕ → Found → Type 0) (given : Input) (name : List ℕ) : Option Run → Answer → Type 0 where

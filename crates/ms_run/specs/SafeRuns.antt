@@ -1,5 +1,6 @@
 -- The run of which an answer tells that came to an end: what was run, what was told of it, and that it was safe.
-use Rattle.std.specs.Prelude.{◌≡◌, Bool, true, false, filter, length, Option}
+use Rattle.std.specs.Prelude.{◌≡◌, ◌≤◌, Bool, true, false, filter, length, Option}
+use Rattle.ms_command_line.specs.Commands as options
 use Rattle.ms_event.specs.Monitor.{Accepts}
 use Rattle.ms_event.specs.declared.event.Event.{Event}
 use Rattle.ms_event.specs.declared.event.Event.TheVariants.{Read, Write}
@@ -13,7 +14,7 @@ use Rattle.ms_run.specs.Flows.{RunsWhole}
 use Rattle.ms_run.specs.Jobs.{RunOfJob}
 use Rattle.ms_run.specs.Observed.{Flow, Report, Shelved}
 use Rattle.ms_run.specs.Reporting.{Grows, HasWritten, Holds}
-use Rattle.ms_run.specs.Telling.{asked_of}
+use Rattle.ms_run.specs.Telling.{inquiry_of}
 use Rattle.ms_run.specs.declared.status.Status.{Status}
 use Rattle.ms_run.specs.declared.status.Status.TheVariants.{Done, OutOfBudget, Trapped}
 
@@ -39,12 +40,14 @@ pub record RanSafely (files : Option Files) (s : Shelved) (r : Report) (f : Flow
   pub of_job : RunOfJob (Holds files) given job run
   -- the status, the report and the file of the trace are those of its end, its last store and its events
   pub answer : Answer
-  pub tells : TellsOf (asked_of job) run answer
+  pub tells : TellsOf (inquiry_of job) run answer
   pub status_is : status ≡ answer.status
   pub grown : Grows r answer.report
   pub written : HasWritten s answer.file
   -- the input has lost exactly what it takes, and the output has got exactly what it puts
   pub flowed : RunsWhole given f run
+  -- its segment memory has as many bytes as one may have
+  pub small : job.memory ≤ options.memory.most
   -- its allocations, slices, reads, writes and frees are a trace that the colour monitor accepts
   pub accepted : Accepts job.memory (events_of run.deeds)
   -- and as many of them are reads and writes as the segment memory that the run leaves has counted accesses

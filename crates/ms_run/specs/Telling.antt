@@ -17,12 +17,12 @@ use Rattle.ms_run.specs.Lines.{line}
 use Rattle.ms_run.specs.declared.telling.Telling.{Telling}
 
 -- what a job asks for, and its tasks, which are told of by their numbers: for each the number of its module, and the name of an export
-pub record Asked : Type 0 where
+pub record Inquiry : Type 0 where
   pub telling : Telling
   pub tasks : List (ℕ × List ℕ)
 
-abbrev pub asked_of : Job → Asked
-asked_of job = record {
+abbrev pub inquiry_of : Job → Inquiry
+inquiry_of job = record {
   telling = record { trace = job.trace; counts = job.counts; dump = job.dump; reach = job.reach; each = job.each };
   tasks = job.tasks;
 }

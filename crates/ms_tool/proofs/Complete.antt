@@ -38,6 +38,7 @@ use Rattle.ms_tool.specs.Meaning.{KeepsRun}
 use Rattle.ms_tool.specs.Outside.{Outside, flow_of, report_of, shelf_of}
 use Rattle.ms_tool.specs.refinement.Responding.{Responded, Responds, gave, nothing, stopped}
 use Rattle.ms_tool.specs.Top.{AsksJob, AsksRun, FlowsFor, Gives, GivesFor, IsAnswer, IsCutOff, IsFaulty, IsOutFault, IsPutFault, IsStarved, IsTarget, IsUnwritten, Keeps, Stays, files_for}
+use Rattle.ms_tool.proofs.Isolation.{ran_alone}
 use Rattle.ms_tool.proofs.Meaning.{ran_as_meant}
 
 -- ---- the table, by what the words ask for
@@ -540,7 +541,11 @@ run_clause : (words : List (List ℕ)) (s : Shelved) (r : Report) (f : Flow) (st
     → ((job : Job) × AsksJob (Holds s.old) (asked_of words) job × RanSafely (files_for (asked_of words) s.old) s r f job status)
     → (job : Job) × AsksJob (Holds s.old) (asked_of words) job × KeepsRun (files_for (asked_of words) s.old) s r f job status
 run_clause words s r f status h =
-    (h.0, h.1, record { safe = h.2; means = λ name file program. ran_as_meant (files_for (asked_of words) s.old) s r f h.0 name file status program h.2 })
+    (h.0, h.1, record {
+      safe = h.2;
+      means = λ name file program. ran_as_meant (files_for (asked_of words) s.old) s r f h.0 name file status program h.2;
+      isolated = λ n undisturbed. ran_alone (Holds (files_for (asked_of words) s.old)) h.2.given h.0 n h.2.run h.2.of_job h.2.small undisturbed;
+    })
 
 -- ---- the contract
 

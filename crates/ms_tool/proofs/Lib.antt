@@ -1,2 +1,3 @@
 mod Meaning
+mod Isolation
 pub mod Complete

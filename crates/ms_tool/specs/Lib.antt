@@ -1,4 +1,5 @@
 pub mod Outside
 pub mod Meaning
+pub mod Isolation
 pub mod Top
 pub mod refinement

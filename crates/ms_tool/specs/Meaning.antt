@@ -1,4 +1,5 @@
--- What is kept of a run that has come to an end: both halves of the theorem, of the run that the answer tells of.
+-- What is kept of a run that has come to an end: both halves of the theorem, of the run that the answer tells of, and that tasks which
+-- nothing joins don't matter to one another.
 use Rattle.std.specs.Prelude.{◌≡◌, ℕ, List, [], ◌∷◌, codes, Option, None}
 use Rattle.c_typed.specs.Tree.{Typed}
 use Rattle.c_runs.specs.Correct.{MeansRun}
@@ -13,6 +14,7 @@ use Rattle.ms_run.specs.Reporting.{Holds}
 use Rattle.ms_run.specs.SafeRuns.{RanSafely}
 use Rattle.ms_run.specs.Source.{IsUnit}
 use Rattle.ms_run.specs.declared.status.Status.{Status}
+use Rattle.ms_tool.specs.Isolation.{IsUndisturbed, RanAlone}
 
 -- the job is a whole program of C: one module, of this file, whose `main` is the one task, by turns, which no line leaves out
 pub record IsProgram (job : Job) (name file : List ℕ) : Type 0 where
@@ -37,3 +39,5 @@ pub record KeepsRun (files : Option Files) (s : Shelved) (r : Report) (f : Flow)
   pub safe : RanSafely files s r f job status
   -- Meaning: that run of a whole program of C has the output and the end that C means.
   pub means : (name file : List ℕ) → IsProgram job name file → RanAsMeant (Holds files) file job.budget safe.given safe.run
+  -- Isolation: a task that is apart from all others does in that run what it does in that of the same job with `only N`.
+  pub isolated : (n : ℕ) → IsUndisturbed (Holds files) safe.given job safe.run safe.of_job n → RanAlone (Holds files) safe.given job n safe.run
