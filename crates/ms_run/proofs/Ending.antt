@@ -13,7 +13,8 @@ use Rattle.ms_tasks.specs.refinement.Logs.{Log, Trace, all_seen, logged}
 use Rattle.ms_tasks.proofs.Deeds.{events_kept}
 use Rattle.ms_tasks.specs.States.{by_stop, by_whose, if_trapped, in_crew}
 use Rattle.ms_tasks.specs.declared.state.TaskState.{TaskState}
-use Rattle.ms_tasks.specs.refinement.Making.{Addressed, AreAddresses}
+use Rattle.ms_tasks.specs.Tasks.{AreAddresses}
+use Rattle.ms_tasks.specs.refinement.Making.{Addressed}
 use Rattle.ms_tasks.specs.refinement.Outside.{HasBegun, HasRun}
 use Rattle.ms_tasks.specs.refinement.Runs.{CountsInput, CountsOut, DoesRun}
 use Rattle.ms_tasks.specs.declared.ran.Ran.TheVariants as answers

@@ -8,10 +8,9 @@ use Rattle.ms_machine.specs.Externs.{Fault}
 use Rattle.ms_machine.specs.Linked.{linked}
 use Rattle.ms_machine.specs.Store.{Store}
 use Rattle.ms_link.proofs.Stores.{linked_made}
-use Rattle.ms_tasks.specs.refinement.Making.{IsCrewOf}
+use Rattle.ms_tasks.specs.Tasks.{IsCrewOf, and_thread, task_address, thread_at, threads_from}
 use Rattle.ms_tasks.specs.refinement.Schedules.{entries_of}
 use Rattle.ms_tasks.specs.declared.schedule.Schedule.{Schedule}
-use Rattle.ms_tasks.specs.Tasks.{and_thread, task_address, thread_at, threads_from}
 use Rattle.ms_run.specs.Executions.{Execution, NoTask, Ran, Unlinked, execution, if_linked, in_store, with_threads}
 use Rattle.ms_run.specs.Flows.{IsQuiet, TellsEnd, TellsExecution, nothing_printed, refused, run_printed}
 use Rattle.ms_run.specs.Lines.{link_line, task_line}

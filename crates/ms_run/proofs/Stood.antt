@@ -6,9 +6,9 @@ use Rattle.ms_machine.specs.Typing.{Outline, outline_of}
 use Rattle.ms_machine.specs.declared.store.Instance.{Instance}
 use Rattle.ms_task.specs.declared.func.FuncInst.{FuncInst}
 use Rattle.ms_tasks.specs.Joined.{AreApart, IsApart, IsClosed, IsJoined, Joined, Shares, back, itself, on}
-use Rattle.ms_tasks.specs.Tasks.{task_of_instance}
+use Rattle.ms_tasks.specs.Tasks.{AreAddresses, IsCrewOf, task_of_instance}
 use Rattle.ms_tasks.specs.declared.state.TaskState.{TaskState}
-use Rattle.ms_tasks.specs.refinement.Making.{Addressed, AreAddresses, IsCrewOf}
+use Rattle.ms_tasks.specs.refinement.Making.{Addressed}
 use Rattle.ms_run.specs.Executions.{AreLeft}
 use Rattle.ms_tasks.proofs.Chaining.{drop_at}
 use Rattle.ms_run.specs.Standing.{AreStanding, asked, standing_line, standing_lines, unasked}

@@ -7,8 +7,7 @@ use Rattle.ms_machine.specs.Externs.{Fault}
 use Rattle.ms_machine.specs.Linked.{linked}
 use Rattle.ms_machine.specs.Store.{Store}
 use Rattle.ms_tasks.specs.States.{state_of}
-use Rattle.ms_tasks.specs.Tasks.{crew_of, threads_from}
-use Rattle.ms_tasks.specs.refinement.Making.{AreAddresses}
+use Rattle.ms_tasks.specs.Tasks.{AreAddresses, crew_of, threads_from}
 use Rattle.ms_run.specs.Answers.{Answer, says}
 use Rattle.ms_run.specs.Lines.{budget_line, link_line, result_lines, task_line, trap_line}
 use Rattle.ms_run.specs.Reached.{AreReached}

@@ -7,7 +7,7 @@ use Rattle.ms_job.specs.declared.fault.SchedFault.TheVariants.{At}
 use Rattle.ms_job.specs.declared.job.Job.{Job}
 use Rattle.ms_module.specs.declared.module.Module.{Module}
 use Rattle.ms_machine.specs.Crews.{Input, Run, turns_from}
-use Rattle.ms_tasks.specs.refinement.Schedules.{by_only}
+use Rattle.ms_tasks.specs.Alone.{by_only}
 use Rattle.ms_run.specs.Answers.{Answer, Found, HasBytes, HasModule, Unfound, Unloaded, says}
 use Rattle.ms_run.specs.Executions.{AnswersAs, Ran, execution}
 use Rattle.ms_run.specs.Lines.{job_line, module_word, schedule_line}

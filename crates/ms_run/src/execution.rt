@@ -15,7 +15,7 @@ ghost use Rattle.ms_run.specs.Telling.{count_lines, dumped, traced};
 ghost use Rattle.ms_run.specs.refinement.Counts.{logged_lines};
 ghost use Rattle.ms_run.specs.refinement.Told.{AreListed, AreTasks, IsTold, whole_report};
 ghost use Rattle.ms_outside.specs.Shelf.{SameCounts};
-ghost use Rattle.ms_tasks.specs.refinement.Making.{AreAddresses};
+ghost use Rattle.ms_tasks.specs.Tasks.{AreAddresses};
 ghost use Rattle.ms_tasks.specs.refinement.Ready.{IsReady};
 ghost use Rattle.ms_tasks.specs.refinement.Schedules.{HasTurns, entries_of};
 

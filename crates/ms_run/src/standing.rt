@@ -1,6 +1,6 @@
 //! The lines of how tasks stand.
 
-ghost use Rattle.std.specs.Prelude.{◌≡◌, ◌<◌, ◌++◌, List, ℕ, IfOk, OnOk, length, string_bytes};
+ghost use Rattle.std.specs.Prelude.{◌≡◌, ◌<◌, ◌^◌, ◌++◌, List, ℕ, IfOk, OnOk, length, string_bytes};
 ghost use Rattle.ms_run.specs.Lines.{line};
 ghost use Rattle.ms_run.specs.Standing.{AreStanding, apart_word, standing_line, standing_lines, state_line};
 ghost use Rattle.ms_run.specs.refinement.Told.{state_in};

@@ -2,7 +2,8 @@
 use Rattle.std.proofs.Common.{◌≡◌, ◌∙◌, ◌==◌, ◌-◌, ◌+◌, ◌≤◌, ℕ, zero, suc, cond, List, [], ◌∷◌, ◌++◌, Option, Some, None, drop, length, replicate, refl, sym, ap}
 use Rattle.ms_machine.specs.Crews.{turns_from}
 use Rattle.ms_tasks.specs.refinement.Rows.{IsInTurn}
-use Rattle.ms_tasks.specs.refinement.Schedules.{alone, by_only, named}
+use Rattle.ms_tasks.specs.Alone.{alone, by_only}
+use Rattle.ms_tasks.specs.refinement.Schedules.{named}
 use Rattle.ms_tasks.proofs.Turns.{row_first}
 
 length_alone : (n absent : ℕ) (ks : List ℕ) → length (alone n absent ks) ≡ length ks

@@ -14,7 +14,8 @@ use Rattle.ms_task.specs.refinement.View.{thread_of}
 use Rattle.ms_task.specs.declared.task.Task.{Task as CodeTask}
 use Rattle.ms_tasks.specs.refinement.Ready.{IsReady}
 use Rattle.ms_tasks.specs.refinement.Rows.{threads_in}
-use Rattle.ms_tasks.specs.refinement.Schedules.{AreThere, HasEntries, by_only, entries_of, first_of, part_of, some_of}
+use Rattle.ms_tasks.specs.Alone.{by_only}
+use Rattle.ms_tasks.specs.refinement.Schedules.{AreThere, HasEntries, entries_of, first_of, part_of, some_of}
 use Rattle.ms_tasks.proofs.Only.{drop_by_only, length_by_only}
 use Rattle.ms_tasks.specs.declared.schedule.Schedule.{Schedule}
 use Rattle.ms_tasks.specs.declared.schedule.Entries.{Entries}

@@ -1,3 +1,4 @@
+pub mod Alone
 pub mod Joined
 pub mod States
 pub mod Tasks

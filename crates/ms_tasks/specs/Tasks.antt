@@ -1,5 +1,5 @@
 -- Which functions the tasks of a crew run (exports that are invoked, WebAssembly 1.0, 4.5.5), and the crew of a store.
-use Rattle.std.specs.Prelude.{◌&&◌, ℕ, suc, Bool, true, false, List, [], ◌∷◌, map, Option, Some, None, Result, Ok, Err, find, option_and_then, slice_get, if◌then◌else◌}
+use Rattle.std.specs.Prelude.{◌≡◌, ◌&&◌, ℕ, suc, Bool, true, false, List, [], ◌∷◌, map, Option, Some, None, Result, Ok, Err, find, option_and_then, slice_get, if◌then◌else◌}
 use Rattle.std.specs.Str.{bytes_eq}
 use Rattle.ms_module.specs.declared.module.Export.{Export}
 use Rattle.ms_module.specs.declared.module.ExportDesc.{ExportDesc}
@@ -67,3 +67,11 @@ threads_from s (t ∷ ts) number = and_thread (thread_at s (task_address s t.0 t
 -- the start functions in the order of the modules
 abbrev pub crew_of : Store → List Thread → Crew
 crew_of s tasks = record { store = s; chain = map (func_thread s) (start_chain s.instances); tasks = tasks }
+
+-- the crew of a store and of these tasks: for each the number of its module, and the name of an export
+abbrev pub IsCrewOf : Store → (tasks : List (ℕ × List ℕ)) → Crew → Type 0
+IsCrewOf s tasks c = (ts : List Thread) × (threads_from s tasks 0 ≡ Ok ts) × (c ≡ crew_of s ts)
+
+-- the addresses of the functions that these tasks name
+abbrev pub AreAddresses : Store → (tasks : List (ℕ × List ℕ)) → (addresses : List ℕ) → Type 0
+AreAddresses s tasks addresses = map Some addresses ≡ map (λ t. task_address s t.0 t.1) tasks

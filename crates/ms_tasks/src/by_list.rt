@@ -9,7 +9,7 @@ ghost use Rattle.ms_tasks.specs.refinement.Logs.{CountsUpTo};
 ghost use Rattle.ms_tasks.specs.refinement.Parts.{HaltsBy, CountsInput, CountsOut, IsWell};
 ghost use Rattle.ms_tasks.specs.refinement.Ready.{IsReady};
 ghost use Rattle.ms_tasks.specs.refinement.Rows.{crew_in, threads_in};
-ghost use Rattle.ms_tasks.specs.refinement.Schedules.{by_only};
+ghost use Rattle.ms_tasks.specs.Alone.{by_only};
 
 use crate::burst::Halt;
 use crate::log::Log;

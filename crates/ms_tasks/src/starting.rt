@@ -5,9 +5,9 @@ ghost use Rattle.ms_machine.specs.Linked.{StartTyped, StartsTyped, start_chain, 
 ghost use Rattle.ms_machine.specs.Running.{func_thread};
 ghost use Rattle.ms_machine.specs.Typing.{StoreTyped, outline_of};
 ghost use Rattle.ms_machine.specs.declared.store.Instance.{Instance as InstanceView};
-ghost use Rattle.ms_tasks.specs.refinement.Making.{AreAddresses, IsStartOf, Refuses};
+ghost use Rattle.ms_tasks.specs.Tasks.{AreAddresses, threads_from};
+ghost use Rattle.ms_tasks.specs.refinement.Making.{IsStartOf, Refuses};
 ghost use Rattle.ms_tasks.specs.refinement.Rows.{threads_in};
-ghost use Rattle.ms_tasks.specs.Tasks.{threads_from};
 
 use crate::finding::task_address;
 use crate::refusal::Refusal;

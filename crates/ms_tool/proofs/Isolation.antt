@@ -18,7 +18,7 @@ use Rattle.ms_run.specs.Executions.{Execution, Ran, execution, if_linked, with_t
 use Rattle.ms_run.specs.Jobs.{HasEntries, RunOfJob, in_turns, listed}
 use Rattle.ms_tasks.proofs.Making.{crew_ready}
 use Rattle.ms_tasks.specs.refinement.Ready.{IsReady}
-use Rattle.ms_tasks.specs.refinement.Schedules.{alone, by_only}
+use Rattle.ms_tasks.specs.Alone.{alone, by_only}
 use Rattle.ms_tool.specs.Isolation.{IsUndisturbed, RanAlone}
 
 -- the entries of the job in which one task is named alone

@@ -27,7 +27,7 @@ use Rattle.ms_run.specs.SafeRuns.{RanSafely}
 use Rattle.ms_run.specs.declared.status.Status.{Status}
 use Rattle.ms_task.specs.Thread.{Thread}
 use Rattle.ms_tasks.specs.Tasks.{crew_of, threads_from}
-use Rattle.ms_tasks.specs.refinement.Schedules.{by_only}
+use Rattle.ms_tasks.specs.Alone.{by_only}
 use Rattle.ms_tool.specs.Meaning.{IsProgram, RanAsMeant}
 
 module _ (u : Typed) (name : List ℕ) (turns budget memory : ℕ) (given : Input) (bytes : AreBytes given)

@@ -8,8 +8,8 @@ use Rattle.ms_machine.specs.Store.{Store}
 use Rattle.ms_run.specs.Answers.{Finds}
 use Rattle.ms_run.specs.Jobs.{RunOfJob}
 use Rattle.ms_tasks.specs.Joined.{IsApart}
-use Rattle.ms_tasks.specs.refinement.Making.{AreAddresses, IsCrewOf}
-use Rattle.ms_tasks.specs.refinement.Schedules.{alone}
+use Rattle.ms_tasks.specs.Tasks.{AreAddresses, IsCrewOf}
+use Rattle.ms_tasks.specs.Alone.{alone}
 
 -- The task of this number is apart from all others in the crew that a job begins with, which names no task alone. In neither run, this one
 -- and that in which the other tasks' entries name none, is a segment refused to it, or takes another task input.

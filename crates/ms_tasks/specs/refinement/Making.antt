@@ -1,12 +1,12 @@
 -- What the making of a crew answers.
-use Rattle.std.specs.Prelude.{◌≡◌, ℕ, List, map, Option, Some, None, Ok, Err}
+use Rattle.std.specs.Prelude.{◌≡◌, ℕ, List, Option, Some, None, Err}
 use Rattle.ms_task.specs.Thread.{Thread}
 use Rattle.ms_task.specs.refinement.View.{thread_of}
 use Rattle.ms_task.specs.declared.task.Task.{Task as CodeTask}
 use Rattle.ms_machine.specs.Crews.{Crew}
 use Rattle.ms_machine.specs.Running.{func_thread}
 use Rattle.ms_machine.specs.Store.{Store}
-use Rattle.ms_tasks.specs.Tasks.{crew_of, task_address, threads_from}
+use Rattle.ms_tasks.specs.Tasks.{threads_from}
 use Rattle.ms_tasks.specs.declared.ran.Ran.{Ran}
 use Rattle.ms_tasks.specs.declared.ran.Ran.TheVariants as answers
 use Rattle.ms_tasks.specs.declared.ran.Stop.{Stop}
@@ -24,14 +24,6 @@ pub record Addressed : Type 0 where
 abbrev pub stop_in : Ran → Option Stop
 stop_in (answers.Trap whose kind) = Some (record { whose = whose; kind = kind })
 stop_in _ = None
-
--- they are those of the functions that these tasks name
-abbrev pub AreAddresses : Store → (tasks : List (ℕ × List ℕ)) → (addresses : List ℕ) → Type 0
-AreAddresses s tasks addresses = map Some addresses ≡ map (λ t. task_address s t.0 t.1) tasks
-
--- the crew of a store and of these tasks
-abbrev pub IsCrewOf : Store → (tasks : List (ℕ × List ℕ)) → Crew → Type 0
-IsCrewOf s tasks c = (ts : List Thread) × (threads_from s tasks 0 ≡ Ok ts) × (c ≡ crew_of s ts)
 
 -- the first of them that has no function; where memory ran out nothing is said
 abbrev pub Refuses : Store → (tasks : List (ℕ × List ℕ)) → Refusal → Type 0

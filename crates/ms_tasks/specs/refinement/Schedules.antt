@@ -1,21 +1,12 @@
 -- Schedules, as lists of entries.
-use Rattle.std.specs.Prelude.{◌==◌, ℕ, ◌<◌, ◌≤◌, List, [], ◌∷◌, drop, length, take, if◌then◌else◌, Option, Some, None}
+use Rattle.std.specs.Prelude.{◌==◌, ℕ, ◌<◌, ◌≤◌, List, drop, length, take, if◌then◌else◌, Option, Some, None}
 use Rattle.ms_machine.specs.Crews.{turns_from}
+use Rattle.ms_tasks.specs.Alone.{by_only}
 use Rattle.ms_tasks.specs.declared.schedule.Entries.{Entries}
 use Rattle.ms_tasks.specs.declared.schedule.Entries.TheVariants.{Listed, Turns}
 use Rattle.ms_tasks.specs.declared.schedule.Schedule.{Schedule}
 
--- each entry that names another task than this one names an absent one instead
-abbrev pub alone : (n absent : ℕ) → List ℕ → List ℕ
-alone n absent [] = []
-alone n absent (k ∷ ks) = (if k == n then k else absent) ∷ alone n absent ks
-
--- where one of so many tasks is named alone, the number behind the last one stands for an absent task
-abbrev pub by_only : Option ℕ → (tasks : ℕ) → List ℕ → List ℕ
-by_only None tasks ks = ks
-by_only (Some n) tasks ks = alone n tasks ks
-
--- the same of one entry
+-- one entry, where one of so many tasks is named alone
 abbrev pub named : Option ℕ → (tasks : ℕ) → ℕ → ℕ
 named None tasks k = k
 named (Some n) tasks k = if k == n then k else tasks

@@ -8,7 +8,7 @@ use Rattle.ms_tasks.specs.declared.burst.Halt.{Halt}
 use Rattle.ms_tasks.proofs.Chaining.{drop_end}
 use Rattle.ms_tasks.proofs.Coming.{answers_on, not_paused, to_same, to_trans}
 use Rattle.ms_tasks.proofs.Listing.{behind_at, row_at}
-use Rattle.ms_tasks.specs.refinement.Schedules.{by_only}
+use Rattle.ms_tasks.specs.Alone.{by_only}
 use Rattle.ms_tasks.proofs.Only.{by_only_row, none_by_only}
 use Rattle.ms_tasks.proofs.Rowing.{none_comes}
 use Rattle.ms_tasks.proofs.by_list.run_listed.Goals as goal

@@ -5,7 +5,7 @@ use Rattle.ms_tasks.specs.refinement.Rows.{IsInTurn, crew_in, threads_in}
 use Rattle.ms_tasks.specs.declared.burst.Halt.{Halt}
 use Rattle.ms_tasks.proofs.Coming.{answers_on, not_paused, to_same, to_trans}
 use Rattle.ms_tasks.proofs.Rowing.{none_comes}
-use Rattle.ms_tasks.specs.refinement.Schedules.{by_only}
+use Rattle.ms_tasks.specs.Alone.{by_only}
 use Rattle.ms_tasks.proofs.Only.{none_by_only, row_named}
 use Rattle.ms_tasks.proofs.Turns.{alone, next_place, place_at}
 use Rattle.ms_tasks.proofs.by_turns.run_turns.Goals as goal

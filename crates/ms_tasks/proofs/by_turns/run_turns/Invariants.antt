@@ -7,7 +7,7 @@ use Rattle.ms_tasks.specs.refinement.Logs.{CountsUpTo}
 use Rattle.ms_tasks.specs.refinement.Parts.{ComesTo}
 use Rattle.ms_tasks.specs.refinement.Ready.{IsReady}
 use Rattle.ms_tasks.specs.refinement.Rows.{IsInTurn, crew_in, threads_in}
-use Rattle.ms_tasks.specs.refinement.Schedules.{by_only}
+use Rattle.ms_tasks.specs.Alone.{by_only}
 use Rattle.ms_tasks.proofs.by_turns.run_turns.Given as goal
 
 abbrev pub invariant-loop-left : goal.invariant-loop-left
