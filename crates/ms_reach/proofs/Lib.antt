@@ -11,6 +11,7 @@ pub mod Reached
 pub mod Confinement
 mod Sample
 pub mod Marks
+pub mod Chunking
 pub mod Counts
 pub mod Leads
 pub mod Closings

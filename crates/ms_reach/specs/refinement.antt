@@ -1,4 +1,5 @@
 pub mod Marking
+pub mod Chunks
 pub mod Leading
 pub mod Closing
 pub mod OwnValues

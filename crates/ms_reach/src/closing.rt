@@ -1,6 +1,6 @@
 //! A work list: addresses that are marked, and ranges of others that are still to be looked at.
 
-ghost use Rattle.std.specs.Prelude.{◌≡◌, ◌<◌, ◌≤◌, ◌^◌, ◌+◌, ◌-◌, ◌++◌, ◌∷◌, ℕ, [], Some, None, false, true, IfOk, OnOk, MatchOption, length, replicate, slice_get, slice_set, Contains};
+ghost use Rattle.std.specs.Prelude.{◌≡◌, ◌<◌, ◌≤◌, ◌^◌, ◌+◌, ◌-◌, ◌++◌, ◌∷◌, ℕ, [], Some, None, false, true, OnOk, MatchOption, length, replicate, slice_get, slice_set, Contains};
 ghost use Rattle.ms_live.specs.declared.gaps.Live.{Live as LiveSegment};
 ghost use Rattle.ms_tagged.specs.Bytes.{held_at, range};
 ghost use Rattle.ms_reach.specs.Count.{IsCount};
@@ -35,13 +35,13 @@ impl Model for Closing {
 
 impl Closing {
     /// Nothing is known of so many addresses.
-    pub fn new(alloc: Global, n: u32) -> Result<Self, AllocError>
-        ensures { IfOk result (λ c. c ≡ record { marks = replicate n false; todo = [] }) }
+    pub fn new(alloc: Global, n: u32) -> Self
+        ensures { result ≡ record { marks = replicate n false; todo = [] } }
     {
-        Ok(Closing {
-            marked: Marked::new(alloc, n)?,
+        Closing {
+            marked: Marked::new(alloc, n),
             todo: Vec::new(alloc),
-        })
+        }
     }
 
     /// How many bytes are marked.
@@ -187,10 +187,10 @@ impl Closing {
         requires over { IsOver segments.now self.old }
         requires live { live.now ≡ segments.now.live }
         requires free { slice_get self.old.marks at ≡ Some false }
-        ensures marks { self.new.marks ≡ slice_set self.old.marks at true }
+        ensures marks { OnOk result (self.new.marks ≡ slice_set self.old.marks at true) }
         ensures todo { OnOk result (AddsHeld segments.now.live (held_at (range at 1 segments.now.bytes)) self.old.todo self.new.todo) }
     {
-        self.mark(at);
+        self.mark(at)?;
         match segments.held(at) {
             Some(handle) => self.add(live, handle),
             None => Ok(()),
@@ -198,11 +198,11 @@ impl Closing {
     }
 
     /// Marks an address.
-    fn mark(&mut self, at: u32)
+    fn mark(&mut self, at: u32) -> Result<(), AllocError>
         requires { slice_get self.old.marks at ≡ Some false }
-        ensures marks { self.new.marks ≡ slice_set self.old.marks at true }
+        ensures marks { OnOk result (self.new.marks ≡ slice_set self.old.marks at true) }
         ensures todo { self.new.todo ≡ self.old.todo }
     {
-        self.marked.mark(at as usize);
+        self.marked.mark(at as usize)
     }
 }

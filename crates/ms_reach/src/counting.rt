@@ -20,8 +20,8 @@ use std::alloc::{AllocError, Global};
 /// How much of the segment memory the instances of these numbers reach, and the task with them: the least set of bytes that their
 /// globals and its values lead to, and that pieces of handles in it lead to. A task that has ended has no values.
 ///
-/// Each byte of a live segment is looked at once at most, and it takes memory by where the live segments end. Want of memory is the
-/// one error.
+/// Each byte of a live segment is looked at once at most. It takes memory by what is live and what is reached of it, wherever that
+/// lies. Want of memory is the one error.
 pub fn reach<G: Gaps, T: Tagged>(
     alloc: Global,
     store: &Store<Segments<G, T>>,
@@ -51,7 +51,7 @@ fn reach_among<G: Gaps, T: Tagged>(
     ensures bytes { IfOk result (λ r. IsCount (IsReached (is_among set.now) store.now (lent (thread_of store.now.funcs task.now))) r.bytes) }
     ensures segments { IfOk result (λ r. IsCount (HasByte (IsReached (is_among set.now) store.now (lent (thread_of store.now.funcs task.now))) store.now.segments) r.segments) }
 {
-    let mut closing = Closing::new(alloc, end_of(live))?;
+    let mut closing = Closing::new(alloc, end_of(live));
     mark_reached(&mut closing, live, store, task, set)?;
     Ok(Reach {
         segments: closing.touched(live),

@@ -7,6 +7,7 @@
 #![tactic(auto)]
 
 mod amount;
+mod chunks;
 mod closing;
 mod counting;
 mod laws;

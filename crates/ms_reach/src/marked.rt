@@ -1,49 +1,47 @@
 //! Addresses that are marked.
 
-ghost use Rattle.std.specs.Prelude.{◌≡◌, ◌<◌, ◌≤◌, ◌*◌, ◌^◌, ℕ, Some, false, true, IfOk, length, replicate, slice_get, slice_set};
+ghost use Rattle.std.specs.Prelude.{◌≡◌, ◌<◌, ◌≤◌, ◌+◌, ◌*◌, ◌^◌, ℕ, Some, false, true, OnErr, OnOk, length, replicate, slice_get, slice_set};
+ghost use Rattle.ms_reach.specs.refinement.Chunks.{IsChunk, Leaps};
 ghost use Rattle.ms_reach.specs.refinement.Marking.{AllMarked, IsMarked, trues};
 
+use crate::chunks::{CHUNK, Chunk, Chunks};
 use std::alloc::{AllocError, Global};
 use std::marker::Model;
 
-/// How many addresses a chunk has.
-const CHUNK: usize = 64;
-
 /// Which addresses are marked. Contracts see a list of flags.
 ///
-/// The next one that isn't marked is found without looking at all that are: of each chunk it is known from which chunk on to
-/// look further, once it was seen that all up to there are marked.
+/// It takes memory by how many chunks of 64 addresses have one that is marked, however many addresses there are. The next one that
+/// isn't marked is found without looking at all that are: of each chunk it is known from which chunk on to look further, once all of
+/// its own are marked.
 #[derive(Drop)]
 pub struct Marked {
-    marks: Vec<bool>,
-    skips: Vec<u32>,
+    len: u32,
     count: u32,
+    chunks: Chunks,
 }
 
 impl Model for Marked {
-    ghost use Rattle.std.specs.Prelude.{◌≡◌, ◌<◌, ◌^◌, Bool, List, length};
-    ghost use Rattle.ms_reach.specs.refinement.Marking.{Passes, trues};
+    ghost use Rattle.std.specs.Prelude.{◌≡◌, ◌<◌, ◌^◌, Bool, List};
+    ghost use Rattle.ms_reach.specs.refinement.Chunks.{Passes, flags_of};
+    ghost use Rattle.ms_reach.specs.refinement.Marking.{trues};
 
     ghost Value = { List Bool };
 
-    ghost view = { λ m. m.marks.items };
+    ghost view = { λ m. flags_of m.chunks m.len };
 
-    ghost invariant = { λ m. Passes m.skips.items m.marks.items × (m.count ≡ trues m.marks.items) × (length m.marks.items < 2 ^ 32) };
+    ghost invariant = { λ m. Passes m.chunks (flags_of m.chunks m.len) × (m.count ≡ trues (flags_of m.chunks m.len)) × (m.len < 2 ^ 32) };
 }
 
 impl Marked {
     /// So many addresses, of which none is marked.
-    pub fn new(alloc: Global, n: u32) -> Result<Self, AllocError>
-        ensures { IfOk result (λ m. m ≡ replicate n false) }
+    pub fn new(alloc: Global, n: u32) -> Self
+        ensures { result ≡ replicate n false }
     {
-        let chunks = n.div_ceil(CHUNK as u32);
-        let marks = unmarked(alloc, n)?;
-        let skips = themselves(alloc, chunks)?;
-        Ok(Marked {
-            marks,
-            skips,
+        Marked {
+            len: n,
             count: 0,
-        })
+            chunks: Chunks::new(alloc),
+        }
     }
 
     /// How many are marked.
@@ -55,37 +53,27 @@ impl Marked {
 
     /// How many addresses there are.
     fn len(&self) -> usize
-        ensures len { result ≡ length self.now }
-        ensures few { result < 2 ^ 32 }
+        ensures { result ≡ length self.now }
     {
-        self.marks.len()
+        self.len as usize
     }
 
-    /// The chunk from which on to look further, where a chunk is marked.
-    fn skip(&self, chunk: usize) -> u32
-        requires { chunk * 64 < length self.now }
-        ensures after { chunk ≤ result }
-        ensures marked { AllMarked self.now (chunk * 64) (result * 64) }
+    /// What is known of the chunk of a number.
+    fn chunk(&self, n: usize) -> Chunk
+        requires { n * 64 < length self.now }
+        ensures few { n * 64 < 2 ^ 32 }
+        ensures chunk { IsChunk self.now n result }
     {
-        self.skips[chunk]
+        self.chunks.get(n as u32)
     }
 
-    /// Notes from which chunk on to look further.
-    fn set_skip(&mut self, chunk: usize, next: u32)
-        requires within { chunk * 64 < length self.old }
-        requires after { chunk ≤ next }
-        requires marked { AllMarked self.old (chunk * 64) (next * 64) }
+    /// Notes of a chunk from which on to look further.
+    fn set_next(&mut self, n: usize, next: u32)
+        requires within { n * 64 < length self.old }
+        requires leaps { Leaps self.old n next }
         ensures { self.new ≡ self.old }
     {
-        self.skips[chunk] = next;
-    }
-
-    /// Whether the address is marked.
-    fn has(&self, at: usize) -> bool
-        requires { at < length self.now }
-        ensures { slice_get self.now at ≡ Some result }
-    {
-        self.marks[at]
+        self.chunks.set_next(n as u32, next);
     }
 
     /// Whether one from an address up to another is marked.
@@ -94,21 +82,41 @@ impl Marked {
         ensures some { result ≡ true → (k : ℕ) × (from ≤ k) × (k < to) × IsMarked self.now k }
         ensures none { result ≡ false → (k : ℕ) → from ≤ k → k < to → slice_get self.now k ≡ Some false }
     {
-        for at in from..to {
-            if self.has(at) {
+        let mut at = from;
+        while at < to {
+            let further = self.past_unmarked(at);
+            if further == at {
                 return true;
             }
+            at = further;
         }
         false
     }
 
-    /// Marks an address.
-    pub fn mark(&mut self, at: usize)
-        requires { slice_get self.old at ≡ Some false }
-        ensures { self.new ≡ slice_set self.old at true }
+    /// An address from one on, before which none is marked: that one itself only where it is marked.
+    fn past_unmarked(&self, at: usize) -> usize
+        requires { at < length self.now }
+        ensures from { at ≤ result }
+        ensures unmarked { (k : ℕ) → at ≤ k → k < result → k < length self.now → slice_get self.now k ≡ Some false }
+        ensures first { result ≡ at → IsMarked self.now at }
     {
-        self.marks[at] = true;
-        self.count += 1;
+        let n = at / CHUNK;
+        let chunk = self.chunk(n);
+        n * CHUNK + chunk.marked(at % CHUNK)
+    }
+
+    /// Marks an address.
+    pub fn mark(&mut self, at: usize) -> Result<(), AllocError>
+        requires { slice_get self.old at ≡ Some false }
+        ensures ok { OnOk result (self.new ≡ slice_set self.old at true) }
+        ensures err { OnErr result (self.new ≡ self.old) }
+    {
+        let count = self.count + 1;
+        let n = (at / CHUNK) as u32;
+        let chunk = self.chunks.get(n).with(n, at % CHUNK);
+        self.chunks.set(n, chunk)?;
+        self.count = count;
+        Ok(())
     }
 
     /// The first address from one on that isn't marked, below another; that other one where there is none.
@@ -123,90 +131,45 @@ impl Marked {
     {
         let mut at = from;
         while at < to {
-            if !self.has(at) {
+            let further = self.past_marked(at);
+            if further == at {
                 return at;
             }
-            at = self.behind(at);
+            at = further;
         }
         to
     }
 
-    /// An address behind one that is marked, before which all are.
-    fn behind(&mut self, at: usize) -> usize
-        requires { IsMarked self.old at }
+    /// An address from one on, before which all are marked: that one itself only where it isn't.
+    fn past_marked(&mut self, at: usize) -> usize
+        requires { at < length self.old }
         ensures marks { self.new ≡ self.old }
-        ensures later { at < result }
+        ensures from { at ≤ result }
         ensures marked { AllMarked self.old at result }
+        ensures first { result ≡ at → slice_get self.old at ≡ Some false }
     {
-        let len = self.len();
-        if at % CHUNK != 0 {
-            return at + 1;
+        let n = at / CHUNK;
+        let chunk = self.chunk(n);
+        if n < chunk.next as usize {
+            return self.leap(n, chunk.next);
         }
-        let chunk = at / CHUNK;
-        let next = self.skip(chunk) as usize;
-        if next == chunk {
-            return self.pass(chunk);
+        n * CHUNK + chunk.unmarked(at % CHUNK)
+    }
+
+    /// An address from a chunk on, before which all from an earlier chunk on are marked.
+    fn leap(&mut self, n: usize, next: u32) -> usize
+        requires within { n * 64 < length self.old }
+        requires leaps { Leaps self.old n next }
+        ensures marks { self.new ≡ self.old }
+        ensures from { next * 64 ≤ result }
+        ensures marked { AllMarked self.old (n * 64) result }
+    {
+        let end = next as usize * CHUNK;
+        if end >= self.len() {
+            return end;
         }
-        if next * CHUNK >= len {
-            return next * CHUNK;
-        }
-        let further = self.skip(next);
-        self.set_skip(chunk, further);
+        let further = self.chunk(next as usize).next;
+        self.set_next(n, further);
         further as usize * CHUNK
     }
-
-    /// Looks at the addresses of a chunk, up to the first one that isn't marked.
-    fn pass(&mut self, chunk: usize) -> usize
-        requires { IsMarked self.old (chunk * 64) }
-        ensures marks { self.new ≡ self.old }
-        ensures later { chunk * 64 < result }
-        ensures marked { AllMarked self.old (chunk * 64) result }
-    {
-        let len = self.len();
-        let from = chunk * CHUNK;
-        let to = (from + CHUNK).min(len);
-        let end = self.run(from, to);
-        if end == to {
-            self.set_skip(chunk, chunk as u32 + 1);
-        }
-        end
-    }
-
-    /// The first address from one on that isn't marked, below another, one after the other.
-    fn run(&self, from: usize, to: usize) -> usize
-        requires order { from ≤ to }
-        requires within { to ≤ length self.now }
-        ensures from { from ≤ result }
-        ensures to { result ≤ to }
-        ensures marked { AllMarked self.now from result }
-        ensures first { result < to → slice_get self.now result ≡ Some false }
-    {
-        for at in from..to {
-            if !self.has(at) {
-                return at;
-            }
-        }
-        to
-    }
-}
-
-/// So many flags that aren't set.
-fn unmarked(alloc: Global, n: u32) -> Result<Vec<bool>, AllocError>
-    ensures { IfOk result (λ v. v.items ≡ replicate n false) }
-{
-    let mut marks = Vec::new(alloc);
-    marks.resize(n as usize, false)?;
-    Ok(marks)
-}
-
-/// The numbers from 0 up to one.
-fn themselves(alloc: Global, n: u32) -> Result<Vec<u32>, AllocError>
-    ensures len { IfOk result (λ v. length v.items ≡ n) }
-    ensures each { IfOk result (λ v. (c k : ℕ) → slice_get v.items c ≡ Some k → k ≡ c) }
-{
-    let mut numbers = Vec::with_capacity(alloc, n as usize)?;
-    for i in 0..n {
-        numbers.push(i)?;
-    }
-    Ok(numbers)
 }

@@ -10,7 +10,7 @@ end_of-requires g c = live_end c.args.store.now c.args.live.now c.requires.live 
 
 pub mark_reached-requires-clause-new : goal.mark_reached-requires-clause-new
 mark_reached-requires-clause-new g c =
-    is_new c.args.store.now c.args.live.now c.requires.live c.end_of.result c.in_ok-closing.closing c.requires.store_fits c.in_ok-closing.ensures c.end_of.ensures.covers c.end_of.ensures.least
+    is_new c.args.store.now c.args.live.now c.requires.live c.end_of.result c.new-closing.result c.requires.store_fits c.new-closing.ensures c.end_of.ensures.covers c.end_of.ensures.least
 
 pub touched-requires-clause-few : goal.touched-requires-clause-few
 touched-requires-clause-few g c = live_few c.args.store.now c.args.live.now c.requires.live c.requires.store_fits

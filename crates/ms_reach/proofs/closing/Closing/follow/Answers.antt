@@ -29,7 +29,7 @@ loop-at-preserved g c =
     let at = c.loop-at.at in
     let last = c.next-at-in-loop-at.result in
     let so_far = c.loop-at.invariant.advances in
-    let step = advance_byte m here next at to so_far.over c.loop-at-test.true (c.loop-at.invariant.free c.loop-at-test.true) c.visit.ensures.marks c.in_ok-visit.ensures.todo in
+    let step = advance_byte m here next at to so_far.over c.loop-at-test.true (c.loop-at.invariant.free c.loop-at-test.true) c.in_ok-visit.ensures.marks c.in_ok-visit.ensures.todo in
     let room : to ≤ length next.marks = omega (arith, c.requires.within, so_far.same, step.same) in
     let past = advance_past m next (at + 1) last to step.over c.next-at-in-loop-at.ensures.from c.next-at-in-loop-at.ensures.to room c.next-at-in-loop-at.ensures.marked in
     record {
