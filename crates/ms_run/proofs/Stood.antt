@@ -18,9 +18,9 @@ use Rattle.ms_run.proofs.Reaching.{one_reached}
 -- ---- a task is apart or joined, not both
 
 joined_same : (s : Store) (set : ℕ → Bool) (closed : IsClosed set s) (n m : ℕ) → Joined s n m → set m ≡ set n
-joined_same s set closed n .n itself = refl
-joined_same s set closed n m (on k .m chain shares) = closed k m shares ∙ joined_same s set closed n k chain
-joined_same s set closed n m (back k .m chain shares) = sym (closed m k shares) ∙ joined_same s set closed n k chain
+joined_same s set closed n _ itself = refl
+joined_same s set closed n m (on k _ chain shares) = closed k m shares ∙ joined_same s set closed n k chain
+joined_same s set closed n m (back k _ chain shares) = sym (closed m k shares) ∙ joined_same s set closed n k chain
 
 not_both : (s : Store) (addresses : List ℕ) (n : ℕ) → IsApart s addresses n → IsJoined s addresses n → ⊥
 not_both s addresses n apart joined =

@@ -540,12 +540,15 @@ module _ (words : List (List ℕ)) (s : Shelved) (r : Report) (f : Flow) where
 run_clause : (words : List (List ℕ)) (s : Shelved) (r : Report) (f : Flow) (status : Status)
     → ((job : Job) × AsksJob (Holds s.old) (asked_of words) job × RanSafely (files_for (asked_of words) s.old) s r f job status)
     → (job : Job) × AsksJob (Holds s.old) (asked_of words) job × KeepsRun (files_for (asked_of words) s.old) s r f job status
-run_clause words s r f status h =
-    (h.0, h.1, record {
-      safe = h.2;
-      means = λ name file program. ran_as_meant (files_for (asked_of words) s.old) s r f h.0 name file status program h.2;
-      isolated = λ n undisturbed. ran_alone (Holds (files_for (asked_of words) s.old)) h.2.given h.0 n h.2.run h.2.of_job h.2.small undisturbed;
-    })
+run_clause words s r f status h = (
+  h.0,
+  h.1,
+  record {
+    safe = h.2;
+    means = λ name file program. ran_as_meant (files_for (asked_of words) s.old) s r f h.0 name file status program h.2;
+    isolated = λ n undisturbed. ran_alone (Holds (files_for (asked_of words) s.old)) h.2.given h.0 n h.2.run h.2.of_job h.2.small undisturbed;
+  },
+)
 
 -- ---- the contract
 

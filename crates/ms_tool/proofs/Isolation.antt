@@ -41,7 +41,7 @@ ran_alone Has given job n run of_job small h =
     let ready : IsReady h.crew = subst IsReady (sym is) (crew_ready h.store job.tasks ts typed.0 fits typed.1 found) in
     let many = crew_length h.store job.tasks h.crew h.is_crew in
     let ran : (entries : List ℕ) → execution of_job.modules job.tasks entries job.memory given ≡ Ran (run_of entries h.crew given) = λ entries.
-        ap (if_linked job.tasks entries given) h.linked_is ∙ (ap (with_threads entries h.store given) found ∙ ap (λ (x : Crew). Ran (run_of entries x given)) (sym is)) in
+    ap (if_linked job.tasks entries given) h.linked_is ∙ (ap (with_threads entries h.store given) found ∙ ap (λ (x : Crew). Ran (run_of entries x given)) (sym is)) in
     let same : run_of of_job.entries h.crew given ≡ run = same_run (run_of of_job.entries h.crew given) run (sym (ran of_job.entries) ∙ of_job.ran) in
     let entries = alone n count of_job.entries in
     let there : n < length h.crew.tasks = let t = h.there in omega (arith, t, many) in
