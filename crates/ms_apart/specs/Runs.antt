@@ -1,13 +1,14 @@
 -- What a run of a crew shows of one task, and the run alone.
 use Rattle.std.specs.Prelude.{◌≡◌, ◌≤◌, ◌==◌, ℕ, Bool, true, false, if◌then◌else◌, List, [], ◌∷◌, ◌++◌, slice_get, option_map, Option, Some, None}
 use Rattle.ms_event.specs.declared.event.Event.{Event}
-use Rattle.ms_host.specs.declared.trap.TrapKind.{TrapKind}
-use Rattle.ms_linear.specs.declared.value.Value.{Value}
 use Rattle.ms_machine.specs.Crews.{Crew, End, Input, Run, Start, Task, Trap, Whose, with_start, with_task}
 use Rattle.ms_machine.specs.Moves as moves
 use Rattle.ms_machine.specs.Moves.{Goes, Move, move_of, rest_of}
 use Rattle.ms_machine.specs.Store.{Store}
 use Rattle.ms_task.specs.Thread.{Item, Thread}
+use Rattle.ms_tasks.specs.States.{state_of}
+use Rattle.ms_tasks.specs.declared.state.TaskState.{TaskState}
+use Rattle.ms_tasks.specs.declared.state.TaskState.TheVariants.{Unended, Ended, Trapped}
 use Rattle.ms_apart.specs.Apart.{IsGranted, IsSided, Owned, Separated, Sides, ThreadOn}
 use Rattle.ms_machine.specs.refinement.Holding.{StoreFits, ThreadFits}
 use Rattle.ms_apart.specs.Renaming.{Renaming, rename}
@@ -27,27 +28,7 @@ abbrev pub own_of : {A : Type 0} → ℕ → List (Whose × A) → List A
 own_of n [] = []
 own_of n (p ∷ ps) = if_own n p.0 p.1 (own_of n ps)
 
--- ---- how a task stands after a run
-
-pub data TaskState : Type 0 where
-  Unended : TaskState
-  Ended : Option Value → TaskState
-  Trapped : TrapKind → TaskState
-
-abbrev pub by_thread : List Item → List Value → TaskState
-by_thread [] vs = Ended (slice_get vs 0)
-by_thread (i ∷ w) vs = Unended
-
-abbrev pub in_crew : Option Thread → TaskState
-in_crew None = Unended
-in_crew (Some t) = by_thread t.work t.operands
-
-abbrev pub if_trapped : ℕ → End → TaskState → TaskState
-if_trapped n (Trap (Task k) kind) state = if k == n then Trapped kind else state
-if_trapped n end state = state
-
-abbrev pub state_of : ℕ → Run → TaskState
-state_of n r = if_trapped n r.end (in_crew (slice_get r.crew.tasks n))
+-- ---- how a task stands behind a run, under other names of identities
 
 abbrev pub rename_state : Renaming → TaskState → TaskState
 rename_state r Unended = Unended
