@@ -13,7 +13,9 @@ use Rattle.ms_task.specs.Thread.{Activation, Thread, result_of, sequence}
 use Rattle.ms_types.specs.declared.types.ValType.{ValType}
 use Rattle.ms_types.specs.declared.types.ValType.TheVariants as types
 use Rattle.ms_machine.specs.Crews.{Crew, End, Input, OutOfBudget, Results, Run, Start, Stuck, Task, Trap, begun, run_of}
-use Rattle.ms_machine.specs.Linked.{start_chain}
+use Rattle.std.specs.List.{All}
+use Rattle.ms_machine.specs.Linked.{StartsTyped, start_chain}
+use Rattle.ms_machine.specs.Typing.{StoreTyped, outline_of}
 use Rattle.ms_machine.specs.refinement.Holding.{EachGlobal, Fits, StoreFits, ThreadFits}
 use Rattle.ms_machine.specs.Running as running
 use Rattle.ms_machine.specs.Running.{func_thread}
@@ -30,6 +32,7 @@ use Rattle.ms_apart.specs.Runs.{Calm, IsCut, OwnAlike, alone}
 use Rattle.ms_apart.proofs.Functions.{dos_functions}
 use Rattle.ms_apart.proofs.Lists.{get_mapped, nothing_past, same_Some, something_below}
 use Rattle.ms_apart.proofs.Ranks.{Any, Told}
+use Rattle.ms_apart.proofs.Results.{Yields, all_of, chain_yields, run_yields, state_stays, task_yields}
 use Rattle.ms_apart.proofs.Runs.{IsStopped, RunAlike}
 use Rattle.ms_apart.proofs.Sides.{is_sided, sides_of}
 use Rattle.ms_apart.proofs.Starts.{all_alike, each_ahead}
@@ -179,16 +182,25 @@ unstopped n Stuck unstuck uncut stopped = unstuck refl
 unstopped n (Results vs) unstuck uncut stopped = stopped
 unstopped n OutOfBudget unstuck uncut stopped = stopped
 
-own_alike : (n : ℕ) (a b : Run) → a.end ≢ Stuck → RunAlike n [] [] a b → OwnAlike n a b
-own_alike n a b unstuck x = record { rest = x.rest; puts = x.puts; later = x.later; events = x.events; whole = λ uncut. x.whole (unstopped n a.end unstuck uncut) }
+own_alike : (n : ℕ) (a b : Run) → a.end ≢ Stuck → All Yields a.crew.tasks → RunAlike n [] [] a b → OwnAlike n a b
+own_alike n a b unstuck yields x = record { rest = x.rest; puts = x.puts; later = x.later; events = x.events; whole = λ uncut. let y = x.whole (unstopped n a.end unstuck uncut) in (y.0, y.1, y.2.1 ∙ state_stays y.2.0 n a yields) }
+
+-- each thread of the crew leaves a number, or nothing
+crew_yields : (s : Store) (tasks : List (ℕ × List ℕ)) (ts : List Thread) → StoreTyped (outline_of s) → threads_from s tasks 0 ≡ Ok ts → All Yields ts
+crew_yields s tasks ts store is = all_of Yields ts (λ k u at. let o = origin s tasks 0 ts is k u at in subst Yields (sym o.runs) (by (slice_get tasks k) o.address (sym (get_mapped (λ t. task_address s t.0 t.1) tasks k) ∙ o.named))) where
+  by : (item : Option (ℕ × List ℕ)) (a : ℕ) → option_map (λ t. task_address s t.0 t.1) item ≡ Some (Some a) → Yields (func_thread s a)
+  by None a e = absurd cc
+  by (Some t) a e = task_yields s store t.0 t.1 a (inner (task_address s t.0 t.1) a e) where
+    inner : (o : Option ℕ) (a : ℕ) → Some o ≡ Some (Some a) → o ≡ Some a
+    inner o a e = cc
 
 abbrev Claim : (n absent : ℕ) → List ℕ → Input → Crew → Type 0
 Claim n absent entries input c = IsReady c → n < length c.tasks → length c.tasks ≤ absent → Calm n entries (begun c) input → Calm n (alone n absent entries) (begun c) input → OwnAlike n (run_of entries c input) (run_of (alone n absent entries) c input)
 
-pub tasks_alike : (s : Store) (tasks : List (ℕ × List ℕ)) (addresses : List ℕ) (c : Crew) (n absent : ℕ) (entries : List ℕ) (input : Input) → IsLinked s → IsCrewOf s tasks c → AreAddresses s tasks addresses → IsReady c → IsApart s addresses n → n < length c.tasks → length c.tasks ≤ absent
+pub tasks_alike : (s : Store) (tasks : List (ℕ × List ℕ)) (addresses : List ℕ) (c : Crew) (n absent : ℕ) (entries : List ℕ) (input : Input) → IsLinked s → StartsTyped s → IsCrewOf s tasks c → AreAddresses s tasks addresses → IsReady c → IsApart s addresses n → n < length c.tasks → length c.tasks ≤ absent
     → Calm n entries (begun c) input → Calm n (alone n absent entries) (begun c) input → OwnAlike n (run_of entries c input) (run_of (alone n absent entries) c input)
-tasks_alike s tasks addresses c n absent entries input linked crew are ready apart low past calm calm' =
+tasks_alike s tasks addresses c n absent entries input linked starts crew are ready apart low past calm calm' =
     subst (Claim n absent entries input) (sym crew.2) (λ ready low past calm calm'.
     let d = divided s tasks addresses crew.0 are crew.1 linked ready.store_fits n apart absent low past in
-    own_alike n (run_of entries (crew_of s crew.0) input) (run_of (alone n absent entries) (crew_of s crew.0) input) (run_ready entries (crew_of s crew.0) input ready).1
+    own_alike n (run_of entries (crew_of s crew.0) input) (run_of (alone n absent entries) (crew_of s crew.0) input) (run_ready entries (crew_of s crew.0) input ready).1 (run_yields entries (crew_of s crew.0) input ready (chain_yields s ready.store s.instances starts) (crew_yields s tasks crew.0 ready.store crew.1))
     (all_alike n (sides_of apart.set s) absent entries nothing_owned (begun (crew_of s crew.0)) d.0 input [] d.1 (nothing_told s linked) calm calm')) ready low past calm calm'

@@ -19,7 +19,7 @@ use Rattle.ms_segment.specs.Memory.{IsFit, IsSound, Memory, live_of, with_bytes}
 use Rattle.ms_segment.specs.Parts.{entered, with_ended}
 use Rattle.ms_segment.proofs.Finds.{Contains-drop, Contains-take, find-filter_gone, find-filter_kept}
 use Rattle.ms_tagged.specs.Bytes.{Byte, Data, Piece}
-use Rattle.ms_apart.specs.Renaming.{Renaming, rename_byte, rename_global}
+use Rattle.ms_apart.specs.refinement.Renaming.{Renaming, rename_byte, rename_global}
 use Rattle.ms_apart.specs.refinement.Apart.{Alike, EachByte, HandleOn, MemoryAlike, MemoryStep, Owned, SegmentAlike, SegmentOn, Separated, Sides, StoreStep, ValueOn, contents, counted, ended, global, kept, memory, same, segments, written}
 use Rattle.ms_apart.proofs.Bytes.{bytes_overwritten, contents_other, contents_written}
 use Rattle.ms_segment.proofs.Standing.{live_is, new_live, old_live}

@@ -10,7 +10,7 @@ use Rattle.ms_machine.specs.Moves.{Goes, move_for}
 use Rattle.ms_machine.specs.Store.{Store}
 use Rattle.ms_machine.proofs.HeldFits.{thread_fits_grows}
 use Rattle.ms_machine.proofs.Moving.{move_keeps}
-use Rattle.ms_apart.specs.Renaming.{Renaming, rename_thread}
+use Rattle.ms_apart.specs.refinement.Renaming.{Renaming, rename_thread}
 use Rattle.ms_apart.specs.refinement.Apart.{Alike, IsOld, IsSided, Owned, Separated, Sides, Stepped, StoreStep, ThreadOn, global, kept, makes, memory, owned_after, plain, renamed_after, segments}
 use Rattle.ms_apart.proofs.Lists.{get_set_other, get_set_same}
 use Rattle.ms_apart.proofs.Moves.{MoveOn, move_on_side}

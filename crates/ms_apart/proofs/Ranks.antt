@@ -11,7 +11,7 @@ use Rattle.ms_segment.specs.Memory.{IsSound, Memory, live_of}
 use Rattle.ms_segment.specs.Parts.{entered}
 use Rattle.ms_segment.proofs.Standing.{new_live, old_live}
 use Rattle.ms_task.specs.Thread.{Thread}
-use Rattle.ms_apart.specs.Renaming.{Renaming}
+use Rattle.ms_apart.specs.refinement.Renaming.{Renaming}
 use Rattle.ms_apart.specs.refinement.Apart.{EventAlike, IsOld, MemoryAlike, Owned, SegmentAlike, Sides, Stepped, base_in, makes, owned_after, plain, renamed_after}
 use Rattle.ms_apart.specs.Ranks.{Place, grown, rank, ranked, shown, start}
 use Rattle.ms_apart.proofs.Lists.{same_Some}

@@ -19,12 +19,12 @@ use Rattle.ms_machine.specs.Moves.{Goes, Move, first_of, move_for, move_of, rest
 use Rattle.ms_machine.specs.Store.{Store}
 use Rattle.ms_machine.proofs.HeldFits.{thread_fits_grows}
 use Rattle.ms_machine.proofs.Moving.{Keeps, move_keeps}
-use Rattle.ms_apart.specs.Renaming.{rename, rename_all, rename_byte, rename_global, rename_handle, rename_thread, rename_work}
+use Rattle.ms_apart.specs.refinement.Renaming.{rename, rename_all, rename_byte, rename_global, rename_handle, rename_state, rename_thread, rename_work}
 use Rattle.ms_apart.specs.refinement.Apart.{Alike, Divided, EachThread, IsOld, IsSided, MemoryAlike, OnASide, Owned, SegmentAlike, Separated, Sides, Stepped, ThreadOn, contents, makes, owned_after, plain}
 use Rattle.ms_tasks.specs.States.{state_of}
 use Rattle.ms_tasks.specs.declared.state.TaskState.{TaskState}
 use Rattle.ms_tasks.specs.declared.state.TaskState.TheVariants.{Ended, Trapped, Unended}
-use Rattle.ms_apart.specs.Runs.{Calm, CalmEntry, CalmStart, alone, own_of, rename_state}
+use Rattle.ms_apart.specs.Runs.{Calm, CalmEntry, CalmStart, alone, own_of}
 use Rattle.ms_apart.proofs.Moves.{MoveOn, move_on_side}
 use Rattle.ms_apart.proofs.Pairs.{After, Paired, after_step, own_after}
 use Rattle.ms_apart.specs.Ranks.{Place, shown}

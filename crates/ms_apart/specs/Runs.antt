@@ -1,5 +1,5 @@
 -- What a run of a crew shows of one task, and the run alone.
-use Rattle.std.specs.Prelude.{◌≡◌, ◌==◌, ℕ, Bool, true, false, if◌then◌else◌, List, [], ◌∷◌, ◌++◌, slice_get, option_map, Option, Some, None}
+use Rattle.std.specs.Prelude.{◌≡◌, ◌==◌, ℕ, Bool, true, false, if◌then◌else◌, List, [], ◌∷◌, ◌++◌, slice_get, Option, Some, None}
 use Rattle.ms_event.specs.declared.event.Event.{Event}
 use Rattle.ms_event.specs.declared.event.Event.TheVariants as events
 use Rattle.ms_machine.specs.Crews.{Crew, End, Input, Run, Start, Task, Trap, Whose, with_start, with_task}
@@ -7,10 +7,7 @@ use Rattle.ms_machine.specs.Moves as moves
 use Rattle.ms_machine.specs.Moves.{Goes, Move, move_of, rest_of}
 use Rattle.ms_task.specs.Thread.{Item, Thread}
 use Rattle.ms_tasks.specs.States.{state_of}
-use Rattle.ms_tasks.specs.declared.state.TaskState.{TaskState}
-use Rattle.ms_tasks.specs.declared.state.TaskState.TheVariants.{Unended, Ended, Trapped}
 use Rattle.ms_apart.specs.Ranks.{shown}
-use Rattle.ms_apart.specs.Renaming.{Renaming, rename}
 
 -- each entry that names another task names an absent one instead
 abbrev pub alone : (n absent : ℕ) → List ℕ → List ℕ
@@ -26,13 +23,6 @@ if_own n (Task k) x xs = if k == n then x ∷ xs else xs
 abbrev pub own_of : {A : Type 0} → ℕ → List (Whose × A) → List A
 own_of n [] = []
 own_of n (p ∷ ps) = if_own n p.0 p.1 (own_of n ps)
-
--- ---- how a task stands behind a run, under other names of identities
-
-abbrev pub rename_state : Renaming → TaskState → TaskState
-rename_state r Unended = Unended
-rename_state r (Ended v) = Ended (option_map (rename r) v)
-rename_state r (Trapped kind) = Trapped kind
 
 -- another task has trapped
 abbrev pub IsCut : ℕ → End → Type 0
@@ -84,4 +74,4 @@ pub record OwnAlike (n : ℕ) (a b : Run) : Type 0 where
   pub puts : own_of n b.deeds.puts ≡ own_of n a.deeds.puts ++ rest
   pub later : List Event
   pub events : shown n [] b.deeds.events ≡ shown n [] a.deeds.events ++ later
-  pub whole : (IsCut n a.end → ⊥) → (rest ≡ []) × (later ≡ []) × ((r : Renaming) × (state_of n b ≡ rename_state r (state_of n a)))
+  pub whole : (IsCut n a.end → ⊥) → (rest ≡ []) × (later ≡ []) × (state_of n b ≡ state_of n a)

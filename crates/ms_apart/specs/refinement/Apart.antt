@@ -22,7 +22,7 @@ use Rattle.ms_linear.specs.Memory.{Memory as LinearMemory}
 use Rattle.ms_tagged.specs.Bytes.{Byte, Data, Piece, range}
 use Rattle.ms_task.specs.Thread.{Activation, Do, Item, Label, Thread}
 use Rattle.ms_task.specs.declared.func.FuncInst.{FuncInst}
-use Rattle.ms_apart.specs.Renaming.{Renaming, rename_byte, rename_event, rename_global}
+use Rattle.ms_apart.specs.refinement.Renaming.{Renaming, rename_byte, rename_event, rename_global}
 
 -- ---- two sides of a store: instances, and the addresses of what they name
 
