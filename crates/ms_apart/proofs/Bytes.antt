@@ -8,7 +8,7 @@ use Rattle.ms_tagged.proofs.Ranges.{length-overwritten, length-range, range-over
 use Rattle.ms_segment.proofs.Standing.{live_inside, nothing_written, segments_apart}
 use Rattle.ms_tagged.proofs.Within.{overwritten-within}
 use Rattle.ms_segment.specs.Memory.{IsSound, Memory, live_of, with_bytes}
-use Rattle.ms_apart.specs.Apart.{EachByte, contents}
+use Rattle.ms_apart.specs.refinement.Apart.{EachByte, contents}
 use Rattle.ms_apart.proofs.Lists.{drop_mapped, take_mapped}
 
 -- ---- a fact about each handle in bytes

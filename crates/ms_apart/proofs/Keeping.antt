@@ -57,7 +57,7 @@ use Rattle.ms_machine.proofs.HeldControl.{MovedHolds, block_holds, br_if_holds, 
 use Rattle.ms_machine.proofs.HeldPlain.{OutcomeHolds, linear_outcome_holds, worked_holds}
 use Rattle.ms_machine.proofs.HeldSegments.{EffectHolds, FreshIn, FreshRead, segment_holds}
 use Rattle.ms_machine.proofs.HeldValues.{OptionHolds, each_get, each_set, holds}
-use Rattle.ms_apart.specs.Apart.{EachByte, FunctionOn, HandleOn, IsOld, IsSided, MemoryStep, Owned, SegmentOn, Separated, Sides, StoreStep, ThreadOn, ValueOn, WorkOn, contents, counted, ended, global, kept, memory, same, segments as in_memory_step, written}
+use Rattle.ms_apart.specs.refinement.Apart.{EachByte, FunctionOn, HandleOn, IsOld, IsSided, MemoryStep, Owned, SegmentOn, Separated, Sides, StoreStep, ThreadOn, ValueOn, WorkOn, contents, counted, ended, global, kept, memory, same, segments as in_memory_step, written}
 use Rattle.ms_apart.proofs.Bytes.{bytes_range}
 use Rattle.ms_segment.proofs.Standing.{live_inside, live_is}
 use Rattle.ms_tagged.proofs.Within.{range-within}

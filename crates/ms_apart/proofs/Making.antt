@@ -18,8 +18,8 @@ use Rattle.ms_segment.proofs.Placing.{place-within}
 use Rattle.ms_tagged.specs.Bytes.{Byte, Data, Piece}
 use Rattle.ms_tagged.proofs.Ranges.{range-overwritten_same}
 use Rattle.ms_task.specs.Thread.{Activation, Do, Item, Label}
-use Rattle.ms_apart.specs.Renaming.{Renaming, rename, rename_all, rename_byte, rename_frame, rename_global, rename_handle, rename_work}
-use Rattle.ms_apart.specs.Apart.{EachByte, HandleOn, MemoryAlike, Owned, SegmentAlike, SegmentOn, ValueOn, contents, owned_after, renamed_after}
+use Rattle.ms_apart.specs.refinement.Renaming.{Renaming, rename, rename_all, rename_byte, rename_frame, rename_global, rename_handle, rename_work}
+use Rattle.ms_apart.specs.refinement.Apart.{EachByte, HandleOn, MemoryAlike, Owned, SegmentAlike, SegmentOn, ValueOn, contents, owned_after, renamed_after}
 use Rattle.ms_segment.proofs.Standing.{live_is, made_range, new_live, old_live}
 
 -- ---- names that agree on what is owned

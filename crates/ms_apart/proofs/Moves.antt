@@ -15,8 +15,9 @@ use Rattle.ms_machine.specs.Moves as moves
 use Rattle.ms_machine.specs.Moves.{Goes, Move, hosted, move_for, move_on}
 use Rattle.ms_machine.specs.Step.{Calls, Next, Outcome, Stuck, Trap, step_of}
 use Rattle.ms_machine.specs.Store.{Store}
-use Rattle.ms_apart.specs.Renaming.{Renaming, rename_all, rename_thread}
-use Rattle.ms_apart.specs.Apart.{Alike, EventAlike, IsGranted, IsSided, Owned, Separated, Sides, Stepped, ThreadOn, ValueOn, kept, owned_after, plain, renamed_after}
+use Rattle.ms_apart.specs.refinement.Renaming.{Renaming, rename_all, rename_thread}
+use Rattle.ms_apart.specs.refinement.Apart.{Alike, EventAlike, IsSided, Owned, Separated, Sides, Stepped, ThreadOn, ValueOn, kept, owned_after, plain, renamed_after}
+use Rattle.ms_apart.specs.Runs.{IsGranted}
 use Rattle.ms_apart.proofs.Control.{exited_renamed}
 use Rattle.ms_apart.proofs.Steps.{Granted, StepAlike, step_alike}
 use Rattle.ms_apart.proofs.Stepping.{OutcomeOn, exit_on, step_on}

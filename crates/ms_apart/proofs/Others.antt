@@ -19,17 +19,17 @@ use Rattle.ms_segment.specs.Memory.{IsFit, IsSound, Memory, live_of, with_bytes}
 use Rattle.ms_segment.specs.Parts.{entered, with_ended}
 use Rattle.ms_segment.proofs.Finds.{Contains-drop, Contains-take, find-filter_gone, find-filter_kept}
 use Rattle.ms_tagged.specs.Bytes.{Byte, Data, Piece}
-use Rattle.ms_apart.specs.Renaming.{Renaming, rename_byte, rename_global}
-use Rattle.ms_apart.specs.Apart.{Alike, EachByte, HandleOn, MemoryAlike, MemoryStep, Owned, SegmentAlike, SegmentOn, Separated, Sides, StoreStep, ValueOn, contents, counted, ended, global, kept, memory, same, segments, written}
+use Rattle.ms_apart.specs.refinement.Renaming.{Renaming, rename_byte, rename_global}
+use Rattle.ms_apart.specs.refinement.Apart.{Alike, EachByte, HandleOn, MemoryAlike, MemoryStep, Owned, SegmentAlike, SegmentOn, Separated, Sides, StoreStep, ValueOn, contents, counted, ended, global, kept, memory, same, segments, written}
 use Rattle.ms_apart.proofs.Bytes.{bytes_overwritten, contents_other, contents_written}
 use Rattle.ms_segment.proofs.Standing.{live_is, new_live, old_live}
 use Rattle.ms_apart.proofs.Lists.{get_set_other, get_set_same}
 use Rattle.ms_apart.proofs.Making.{new_contents, old_contents}
 
-live_gone : (m : Memory) (i : ℕ) → live_of (with_ended m i) i ≡ None
+pub live_gone : (m : Memory) (i : ℕ) → live_of (with_ended m i) i ≡ None
 live_gone m i = find-filter_gone (λ (t : Live). t.id == i) (λ (t : Live). not (t.id == i)) m.live (λ t is. ap not is)
 
-live_stays : (m : Memory) (i j : ℕ) → (j ≡ i → ⊥) → live_of (with_ended m i) j ≡ live_of m j
+pub live_stays : (m : Memory) (i j : ℕ) → (j ≡ i → ⊥) → live_of (with_ended m i) j ≡ live_of m j
 live_stays m i j other = find-filter_kept (λ (t : Live). t.id == j) (λ (t : Live). not (t.id == i)) m.live (λ t is. ap not (ne_eqb t.id i (λ e. other (sym (eqb-true t.id j is) ∙ e))))
 
 -- ---- the handles of each side

@@ -10,8 +10,8 @@ use Rattle.ms_machine.specs.Moves.{Goes, move_for}
 use Rattle.ms_machine.specs.Store.{Store}
 use Rattle.ms_machine.proofs.HeldFits.{thread_fits_grows}
 use Rattle.ms_machine.proofs.Moving.{move_keeps}
-use Rattle.ms_apart.specs.Renaming.{Renaming, rename_thread}
-use Rattle.ms_apart.specs.Apart.{Alike, IsOld, IsSided, Owned, Separated, Sides, Stepped, StoreStep, ThreadOn, global, kept, makes, memory, owned_after, plain, renamed_after, segments}
+use Rattle.ms_apart.specs.refinement.Renaming.{Renaming, rename_thread}
+use Rattle.ms_apart.specs.refinement.Apart.{Alike, IsOld, IsSided, Owned, Separated, Sides, Stepped, StoreStep, ThreadOn, global, kept, makes, memory, owned_after, plain, renamed_after, segments}
 use Rattle.ms_apart.proofs.Lists.{get_set_other, get_set_same}
 use Rattle.ms_apart.proofs.Moves.{MoveOn, move_on_side}
 use Rattle.ms_apart.proofs.Others.{others_kept, others_made, separated_kept, separated_made}
@@ -61,7 +61,7 @@ after_step sides own own1 side s s1 t event sided separated fits (makes size bas
 
 -- ---- a step of the component's own
 
-old_owned : (event : Option Event) (own : Owned) → IsOld event → owned_after event own ≡ own
+pub old_owned : (event : Option Event) (own : Owned) → IsOld event → owned_after event own ≡ own
 old_owned None own old = refl
 old_owned (Some (events.Alloc id addr size)) own old = absurd old
 old_owned (Some (events.Refused size)) own old = refl

@@ -30,8 +30,8 @@ use Rattle.ms_segment.specs.declared.trap.SegTrap.TheVariants as traps
 use Rattle.ms_segment.proofs.Finds.{find-filter_gone, find-filter_kept}
 use Rattle.ms_tagged.specs.Bytes.{Byte, Data, Piece, data_of, number_at, number_with, overwritten, pieces, range}
 use Rattle.ms_tagged.proofs.Numbers.{length-data_of}
-use Rattle.ms_apart.specs.Renaming.{Renaming, rename, rename_all, rename_byte, rename_handle}
-use Rattle.ms_apart.specs.Apart.{EachByte, EventAlike, HandleOn, IsOld, MemoryAlike, Owned, SegmentAlike, SegmentOn, ValueOn, base_in, contents}
+use Rattle.ms_apart.specs.refinement.Renaming.{Renaming, rename, rename_all, rename_byte, rename_handle}
+use Rattle.ms_apart.specs.refinement.Apart.{EachByte, EventAlike, HandleOn, IsOld, MemoryAlike, Owned, SegmentAlike, SegmentOn, ValueOn, base_in, contents}
 use Rattle.ms_apart.proofs.Bytes.{bytes_range, contents_other, contents_written, overwritten_mapped, range_mapped}
 use Rattle.ms_segment.proofs.Standing.{live_aligned, live_inside, live_is}
 use Rattle.ms_tagged.proofs.Within.{range-within}

@@ -19,12 +19,18 @@ use Rattle.ms_machine.specs.Moves.{Goes, Move, first_of, move_for, move_of, rest
 use Rattle.ms_machine.specs.Store.{Store}
 use Rattle.ms_machine.proofs.HeldFits.{thread_fits_grows}
 use Rattle.ms_machine.proofs.Moving.{Keeps, move_keeps}
-use Rattle.ms_apart.specs.Renaming.{rename, rename_all, rename_byte, rename_global, rename_handle, rename_thread, rename_work}
-use Rattle.ms_apart.specs.Apart.{Alike, IsOld, IsSided, MemoryAlike, Owned, SegmentAlike, Separated, Sides, Stepped, ThreadOn, contents, makes, owned_after, plain}
-use Rattle.ms_apart.specs.Runs.{AllCalm, CalmEntry, CalmStart, Divided, EachThread, Ended, OnASide, OwnAlike, TaskState, Trapped, Unended, alone, own_of, rename_state, state_of}
+use Rattle.ms_apart.specs.refinement.Renaming.{rename, rename_all, rename_byte, rename_global, rename_handle, rename_state, rename_thread, rename_work}
+use Rattle.ms_apart.specs.refinement.Apart.{Alike, Divided, EachThread, IsOld, IsSided, MemoryAlike, OnASide, Owned, SegmentAlike, Separated, Sides, Stepped, ThreadOn, contents, makes, owned_after, plain}
+use Rattle.ms_tasks.specs.States.{state_of}
+use Rattle.ms_tasks.specs.declared.state.TaskState.{TaskState}
+use Rattle.ms_tasks.specs.declared.state.TaskState.TheVariants.{Ended, Trapped, Unended}
+use Rattle.ms_apart.specs.Runs.{Calm, CalmEntry, CalmStart, alone, own_of}
 use Rattle.ms_apart.proofs.Moves.{MoveOn, move_on_side}
 use Rattle.ms_apart.proofs.Pairs.{After, Paired, after_step, own_after}
-use Rattle.ms_apart.proofs.Runs.{runs_alike}
+use Rattle.ms_apart.specs.Ranks.{Place, shown}
+use Rattle.ms_apart.proofs.Ranks.{Any, Told, counted_same, grown_by, told_step}
+use Rattle.ms_apart.proofs.Runs.{RunAlike, runs_alike}
+use Rattle.ms_apart.proofs.Steady.{all_owned, any_step, one_side}
 
 -- ---- each identity under its own name
 
@@ -93,7 +99,7 @@ each_weaker : (P Q : Thread → Type 0) → ((u : Thread) → P u → Q u) → (
 each_weaker P Q f [] x = tt
 each_weaker P Q f (t ∷ ts) x = (f t x.0, each_weaker P Q f ts x.1)
 
-each_ahead : (P : Thread → Type 0) (ts : List Thread) → EachThread P ts → EachThread P (ahead ts)
+pub each_ahead : (P : Thread → Type 0) (ts : List Thread) → EachThread P ts → EachThread P (ahead ts)
 each_ahead P [] x = tt
 each_ahead P (t ∷ ts) x = by t.work (each_ahead P ts x.1) where
   by : (w : List Item) → EachThread P (ahead ts) → EachThread P (by_work w (ahead ts) (t ∷ ts))
@@ -145,16 +151,16 @@ module _ (sides : Sides) (n absent : ℕ) (own : Owned) (c : Crew) (task : Threa
   -- the identities that are made rise
   grows : (own2 : Owned) (side : Bool) (s1 : Store) (t1 : Thread) (event : Option Event) → Stepped sides own side c.store s1 t1 event → (i : ℕ) → own i ≡ true → i ≤ s1.segments.made
   grows own2 side s1 t1 event (plain _ _ _ old step on) i mine = by s1 step where
-    by : (s2 : Store) → Rattle.ms_apart.specs.Apart.StoreStep sides own side c.store s2 → i ≤ s2.segments.made
-    by s2 Rattle.ms_apart.specs.Apart.kept = d.low i mine
-    by s2 (Rattle.ms_apart.specs.Apart.global a g v p q o) = d.low i mine
-    by s2 (Rattle.ms_apart.specs.Apart.memory a m p) = d.low i mine
-    by s2 (Rattle.ms_apart.specs.Apart.segments m p) = in_memory m p where
-      in_memory : (m : Memory) → Rattle.ms_apart.specs.Apart.MemoryStep own side c.store.segments m → i ≤ m.made
-      in_memory m Rattle.ms_apart.specs.Apart.same = d.low i mine
-      in_memory m Rattle.ms_apart.specs.Apart.counted = d.low i mine
-      in_memory m (Rattle.ms_apart.specs.Apart.ended j p) = d.low i mine
-      in_memory m (Rattle.ms_apart.specs.Apart.written j k s new p q r o) = d.low i mine
+    by : (s2 : Store) → Rattle.ms_apart.specs.refinement.Apart.StoreStep sides own side c.store s2 → i ≤ s2.segments.made
+    by s2 Rattle.ms_apart.specs.refinement.Apart.kept = d.low i mine
+    by s2 (Rattle.ms_apart.specs.refinement.Apart.global a g v p q o) = d.low i mine
+    by s2 (Rattle.ms_apart.specs.refinement.Apart.memory a m p) = d.low i mine
+    by s2 (Rattle.ms_apart.specs.refinement.Apart.segments m p) = in_memory m p where
+      in_memory : (m : Memory) → Rattle.ms_apart.specs.refinement.Apart.MemoryStep own side c.store.segments m → i ≤ m.made
+      in_memory m Rattle.ms_apart.specs.refinement.Apart.same = d.low i mine
+      in_memory m Rattle.ms_apart.specs.refinement.Apart.counted = d.low i mine
+      in_memory m (Rattle.ms_apart.specs.refinement.Apart.ended j p) = d.low i mine
+      in_memory m (Rattle.ms_apart.specs.refinement.Apart.written j k s new p q r o) = d.low i mine
   grows own2 side s1 t1 event (makes size base kind _ placed on) i mine = let low = d.low i mine in omega (arith, low)
 
   own_low : (s1 : Store) (t1 : Thread) (event : Option Event) → Stepped sides own true c.store s1 t1 event → (i : ℕ) → owned_after event own i ≡ true → i ≤ s1.segments.made
@@ -201,39 +207,51 @@ module _ (sides : Sides) (n absent : ℕ) (own : Owned) (c : Crew) (task : Threa
 -- ---- the runs
 
 module _ (n : ℕ) where
-  self_alike : (a : Run) → OwnAlike n a a
-  self_alike a = record { rest = []; puts = sym (append-nil (own_of n a.deeds.puts)); whole = λ uncut. (refl, (same_name, state_same (state_of n a))) }
+  self_alike : (ps : List Place) (a : Run) → RunAlike n ps ps a a
+  self_alike ps a =
+      record {
+        rest = [];
+        puts = sym (append-nil (own_of n a.deeds.puts));
+        later = [];
+        events = sym (append-nil (shown n ps a.deeds.events));
+        whole = λ unstopped. (refl, refl, (same_name, state_same (state_of n a)));
+      }
 
-  start_alike : (put : Option ℕ) (event : Option Event) (a b : Run) → OwnAlike n a b → OwnAlike n (behind (deed Start put event) a) (behind (deed Start put event) b)
-  start_alike None event a b x = record { rest = x.rest; puts = x.puts; whole = x.whole }
-  start_alike (Some byte) event a b x = record { rest = x.rest; puts = x.puts; whole = x.whole }
+  start_alike : (ps : List Place) (put : Option ℕ) (event : Option Event) (a b : Run) → RunAlike n (grown_by event ps) (grown_by event ps) a b → RunAlike n ps ps (behind (deed Start put event) a) (behind (deed Start put event) b)
+  start_alike ps None None a b x = record { rest = x.rest; puts = x.puts; later = x.later; events = x.events; whole = x.whole }
+  start_alike ps (Some byte) None a b x = record { rest = x.rest; puts = x.puts; later = x.later; events = x.events; whole = x.whole }
+  start_alike ps None (Some e) a b x = record { rest = x.rest; puts = x.puts; later = x.later; events = x.events; whole = x.whole }
+  start_alike ps (Some byte) (Some e) a b x = record { rest = x.rest; puts = x.puts; later = x.later; events = x.events; whole = x.whole }
 
   module _ (sides : Sides) (absent : ℕ) where
     abbrev AllAlike : List ℕ → Type 0
-    AllAlike ks = (own : Owned) (c : Crew) (task : Thread) (input : Input) → Divided sides n absent own c task → AllCalm n ks c input → AllCalm n (alone n absent ks) c input → OwnAlike n (run_entries ks c input) (run_entries (alone n absent ks) c input)
+    AllAlike ks = (own : Owned) (c : Crew) (task : Thread) (input : Input) (ps : List Place) → Divided sides n absent own c task → Told Any c.store.segments ps → Calm n ks c input → Calm n (alone n absent ks) c input → RunAlike n ps ps (run_entries ks c input) (run_entries (alone n absent ks) c input)
 
     over_is : (k : ℕ) (ks : List ℕ) (c : Crew) (input : Input) (t : Thread) (ts : List Thread) → c.chain ≡ t ∷ ts → run_entries (k ∷ ks) c input ≡ moved Start (move_of c.store t input) c input (with_start c ts) (run_entries ks)
     over_is k ks c input t ts is = ap (λ ch. cond (is_over ch c.tasks) (ends (Results (results c.tasks)) c input) (turn ch k c input (run_entries ks))) is
 
-    start_turn : (ks : List ℕ) → AllAlike ks → (own : Owned) (c : Crew) (task : Thread) (input : Input) → Divided sides n absent own c task → (t : Thread) (ts : List Thread) → c.chain ≡ t ∷ ts → (m : Move) → move_of c.store t input ≡ m
-        → CalmStart m c ts input (AllCalm n ks) → CalmStart m c ts input (AllCalm n (alone n absent ks)) → OwnAlike n (moved Start m c input (with_start c ts) (run_entries ks)) (moved Start m c input (with_start c ts) (run_entries (alone n absent ks)))
-    start_turn ks goes own c task input d t ts is (Goes s1 t1 took put event) e calm calm' =
+    start_turn : (ks : List ℕ) → AllAlike ks → (own : Owned) (c : Crew) (task : Thread) (input : Input) (ps : List Place) → Divided sides n absent own c task → Told Any c.store.segments ps → (t : Thread) (ts : List Thread) → c.chain ≡ t ∷ ts → (m : Move) → move_of c.store t input ≡ m
+        → CalmStart m c ts input (Calm n ks) → CalmStart m c ts input (Calm n (alone n absent ks)) → RunAlike n ps ps (moved Start m c input (with_start c ts) (run_entries ks)) (moved Start m c input (with_start c ts) (run_entries (alone n absent ks)))
+    start_turn ks goes own c task input ps d told t ts is (Goes s1 t1 took put event) e calm calm' =
         let next = start_divides sides n absent own c task d t ts (first_of input) s1 t1 took put event is e in
-        start_alike put event _ _ (goes next.0 (with_start c ts s1 t1) task (rest_of took input) next.1 calm calm')
-    start_turn ks goes own c task input d t ts is (moves.Trap trap) e calm calm' = self_alike _
-    start_turn ks goes own c task input d t ts is moves.Stuck e calm calm' = absurd calm
+        let all : EachThread (OnASide sides own c.store) (t ∷ ts) = subst (EachThread (OnASide sides own c.store)) is d.chain in
+        let step = any_step c.store s1 t t1 (first_of input) took put event d.fits all.0.2 e in
+        let tells = told_step Any Any ps one_side all_owned true c.store d.fits.segments told s1 t1 event step (λ old id p. tt) (λ size base f id other p. tt) in
+        start_alike ps put event _ _ (goes next.0 (with_start c ts s1 t1) task (rest_of took input) (grown_by event ps) next.1 tells calm calm')
+    start_turn ks goes own c task input ps d told t ts is (moves.Trap trap) e calm calm' = self_alike ps _
+    start_turn ks goes own c task input ps d told t ts is moves.Stuck e calm calm' = self_alike ps _
 
     -- The task's own in a run, start chain and all, and in the run alone.
     pub all_alike : (ks : List ℕ) → AllAlike ks
-    all_alike [] own c task input d calm calm' = self_alike (run_entries [] c input)
-    all_alike (k ∷ ks) own c task input d calm calm' = by (all_alike ks) c.chain refl where
+    all_alike [] own c task input ps d told calm calm' = self_alike ps (run_entries [] c input)
+    all_alike (k ∷ ks) own c task input ps d told calm calm' = by (all_alike ks) c.chain refl where
       head : ℕ
       head = cond (k == n) k absent
 
-      by : AllAlike ks → (chain : List Thread) → c.chain ≡ chain → OwnAlike n (run_entries (k ∷ ks) c input) (run_entries (alone n absent (k ∷ ks)) c input)
+      by : AllAlike ks → (chain : List Thread) → c.chain ≡ chain → RunAlike n ps ps (run_entries (k ∷ ks) c input) (run_entries (alone n absent (k ∷ ks)) c input)
       by goes [] is =
-          runs_alike n sides absent (k ∷ ks) own same_name c c task input (paired sides n absent own c task d is) (subst (λ ch. CalmEntry n k ks ch c input (AllCalm n ks)) is calm) (subst (λ ch. CalmEntry n head (alone n absent ks) ch c input (AllCalm n (alone n absent ks))) is calm')
+          runs_alike n sides absent (k ∷ ks) own same_name c c task input ps ps (paired sides n absent own c task d is) (counted_same own c.store.segments ps told) calm calm'
       by goes (t ∷ ts) is =
-          subst (λ a. OwnAlike n a (run_entries (alone n absent (k ∷ ks)) c input)) (sym (over_is k ks c input t ts is))
-          (subst (λ b. OwnAlike n (moved Start (move_of c.store t input) c input (with_start c ts) (run_entries ks)) b) (sym (over_is head (alone n absent ks) c input t ts is))
-          (start_turn ks goes own c task input d t ts is (move_of c.store t input) refl (subst (λ ch. CalmEntry n k ks ch c input (AllCalm n ks)) is calm) (subst (λ ch. CalmEntry n head (alone n absent ks) ch c input (AllCalm n (alone n absent ks))) is calm')))
+          subst (λ a. RunAlike n ps ps a (run_entries (alone n absent (k ∷ ks)) c input)) (sym (over_is k ks c input t ts is))
+          (subst (λ b. RunAlike n ps ps (moved Start (move_of c.store t input) c input (with_start c ts) (run_entries ks)) b) (sym (over_is head (alone n absent ks) c input t ts is))
+          (start_turn ks goes own c task input ps d told t ts is (move_of c.store t input) refl (subst (λ ch. CalmEntry n k ch c input (Calm n ks)) is calm) (subst (λ ch. CalmEntry n head ch c input (Calm n (alone n absent ks))) is calm')))

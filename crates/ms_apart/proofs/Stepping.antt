@@ -21,7 +21,7 @@ use Rattle.ms_machine.specs.Step.{Calls, Next, Outcome, Stuck, Trap, act, begin,
 use Rattle.ms_machine.specs.Store.{Store, with_segments}
 use Rattle.ms_machine.proofs.HeldControl.{exit_holds}
 use Rattle.ms_machine.proofs.HeldValues.{holds}
-use Rattle.ms_apart.specs.Apart.{FunctionOn, IsSided, Owned, Separated, Sides, Stepped, ThreadOn, ValueOn, WorkOn, makes, plain, same, segments as in_memory_step}
+use Rattle.ms_apart.specs.refinement.Apart.{FunctionOn, IsSided, Owned, Separated, Sides, Stepped, ThreadOn, ValueOn, WorkOn, makes, plain, same, segments as in_memory_step}
 use Rattle.ms_apart.proofs.Functions.{exit_functions}
 use Rattle.ms_apart.proofs.Keeping.{PlainOn, act_on}
 use Rattle.ms_apart.proofs.Others.{value_moves}

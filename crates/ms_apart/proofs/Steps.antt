@@ -30,8 +30,9 @@ use Rattle.ms_machine.specs.Segments.{Effect, made, segment_on}
 use Rattle.ms_machine.specs.Step.{Calls, Next, Outcome, Stuck, Trap, act, begin, call, call_target, call_through, called, exited, first, host_in, in_segments, step_of}
 use Rattle.ms_machine.specs.Store.{Store, at, func_address, global_address, instance_of, memory_address, number_of_instance, table_address, type_at, with_segments}
 use Rattle.ms_machine.specs.declared.store.Instance.{Instance}
-use Rattle.ms_apart.specs.Renaming.{Renaming, rename, rename_all, rename_frame, rename_thread, rename_work}
-use Rattle.ms_apart.specs.Apart.{AddressOn, Alike, EventAlike, FunctionOn, IsGranted, IsSided, Owned, Separated, Sides, ThreadOn, ValueOn, owned_after, renamed_after}
+use Rattle.ms_apart.specs.refinement.Renaming.{Renaming, rename, rename_all, rename_frame, rename_thread, rename_work}
+use Rattle.ms_apart.specs.refinement.Apart.{AddressOn, Alike, EventAlike, FunctionOn, IsSided, Owned, Separated, Sides, ThreadOn, ValueOn, owned_after, renamed_after}
+use Rattle.ms_apart.specs.Runs.{IsGranted}
 use Rattle.ms_apart.proofs.Control.{block_renamed, br_if_renamed, br_table_renamed, branch_renamed, call_renamed, exited_renamed, if_renamed, return_renamed}
 use Rattle.ms_apart.proofs.Lists.{get_mapped}
 use Rattle.ms_apart.proofs.Plain.{OutcomeAlike, alike_segments, drop_alike, global_alike, global_set_alike, goes_alike, linear_alike, local_set_alike, local_tee_alike, moved_alike, numeric_alike, pushed_alike, select_alike}

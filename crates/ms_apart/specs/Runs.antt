@@ -1,16 +1,13 @@
 -- What a run of a crew shows of one task, and the run alone.
-use Rattle.std.specs.Prelude.{◌≡◌, ◌≤◌, ◌==◌, ℕ, Bool, true, false, if◌then◌else◌, List, [], ◌∷◌, ◌++◌, slice_get, option_map, Option, Some, None}
+use Rattle.std.specs.Prelude.{◌≡◌, ◌==◌, ℕ, Bool, true, false, if◌then◌else◌, List, [], ◌∷◌, ◌++◌, slice_get, Option, Some, None}
 use Rattle.ms_event.specs.declared.event.Event.{Event}
-use Rattle.ms_host.specs.declared.trap.TrapKind.{TrapKind}
-use Rattle.ms_linear.specs.declared.value.Value.{Value}
+use Rattle.ms_event.specs.declared.event.Event.TheVariants as events
 use Rattle.ms_machine.specs.Crews.{Crew, End, Input, Run, Start, Task, Trap, Whose, with_start, with_task}
 use Rattle.ms_machine.specs.Moves as moves
 use Rattle.ms_machine.specs.Moves.{Goes, Move, move_of, rest_of}
-use Rattle.ms_machine.specs.Store.{Store}
 use Rattle.ms_task.specs.Thread.{Item, Thread}
-use Rattle.ms_apart.specs.Apart.{IsGranted, IsSided, Owned, Separated, Sides, ThreadOn}
-use Rattle.ms_machine.specs.refinement.Holding.{StoreFits, ThreadFits}
-use Rattle.ms_apart.specs.Renaming.{Renaming, rename}
+use Rattle.ms_tasks.specs.States.{state_of}
+use Rattle.ms_apart.specs.Ranks.{shown}
 
 -- each entry that names another task names an absent one instead
 abbrev pub alone : (n absent : ℕ) → List ℕ → List ℕ
@@ -27,48 +24,26 @@ abbrev pub own_of : {A : Type 0} → ℕ → List (Whose × A) → List A
 own_of n [] = []
 own_of n (p ∷ ps) = if_own n p.0 p.1 (own_of n ps)
 
--- ---- how a task stands after a run
-
-pub data TaskState : Type 0 where
-  Unended : TaskState
-  Ended : Option Value → TaskState
-  Trapped : TrapKind → TaskState
-
-abbrev pub by_thread : List Item → List Value → TaskState
-by_thread [] vs = Ended (slice_get vs 0)
-by_thread (i ∷ w) vs = Unended
-
-abbrev pub in_crew : Option Thread → TaskState
-in_crew None = Unended
-in_crew (Some t) = by_thread t.work t.operands
-
-abbrev pub if_trapped : ℕ → End → TaskState → TaskState
-if_trapped n (Trap (Task k) kind) state = if k == n then Trapped kind else state
-if_trapped n end state = state
-
-abbrev pub state_of : ℕ → Run → TaskState
-state_of n r = if_trapped n r.end (in_crew (slice_get r.crew.tasks n))
-
-abbrev pub rename_state : Renaming → TaskState → TaskState
-rename_state r Unended = Unended
-rename_state r (Ended v) = Ended (option_map (rename r) v)
-rename_state r (Trapped kind) = Trapped kind
-
 -- another task has trapped
 abbrev pub IsCut : ℕ → End → Type 0
 IsCut n (Trap (Task k) trap) = k ≡ n → ⊥
 IsCut n end = ⊥
 
--- ---- along a run behind the start chain: no other task takes input, the task asks for no segment in vain, and no task is stuck
+-- ---- along a run: no other task takes input, and no segment that the task asks for is refused; nothing is asked of start functions
+
+abbrev pub IsGranted : Option Event → Type 0
+IsGranted (Some (events.Refused size)) = ⊥
+IsGranted event = Unit {0}
 
 abbrev pub IsCalm : (is_own : Bool) → (took : Bool) → Option Event → Type 0
 IsCalm true took event = IsGranted event
 IsCalm false took event = took ≡ false
 
+-- a step of the task k, and then what goes on
 abbrev pub CalmMove : (n k : ℕ) → Move → Crew → Input → (Crew → Input → Type 0) → Type 0
 CalmMove n k (Goes s t took put event) c input go = IsCalm (k == n) took event × go (with_task c k s t) (rest_of took input)
-CalmMove n k (moves.Trap trap) c input go = Unit {0}
-CalmMove n k moves.Stuck c input go = ⊥
+CalmMove n k (moves.Trap how) c input go = Unit {0}
+CalmMove n k moves.Stuck c input go = Unit {0}
 
 abbrev pub CalmWork : (n k : ℕ) → List Item → Move → Crew → Input → (Crew → Input → Type 0) → Type 0
 CalmWork n k [] m c input go = go c input
@@ -78,50 +53,25 @@ abbrev pub CalmTurn : (n k : ℕ) → Option Thread → Crew → Input → (Crew
 CalmTurn n k None c input go = go c input
 CalmTurn n k (Some t) c input go = CalmWork n k t.work (move_of c.store t input) c input go
 
+-- a step of the first start function
+abbrev pub CalmStart : Move → Crew → List Thread → Input → (Crew → Input → Type 0) → Type 0
+CalmStart (Goes s t took put event) c ts input go = go (with_start c ts s t) (rest_of took input)
+CalmStart (moves.Trap how) c ts input go = Unit {0}
+CalmStart moves.Stuck c ts input go = Unit {0}
+
+abbrev pub CalmEntry : (n k : ℕ) → (chain : List Thread) → Crew → Input → (Crew → Input → Type 0) → Type 0
+CalmEntry n k [] c input go = CalmTurn n k (slice_get c.tasks k) c input go
+CalmEntry n k (t ∷ ts) c input go = CalmStart (move_of c.store t input) c ts input go
+
 abbrev pub Calm : (n : ℕ) → List ℕ → Crew → Input → Type 0
 Calm n [] c input = Unit {0}
-Calm n (k ∷ ks) c input = CalmTurn n k (slice_get c.tasks k) c input (Calm n ks)
+Calm n (k ∷ ks) c input = CalmEntry n k c.chain c input (Calm n ks)
 
 -- ---- the task's own in two runs: equal, or, where another task has trapped in the first, a front of that of the second
 
 pub record OwnAlike (n : ℕ) (a b : Run) : Type 0 where
   pub rest : List ℕ
   pub puts : own_of n b.deeds.puts ≡ own_of n a.deeds.puts ++ rest
-  pub whole : (IsCut n a.end → ⊥) → (rest ≡ []) × ((r : Renaming) × (state_of n b ≡ rename_state r (state_of n a)))
-
--- ---- the same from the start chain on, in which nothing is asked but that no thread is stuck
-
-abbrev pub CalmStart : Move → Crew → List Thread → Input → (Crew → Input → Type 0) → Type 0
-CalmStart (Goes s t took put event) c ts input go = go (with_start c ts s t) (rest_of took input)
-CalmStart (moves.Trap trap) c ts input go = Unit {0}
-CalmStart moves.Stuck c ts input go = ⊥
-
-abbrev pub CalmEntry : (n k : ℕ) → List ℕ → List Thread → Crew → Input → (Crew → Input → Type 0) → Type 0
-CalmEntry n k ks [] c input go = Calm n (k ∷ ks) c input
-CalmEntry n k ks (t ∷ ts) c input go = CalmStart (move_of c.store t input) c ts input go
-
-abbrev pub AllCalm : (n : ℕ) → List ℕ → Crew → Input → Type 0
-AllCalm n [] c input = Unit {0}
-AllCalm n (k ∷ ks) c input = CalmEntry n k ks c.chain c input (AllCalm n ks)
-
--- ---- a crew in which each thread is of a side: a task of the one, all other tasks of the other
-
-abbrev pub EachThread : (Thread → Type 0) → List Thread → Type 0
-EachThread P [] = Unit {0}
-EachThread P (t ∷ ts) = P t × EachThread P ts
-
-abbrev pub OnASide : Sides → Owned → Store → Thread → Type 0
-OnASide sides own s u = (b : Bool) × ThreadOn sides own b s u × ThreadFits s u
-
-pub record Divided (sides : Sides) (n absent : ℕ) (own : Owned) (c : Crew) (task : Thread) : Type 0 where
-  pub sided : IsSided sides c.store
-  pub separated : Separated sides own c.store
-  pub fits : StoreFits c.store
-  pub low : (i : ℕ) → own i ≡ true → i ≤ c.store.segments.made
-  pub chain : EachThread (OnASide sides own c.store) c.chain
-  pub mine : slice_get c.tasks n ≡ Some task
-  pub on : ThreadOn sides own true c.store task
-  pub task_fits : ThreadFits c.store task
-  pub others : (k : ℕ) (u : Thread) → (k ≡ n → ⊥) → slice_get c.tasks k ≡ Some u → ThreadOn sides own false c.store u × ThreadFits c.store u
-  pub missing : slice_get c.tasks absent ≡ None
-  pub apart : absent ≡ n → ⊥
+  pub later : List Event
+  pub events : shown n [] b.deeds.events ≡ shown n [] a.deeds.events ++ later
+  pub whole : (IsCut n a.end → ⊥) → (rest ≡ []) × (later ≡ []) × (state_of n b ≡ state_of n a)

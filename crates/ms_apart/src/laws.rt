@@ -1,13 +1,19 @@
 //! What is true of runs of a crew in which nothing joins one task with the others.
 
-ghost use Rattle.std.specs.Prelude.{ℕ, List};
-ghost use Rattle.ms_apart.specs.Apart.{Owned, Sides};
-ghost use Rattle.ms_apart.specs.Runs.{AllCalm, Divided, OwnAlike, alone};
-ghost use Rattle.ms_machine.specs.Crews.{Crew, Input, run_entries};
-ghost use Rattle.ms_task.specs.Thread.{Thread};
+ghost use Rattle.std.specs.Prelude.{◌≡◌, ◌<◌, ◌≤◌, ℕ, List, Ok, length};
+ghost use Rattle.ms_apart.specs.Runs.{Calm, OwnAlike, alone};
+ghost use Rattle.ms_machine.specs.Crews.{Crew, Input, begun, run_of};
+ghost use Rattle.ms_machine.specs.Linked.{StartsTyped, linked};
+ghost use Rattle.ms_machine.specs.Store.{Store};
+ghost use Rattle.ms_module.specs.declared.module.Module.{Module};
+ghost use Rattle.ms_tasks.specs.Joined.{IsApart};
+ghost use Rattle.ms_tasks.specs.refinement.Making.{AreAddresses, IsCrewOf};
+ghost use Rattle.ms_tasks.specs.refinement.Ready.{IsReady};
 
-/// A task of one side of a crew, whose other tasks are of the other side, puts in a run what it puts in the run alone and ends as
-/// there, but for the names of identities; where another task traps, it has put a front of that.
+/// Of the crew of linked modules a task that nothing joins with the others puts in a run what it puts in the run alone, where no
+/// other task gets an entry, its events are the same, each identity as a rank and each address as a place, and it stands behind
+/// the run as there. Where another task traps, bytes and events are a front of those. In both runs no segment that it asks for is
+/// refused, and no other task takes input.
 pub fn tasks_are_apart()
-    ensures { (sides : Sides) (n absent : ℕ) (owned : Owned) (c : Crew) (task : Thread) (entries : List ℕ) (input : Input) → Divided sides n absent owned c task → AllCalm n entries c input → AllCalm n (alone n absent entries) c input → OwnAlike n (run_entries entries c input) (run_entries (alone n absent entries) c input) }
+    ensures { (modules : List (List ℕ × Module)) (capacity : ℕ) (s : Store) (tasks : List (ℕ × List ℕ)) (addresses : List ℕ) (c : Crew) (n absent : ℕ) (entries : List ℕ) (input : Input) → linked modules capacity ≡ Ok s → StartsTyped s → IsCrewOf s tasks c → AreAddresses s tasks addresses → IsReady c → IsApart s addresses n → n < length c.tasks → length c.tasks ≤ absent → Calm n entries (begun c) input → Calm n (alone n absent entries) (begun c) input → OwnAlike n (run_of entries c input) (run_of (alone n absent entries) c input) }
 {}

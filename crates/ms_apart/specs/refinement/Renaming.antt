@@ -1,5 +1,5 @@
 -- Identities of segments under other names.
-use Rattle.std.specs.Prelude.{ℕ, List, [], ◌∷◌, map}
+use Rattle.std.specs.Prelude.{ℕ, List, [], ◌∷◌, map, option_map}
 use Rattle.ms_event.specs.declared.event.Event.{Event}
 use Rattle.ms_event.specs.declared.event.Event.TheVariants as events
 use Rattle.ms_handle.specs.declared.handle.Handle.{Handle}
@@ -9,6 +9,8 @@ use Rattle.ms_linear.specs.declared.value.Value.{Value}
 use Rattle.ms_linear.specs.declared.value.Value.TheVariants as values
 use Rattle.ms_tagged.specs.Bytes.{Byte, Data, Piece}
 use Rattle.ms_task.specs.Thread.{Activation, Do, Frame, Item, Label, Thread, thread}
+use Rattle.ms_tasks.specs.declared.state.TaskState.{TaskState}
+use Rattle.ms_tasks.specs.declared.state.TaskState.TheVariants.{Unended, Ended, Trapped}
 
 abbrev pub Renaming : Type 0
 Renaming = ℕ → ℕ
@@ -54,3 +56,9 @@ rename_event r (events.Slice sealed id lo hi lo2 hi2) = events.Slice sealed (r i
 rename_event r (events.Read sealed id lo hi addr width) = events.Read sealed (r id) lo hi addr width
 rename_event r (events.Write id lo hi addr width) = events.Write (r id) lo hi addr width
 rename_event r (events.Free id) = events.Free (r id)
+
+-- how a task stands
+abbrev pub rename_state : Renaming → TaskState → TaskState
+rename_state r Unended = Unended
+rename_state r (Ended v) = Ended (option_map (rename r) v)
+rename_state r (Trapped kind) = Trapped kind

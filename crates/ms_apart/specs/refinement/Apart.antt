@@ -1,5 +1,5 @@
 -- Components of a store that nothing joins, what each of them owns, and two stores in one of which more has happened to others.
-use Rattle.std.specs.Prelude.{◌≡◌, ◌≤◌, ◌+◌, ◌-◌, ◌==◌, ℕ, Bool, true, if◌then◌else◌, List, [], ◌∷◌, map, option_map, length, slice_get, slice_set, Option, Some, None}
+use Rattle.std.specs.Prelude.{◌≡◌, ◌≤◌, ◌+◌, ◌-◌, ◌==◌, ℕ, Bool, true, false, if◌then◌else◌, List, [], ◌∷◌, map, option_map, length, slice_get, slice_set, Option, Some, None}
 use Rattle.ms_event.specs.declared.event.Event.{Event}
 use Rattle.ms_event.specs.declared.event.Event.TheVariants as events
 use Rattle.ms_handle.specs.declared.handle.Handle.{Handle}
@@ -10,7 +10,8 @@ use Rattle.ms_linear.specs.declared.value.Value.{Value}
 use Rattle.ms_linear.specs.declared.value.Value.TheVariants as values
 use Rattle.ms_linear.specs.Table.{Table}
 use Rattle.ms_live.specs.declared.gaps.Live.{Live}
-use Rattle.ms_machine.specs.refinement.Holding.{ThreadHolds}
+use Rattle.ms_machine.specs.Crews.{Crew}
+use Rattle.ms_machine.specs.refinement.Holding.{StoreFits, ThreadFits, ThreadHolds}
 use Rattle.ms_machine.specs.Store.{Store, with_globals, with_memories, with_segments}
 use Rattle.ms_machine.specs.declared.store.Instance.{Instance}
 use Rattle.ms_segment.specs.Memory.{Memory, live_of, once_more, with_bytes}
@@ -21,7 +22,7 @@ use Rattle.ms_linear.specs.Memory.{Memory as LinearMemory}
 use Rattle.ms_tagged.specs.Bytes.{Byte, Data, Piece, range}
 use Rattle.ms_task.specs.Thread.{Activation, Do, Item, Label, Thread}
 use Rattle.ms_task.specs.declared.func.FuncInst.{FuncInst}
-use Rattle.ms_apart.specs.Renaming.{Renaming, rename_byte, rename_event, rename_global}
+use Rattle.ms_apart.specs.refinement.Renaming.{Renaming, rename_byte, rename_event, rename_global}
 
 -- ---- two sides of a store: instances, and the addresses of what they name
 
@@ -151,10 +152,6 @@ abbrev pub IsOld : Option Event → Type 0
 IsOld (Some (events.Alloc id addr size)) = ⊥
 IsOld event = Unit {0}
 
-abbrev pub IsGranted : Option Event → Type 0
-IsGranted (Some (events.Refused size)) = ⊥
-IsGranted event = Unit {0}
-
 -- ---- what a step of a thread of one side may do to a store, but for a new segment
 
 pub data MemoryStep (own : Owned) (side : Bool) (m : Memory) : Memory → Type 0 where
@@ -175,3 +172,25 @@ pub data Stepped (sides : Sides) (own : Owned) (side : Bool) (s : Store) : Store
   makes : (size base : ℕ) (kind : Kind) (t : Thread) → IsPlace s.segments.live (length s.segments.bytes) size (Some base)
       → ((own1 : Owned) → ((i : ℕ) → i ≤ s.segments.made → own1 i ≡ own i) → own1 (s.segments.made + 1) ≡ side → ThreadOn sides own1 side s t)
       → Stepped sides own side s (with_segments s (entered s.segments base size kind)) t (Some (events.Alloc (s.segments.made + 1) base size))
+
+-- ---- a crew in which each thread is of a side: a task of the one, all other tasks of the other
+
+abbrev pub EachThread : (Thread → Type 0) → List Thread → Type 0
+EachThread P [] = Unit {0}
+EachThread P (t ∷ ts) = P t × EachThread P ts
+
+abbrev pub OnASide : Sides → Owned → Store → Thread → Type 0
+OnASide sides own s u = (b : Bool) × ThreadOn sides own b s u × ThreadFits s u
+
+pub record Divided (sides : Sides) (n absent : ℕ) (own : Owned) (c : Crew) (task : Thread) : Type 0 where
+  pub sided : IsSided sides c.store
+  pub separated : Separated sides own c.store
+  pub fits : StoreFits c.store
+  pub low : (i : ℕ) → own i ≡ true → i ≤ c.store.segments.made
+  pub chain : EachThread (OnASide sides own c.store) c.chain
+  pub mine : slice_get c.tasks n ≡ Some task
+  pub on : ThreadOn sides own true c.store task
+  pub task_fits : ThreadFits c.store task
+  pub others : (k : ℕ) (u : Thread) → (k ≡ n → ⊥) → slice_get c.tasks k ≡ Some u → ThreadOn sides own false c.store u × ThreadFits c.store u
+  pub missing : slice_get c.tasks absent ≡ None
+  pub apart : absent ≡ n → ⊥
