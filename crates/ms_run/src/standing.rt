@@ -1,6 +1,7 @@
 //! The lines of how tasks stand.
 
-ghost use Rattle.std.specs.Prelude.{◌≡◌, ◌<◌, ◌^◌, ◌++◌, List, ℕ, IfOk, OnOk, length, string_bytes};
+ghost use Rattle.std.specs.Prelude.{◌≡◌, ◌<◌, ◌^◌, ◌++◌, List, ℕ, IfOk, OnOk, codes, length, string_bytes};
+ghost use Rattle.std.specs.Fmt.{decimal};
 ghost use Rattle.ms_run.specs.Lines.{line};
 ghost use Rattle.ms_run.specs.Standing.{AreStanding, apart_word, standing_line, standing_lines, state_line};
 ghost use Rattle.ms_run.specs.refinement.Told.{state_in};
@@ -30,6 +31,13 @@ fn state_line(alloc: Global, state: TaskState) -> Result<String, AllocError>
     }
 }
 
+/// The line of these parts.
+fn line_of(alloc: Global, number: usize, word: &str, end: &str) -> Result<String, AllocError>
+    ensures { IfOk result (λ t. string_bytes t ≡ codes "task " ++ decimal number ++ codes " " ++ word.now ++ codes " " ++ end.now) }
+{
+    format!(in alloc; "task {number} {word} {end}")
+}
+
 /// The line of the task of this number.
 fn standing_line(
     alloc: Global,
@@ -39,9 +47,8 @@ fn standing_line(
 ) -> Result<String, AllocError>
     ensures { IfOk result (λ t. string_bytes t ≡ standing_line number apart state) }
 {
-    let word = apart_word(apart);
-    let state = state_line(alloc, state)?;
-    format!(in alloc; "task {number} {word} {state}")
+    let end = state_line(alloc, state)?;
+    line_of(alloc, number, apart_word(apart), end.as_str())
 }
 
 /// A line for each task, whose flag says whether it is apart, behind others.
