@@ -16,3 +16,4 @@ pub mod Making
 pub mod Parting
 pub mod Noting
 pub mod AloneTasks
+pub mod States

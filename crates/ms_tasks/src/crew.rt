@@ -10,6 +10,8 @@ ghost use Rattle.ms_machine.specs.Linked.{StartsTyped};
 ghost use Rattle.ms_machine.specs.refinement.Safety.{Sound};
 ghost use Rattle.ms_machine.specs.Typing.{StoreTyped, outline_of};
 ghost use Rattle.ms_task.specs.refinement.View.{thread_of};
+ghost use Rattle.ms_tasks.specs.Joined.{AreApart};
+ghost use Rattle.ms_tasks.specs.States.{by_stop, in_crew};
 ghost use Rattle.ms_tasks.specs.refinement.Logs.{CountsUpTo};
 ghost use Rattle.ms_tasks.specs.refinement.Making.{AreAddresses, IsCrewOf, Refuses, stop_in};
 ghost use Rattle.ms_tasks.specs.refinement.Ready.{IsReady, threads_of};
@@ -18,17 +20,19 @@ ghost use Rattle.ms_tasks.specs.refinement.Schedules.{HasTurns, entries_of};
 
 use crate::all::run_all;
 use crate::log::Log;
+use crate::parts::apart_of;
 use crate::ran::{Ran, Stop, ran_of, stop_of};
 use crate::refusal::Refusal;
 use crate::schedule::Schedule;
 use crate::starting::{chain_of, tasks_of};
+use crate::state::{TaskState, by_stop, by_thread};
 use ms_linear::Room;
 use ms_machine::Store;
 use ms_module::Name;
 use ms_outside::{Sink, Source};
 use ms_segment::SegmentMemory;
 use ms_task::Task;
-use std::alloc::Global;
+use std::alloc::{AllocError, Global};
 use std::marker::Model;
 
 /// A store, with its start functions and its tasks. Contracts see the crew of the definition, and beside it the address of each
@@ -112,6 +116,28 @@ impl<M: SegmentMemory> Crew<M> {
         ensures { result ≡ self.now.trapped }
     {
         self.trapped
+    }
+
+    /// How the task of a number stands: trapped where a step of its own stopped the last run, else as its thread stands. It takes
+    /// no memory.
+    pub fn state(&self, n: u32) -> TaskState
+        requires { n < length self.now.tasks }
+        ensures { result ≡ by_stop n self.now.trapped (in_crew (slice_get self.now.tasks n)) }
+    {
+        let store = self.store();
+        let task = self.task(n);
+        let stands = by_thread(store, task);
+        by_stop(n, self.trapped(), stands)
+    }
+
+    /// For each task, by its number, whether it is apart from all others: its instance shares no function, table, linear memory or
+    /// global with one in which another task runs, neither itself nor by others that stand between. Tasks of one instance are
+    /// joined, and the host joins nobody.
+    pub fn apart(&self, alloc: Global) -> Result<Vec<bool>, AllocError>
+        requires ready { IsReady self.now.crew }
+        ensures { IfOk result (λ flags. AreApart self.now.store self.now.addresses flags.items) }
+    {
+        apart_of(alloc, &self.store, self.addresses.as_slice())
     }
 
     /// Runs the start functions, and then the tasks by a schedule, for so many entries at most. Where a step stops the program, the
