@@ -25,7 +25,7 @@ use Rattle.ms_tasks.specs.declared.burst.Halt.TheVariants as answers
 use Rattle.ms_tasks.proofs.Coming.{answers_on, to_as, to_trans}
 use Rattle.ms_tasks.proofs.Entries.{when_ended, when_going}
 use Rattle.ms_tasks.proofs.Rowing.{turn_end}
-use Rattle.ms_tasks.proofs.Stepping.{drop_twice}
+use Rattle.ms_tasks.proofs.Stepping.{entries_on}
 
 drop_all : {A : Type 0} (n : ℕ) (xs : List A) → length xs ≤ n → drop n xs ≡ []
 drop_all zero [] le = refl
@@ -86,11 +86,6 @@ chain_ready s s' ts i t' ready outline task store fits others = record {
 
 pub left_entries : (ks : List ℕ) (most left : ℕ) → length ks ≡ most → left ≤ most → length (drop (most - left) ks) ≡ left
 left_entries ks most left many within = let d = length-drop (most - left) ks in omega (arith, d, many, within)
-
-entries_on : (ks : List ℕ) (most left rest : ℕ) → left ≤ most → rest ≤ left → drop (left - rest) (drop (most - left) ks) ≡ drop (most - rest) ks
-entries_on ks most left rest within less =
-    let e : (most - left) + (left - rest) ≡ most - rest = omega (arith, within, less) in
-    drop_twice (most - left) (left - rest) ks ∙ ap (λ n. drop n ks) e
 
 -- It has ended, and the next one comes.
 pub chain_ends : (l l' l'' h h' h'' : Content) (old log new : Log) (all : Input → Run) (ks : List ℕ) (most left rest : ℕ) (s s' : Store) (t t' : Thread) (ahead0 more more' tasks : List Thread) → left ≤ most → rest ≤ left → ahead0 ≡ t ∷ more → t'.work ≡ [] → more ≡ more'

@@ -72,7 +72,7 @@ seen_within n (Read sealed id lo hi addr width) t h = let a = h.allocs in let b 
 seen_within n (Write id lo hi addr width) t h = let a = h.allocs in let b = h.refused in let c = h.slices in let d = h.reads in let e = h.writes in let f = h.frees in let g = h.seals in record { allocs = omega (arith, a); refused = omega (arith, b); slices = omega (arith, c); reads = omega (arith, d); writes = omega (arith, e); frees = omega (arith, f); seals = omega (arith, g) }
 seen_within n (Free id) t h = let a = h.allocs in let b = h.refused in let c = h.slices in let d = h.reads in let e = h.writes in let f = h.frees in let g = h.seals in record { allocs = omega (arith, a); refused = omega (arith, b); slices = omega (arith, c); reads = omega (arith, d); writes = omega (arith, e); frees = omega (arith, f); seals = omega (arith, g) }
 
-within_more : (n m : ℕ) (t : Trace) → n ≤ m → CountsUpTo n t → CountsUpTo m t
+pub within_more : (n m : ℕ) (t : Trace) → n ≤ m → CountsUpTo n t → CountsUpTo m t
 within_more n m t le h = let a = h.allocs in let b = h.refused in let c = h.slices in let d = h.reads in let e = h.writes in let f = h.frees in let g = h.seals in record { allocs = omega (arith, a, le); refused = omega (arith, b, le); slices = omega (arith, c, le); reads = omega (arith, d, le); writes = omega (arith, e, le); frees = omega (arith, f, le); seals = omega (arith, g, le) }
 
 pub within_after : (n m : ℕ) (event : Option Event) (t t' : Trace) → n + 1 ≤ m → t' ≡ all_seen (with_event event []) t → CountsUpTo n t → CountsUpTo m t'

@@ -19,6 +19,7 @@ use Rattle.ms_tasks.specs.refinement.Parts.{HaltsBy, ComesTo, IsWell}
 use Rattle.ms_tasks.specs.refinement.Ready.{IsReady}
 use Rattle.ms_tasks.specs.refinement.Rows.{IsIdle, crew_in, threads_in}
 use Rattle.ms_tasks.specs.declared.burst.Halt.{Halt}
+use Rattle.ms_tasks.specs.declared.burst.Halt.TheVariants as halts
 use Rattle.ms_tasks.proofs.Coming.{answers_as, to_as}
 use Rattle.ms_tasks.proofs.Entries.{drop_row, get_set, idle_entries, no_entries, not_ended, over_entries, passes, with_only}
 
@@ -110,3 +111,12 @@ over_comes s tasks ks l l' h h' old new run over comes =
 pub none_comes : (s : Store) (tasks : List CodeTask) (ks : List ℕ) (l l' h h' : Content) (old new : Log) (run : Input → Run) → ks ≡ [] → are_ended (threads_in s tasks) ≡ false → ComesTo l l' h h' old new run (run_entries ks (crew_in s tasks)) → ComesTo l l' h h' old new run (ends OutOfBudget (crew_in s tasks))
 none_comes s tasks ks l l' h h' old new run none going comes =
     to_as l l' h h' old new run (run_entries ks (crew_in s tasks)) (ends OutOfBudget (crew_in s tasks)) comes (λ rest. ap (λ xs. run_entries xs (crew_in s tasks) rest) none ∙ no_entries s (threads_in s tasks) rest going)
+
+-- where there is none behind them
+pub none_answers : (a : Halt) (s : Store) (tasks : List CodeTask) (l l' h h' : Content) (old new : Log) (run ended : Input → Run) → (a ≡ halts.Paused → are_ended (threads_in s tasks) ≡ false) → HaltsBy a run ended (run_entries [] (crew_in s tasks)) (crew_in s tasks) l l' h h' old new → HaltsBy a run ended (ends OutOfBudget (crew_in s tasks)) (crew_in s tasks) l l' h h' old new
+none_answers halts.Ended s tasks l l' h h' old new run ended going is = is
+none_answers halts.Paused s tasks l l' h h' old new run ended going is = none_comes s tasks [] l l' h h' old new run refl (going refl) is
+none_answers (halts.Trap whose why) s tasks l l' h h' old new run ended going is = is
+none_answers halts.ReadFault s tasks l l' h h' old new run ended going is = is
+none_answers halts.WriteFault s tasks l l' h h' old new run ended going is = is
+none_answers halts.Memory s tasks l l' h h' old new run ended going is = is

@@ -18,8 +18,9 @@ use Rattle.ms_outside.specs.declared.sink.Put.TheVariants as puts
 use Rattle.ms_segment.specs.Memory.{IsFit}
 use Rattle.ms_task.specs.Thread.{Thread}
 use Rattle.ms_tasks.specs.refinement.Logs.{Log, Trace, all_seen}
-use Rattle.ms_tasks.specs.refinement.Parts.{Comes, ComesTo, IsRow}
-use Rattle.ms_tasks.proofs.Coming.{Begun, begun_here, comes_same, comes_trans, to_same}
+use Rattle.ms_tasks.specs.refinement.Parts.{HaltsBy, Comes, ComesTo, IsRow}
+use Rattle.ms_tasks.specs.declared.burst.Halt.{Halt}
+use Rattle.ms_tasks.proofs.Coming.{Begun, answers_as, answers_on, begun_here, comes_same, comes_trans, to_same}
 use Rattle.ms_tasks.proofs.Deeds.{all_seen_both, both_bytes, both_events, deed_bytes, deed_events}
 use Rattle.ms_tasks.proofs.Leaving.{run_leaves}
 
@@ -33,6 +34,11 @@ pub drop_twice : {A : Type 0} (n m : ℕ) (xs : List A) → drop m (drop n xs) �
 drop_twice zero m xs = let e : m ≡ 0 + m = omega arith in ap (λ k. drop k xs) e
 drop_twice (suc n) m [] = drop_none m ∙ sym (drop_none (suc n + m))
 drop_twice (suc n) m (x ∷ xs) = let e : suc (n + m) ≡ suc n + m = omega arith in drop_twice n m xs ∙ ap (λ k. drop k (x ∷ xs)) e
+
+pub entries_on : (ks : List ℕ) (most left rest : ℕ) → left ≤ most → rest ≤ left → drop (left - rest) (drop (most - left) ks) ≡ drop (most - rest) ks
+entries_on ks most left rest within less =
+    let e : (most - left) + (left - rest) ≡ most - rest = omega (arith, within, less) in
+    drop_twice (most - left) (left - rest) ks ∙ ap (λ n. drop n ks) e
 
 -- ---- the first entry of a row
 
@@ -106,6 +112,13 @@ begins_way whose next entries most s t trace l h row = record {
   seen = refl;
 }
 
+-- nothing of the next step was done
+pub stops_before : (whose : Whose) (next : Store → Thread → Crew) (entries : List ℕ) (most : ℕ) (s0 : Store) (t0 : Thread) (trace0 : Trace) (left : ℕ) (s : Store) (t : Thread) (trace : Trace) (l l' l'' h h' h'' : Content) → IsUnderWay whose next entries most s0 t0 trace0 left s t trace l l' h h' → (log0 log' : Log) → log0.trace ≡ trace0 → log'.trace.events ≡ trace.events → l'' ≡ l' → h'' ≡ h' → Begun l l'' h h'' log0 log' (run_entries entries (next s0 t0))
+stops_before whose next entries most s0 t0 trace0 left s t trace l l' l'' h h' h'' way log0 log' trace-is kept same still =
+    let ks = drop (most - left) entries in
+    begun_here l l' l'' h h' h'' log0 log' way.deeds (run_entries entries (next s0 t0)) (run_entries ks (next s t)) way.comes same [] (puts_none h' h'' still) (λ input. (bytes_of (run_entries ks (next s t) input).deeds, refl)) (run_leaves ks (next s t))
+    (events_of way.deeds) [] (sym (append-nil (events_of way.deeds))) (kept ∙ (ap (λ (x : Trace). x.events) way.seen ∙ ap (λ x. (all_seen (events_of way.deeds) x).events) (sym trace-is)))
+
 module _ (whose : Whose) (next : Store → Thread → Crew) (entries : List ℕ) (most : ℕ) (s0 : Store) (t0 : Thread) (trace0 : Trace) (left : ℕ) (s : Store) (t : Thread) (trace : Trace) (l l' l'' h h' h'' : Content)
     (some : 0 < left) (within : left ≤ most) (going : t.work ≢ []) (way : IsUnderWay whose next entries most s0 t0 trace0 left s t trace l l' h h') where
   -- a step further
@@ -146,14 +159,7 @@ module _ (whose : Whose) (next : Store → Thread → Crew) (entries : List ℕ)
             (way.seen ∙ (ap (λ es. all_seen es trace0) (sym (append-nil (events_of way.deeds)) ∙ sym (both_events way.deeds passed)) ∙ ap (all_seen (events_of d)) (sym trace-is)))));
       }
 
-  -- nothing of the next step was done
-  pub stops_before : (log0 log' : Log) → log0.trace ≡ trace0 → log'.trace.events ≡ trace.events → l'' ≡ l' → h'' ≡ h' → Begun l l'' h h'' log0 log' (run_entries entries (next s0 t0))
-  stops_before log0 log' trace-is kept same still =
-      let ks = drop (most - left) entries in
-      begun_here l l' l'' h h' h'' log0 log' way.deeds (run_entries entries (next s0 t0)) (run_entries ks (next s t)) way.comes same [] (puts_none h' h'' still) (λ input. (bytes_of (run_entries ks (next s t) input).deeds, refl)) (run_leaves ks (next s t))
-      (events_of way.deeds) [] (sym (append-nil (events_of way.deeds))) (kept ∙ (ap (λ (x : Trace). x.events) way.seen ∙ ap (λ x. (all_seen (events_of way.deeds) x).events) (sym trace-is)))
-
-  -- or a front of its byte was put
+  -- a front of its byte was put
   pub stops_in : (log0 log' : Log) (byte : ℕ) → log0.trace ≡ trace0 → log'.trace.events ≡ trace.events → ((got : Option ℕ) → IsPutting byte (move_for s t got)) → l'' ≡ l' → Puts puts.Failed (byte ∷ []) h' h'' → Begun l l'' h h'' log0 log' (run_entries entries (next s0 t0))
   stops_in log0 log' byte trace-is kept putting same failed =
       let ks = drop (most - left) entries in
@@ -211,7 +217,7 @@ kept_fit s s' same h fit = subst (λ m. IsFit m h) (sym same) fit
 step_quiet : (s s' : Store) (t t' : Thread) (l h : Content) → step_of s t ≡ Next s' t' None → Went (move_for s t) None s' t' l l h h
 step_quiet s s' t t' l h is = record { got = None; took = false; put = None; is = ap (move_on s None) is; input = refl; out = refl }
 
-way_quietly : (whose : Whose) (next : Store → Thread → Crew) (entries : List ℕ) (most : ℕ) (s0 : Store) (t0 : Thread) (trace0 : Trace) (n left : ℕ) (s s' : Store) (t t' : Thread) (trace : Trace) (l l' h h' : Content) → n < left → left ≤ most → IsUnderWay whose next entries most s0 t0 trace0 left s t trace l l' h h' → GoesQuietly s t n s' t' → IsUnderWay whose next entries most s0 t0 trace0 (left - n) s' t' trace l l' h h'
+way_quietly : (whose : Whose) (next : Store → Thread → Crew) (entries : List ℕ) (most : ℕ) (s0 : Store) (t0 : Thread) (trace0 : Trace) (n left : ℕ) (s s' : Store) (t t' : Thread) (trace : Trace) (l l' h h' : Content) → n ≤ left → left ≤ most → IsUnderWay whose next entries most s0 t0 trace0 left s t trace l l' h h' → GoesQuietly s t n s' t' → IsUnderWay whose next entries most s0 t0 trace0 (left - n) s' t' trace l l' h h'
 way_quietly whose next entries most s0 t0 trace0 zero left s s' t t' trace l l' h h' some within way (same, still) =
     let e : left ≡ left - 0 = omega arith in
     subst (λ n. IsUnderWay whose next entries most s0 t0 trace0 n s' t' trace l l' h h') e
@@ -222,16 +228,35 @@ way_quietly whose next entries most s0 t0 trace0 (suc n) left s s' t t' trace l 
     (goes_way whose next entries most s0 t0 trace0 (left - n) s1 t1 trace l l' l' h h' h' (omega (arith, some)) (omega (arith, within)) going
     (way_quietly whose next entries most s0 t0 trace0 n left s s1 t t1 trace l l' h h' (omega (arith, some)) within way steps) s' t' None trace (step_quiet s1 s' t1 t' l' h' step.0) refl)
 
--- so that one step more is left than the rest
-pub quiet_way : (whose : Whose) (next : Store → Thread → Crew) (entries : List ℕ) (most : ℕ) (s0 : Store) (t0 : Thread) (trace0 : Trace) (left rest : ℕ) (s s' : Store) (t t' : Thread) (trace : Trace) (l l' h h' : Content) → 0 < left → rest ≤ left - 1 → left ≤ most → IsUnderWay whose next entries most s0 t0 trace0 left s t trace l l' h h' → GoesQuietly s t ((left - 1) - rest) s' t' → IsUnderWay whose next entries most s0 t0 trace0 (rest + 1) s' t' trace l l' h h'
-quiet_way whose next entries most s0 t0 trace0 left rest s s' t t' trace l l' h h' some less within way steps =
-    let e : left - ((left - 1) - rest) ≡ rest + 1 = omega (arith, some, less) in
+-- so that the rest is left
+pub quiet_way : (whose : Whose) (next : Store → Thread → Crew) (entries : List ℕ) (most : ℕ) (s0 : Store) (t0 : Thread) (trace0 : Trace) (left rest : ℕ) (s s' : Store) (t t' : Thread) (trace : Trace) (l l' h h' : Content) → rest ≤ left → left ≤ most → IsUnderWay whose next entries most s0 t0 trace0 left s t trace l l' h h' → GoesQuietly s t (left - rest) s' t' → IsUnderWay whose next entries most s0 t0 trace0 rest s' t' trace l l' h h'
+quiet_way whose next entries most s0 t0 trace0 left rest s s' t t' trace l l' h h' less within way steps =
+    let e : left - (left - rest) ≡ rest = omega (arith, less) in
     subst (λ n. IsUnderWay whose next entries most s0 t0 trace0 n s' t' trace l l' h h') e
-    (way_quietly whose next entries most s0 t0 trace0 ((left - 1) - rest) left s s' t t' trace l l' h h' (omega (arith, some, less)) within way steps)
+    (way_quietly whose next entries most s0 t0 trace0 (left - rest) left s s' t t' trace l l' h h' (omega (arith, less)) within way steps)
 
--- a step behind which the rest is left
-pub goes_on : (whose : Whose) (next : Store → Thread → Crew) (entries : List ℕ) (most : ℕ) (s0 : Store) (t0 : Thread) (trace0 : Trace) (rest : ℕ) (s : Store) (t : Thread) (trace : Trace) (l l' l'' h h' h'' : Content) → rest + 1 ≤ most → t.work ≢ [] → IsUnderWay whose next entries most s0 t0 trace0 (rest + 1) s t trace l l' h h' → (s' : Store) (t' : Thread) (event : Option Event) (trace' : Trace) → Went (move_for s t) event s' t' l' l'' h' h'' → trace' ≡ all_seen (with_event event []) trace → IsUnderWay whose next entries most s0 t0 trace0 rest s' t' trace' l l'' h h''
-goes_on whose next entries most s0 t0 trace0 rest s t trace l l' l'' h h' h'' within going way s' t' event trace' went tells =
-    let e : (rest + 1) - 1 ≡ rest = omega arith in
-    subst (λ n. IsUnderWay whose next entries most s0 t0 trace0 n s' t' trace' l l'' h h'') e
-    (goes_way whose next entries most s0 t0 trace0 (rest + 1) s t trace l l' l'' h h' h'' (omega arith) within going way s' t' event trace' went tells)
+-- ---- quiet steps in front of others
+
+module _ (whose : Whose) (next : Store → Thread → Crew) (entries : List ℕ) (most rest : ℕ) (s0 s : Store) (t0 t : Thread) (l h : Content) (log0 log : Log)
+    (within : rest ≤ most) (row : IsRow whose next most entries) (steps : GoesQuietly s0 t0 (most - rest) s t) (count : log ≡ record { entries = log0.entries + (most - rest); trace = log0.trace }) where
+  quiet_under_way : IsUnderWay whose next entries most s0 t0 log0.trace rest s t log0.trace l l h h
+  quiet_under_way =
+      let some : most ≤ most = omega arith in
+      quiet_way whose next entries most s0 t0 log0.trace most rest s0 s t0 t log0.trace l l h h within some (begins_way whose next entries most s0 t0 log0.trace l h row) steps
+
+  pub quiet_comes : ComesTo l l h h log0 log (run_entries entries (next s0 t0)) (run_entries (drop (most - rest) entries) (next s t))
+  quiet_comes = way_here whose next entries most s0 t0 log0 log0 log rest (most - rest) s t l l h h quiet_under_way refl (omega (arith, within)) count
+
+  -- what came of the others came of all
+  pub quiet_first : (a : Halt) (left : ℕ) (s' : Store) (t' : Thread) (l' h' : Content) (log' : Log) → left ≤ rest
+      → ((next : Store → Thread → Crew) (ks : List ℕ) → IsRow whose next rest ks → HaltsBy a (run_entries ks (next s t)) (run_entries (drop (rest - left) ks) (next s' t')) (run_entries (drop rest ks) (next s' t')) (next s' t') l l' h h' log log')
+      → HaltsBy a (run_entries entries (next s0 t0)) (run_entries (drop (most - left) entries) (next s' t')) (run_entries (drop most entries) (next s' t')) (next s' t') l l' h h' log0 log'
+  quiet_first a left s' t' l' h' log' less loudly =
+      let ks = drop (most - rest) entries in
+      let c = next s' t' in
+      let mid = run_entries ks (next s t) in
+      let all : (most - rest) + rest ≡ most = omega (arith, within) in
+      answers_on a l l l' h h h' log0 log log' (run_entries entries (next s0 t0)) mid (run_entries (drop (most - left) entries) c) (run_entries (drop most entries) c) c quiet_comes
+      (answers_as a l l' h h' log log' mid mid (run_entries (drop (rest - left) ks) c) (run_entries (drop (most - left) entries) c) (run_entries (drop rest ks) c) (run_entries (drop most entries) c) c c refl
+      (λ well. (ap (λ xs. run_entries xs c) (entries_on entries most rest left within less), ap (λ xs. run_entries xs c) (drop_twice (most - rest) rest entries ∙ ap (λ n. drop n entries) all), refl))
+      (loudly next ks quiet_under_way.row))

@@ -26,6 +26,14 @@ turn_row q n a b (suc m) c within =
 pub next_task : (n a k k' : ℕ) → k ≡ a % n → suc k % n ≡ k' → k' ≡ suc a % n
 next_task n a k k' is next = sym next ∙ (ap (λ x. suc x % n) is ∙ sym (suc-mod a n))
 
+-- those of a task that is alone
+pub alone : (q n i most : ℕ) → n ≡ 1 → turns_from q n i most ≡ replicate most 0
+alone q n i zero one = refl
+alone q n i (suc most) one =
+    let below : (i / q) % n < n = omega (arith, one) in
+    let first : (i / q) % n ≡ 0 = omega (arith, one, below) in
+    ap (λ k. k ∷ turns_from q n (suc i) most) first ∙ ap (λ ks. 0 ∷ ks) (alone q n (suc i) most one)
+
 -- ---- places
 
 pub place_at : (q n i : ℕ) → 0 < q → 0 < n → IsInTurn q n i ((i / q) % n) (q - i % q)

@@ -1,6 +1,6 @@
 //! Runs by turns, where the start functions have ended.
 
-ghost use Rattle.std.specs.Prelude.{◌≡◌, ◌≢◌, ℕ, suc, ◌+◌, ◌%◌, ◌<◌, ◌≤◌, ◌^◌, false, length};
+ghost use Rattle.std.specs.Prelude.{◌≡◌, ◌≢◌, ℕ, suc, ◌+◌, ◌%◌, ◌<◌, ◌≤◌, ◌^◌, false, length, replicate};
 ghost use Rattle.ms_handle.specs.declared.handle.Handle.{Handle};
 ghost use Rattle.ms_segment.specs.Memory.{IsFit};
 ghost use Rattle.ms_machine.specs.Crews.{OutOfBudget, Results, are_ended, ends, results, run_entries, turns_from};
@@ -36,6 +36,34 @@ fn least(a: u64, b: u64) -> u64
     if a < b { a } else { b }
 }
 
+/// So many entries for the first task, all in one turn, where not all tasks have ended.
+fn run_alone<M: SegmentMemory, I: Source, O: Sink>(
+    store: &mut Store<M>,
+    tasks: &mut [Task],
+    most: u64,
+    input: &mut I,
+    out: &mut O,
+    log: &mut Log,
+) -> Halt
+    requires ready { IsReady (crew_in store.old tasks.old) }
+    requires going { are_ended (threads_in store.old tasks.old) ≡ false }
+    requires few { store.old.segments.made + most < 2 ^ 63 }
+    requires within { CountsUpTo log.old.entries log.old.trace }
+    requires room { log.old.entries + most < 2 ^ 63 }
+    ensures run { HaltsBy result (run_entries (replicate most 0) (crew_in store.old tasks.old)) (ends (Results (results (threads_in store.new tasks.new))) (crew_in store.new tasks.new)) (ends OutOfBudget (crew_in store.new tasks.new)) (crew_in store.new tasks.new) (I.left input.old) (I.left input.new) (O.held out.old) (O.held out.new) log.old log.new }
+    ensures ready { IsWell result → IsReady (crew_in store.new tasks.new) }
+    ensures outline { IsWell result → outline_of store.new ≡ outline_of store.old }
+    ensures others { IsWell result → (h : Handle) → IsFit store.old.segments h → IsFit store.new.segments h }
+    ensures made { IsWell result → store.new.segments.made ≤ store.old.segments.made + most }
+    ensures entries { IsWell result → log.new.entries ≤ log.old.entries + most }
+    ensures within { IsWell result → CountsUpTo log.new.entries log.new.trace }
+    ensures input_faults { CountsInput result (I.faults input.old) (I.faults input.new) }
+    ensures out_faults { CountsOut result (O.faults out.old) (O.faults out.new) }
+{
+    let (halt, _) = turn(store, tasks, 0, most, input, out, log);
+    halt
+}
+
 /// The entries of a schedule of turns from one on, so many, where not all tasks have ended.
 pub(crate) fn run_turns<M: SegmentMemory, I: Source, O: Sink>(
     store: &mut Store<M>,
@@ -65,6 +93,9 @@ pub(crate) fn run_turns<M: SegmentMemory, I: Source, O: Sink>(
     ensures input_faults { CountsInput result (I.faults input.old) (I.faults input.new) }
     ensures out_faults { CountsOut result (O.faults out.old) (O.faults out.new) }
 {
+    if tasks.len() == 1 {
+        return run_alone(store, tasks, most, input, out, log);
+    }
     let count = tasks.len() as u32;
     let turn_of = u64::from(q);
     let mut k = ((from / turn_of) % u64::from(count)) as u32;

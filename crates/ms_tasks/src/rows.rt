@@ -8,7 +8,7 @@ ghost use Rattle.ms_machine.specs.Typing.{outline_of};
 ghost use Rattle.ms_tasks.specs.refinement.Logs.{CountsUpTo};
 ghost use Rattle.ms_tasks.specs.refinement.Parts.{HaltsBy, CountsInput, CountsOut, IsWell};
 ghost use Rattle.ms_tasks.specs.refinement.Ready.{IsReady};
-ghost use Rattle.ms_tasks.specs.refinement.Rows.{IsIdle, crew_in, threads_in};
+ghost use Rattle.ms_tasks.specs.refinement.Rows.{IsGoing, IsIdle, crew_in, threads_in};
 
 use crate::burst::{Halt, burst};
 use crate::log::Log;
@@ -31,8 +31,10 @@ pub(crate) fn all_ended<M: SegmentMemory>(store: &Store<M>, tasks: &[Task]) -> b
 }
 
 /// Whether there is no such task, or it has ended.
+#[inline(always)]
 fn is_idle<M: SegmentMemory>(store: &Store<M>, tasks: &[Task], k: u32) -> bool
     ensures idle { result ≡ true → IsIdle (slice_get (threads_in store.now tasks.now) k) }
+    ensures going { result ≡ false → IsGoing (slice_get (threads_in store.now tasks.now) k) }
     ensures there { result ≡ false → k < length tasks.now }
 {
     if k as usize >= tasks.len() {
@@ -41,7 +43,8 @@ fn is_idle<M: SegmentMemory>(store: &Store<M>, tasks: &[Task], k: u32) -> bool
     has_ended(store, &tasks[k as usize])
 }
 
-/// At most so many steps of a task.
+/// At most so many steps of a task that has more to do.
+#[inline(always)]
 fn row<M: SegmentMemory, I: Source, O: Sink>(
     store: &mut Store<M>,
     tasks: &mut [Task],
@@ -52,6 +55,7 @@ fn row<M: SegmentMemory, I: Source, O: Sink>(
     log: &mut Log,
 ) -> (Halt, u64)
     requires there { k < length tasks.old }
+    requires going { IsGoing (slice_get (threads_in store.old tasks.old) k) }
     requires ready { IsReady (crew_in store.old tasks.old) }
     requires few { store.old.segments.made + most < 2 ^ 63 }
     requires within { CountsUpTo log.old.entries log.old.trace }
@@ -73,6 +77,7 @@ fn row<M: SegmentMemory, I: Source, O: Sink>(
 }
 
 /// So many entries in a row for one task, where not all tasks have ended. It gives how many entries are left.
+#[inline(always)]
 pub(crate) fn turn<M: SegmentMemory, I: Source, O: Sink>(
     store: &mut Store<M>,
     tasks: &mut [Task],

@@ -1,5 +1,5 @@
 -- The crews that the code of start functions and tasks goes over.
-use Rattle.std.specs.Prelude.{◌≡◌, ◌<◌, ℕ, ◌+◌, ◌*◌, ◌%◌, List, [], map, Option, Some, None}
+use Rattle.std.specs.Prelude.{◌≡◌, ◌≢◌, ◌<◌, ℕ, ◌+◌, ◌*◌, ◌%◌, List, [], map, Option, Some, None}
 use Rattle.ms_machine.specs.Crews.{Crew, ahead}
 use Rattle.ms_machine.specs.Store.{Store}
 use Rattle.ms_task.specs.Thread.{Thread}
@@ -28,6 +28,11 @@ all_in s chain tasks = record { store = s; chain = threads_in s chain; tasks = t
 abbrev pub IsIdle : Option Thread → Type 0
 IsIdle None = Unit {0}
 IsIdle (Some t) = t.work ≡ []
+
+-- a task that is there and has more to do
+abbrev pub IsGoing : Option Thread → Type 0
+IsGoing None = ⊥
+IsGoing (Some t) = t.work ≢ []
 
 -- the place of an entry in a schedule of turns: in the turn of this task, of which so many entries are left
 pub record IsInTurn (q tasks i k room : ℕ) : Type 0 where

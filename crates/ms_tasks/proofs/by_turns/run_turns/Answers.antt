@@ -5,8 +5,16 @@ use Rattle.ms_tasks.specs.refinement.Rows.{IsInTurn, crew_in, threads_in}
 use Rattle.ms_tasks.specs.declared.burst.Halt.{Halt}
 use Rattle.ms_tasks.proofs.Coming.{answers_on, not_paused, to_same, to_trans}
 use Rattle.ms_tasks.proofs.Rowing.{none_comes}
-use Rattle.ms_tasks.proofs.Turns.{next_place, place_at, row_first}
+use Rattle.ms_tasks.proofs.Turns.{alone, next_place, place_at, row_first}
 use Rattle.ms_tasks.proofs.by_turns.run_turns.Goals as goal
+
+pub returns-then-tasks-eq1-clause-run : goal.returns-then-tasks-eq1-clause-run
+returns-then-tasks-eq1-clause-run g c =
+    let r = c.run_alone in
+    let n = length c.args.tasks.now in
+    let before = crew_in c.args.store.now c.args.tasks.now in
+    let after = crew_in r.new.store r.new.tasks in
+    subst (λ ks. HaltsBy r.result (run_entries ks before) (ends (Results (results (threads_in r.new.store r.new.tasks))) after) (ends OutOfBudget after) after (g.I.Source.left c.args.input.now) (g.I.Source.left r.new.input) (g.O.Sink.held c.args.out.now) (g.O.Sink.held r.new.out) c.args.log.now r.new.log) (sym (alone c.args.q n c.args.from c.args.most c.if-tasks-eq1.true)) r.ensures.run
 
 pub loop-left-init : goal.loop-left-init
 loop-left-init g c =

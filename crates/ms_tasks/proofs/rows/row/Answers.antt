@@ -6,7 +6,7 @@ use Rattle.ms_machine.specs.Typing.{Outline, TaskTyped, outline_of}
 use Rattle.ms_task.specs.refinement.View.{thread_of}
 use Rattle.ms_tasks.specs.refinement.Parts.{IsWell}
 use Rattle.ms_tasks.specs.refinement.Ready.{IsReady}
-use Rattle.ms_tasks.specs.refinement.Rows.{threads_in}
+use Rattle.ms_tasks.specs.refinement.Rows.{IsGoing, threads_in}
 use Rattle.ms_tasks.proofs.Entries.{get_set, task_row, with_only}
 use Rattle.ms_tasks.proofs.Keeping.{all_get}
 use Rattle.ms_tasks.proofs.Rowing.{idle_ended, map_get, row_answers, still_going, turn_end, turn_ready}
@@ -18,6 +18,13 @@ burst-requires-clause-task g c =
     let tasks = c.args.tasks.now in
     let task = get_or tasks c.args.k c.index-tasks-k.result in
     all_get (TaskTyped (outline_of s)) (threads_in s tasks) c.args.k (thread_of s.funcs task) c.requires.ready.tasks (map_get (thread_of s.funcs) tasks c.args.k task (slice_get-get_or tasks c.args.k c.index-tasks-k.result c.requires.there))
+
+pub burst-requires-clause-going : goal.burst-requires-clause-going
+burst-requires-clause-going g c =
+    let s = c.args.store.now in
+    let tasks = c.args.tasks.now in
+    let task = get_or tasks c.args.k c.index-tasks-k.result in
+    subst IsGoing (map_get (thread_of s.funcs) tasks c.args.k task (slice_get-get_or tasks c.args.k c.index-tasks-k.result c.requires.there)) c.requires.going
 
 pub burst-requires-clause-task_fits : goal.burst-requires-clause-task_fits
 burst-requires-clause-task_fits g c =

@@ -41,16 +41,16 @@ loop-i-init g c =
       out = refl;
     }
 
-pub burst-halt-requires-clause-task : goal.burst-halt-requires-clause-task
-burst-halt-requires-clause-task g c =
+pub run_start-halt-requires-clause-task : goal.run_start-halt-requires-clause-task
+run_start-halt-requires-clause-task g c =
     let l = c.loop-i in
     let many = l.invariant.many in
     let lt : l.i < length l.chain = omega (arith, many, c.loop-i-test.true) in
     let task = get_or l.chain l.i c.index-chain-i.result in
     all_get (TaskTyped (outline_of l.store)) (threads_in l.store l.chain) l.i (thread_of l.store.funcs task) l.invariant.ready.chain (map_get (thread_of l.store.funcs) l.chain l.i task (slice_get-get_or l.chain l.i c.index-chain-i.result lt))
 
-pub burst-halt-requires-clause-task_fits : goal.burst-halt-requires-clause-task_fits
-burst-halt-requires-clause-task_fits g c =
+pub run_start-halt-requires-clause-task_fits : goal.run_start-halt-requires-clause-task_fits
+run_start-halt-requires-clause-task_fits g c =
     let l = c.loop-i in
     let many = l.invariant.many in
     let lt : l.i < length l.chain = omega (arith, many, c.loop-i-test.true) in
@@ -61,7 +61,7 @@ pub loop-i-preserved : goal.loop-i-preserved
 loop-i-preserved g c =
     let l = c.loop-i in
     let v = l.invariant in
-    let b = c.burst-halt in
+    let b = c.run_start-halt in
     let e = b.ensures in
     let s = l.store in
     let s' = b.new.store in
@@ -109,7 +109,7 @@ pub returns-in_default : goal.returns-in_default
 returns-in_default g c =
     let l = c.loop-i in
     let v = l.invariant in
-    let b = c.burst-halt in
+    let b = c.run_start-halt in
     let e = b.ensures in
     let s = l.store in
     let s' = b.new.store in

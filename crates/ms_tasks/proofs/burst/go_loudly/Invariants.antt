@@ -10,7 +10,7 @@ use Rattle.ms_task.specs.refinement.View.{thread_of}
 use Rattle.ms_tasks.specs.refinement.Logs.{CountsUpTo}
 use Rattle.ms_tasks.specs.refinement.Parts.{IsRow}
 use Rattle.ms_tasks.proofs.Stepping.{IsUnderWay}
-use Rattle.ms_tasks.proofs.burst.burst.Given as goal
+use Rattle.ms_tasks.proofs.burst.go_loudly.Given as goal
 
 abbrev pub invariant-loop-left : goal.invariant-loop-left
 invariant-loop-left g l = record {
