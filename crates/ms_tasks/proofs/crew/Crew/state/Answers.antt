@@ -14,6 +14,6 @@ returns g c =
     c.by_stop.ensures
     ∙ (ap (λ (o : Option Stop). by_stop n o c.by_thread-stands.result) c.trapped.ensures
     ∙ ap (λ (x : TaskState). by_stop n it.trapped x)
-        (c.by_thread-stands.ensures
-        ∙ (ap (λ (s : Store). in_crew (Some (thread_of s.funcs c.task-task.result.now))) c.store-store.ensures
-        ∙ ap in_crew (sym c.task-task.ensures))))
+    (c.by_thread-stands.ensures
+    ∙ (ap (λ (s : Store). in_crew (Some (thread_of s.funcs c.task-task.result.now))) c.store-store.ensures
+    ∙ ap in_crew (sym c.task-task.ensures))))
