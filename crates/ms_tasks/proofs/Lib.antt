@@ -14,3 +14,7 @@ pub mod Safe
 pub mod Outs
 pub mod Telling
 pub mod Making
+pub mod Parting
+pub mod Noting
+pub mod AloneTasks
+pub mod States

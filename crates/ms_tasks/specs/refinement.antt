@@ -2,6 +2,7 @@
 pub mod Logs
 pub mod Making
 pub mod Outside
+pub mod Parting
 pub mod Parts
 pub mod Ready
 pub mod Rows

@@ -13,6 +13,7 @@ mod crew;
 mod finding;
 mod laws;
 mod log;
+mod parts;
 mod ran;
 mod refusal;
 mod rows;
