@@ -21,15 +21,14 @@ ghost use Rattle.ms_tasks.specs.refinement.Schedules.{HasTurns, entries_of};
 
 use crate::all::run_all;
 use crate::log::Log;
-use crate::parts::apart_of;
+use crate::parts::{apart_of, apart_of};
 use crate::ran::{Ran, Stop, ran_of, stop_of};
 use crate::refusal::Refusal;
 use crate::schedule::Schedule;
 use crate::starting::{chain_of, tasks_of};
-use crate::state::TaskState;
-use crate::whose::Whose;
+use crate::state::{TaskState, by_stop, by_thread};
 use ms_linear::Room;
-use ms_machine::{Store, has_ended};
+use ms_machine::Store;
 use ms_module::Name;
 use ms_outside::{Sink, Source};
 use ms_segment::SegmentMemory;
@@ -125,28 +124,10 @@ impl<M: SegmentMemory> Crew<M> {
         requires { n < length self.now.tasks }
         ensures { result ≡ by_stop n self.now.trapped (in_crew (slice_get self.now.tasks n)) }
     {
-        match self.trapped {
-            Some(
-                Stop {
-                    whose: Whose::Task(k),
-                    kind,
-                },
-            ) if k == n => TaskState::Trapped(kind),
-            _ => self.standing(n),
-        }
-    }
-
-    /// How the thread of the task of a number stands.
-    fn standing(&self, n: u32) -> TaskState
-        requires { n < length self.now.tasks }
-        ensures { result ≡ in_crew (slice_get self.now.tasks n) }
-    {
-        let task = &self.tasks[n as usize];
-        if has_ended(&self.store, task) {
-            TaskState::Ended(task.operands.last())
-        } else {
-            TaskState::Unended
-        }
+        let store = self.store();
+        let task = self.task(n);
+        let stands = by_thread(store, task);
+        by_stop(n, self.trapped(), stands)
     }
 
     /// For each task, by its number, whether it is apart from all others: its instance shares no function, table, linear memory or
@@ -156,8 +137,7 @@ impl<M: SegmentMemory> Crew<M> {
         requires ready { IsReady self.now.crew }
         ensures { IfOk result (λ flags. AreApart self.now.store self.now.addresses flags.items) }
     {
-        let _ = alloc;
-        Err(AllocError)
+        apart_of(alloc, &self.store, self.addresses.as_slice())
     }
 
     /// Runs the start functions, and then the tasks by a schedule, for so many entries at most. Where a step stops the program, the

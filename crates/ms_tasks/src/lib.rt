@@ -1,8 +1,9 @@
 //! Crews: a store, its start functions and its tasks, and runs of them by a schedule.
 //!
 //! It stands on `ms_machine`. Read `specs/Crews.antt` there first, which says what a run of a crew is, on lists; then here
-//! `specs/Tasks.antt` for the crew of a store, and of `specs/refinement` `Ready.antt` for crews that may be run, `Outside.antt` for
-//! what a run leaves outside, and `Logs.antt` for its log.
+//! `specs/Tasks.antt` for the crew of a store, `specs/States.antt` for how its tasks stand, `specs/Joined.antt` for which of them
+//! nothing joins, and of `specs/refinement` `Ready.antt` for crews that may be run, `Schedules.antt` for their entries,
+//! `Outside.antt` for what a run leaves outside, and `Logs.antt` for its log.
 #![tactic(auto)]
 
 mod all;
