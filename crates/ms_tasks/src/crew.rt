@@ -21,7 +21,7 @@ ghost use Rattle.ms_tasks.specs.refinement.Schedules.{HasTurns, entries_of};
 
 use crate::all::run_all;
 use crate::log::Log;
-use crate::parts::{apart_of, apart_of};
+use crate::parts::apart_of;
 use crate::ran::{Ran, Stop, ran_of, stop_of};
 use crate::refusal::Refusal;
 use crate::schedule::Schedule;
