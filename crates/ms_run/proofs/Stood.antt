@@ -1,5 +1,5 @@
 -- What is told of how tasks stand is told in one way; and the addresses of their functions are those of the store, before a run and behind it.
-use Rattle.std.proofs.Common.{◌≡◌, ◌∙◌, ◌+◌, ◌≤◌, ℕ, zero, suc, Bool, true, false, List, [], ◌∷◌, ◌++◌, length, map, length-map, drop, append_assoc, append-nil, arith, slice_get, Option, Some, option_and_then, refl, sym, ap, subst, true≢false}
+use Rattle.std.proofs.Common.{◌≡◌, ◌∙◌, ◌+◌, ◌≤◌, ℕ, zero, suc, Bool, true, false, List, [], ◌∷◌, ◌++◌, length, map, length-map, drop, append_assoc, append-nil, arith, slice_get, OnOk, Option, Some, option_and_then, Result, Ok, Err, refl, sym, ap, subst, true≢false}
 use Rattle.ms_machine.specs.Crews.{Crew, Run}
 use Rattle.ms_machine.specs.Store.{Store}
 use Rattle.ms_machine.specs.Typing.{Outline, outline_of}
@@ -99,3 +99,17 @@ no_more_standing state made all flags k past so_far =
     nothing_left zero (x ∷ xs) h = absurd (omega arith)
     nothing_left (suc n) [] h = refl
     nothing_left (suc n) (x ∷ xs) h = nothing_left n xs (omega arith)
+
+-- ---- where they are asked for
+
+pub on_ok : {A B : Type 0} {P Q : Type 0} (o : Result A B) → (P → Q) → OnOk o P → OnOk o Q
+on_ok (Ok x) goes h = goes h
+on_ok (Err e) goes h = tt
+
+pub none_standing : (s : Store) (addresses : List ℕ) (state : ℕ → TaskState) (wanted : Bool) (old : List ℕ) → wanted ≡ false → (standing : List ℕ) × AreStanding s addresses state wanted standing × (old ≡ old ++ standing)
+none_standing s addresses state wanted old is = ([], subst (λ (b : Bool). AreStanding s addresses state b []) (sym is) unasked, sym (append-nil old))
+
+pub all_standing : (s : Store) (addresses : List ℕ) (state : ℕ → TaskState) (wanted : Bool) (flags : List Bool) (old new : List ℕ) → wanted ≡ true → AreApart s addresses flags → new ≡ old ++ standing_lines state 0 flags
+    → (standing : List ℕ) × AreStanding s addresses state wanted standing × (new ≡ old ++ standing)
+all_standing s addresses state wanted flags old new is apart lines =
+    (standing_lines state 0 flags, subst (λ (b : Bool). AreStanding s addresses state b (standing_lines state 0 flags)) (sym is) (asked flags apart), lines)

@@ -58,12 +58,14 @@ fn add_lines<G: Gaps, T: Tagged>(
     flags: &[bool],
     lines: &mut Vec<u8>,
 ) -> Result<(), AllocError>
-    requires { length flags.now ≡ length crew.now.tasks }
+    requires each { length flags.now ≡ length crew.now.tasks }
+    requires few { length crew.now.tasks < 2 ^ 32 }
     ensures { OnOk result (lines.new.items ≡ lines.old.items ++ standing_lines (state_in crew.now) 0 flags.now) }
 {
     for number in 0..flags.len() {
+        let apart = flags[number];
         let state = crew.state(number as u32);
-        let line = standing_line(alloc, number, flags[number], state)?;
+        let line = standing_line(alloc, number, apart, state)?;
         lines.extend_from_slice(line.as_bytes())?;
     }
     Ok(())
@@ -85,5 +87,5 @@ pub fn add_standing<G: Gaps, T: Tagged>(
         return Ok(());
     }
     let flags = crew.apart(alloc)?;
-    add_lines(alloc, crew, &flags, lines)
+    add_lines(alloc, crew, flags.as_slice(), lines)
 }

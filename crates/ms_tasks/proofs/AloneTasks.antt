@@ -1,8 +1,7 @@
 -- Tasks that are alone in their part: they are apart, and the others are joined with another one.
-use Rattle.std.proofs.Common.{◌≡◌, ◌<◌, ◌≤◌, ◌+◌, ℕ, zero, suc, Bool, true, false, cond, eqb, ltb, List, [], ◌∷◌, drop, length, map, replicate, slice_get, slice_index, slice_set, Option, Some, None, option_and_then, option_map, IfSome, ◌^◌, refl, sym, ap, subst, ◌∙◌, arith, inl, inr, ◌⊎◌, eq-eqb}
-use Rattle.std.proofs.lemmas.Bool.{cases_Bool, cases_eq, eqb-true, eqb-false, false_from_ne_true, ltb-false, ltb-true, true≢false, false≢true}
+use Rattle.std.proofs.Common.{◌≡◌, ◌<◌, ◌≤◌, ◌+◌, ℕ, zero, suc, Bool, true, false, cond, eqb, List, [], ◌∷◌, drop, length, map, replicate, slice_get, slice_index, slice_set, Option, Some, None, option_and_then, option_map, IfSome, ◌^◌, refl, sym, ap, subst, ◌∙◌, arith, inl, inr, ◌⊎◌, eq-eqb}
+use Rattle.std.proofs.lemmas.Bool.{cases_eq, eqb-true, false_from_ne_true, ltb-false, ltb-true, true≢false}
 use Rattle.std.proofs.lemmas.List.{length-map}
-use Rattle.std.proofs.lemmas.Option.{slice_get_within}
 use Rattle.ms_machine.specs.Store.{Store}
 use Rattle.ms_machine.specs.Typing.{StoreTyped, outline_of}
 use Rattle.ms_task.specs.declared.func.FuncInst.{FuncInst}

@@ -1,5 +1,5 @@
 -- Entries of which one task is named alone.
-use Rattle.std.proofs.Common.{◌≡◌, ◌∙◌, ◌==◌, ◌-◌, ◌+◌, ◌≤◌, ℕ, zero, suc, cond, List, [], ◌∷◌, ◌++◌, Option, Some, None, drop, length, replicate, refl, sym, ap}
+use Rattle.std.proofs.Common.{◌≡◌, ◌∙◌, ◌==◌, ◌-◌, ◌+◌, ◌≤◌, ℕ, zero, suc, cond, List, [], ◌∷◌, ◌++◌, Option, Some, None, drop, length, replicate, refl, ap}
 use Rattle.ms_machine.specs.Crews.{turns_from}
 use Rattle.ms_tasks.specs.refinement.Rows.{IsInTurn}
 use Rattle.ms_tasks.specs.Alone.{alone, by_only}

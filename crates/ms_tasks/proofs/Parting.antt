@@ -1,12 +1,11 @@
 -- Joined instances, and the parts that are put together.
-use Rattle.std.proofs.Common.{◌≡◌, ◌==◌, ◌<◌, ◌≤◌, ◌+◌, ℕ, zero, suc, Bool, true, false, cond, eqb, List, [], ◌∷◌, length, map, slice_get, slice_set, Option, Some, None, option_map, drop, take, ◌++◌, ◌⊎◌, eq-eqb, append-nil, refl, sym, ap, subst, ◌∙◌, arith, ⊎_elim, inl, inr}
-use Rattle.std.specs.List.{All}
-use Rattle.std.proofs.lemmas.Bool.{cases_Bool, eqb-true, eqb-false, false≢true}
+use Rattle.std.proofs.Common.{◌≡◌, ◌<◌, ◌≤◌, ℕ, zero, suc, Bool, true, false, cond, eqb, List, [], ◌∷◌, length, map, slice_get, Some, option_map, drop, take, ◌++◌, ◌⊎◌, eq-eqb, append-nil, refl, sym, ap, subst, ◌∙◌, arith, inl, inr}
+use Rattle.std.proofs.lemmas.Bool.{eqb-true}
 use Rattle.std.proofs.lemmas.List.{drop_all, length-map, take_all}
 use Rattle.std.proofs.lemmas.Option.{slice_get-map, slice_get_within}
 use Rattle.ms_machine.specs.Store.{Store}
 use Rattle.ms_tasks.specs.Joined.{Joined, Shares, back, itself, on}
-use Rattle.ms_tasks.specs.refinement.Parting.{AreParts, AreTogether, KeepsTogether, PutsTogether, renumbered}
+use Rattle.ms_tasks.specs.refinement.Parting.{AreParts, KeepsTogether, PutsTogether, renumbered}
 
 -- ---- chains
 

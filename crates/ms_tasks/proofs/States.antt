@@ -1,5 +1,5 @@
 -- How a task stands behind a run, by the step that stopped it.
-use Rattle.std.proofs.Common.{◌≡◌, ◌≢◌, ℕ, List, [], ◌∷◌, Option, Some, slice_get, refl, sym, ap, ◌∙◌}
+use Rattle.std.proofs.Common.{◌≡◌, ◌≢◌, ℕ, List, [], ◌∷◌, slice_get, refl, sym, ap, ◌∙◌}
 use Rattle.ms_host.specs.declared.trap.TrapKind.{TrapKind}
 use Rattle.ms_linear.specs.declared.value.Value.{Value}
 use Rattle.ms_machine.proofs.Outsides.{Content}

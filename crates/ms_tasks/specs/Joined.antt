@@ -1,5 +1,5 @@
 -- Which tasks nothing joins: the instances that they run in share nothing, neither with each other nor by others that stand between them.
-use Rattle.std.specs.Prelude.{◌≡◌, ℕ, Bool, true, false, List, Option, Some, None, length, option_and_then, option_map, slice_get}
+use Rattle.std.specs.Prelude.{◌≡◌, ℕ, Bool, true, false, List, Option, Some, length, option_and_then, option_map, slice_get}
 use Rattle.ms_machine.specs.Store.{Store}
 use Rattle.ms_machine.specs.declared.store.Instance.{Instance}
 use Rattle.ms_task.specs.declared.func.FuncInst.{FuncInst}

@@ -1,5 +1,5 @@
 -- How the joined instances are found: each has the number of its part, and what share something come into one part.
-use Rattle.std.specs.Prelude.{◌≡◌, ◌==◌, ◌<◌, ◌+◌, ℕ, suc, if◌then◌else◌, Bool, true, List, [], ◌∷◌, length, map, nat_lt, slice_get, slice_index, slice_set, All, Option, Some, None, option_and_then}
+use Rattle.std.specs.Prelude.{◌≡◌, ◌==◌, ◌<◌, ◌+◌, ℕ, suc, if◌then◌else◌, Bool, true, List, [], ◌∷◌, length, nat_lt, slice_get, slice_index, slice_set, All, Option, Some, None, option_and_then}
 use Rattle.ms_machine.specs.Store.{Store}
 use Rattle.ms_machine.specs.declared.store.Instance.{Instance}
 use Rattle.ms_task.specs.declared.func.FuncInst.{FuncInst}

@@ -1,4 +1,4 @@
-use Rattle.ms_tasks.specs.declared.parts.Kind.TheVariants.{Globals, Memories, Tables}
+use Rattle.ms_tasks.specs.declared.parts.Kind.TheVariants.{Memories, Tables}
 use Rattle.ms_tasks.proofs.Noting.{alike_kept, whole_from, with_funcs_kept}
 use Rattle.ms_tasks.proofs.parts.join_all.Goals as goal
 

@@ -1,4 +1,4 @@
-use Rattle.std.proofs.Common.{◌≡◌, ◌<◌, Some, get_or, length, slice_get, sym, ap, subst, ◌∙◌, take, arith}
+use Rattle.std.proofs.Common.{get_or, slice_get, sym, ap, subst, ◌∙◌, take, arith}
 use Rattle.std.specs.List.{All}
 use Rattle.std.proofs.lemmas.List.{take_all}
 use Rattle.std.proofs.lemmas.List.Elements.{All-more, All-nil, All-weaker}

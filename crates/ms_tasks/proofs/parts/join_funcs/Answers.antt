@@ -1,4 +1,4 @@
-use Rattle.std.proofs.Common.{◌<◌, arith, below_more}
+use Rattle.std.proofs.Common.{arith, below_more}
 use Rattle.std.proofs.lemmas.Option.{slice_get_within}
 use Rattle.ms_tasks.specs.refinement.Parting.{IsWithFuncs}
 use Rattle.ms_tasks.proofs.Noting.{with_funcs_here, with_funcs_kept}

@@ -1,4 +1,4 @@
-use Rattle.std.proofs.Common.{◌≡◌, List, None, Option, ℕ, length, replicate, ap, sym, subst, ◌∙◌}
+use Rattle.std.proofs.Common.{List, None, Option, ℕ, length, ap, subst, ◌∙◌}
 use Rattle.std.proofs.lemmas.List.{length-replicate}
 use Rattle.ms_tasks.specs.refinement.Parting.{IsFirst}
 use Rattle.ms_tasks.proofs.Noting.{all_alike, no_first}

@@ -1,4 +1,4 @@
-use Rattle.std.proofs.Common.{◌≡◌, ◌<◌, length, sym, subst, ◌∙◌, arith, below_more}
+use Rattle.std.proofs.Common.{◌<◌, sym, subst, ◌∙◌, arith, below_more}
 use Rattle.std.specs.List.{All}
 use Rattle.std.proofs.lemmas.Option.{slice_get_within}
 use Rattle.ms_tasks.specs.refinement.Parting.{AreNoted, named}

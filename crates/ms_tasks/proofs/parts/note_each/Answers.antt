@@ -1,4 +1,4 @@
-use Rattle.std.proofs.Common.{◌≡◌, ◌<◌, refl, get_or, length, sym, subst, ◌∙◌, take, arith}
+use Rattle.std.proofs.Common.{◌<◌, refl, get_or, length, sym, subst, ◌∙◌, take, arith}
 use Rattle.std.proofs.lemmas.List.{take_all, take_more}
 use Rattle.std.proofs.lemmas.List.Elements.{All-get_or}
 use Rattle.ms_tasks.specs.refinement.Parting.{FirstsBelow, Notes}

@@ -1,4 +1,4 @@
-use Rattle.std.proofs.Common.{◌≡◌, ℕ, List, length, sym, ap, subst, ◌∙◌}
+use Rattle.std.proofs.Common.{sym, subst, ◌∙◌}
 use Rattle.std.proofs.lemmas.List.{with_items_is}
 use Rattle.ms_tasks.specs.refinement.Parting.{AreParts, AreWhole}
 use Rattle.ms_tasks.proofs.Parting.{parts_at_first}

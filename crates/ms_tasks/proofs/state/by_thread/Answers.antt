@@ -1,6 +1,6 @@
 use Rattle.ms_task.specs.refinement.View.{thread_of}
 use Rattle.ms_tasks.proofs.States.{ended_is, unended_is}
-use Rattle.std.proofs.Common.{◌≡◌, Some, ap, sym, ◌∙◌}
+use Rattle.std.proofs.Common.{ap, ◌∙◌}
 use Rattle.std.proofs.lemmas.Bool.{iff_false}
 use Rattle.ms_tasks.specs.declared.state.TaskState.TheVariants.{Ended}
 use Rattle.ms_tasks.proofs.state.by_thread.Goals as goal

@@ -1,6 +1,5 @@
-use Rattle.std.proofs.Common.{◌≡◌, Option, Some, ap, sym, ◌∙◌, slice_get}
+use Rattle.std.proofs.Common.{Option, Some, ap, sym, ◌∙◌}
 use Rattle.ms_machine.specs.Store.{Store}
-use Rattle.ms_task.specs.Thread.{Thread}
 use Rattle.ms_task.specs.refinement.View.{thread_of}
 use Rattle.ms_tasks.specs.States.{by_stop, in_crew}
 use Rattle.ms_tasks.specs.declared.ran.Stop.{Stop}
