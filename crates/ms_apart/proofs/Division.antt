@@ -28,7 +28,8 @@ use Rattle.ms_tasks.specs.refinement.Ready.{IsReady}
 use Rattle.ms_tasks.specs.Tasks.{and_thread, crew_of, task_address, thread_at, threads_from}
 use Rattle.ms_tasks.proofs.Safe.{run_ready}
 use Rattle.ms_apart.specs.refinement.Apart.{Divided, EachThread, FunctionOn, OnASide, Owned, SegmentOn, Separated, Sides, ThreadOn, ValueOn}
-use Rattle.ms_apart.specs.Runs.{Calm, IsCut, OwnAlike, alone}
+use Rattle.ms_apart.specs.Runs.{Calm, IsCut, OwnAlike}
+use Rattle.ms_tasks.specs.Alone.{alone}
 use Rattle.ms_apart.proofs.Functions.{dos_functions}
 use Rattle.ms_apart.proofs.Lists.{get_mapped, nothing_past, same_Some, something_below}
 use Rattle.ms_apart.proofs.Ranks.{Any, Told}

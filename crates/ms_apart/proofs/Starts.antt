@@ -24,7 +24,8 @@ use Rattle.ms_apart.specs.refinement.Apart.{Alike, Divided, EachThread, IsOld, I
 use Rattle.ms_tasks.specs.States.{state_of}
 use Rattle.ms_tasks.specs.declared.state.TaskState.{TaskState}
 use Rattle.ms_tasks.specs.declared.state.TaskState.TheVariants.{Ended, Trapped, Unended}
-use Rattle.ms_apart.specs.Runs.{Calm, CalmEntry, CalmStart, alone, own_of}
+use Rattle.ms_apart.specs.Runs.{Calm, CalmEntry, CalmStart, own_of}
+use Rattle.ms_tasks.specs.Alone.{alone}
 use Rattle.ms_apart.proofs.Moves.{MoveOn, move_on_side}
 use Rattle.ms_apart.proofs.Pairs.{After, Paired, after_step, own_after}
 use Rattle.ms_apart.specs.Ranks.{Place, shown}

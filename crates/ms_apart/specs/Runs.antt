@@ -9,11 +9,6 @@ use Rattle.ms_task.specs.Thread.{Item, Thread}
 use Rattle.ms_tasks.specs.States.{state_of}
 use Rattle.ms_apart.specs.Ranks.{shown}
 
--- each entry that names another task names an absent one instead
-abbrev pub alone : (n absent : ℕ) → List ℕ → List ℕ
-alone n absent [] = []
-alone n absent (k ∷ ks) = (if k == n then k else absent) ∷ alone n absent ks
-
 -- ---- what is a task's own
 
 abbrev pub if_own : {A : Type 0} → ℕ → Whose → A → List A → List A

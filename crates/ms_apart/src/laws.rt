@@ -1,7 +1,8 @@
 //! What is true of runs of a crew in which nothing joins one task with the others.
 
 ghost use Rattle.std.specs.Prelude.{◌≡◌, ◌<◌, ◌≤◌, ℕ, List, Ok, length};
-ghost use Rattle.ms_apart.specs.Runs.{Calm, OwnAlike, alone};
+ghost use Rattle.ms_apart.specs.Runs.{Calm, OwnAlike};
+ghost use Rattle.ms_tasks.specs.Alone.{alone};
 ghost use Rattle.ms_machine.specs.Crews.{Crew, Input, begun, run_of};
 ghost use Rattle.ms_machine.specs.Linked.{StartsTyped, linked};
 ghost use Rattle.ms_machine.specs.Store.{Store};
