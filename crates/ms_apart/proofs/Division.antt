@@ -23,9 +23,8 @@ use Rattle.ms_machine.specs.Store.{Store}
 use Rattle.ms_machine.proofs.HeldFits.{starts_fit}
 use Rattle.ms_machine.proofs.HeldValues.{each_default, holds, kept_dos}
 use Rattle.ms_tasks.specs.Joined.{IsApart, instance_of}
-use Rattle.ms_tasks.specs.refinement.Making.{AreAddresses, IsCrewOf}
+use Rattle.ms_tasks.specs.Tasks.{AreAddresses, IsCrewOf, and_thread, crew_of, task_address, thread_at, threads_from}
 use Rattle.ms_tasks.specs.refinement.Ready.{IsReady}
-use Rattle.ms_tasks.specs.Tasks.{and_thread, crew_of, task_address, thread_at, threads_from}
 use Rattle.ms_tasks.proofs.Safe.{run_ready}
 use Rattle.ms_apart.specs.refinement.Apart.{Divided, EachThread, FunctionOn, OnASide, Owned, SegmentOn, Separated, Sides, ThreadOn, ValueOn}
 use Rattle.ms_apart.specs.Runs.{Calm, IsCut, OwnAlike}

@@ -8,7 +8,7 @@ ghost use Rattle.ms_machine.specs.Linked.{StartsTyped, linked};
 ghost use Rattle.ms_machine.specs.Store.{Store};
 ghost use Rattle.ms_module.specs.declared.module.Module.{Module};
 ghost use Rattle.ms_tasks.specs.Joined.{IsApart};
-ghost use Rattle.ms_tasks.specs.refinement.Making.{AreAddresses, IsCrewOf};
+ghost use Rattle.ms_tasks.specs.Tasks.{AreAddresses, IsCrewOf};
 ghost use Rattle.ms_tasks.specs.refinement.Ready.{IsReady};
 
 /// Of the crew of linked modules a task that nothing joins with the others puts in a run what it puts in the run alone, where no

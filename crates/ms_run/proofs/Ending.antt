@@ -153,7 +153,7 @@ module _ (asked : Inquiry) (run_over : Input → Run) (c : Addressed) (s : Shelv
     stopped_by : {stop : Option Stop} → c.trapped ≡ stop → state_in c ≡ (λ n. by_stop n stop (in_crew (slice_get c.tasks n)))
     stopped_by is = ap (λ (o : Option Stop). λ (n : ℕ). by_stop n o (in_crew (slice_get c.tasks n))) is
 
-    trapped_as : (whose : Whose) (kind : TrapKind) → (λ (n : ℕ). by_whose n whose kind (in_crew (slice_get c.tasks n))) ≡ (λ n. if_trapped n (Trap (whose_of whose) kind) (in_crew (slice_get c.tasks n)))
+    trapped_as : (whose : Whose) (kind : TrapKind) → ◌≡◌ {A = ℕ → TaskState} (λ n. by_whose n whose kind (in_crew (slice_get c.tasks n))) (λ n. if_trapped n (Trap (whose_of whose) kind) (in_crew (slice_get c.tasks n)))
     trapped_as whoses.Start kind = refl
     trapped_as (whoses.Task k) kind = refl
 

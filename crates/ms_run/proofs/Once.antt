@@ -46,6 +46,7 @@ use Rattle.ms_run.specs.declared.status.Status.TheVariants as statuses
 use Rattle.ms_text_grammar.proofs.Files.{one_module as one_text}
 use Rattle.ms_run.proofs.Units as units
 use Rattle.ms_run.proofs.Units.{one_reason}
+use Rattle.ms_tasks.specs.Alone.{by_only}
 use Rattle.ms_run.proofs.Stood.{one_left}
 use Rattle.ms_run.proofs.Refusals.{OfRefusals, of_first, of_unfound, of_unloaded, of_unscheduled}
 
@@ -302,7 +303,7 @@ module _ (Has : List ℕ → Found → Type 0) (one_found : (name : List ℕ) (a
   entries_once job a b (listed name numbers e h) (in_turns f) = absurd (let both = sym e ∙ f in cc)
   entries_once job a b (listed name numbers e h) (listed other numbers' f k) =
       let same : name ≡ other = some_is name other (sym e ∙ f) in
-      ap (take job.budget) (numbers_once other numbers numbers' (subst (λ x. HasNumbers Has x numbers) same h) k)
+      ap (λ (ks : List ℕ). by_only job.only (length job.tasks) (take job.budget ks)) (numbers_once other numbers numbers' (subst (λ x. HasNumbers Has x numbers) same h) k)
 
   pub unscheduled_once : (job : Job) → GivesOne (Unscheduled Has job)
   unscheduled_once job a a' (unlisted name e h) (unlisted other f k) =

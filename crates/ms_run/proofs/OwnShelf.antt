@@ -97,7 +97,7 @@ module _ (seed count : ℕ) (job : Job) (files after : Files) (is_job : job ≡ 
       (safe_kept files own_shelf refl never_fails Only job untraced_job s same kept r f result h))
 
 pub stress_bounded : IsBounded stress_job
-stress_bounded = record { names = (tt, tt); some = omega arith; few = omega arith; turns = omega arith; budget = omega arith; memory = omega arith; reach = All-nil _ }
+stress_bounded = record { names = (tt, tt); some = omega arith; few = omega arith; turns = omega arith; budget = omega arith; memory = omega arith; reach = All-nil _; only = tt }
 
 module _ (seed count : ℕ) (s : Shelved) (r : Report) (f : Flow) (same : SameCounts s.reads_old s.reads_new) (kept : KeepsFiles s) where
   -- memory ran out before anything was done

@@ -21,7 +21,8 @@ use Rattle.ms_link.proofs.Stores.{linked_made, linked_typed}
 use Rattle.ms_tasks.specs.refinement.Ready.{IsReady}
 use Rattle.ms_tasks.specs.Tasks.{crew_of, threads_from}
 use Rattle.ms_tasks.proofs.Making.{crew_ready, crew_sound}
-use Rattle.ms_tasks.proofs.Outs.{length_by_only, length_turns}
+use Rattle.ms_tasks.proofs.Only.{length_by_only}
+use Rattle.ms_tasks.proofs.Outs.{length_turns}
 use Rattle.ms_tasks.proofs.Counting.{run_counts}
 use Rattle.ms_tasks.proofs.Safe.{run_accepted}
 use Rattle.ms_command_line.specs.Commands as options

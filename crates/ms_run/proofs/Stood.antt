@@ -1,5 +1,6 @@
 -- What is told of how tasks stand is told in one way; and the addresses of their functions are those of the store, before a run and behind it.
-use Rattle.std.proofs.Common.{◌≡◌, ◌∙◌, ◌+◌, ◌≤◌, ℕ, zero, suc, Bool, true, false, List, [], ◌∷◌, ◌++◌, length, map, length-map, drop, append_assoc, append-nil, arith, slice_get, OnOk, Option, Some, option_and_then, Result, Ok, Err, refl, sym, ap, subst, true≢false}
+use Rattle.std.proofs.Common.{◌≡◌, ◌∙◌, ◌+◌, ◌≤◌, ℕ, zero, suc, Bool, true, false, List, [], ◌∷◌, ◌++◌, length, map, drop, append_assoc, append-nil, arith, slice_get, OnOk, Option, Some, option_and_then, Result, Ok, Err, refl, sym, ap, subst, true≢false}
+use Rattle.std.proofs.lemmas.List.{length-map}
 use Rattle.ms_machine.specs.Crews.{Crew, Run}
 use Rattle.ms_machine.specs.Store.{Store}
 use Rattle.ms_machine.specs.Typing.{Outline, outline_of}
@@ -36,7 +37,9 @@ same_flags : (fs gs : List Bool) → length fs ≡ length gs → ((n : ℕ) (b b
 same_flags [] [] e agree = refl
 same_flags [] (g ∷ gs) e agree = absurd cc
 same_flags (f ∷ fs) [] e agree = absurd cc
-same_flags (f ∷ fs) (g ∷ gs) e agree = ap (λ (b : Bool). b ∷ fs) (agree 0 f g refl refl) ∙ ap (λ (bs : List Bool). g ∷ bs) (same_flags fs gs cc (λ n b b' h k. agree (suc n) b b' h k))
+same_flags (f ∷ fs) (g ∷ gs) e agree =
+    let rest : length fs ≡ length gs = cc in
+    ap (λ (b : Bool). b ∷ fs) (agree 0 f g refl refl) ∙ ap (λ (bs : List Bool). g ∷ bs) (same_flags fs gs rest (λ n b b' h k. agree (suc n) b b' h k))
 
 one_apart : (s : Store) (addresses : List ℕ) (fs gs : List Bool) → AreApart s addresses fs → AreApart s addresses gs → fs ≡ gs
 one_apart s addresses fs gs h k =
@@ -53,7 +56,10 @@ same_items : (xs ys : List ℕ) → ◌≡◌ {A = List (Option ℕ)} (map Some 
 same_items [] [] e = refl
 same_items [] (y ∷ ys) e = absurd cc
 same_items (x ∷ xs) [] e = absurd cc
-same_items (x ∷ xs) (y ∷ ys) e = ap (λ (n : ℕ). n ∷ xs) (cc) ∙ ap (λ (ns : List ℕ). y ∷ ns) (same_items xs ys cc)
+same_items (x ∷ xs) (y ∷ ys) e =
+    let first : x ≡ y = cc in
+    let rest : ◌≡◌ {A = List (Option ℕ)} (map Some xs) (map Some ys) = cc in
+    ap (λ (n : ℕ). n ∷ xs) first ∙ ap (λ (ns : List ℕ). y ∷ ns) (same_items xs ys rest)
 
 pub one_left : (a : Inquiry) (run : Run) (left left' : List ℕ) → AreLeft a run left → AreLeft a run left' → left ≡ left'
 one_left a run left left' (reached, standing, addresses, are, of, stand, is) (reached', standing', addresses', are', of', stand', is') =
