@@ -6,8 +6,9 @@ use Rattle.ms_machine.specs.Store.{Store}
 use Rattle.ms_machine.specs.Typing.{Outline, outline_of}
 use Rattle.ms_machine.specs.declared.store.Instance.{Instance}
 use Rattle.ms_task.specs.declared.func.FuncInst.{FuncInst}
+use Rattle.ms_tasks.specs.States.{state_of}
 use Rattle.ms_tasks.specs.Joined.{AreApart, IsApart, IsClosed, IsJoined, Joined, Shares, back, itself, on}
-use Rattle.ms_tasks.specs.Tasks.{AreAddresses, IsCrewOf, task_of_instance}
+use Rattle.ms_tasks.specs.Tasks.{AreAddresses, IsCrewOf, task_address, task_of_instance}
 use Rattle.ms_tasks.specs.declared.state.TaskState.{TaskState}
 use Rattle.ms_tasks.specs.refinement.Making.{Addressed}
 use Rattle.ms_run.specs.Executions.{AreLeft}
@@ -64,8 +65,8 @@ same_items (x ∷ xs) (y ∷ ys) e =
 pub one_left : (a : Inquiry) (run : Run) (left left' : List ℕ) → AreLeft a run left → AreLeft a run left' → left ≡ left'
 one_left a run left left' (reached, standing, addresses, are, of, stand, is) (reached', standing', addresses', are', of', stand', is') =
     let same : addresses' ≡ addresses = same_items addresses' addresses (of' ∙ sym of) in
-    let stand_too = subst (λ (xs : List ℕ). AreStanding run.crew.store xs _ a.telling.each standing') same stand' in
-    is ∙ (ap (λ (x : List ℕ). x ++ standing) (one_reached run.crew 0 a.telling.reach reached reached' are are') ∙ (ap (λ (x : List ℕ). reached' ++ x) (one_standing run.crew.store addresses _ a.telling.each standing standing' stand stand_too) ∙ sym is'))
+    let stand_too = subst (λ (xs : List ℕ). AreStanding run.crew.store xs (λ n. state_of n run) a.telling.each standing') same stand' in
+    is ∙ (ap (λ (x : List ℕ). x ++ standing) (one_reached run.crew 0 a.telling.reach reached reached' are are') ∙ (ap (λ (x : List ℕ). reached' ++ x) (one_standing run.crew.store addresses (λ n. state_of n run) a.telling.each standing standing' stand stand_too) ∙ sym is'))
 
 -- ---- the addresses
 
@@ -74,7 +75,7 @@ addresses_stay s after tasks addresses same h =
     subst (λ (o : Outline). map Some addresses ≡ map (λ (t : ℕ × List ℕ). option_and_then (task_of_instance o.funcs t.1) (slice_get o.instances t.0)) tasks) (sym same) h
 
 pub addresses_length : (s : Store) (tasks : List (ℕ × List ℕ)) (addresses : List ℕ) → AreAddresses s tasks addresses → length addresses ≡ length tasks
-addresses_length s tasks addresses h = sym (length-map Some addresses) ∙ (ap length h ∙ length-map _ tasks)
+addresses_length s tasks addresses h = sym (length-map addresses Some) ∙ (ap length h ∙ length-map tasks (λ (t : ℕ × List ℕ). task_address s t.0 t.1))
 
 -- those of a new crew are of its own store
 pub crew_addresses : (s : Store) (tasks : List (ℕ × List ℕ)) (c : Addressed) → IsCrewOf s tasks c.crew → AreAddresses s tasks c.addresses → AreAddresses c.store tasks c.addresses

@@ -1,4 +1,4 @@
-use Rattle.std.proofs.Common.{false}
+use Rattle.std.proofs.Common.{◌∙◌, false}
 use Rattle.std.proofs.lemmas.Option.{slice_get-get_or}
 use Rattle.ms_run.specs.refinement.Told.{state_in}
 use Rattle.ms_run.proofs.Stood.{no_more_standing, standing_grows}
@@ -9,7 +9,7 @@ loop-number-preserved g c =
     let l = c.loop-number in
     let flags = c.args.flags.now in
     let found = slice_get-get_or flags l.number false c.loop-number-test.true in
-    standing_grows (state_in c.args.crew.now) l.lines.items _ c.as_bytes.result.now _ flags l.number _ _ found c.state-state.ensures c.as_bytes.ensures.value c.in_ok-line.ensures c.in_ok-extend_from_slice.ensures.items l.invariant
+    standing_grows (state_in c.args.crew.now) l.lines.items _ c.as_bytes.result.now _ flags l.number _ _ found c.state-state.ensures (c.as_bytes.ensures.value ∙ c.in_ok-line.ensures) c.in_ok-extend_from_slice.ensures.items l.invariant
 
 pub returns : goal.returns
 returns g c =
