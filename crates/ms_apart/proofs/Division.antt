@@ -5,7 +5,6 @@ use Rattle.ms_linear.specs.declared.value.Value.{Value}
 use Rattle.ms_linear.specs.declared.value.Value.TheVariants as values
 use Rattle.ms_linear.specs.Values.{default_of}
 use Rattle.ms_handle.specs.declared.handle.Handle.TheVariants as handles
-use Rattle.ms_live.specs.declared.gaps.Live.{Live}
 use Rattle.ms_segment.specs.Memory.{Memory, live_of}
 use Rattle.ms_task.specs.Control.{nobody, exited as exited_thread, started}
 use Rattle.ms_task.specs.declared.func.FuncInst.{FuncInst}

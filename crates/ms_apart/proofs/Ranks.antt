@@ -5,7 +5,7 @@ use Rattle.std.proofs.lemmas.List.{length-append}
 use Rattle.ms_event.specs.declared.event.Event.{Event}
 use Rattle.ms_event.specs.declared.event.Event.TheVariants as events
 use Rattle.ms_live.specs.declared.gaps.Live.{Live}
-use Rattle.ms_machine.specs.Crews.{Start, Task, Whose, marked}
+use Rattle.ms_machine.specs.Crews.{Task, Whose, marked}
 use Rattle.ms_machine.specs.Store.{Store}
 use Rattle.ms_segment.specs.Memory.{IsSound, Memory, live_of}
 use Rattle.ms_segment.specs.Parts.{entered}

@@ -1,5 +1,5 @@
 -- What a task leaves is a number, or nothing: how it stands has no name in it.
-use Rattle.std.proofs.Common.{◌≡◌, ◌≢◌, ◌==◌, ◌&&◌, ◌++◌, ℕ, zero, suc, Bool, true, false, cond, List, [], ◌∷◌, length, map, slice_get, Option, Some, None, find, option_and_then, option_map, refl, sym, ap, ◌∙◌, subst, arith}
+use Rattle.std.proofs.Common.{◌≡◌, ◌==◌, ◌&&◌, ℕ, zero, suc, Bool, true, false, cond, List, [], ◌∷◌, length, map, slice_get, Option, Some, None, find, option_and_then, option_map, refl, sym, ap, subst, arith}
 use Rattle.std.specs.List.{All}
 use Rattle.std.specs.Str.{bytes_eq}
 use Rattle.std.proofs.lemmas.List.Elements.{All-cons, All-nil}
@@ -9,14 +9,13 @@ use Rattle.ms_linear.specs.declared.value.Value.{Value}
 use Rattle.ms_linear.specs.declared.value.Value.TheVariants as values
 use Rattle.ms_module.specs.declared.module.Export.{Export}
 use Rattle.ms_rules.specs.Typing.{types}
-use Rattle.ms_task.specs.Control.{nobody, exited as exited_thread, started}
+use Rattle.ms_task.specs.Control.{nobody, started}
 use Rattle.ms_task.specs.declared.func.FuncInst.{FuncInst}
 use Rattle.ms_task.specs.Thread.{Activation, Item, Thread, result_of, sequence}
-use Rattle.ms_types.specs.declared.types.FuncType.{FuncType}
 use Rattle.ms_types.specs.declared.types.ValType.{ValType}
 use Rattle.ms_types.specs.declared.types.ValType.TheVariants as kinds
-use Rattle.ms_machine.specs.Crews.{Crew, End, Input, OutOfBudget, Results, Run, Start, Stuck, Task, Trap, ahead, begun, run_of}
-use Rattle.ms_machine.specs.Linked.{StartTyped, StartsTyped, start_chain, with_start}
+use Rattle.ms_machine.specs.Crews.{Crew, End, Input, OutOfBudget, Results, Run, Start, Stuck, Task, Trap, begun, run_of}
+use Rattle.ms_machine.specs.Linked.{StartTyped, start_chain, with_start}
 use Rattle.ms_machine.specs.Moves.{first_of}
 use Rattle.ms_machine.specs.Running.{func_thread}
 use Rattle.ms_machine.specs.Store.{Store}
@@ -31,7 +30,7 @@ use Rattle.ms_machine.proofs.TypedWork.{sequence_typed}
 use Rattle.ms_tasks.specs.States.{by_thread, if_trapped, in_crew, state_of}
 use Rattle.ms_tasks.specs.Tasks.{exported_func, exported_task, is_task_result, is_task_type, of_task_type, takes_nothing, task_address, task_of_instance}
 use Rattle.ms_tasks.specs.declared.state.TaskState.{TaskState}
-use Rattle.ms_tasks.specs.declared.state.TaskState.TheVariants.{Ended, Trapped, Unended}
+use Rattle.ms_tasks.specs.declared.state.TaskState.TheVariants.{Ended, Trapped}
 use Rattle.ms_tasks.specs.refinement.Ready.{IsReady}
 use Rattle.ms_tasks.proofs.Keeping.{NeverSticks, StepKeeps, ahead_all, ahead_going, all_get, entries_keep}
 use Rattle.ms_tasks.proofs.Making.{thread_is}

@@ -1,7 +1,6 @@
 -- What a well-typed thread leaves when it has ended: values of its outermost call's result.
 use Rattle.std.proofs.Common.{◌≡◌, ◌≢◌, ℕ, zero, suc, ◌-◌, ◌≤◌, Bool, true, false, cond, nat_le, nat_lt, List, [], ◌∷◌, ◌++◌, append-nil, append_assoc, drop, length, slice_get, unwrap_or, Option, Some, None, Result, Ok, Err, refl, sym, ap, ◌∙◌, subst, arith}
 use Rattle.std.proofs.lemmas.Bool.{le-leb}
-use Rattle.ms_event.specs.declared.event.Event.{Event}
 use Rattle.ms_host.specs.Host.{lowest_byte, number_of}
 use Rattle.ms_host.specs.declared.host.Host.{Host}
 use Rattle.ms_host.specs.declared.host.Host.TheVariants as hosts
@@ -34,9 +33,9 @@ use Rattle.ms_machine.specs.Moves as moves
 use Rattle.ms_machine.specs.Moves.{Goes, Move, hosted, move_for, move_on}
 use Rattle.ms_machine.specs.Segments as segments
 use Rattle.ms_machine.specs.Segments.{segment_on}
-use Rattle.ms_machine.specs.Step.{Calls, Next, Outcome, Stuck, Trap, act, call, call_target, call_through, called, choose, exited, first, goes, host_in, in_memory, in_segments, linear, moved, on_memory, on_top, pushed, select, set_global, set_global_at, set_local, step_of, value_in, worked}
+use Rattle.ms_machine.specs.Step.{Calls, Next, Outcome, Stuck, Trap, act, call, call_target, call_through, called, choose, exited, first, goes, host_in, in_memory, in_segments, linear, moved, on_memory, on_top, pushed, select, set_global, set_global_at, set_local, value_in, worked}
 use Rattle.ms_machine.specs.Store.{Store, at, func_address, global_address, instance_of, memory_address, table_address, type_at}
-use Rattle.ms_machine.specs.Typing.{FrameTyped, InstrTypedAt, IsExited, Outline, StoreTyped, TaskTyped, ThreadTyped, WorkTyped, context_at, labels_of, outline_of, types_of}
+use Rattle.ms_machine.specs.Typing.{FrameTyped, InstrTypedAt, IsExited, Outline, StoreTyped, TaskTyped, WorkTyped, context_at, labels_of, outline_of, types_of}
 use Rattle.ms_machine.proofs.TypedActs.{act_typed}
 use Rattle.ms_machine.proofs.TypedBlocks.{table_takes}
 use Rattle.ms_machine.proofs.TypedPlain.{CallTyped, OutcomeTyped}

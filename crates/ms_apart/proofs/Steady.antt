@@ -1,5 +1,5 @@
 -- What any step does to the segments of a store: all of it is of one side, where there is but one.
-use Rattle.std.proofs.Common.{◌≡◌, ℕ, ◌+◌, inl, inr, Bool, true, List, [], ◌∷◌, Option, Some, None, refl, sym, subst, ◌∙◌}
+use Rattle.std.proofs.Common.{◌≡◌, ℕ, inl, inr, Bool, true, List, [], ◌∷◌, Option, Some, None, refl, sym, subst, ◌∙◌}
 use Rattle.std.proofs.lemmas.Bool.{cases_eq}
 use Rattle.ms_event.specs.declared.event.Event.{Event}
 use Rattle.ms_handle.specs.declared.handle.Handle.{Handle}
@@ -14,7 +14,6 @@ use Rattle.ms_segment.specs.Memory.{Memory, live_of}
 use Rattle.ms_tagged.specs.Bytes.{Byte, Data, Piece}
 use Rattle.ms_task.specs.Thread.{Activation, Do, Item, Label, Thread}
 use Rattle.ms_apart.specs.refinement.Apart.{EachByte, FunctionOn, HandleOn, IsSided, MemoryStep, Owned, SegmentOn, Separated, Sides, Stepped, StoreStep, ThreadOn, ValueOn, WorkOn, contents, counted, ended, global, kept, memory, same, segments, written}
-use Rattle.ms_apart.proofs.Lists.{same_Some}
 use Rattle.ms_apart.proofs.Moves.{MoveOn, move_on_side}
 use Rattle.ms_apart.proofs.Others.{live_gone, live_stays}
 

@@ -29,8 +29,8 @@ state_of n r = if_trapped n r.end (in_crew (slice_get r.crew.tasks n))
 
 -- the same, by the step that stopped the run, if one did
 abbrev pub by_whose : ℕ → Whose → TrapKind → TaskState → TaskState
-by_whose n whose.Start kind state = state
-by_whose n (whose.Task k) kind state = if k == n then Trapped kind else state
+by_whose n whose.Start how state = state
+by_whose n (whose.Task k) how state = if k == n then Trapped how else state
 
 abbrev pub by_stop : ℕ → Option Stop → TaskState → TaskState
 by_stop n None state = state
