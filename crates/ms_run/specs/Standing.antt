@@ -15,7 +15,7 @@ apart_word false = codes "joined"
 abbrev pub state_line : TaskState → List ℕ
 state_line Unended = line (codes "open")
 state_line (Ended value) = result_line value
-state_line (Trapped kind) = trap_line kind
+state_line (Trapped trap) = trap_line trap
 
 -- the line of the task of this number
 abbrev pub standing_line : (number : ℕ) → (apart : Bool) → TaskState → List ℕ
