@@ -351,6 +351,6 @@ fn expect_rows<R: Abort + AllocGlobal>(rt: &R, table: &str) -> Result<usize, Fai
 
 #[test]
 fn worked_rows(rt: HostRuntime) -> Result<(), Fail> {
-    assert_eq!(rt; expect_rows(&rt, rows::ROWS)?, 209);
+    assert_eq!(rt; expect_rows(&rt, rows::ROWS)?, 213);
     Ok(())
 }
