@@ -1,3 +1,4 @@
+pub mod ByAddress
 pub mod Found
 pub mod Hinting
 pub mod Keeping

@@ -1,10 +1,9 @@
 -- What the search for a place rests on: which places a live segment takes.
-use Rattle.std.proofs.Common.{◌≡◌, ℕ, ◌+◌, ◌-◌, ◌<◌, ◌≤◌, ◌⊎◌, true, false, List, Some, None, inl, inr, arith}
-use Rattle.std.specs.List.{Contains, find}
+use Rattle.std.proofs.Common.{◌≡◌, ℕ, ◌+◌, ◌-◌, ◌<◌, ◌≤◌, ◌⊎◌, true, false, List, inl, inr, arith}
+use Rattle.std.specs.List.{All, Contains}
 use Rattle.std.proofs.lemmas.List.Elements.{All-contains, All-weaker}
 use Rattle.std.proofs.lemmas.Bool.Decides.{nat_tests}
 use Rattle.std.proofs.lemmas.Bool.{cases_lt}
-use Rattle.ms_live.proofs.Found.{find-None, find-Some}
 use Rattle.ms_live.specs.declared.gaps.Live.{Live}
 use Rattle.ms_live.specs.Overlap.{overlaps}
 use Rattle.ms_live.specs.Place.{IsAligned, IsFree, IsOutside}
@@ -17,7 +16,7 @@ outside-from_apart place n k s below e = grind (arith, nat_tests)
 begins_before : (place n : ℕ) (s : Live) → overlaps place n s ≡ true → s.base < place + n
 begins_before place n s e = grind (arith, nat_tests)
 
-ends_behind : (place n : ℕ) (s : Live) → overlaps place n s ≡ true → place < s.base + s.size
+pub ends_behind : (place n : ℕ) (s : Live) → overlaps place n s ≡ true → place < s.base + s.size
 ends_behind place n s e = grind (arith, nat_tests)
 
 has_bytes : (place n : ℕ) (s : Live) → overlaps place n s ≡ true → 0 < s.size
@@ -26,32 +25,27 @@ has_bytes place n s e = grind (arith, nat_tests)
 -- ---- all segments
 
 -- where no segment overlaps them, the addresses are free
-pub free-from_None : (live : List Live) (capacity n place : ℕ) → place + n ≤ capacity → find (overlaps place n) live ≡ None → IsFree live capacity n place
-free-from_None live capacity n place within e k below =
-    (omega arith, All-weaker (λ s. overlaps place n s ≡ false) (IsOutside (place + k)) (λ s apart. outside-from_apart place n k s below apart) live (find-None (overlaps place n) live e))
+pub free-from_apart : (live : List Live) (capacity n place : ℕ) → place + n ≤ capacity → All (λ s. overlaps place n s ≡ false) live → IsFree live capacity n place
+free-from_apart live capacity n place within apart k below =
+    (omega arith, All-weaker (λ s. overlaps place n s ≡ false) (IsOutside (place + k)) (λ s apart. outside-from_apart place n k s below apart) live apart)
 
 -- a segment that overlaps at one place does so at each place from there up to its end
-pub taken : (live : List Live) (capacity n place lower : ℕ) (s : Live) → 0 < n → find (overlaps place n) live ≡ Some s → place ≤ lower → lower < s.base + s.size → ¬ (IsFree live capacity n lower)
-taken live capacity n place lower s some e from below free =
-    let found = find-Some (overlaps place n) live s e in
-    let begins = begins_before place n s found.1 in
-    let bytes = has_bytes place n s found.1 in
+taken : (live : List Live) (capacity n place lower : ℕ) (s : Live) → 0 < n → Contains live s → overlaps place n s ≡ true → place ≤ lower → lower < s.base + s.size → ¬ (IsFree live capacity n lower)
+taken live capacity n place lower s some has meets from below free =
+    let begins = begins_before place n s meets in
+    let bytes = has_bytes place n s meets in
     let k : ℕ = s.base - lower in
     let within : k < n = omega arith in
-    let out = All-contains (IsOutside (lower + k)) live s (free k within).1 found.0 in
+    let out = All-contains (IsOutside (lower + k)) live s (free k within).1 has in
     let past : s.base + s.size ≤ lower + k = out (omega arith) in
     omega arith
 
--- the search goes on behind the segment that it found
-pub passes : (live : List Live) (n place : ℕ) (s : Live) → find (overlaps place n) live ≡ Some s → place < s.base + s.size
-passes live n place s e = ends_behind place n s (find-Some (overlaps place n) live s e).1
-
--- and no place on the way there is free
-pub none_below_next : (live : List Live) (capacity n place next : ℕ) (s : Live) → 0 < n → find (overlaps place n) live ≡ Some s → IsAligned next → next < s.base + s.size + 16 → ((lower : ℕ) → lower < place → IsAligned lower → ¬ (IsFree live capacity n lower)) → (lower : ℕ) → lower < next → IsAligned lower → ¬ (IsFree live capacity n lower)
-none_below_next live capacity n place next s some e aligned near none_below lower below lower_aligned =
+-- no place on the way behind it is free
+pub none_behind : (live : List Live) (capacity n place next : ℕ) (s : Live) → 0 < n → Contains live s → overlaps place n s ≡ true → IsAligned next → next < s.base + s.size + 16 → ((lower : ℕ) → lower < place → IsAligned lower → ¬ (IsFree live capacity n lower)) → (lower : ℕ) → lower < next → IsAligned lower → ¬ (IsFree live capacity n lower)
+none_behind live capacity n place next s some has meets aligned near none_below lower below lower_aligned =
     elim (cases_lt lower place) [
       | inl less ↦ none_below lower less lower_aligned
-      | inr from ↦ taken live capacity n place lower s some e from (omega arith)
+      | inr from ↦ taken live capacity n place lower s some has meets from (omega arith)
     ]
 
 -- from a place on that is too near to the end none is free

@@ -1,14 +1,10 @@
-use Rattle.std.proofs.Common.{ℕ, ◌+◌, ◌-◌, ◌<◌, ◌^◌}
-use Rattle.ms_live.specs.Place.{IsAligned, IsFree}
+use Rattle.std.proofs.Common.{◌≡◌, ◌<◌, ◌^◌, drop}
+use Rattle.ms_live.specs.refinement.ByAddress.{passed}
 use Rattle.ms_live.proofs.least_gap.least_place.Given as goal
 
--- The candidate is a place, and no lower place is free.
-abbrev pub invariant-loop-candidate : goal.invariant-loop-candidate
-invariant-loop-candidate l = record {
-  aligned : IsAligned l.candidate;
+-- The walk along the segments that are left comes to what the whole walk does.
+abbrev pub invariant-loop-i : goal.invariant-loop-i
+invariant-loop-i l = record {
   near : l.candidate < 2 ^ 34;
-  none_below : (lower : ℕ) → lower < l.candidate → IsAligned lower → ¬ (IsFree l.live l.capacity l.n lower);
+  left : passed l.n l.candidate (drop l.i l.placed) ≡ passed l.n 0 l.placed;
 }
-
-abbrev pub decreases-loop-candidate : goal.decreases-loop-candidate
-decreases-loop-candidate l = l.capacity + 1 - l.candidate

@@ -131,7 +131,7 @@ fn stressed<G: Gaps, T: Tagged>(alloc: Global) -> Result<(Status, MemSink), Fail
     let given = stress_over::<G, T, MemShelf, MemSource, MemSink, MemSink>(
         alloc,
         7,
-        1_000,
+        100_000,
         &mut outside.shelf,
         &mut outside.input,
         &mut outside.out,
