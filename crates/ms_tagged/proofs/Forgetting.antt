@@ -113,13 +113,13 @@ forgets-set masks granule mask from to there order within clear =
       ];
     }
 
-wiped-inside : (masks : List ℕ) (from to i : ℕ) → from ≤ to → to ≤ length masks → from ≤ i → i < to → get_or (take from masks ++ replicate (to - from) 0 ++ drop to masks) i 0 ≡ 0
+pub wiped-inside : (masks : List ℕ) (from to i : ℕ) → from ≤ to → to ≤ length masks → from ≤ i → i < to → get_or (take from masks ++ replicate (to - from) 0 ++ drop to masks) i 0 ≡ 0
 wiped-inside masks from to i order within above below = grind (arith, places)
 
-wiped-below : (masks : List ℕ) (from to i : ℕ) → from ≤ to → to ≤ length masks → i < from → get_or (take from masks ++ replicate (to - from) 0 ++ drop to masks) i 0 ≡ get_or masks i 0
+pub wiped-below : (masks : List ℕ) (from to i : ℕ) → from ≤ to → to ≤ length masks → i < from → get_or (take from masks ++ replicate (to - from) 0 ++ drop to masks) i 0 ≡ get_or masks i 0
 wiped-below masks from to i order within below = grind (arith, places)
 
-wiped-above : (masks : List ℕ) (from to i : ℕ) → from ≤ to → to ≤ length masks → to ≤ i → get_or (take from masks ++ replicate (to - from) 0 ++ drop to masks) i 0 ≡ get_or masks i 0
+pub wiped-above : (masks : List ℕ) (from to i : ℕ) → from ≤ to → to ≤ length masks → to ≤ i → get_or (take from masks ++ replicate (to - from) 0 ++ drop to masks) i 0 ≡ get_or masks i 0
 wiped-above masks from to i order within above = grind (arith, places)
 
 -- some of them are 0

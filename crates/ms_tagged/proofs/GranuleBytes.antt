@@ -69,6 +69,18 @@ byte_at-past plain masks handles i past each =
     let bit : piece_bit masks i ≡ 0 = ap (λ m. bit_at m (i % 16)) (get_or_past masks (i / 16) 0 (omega arith)) ∙ bit_at-zero (i % 16) in
     byte_at-data plain masks handles i bit ∙ ap Data (get_or_past plain i 0 past)
 
+number_at-zeros : (byte : ℕ → Byte) (i n : ℕ) → ((k : ℕ) → i ≤ k → byte k ≡ Data 0) → number_at (bytes_from byte i n) ≡ Some 0
+number_at-zeros byte i zero are = refl
+number_at-zeros byte i (suc n) are = rw (are i (omega arith), number_at-zeros byte (suc i) n (λ k low. are k (omega arith))) refl
+
+-- none of the bytes is there
+pub number-past : (plain masks : List ℕ) (handles : List StoredHandle) (old : List Byte) (n at width : ℕ) → bytes_from (byte_at plain masks handles) 0 n ≡ old → at + width ≤ length old → length plain ≤ at → length plain ≡ 16 * length masks
+    → number_at (range at width old) ≡ Some 0
+number-past plain masks handles old n at width seen within past each =
+    let room : length old ≡ n = ap length (sym seen) ∙ length-bytes_from (byte_at plain masks handles) 0 n in
+    ap (λ l. number_at (range at width l)) (sym seen)
+    ∙ (ap number_at (range-bytes_from (byte_at plain masks handles) n at width (omega arith)) ∙ number_at-zeros (byte_at plain masks handles) at width (λ k low. byte_at-past plain masks handles k (omega (arith, past, low)) each))
+
 pub shown-piece : (plain masks : List ℕ) (handles : List StoredHandle) (i : ℕ) → piece_bit masks i ≡ 1 → shown_at (byte_at plain masks handles i ∷ []) ≡ None
 shown-piece plain masks handles i bit = rw bit refl
 

@@ -13,7 +13,7 @@ use Rattle.ms_tagged.proofs.GranuleBytes.{byte_at-same, bytes_from-data}
 
 -- ---- writing data
 
-written-above : (plain bytes : List ℕ) (at i : ℕ) → at + length bytes ≤ length plain → at + length bytes ≤ i → get_or (take at plain ++ (bytes ++ drop (at + length bytes) plain)) i 0 ≡ get_or plain i 0
+pub written-above : (plain bytes : List ℕ) (at i : ℕ) → at + length bytes ≤ length plain → at + length bytes ≤ i → get_or (take at plain ++ (bytes ++ drop (at + length bytes) plain)) i 0 ≡ get_or plain i 0
 written-above plain bytes at i within above = grind (arith, places)
 
 -- plain bytes were written, and the masks say that they are no pieces
@@ -57,10 +57,6 @@ data-written plain masks handles before now said forgotten part written old n at
 -- how long the part is that is written, at a size as the code computes it
 pub length-held : (now : List ℕ) (at size : ℕ) → at + size ≤ length now → length (take (at + size - at) (drop at now)) ≡ size
 length-held now at size within = grind (arith, places)
-
-pub zeros-data : (n : ℕ) → data_bytes (replicate n 0) ≡ replicate n (Data 0)
-zeros-data zero = refl
-zeros-data (suc n) = ap (λ l. Data 0 ∷ l) (zeros-data n)
 
 -- ---- writing a handle
 

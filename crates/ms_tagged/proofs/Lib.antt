@@ -8,4 +8,5 @@ pub mod Handles
 pub mod Numbers
 pub mod Ranges
 pub mod Filled
+pub mod Wiping
 pub mod Within

@@ -1,11 +1,12 @@
 //! Tagged bytes by sixteen: plain bytes, a mask and one handle.
 
-ghost use Rattle.std.specs.Prelude.{◌≡◌, ◌≤◌, ◌<◌, ◌+◌, ◌-◌, ◌*◌, ◌/◌, ◌^◌, ◌++◌, ℕ, List, IfSome, length, replicate, vec_len, vec_capacity};
+ghost use Rattle.std.specs.Prelude.{◌≡◌, ◌≤◌, ◌<◌, ◌+◌, ◌-◌, ◌*◌, ◌/◌, ◌^◌, ◌++◌, ℕ, List, IfOk, IfSome, length, replicate, vec_len, vec_capacity};
 ghost use Rattle.ms_tagged.specs.declared.granules.StoredHandle.{StoredHandle};
 ghost use Rattle.ms_tagged.specs.Bytes.{held_at, number_at, range, shown_at};
 ghost use Rattle.ms_tagged.specs.refinement.Granules.{byte_at, handle_in};
 
-use crate::pieces::{GRANULE, forget, forget_few, hold_data, is_piece};
+use crate::marks::{BLOCK, REGION, mark, wipe};
+use crate::pieces::{GRANULE, forget_few, hold_data, is_piece};
 use crate::tagged::Tagged;
 use crate::word::{are_zeros, read_word, write_word};
 use ms_handle::Handle;
@@ -32,30 +33,38 @@ const UNSET: StoredHandle = StoredHandle {
 /// Bytes that are data or pieces of handles, in granules of sixteen bytes.
 ///
 /// A granule has sixteen plain bytes, a mask of sixteen bits and one handle. Bit i of the mask says that byte i is piece i
-/// of that handle; the plain byte there means nothing then. Memory is reserved for all granules. Those behind the last one
+/// of that handle; the plain byte there means nothing then. Memory is reserved for all granules. Those behind the last block
 /// that was written so far are not there yet; they stand for data bytes 0. Handles are there up to the last one that was
 /// stored, so that no write of data, however long, writes any.
+///
+/// A block is marked when something is written in it, and loses its mark when all of it is cleared. In one that isn't marked
+/// all bytes are data bytes 0, so that to clear it takes a look at its mark.
 #[derive(Drop)]
 pub struct Granules {
     plain: Vec<u8>,
     masks: Vec<u16>,
     handles: Vec<StoredHandle>,
+    written: Vec<u64>,
     capacity: u32,
     ghost plain_for_each: { vec_len plain ≡ 16 * vec_len masks },
     ghost few_handles: { vec_len handles ≤ vec_len masks },
-    ghost room_for_plain: { 16 * ((capacity + 15) / 16) ≤ vec_capacity plain },
-    ghost room_for_masks: { (capacity + 15) / 16 ≤ vec_capacity masks },
+    ghost mark_for_each: { vec_len plain ≤ 262144 * vec_len written },
+    ghost marks_for_all: { capacity ≤ 262144 * vec_len written },
+    ghost room_for_plain: { 4096 * ((capacity + 4095) / 4096) ≤ vec_capacity plain },
+    ghost room_for_masks: { 256 * ((capacity + 4095) / 4096) ≤ vec_capacity masks },
     ghost room_for_handles: { (capacity + 15) / 16 ≤ vec_capacity handles },
 }
 
 impl Model for Granules {
     ghost use Rattle.std.specs.Prelude.{List};
     ghost use Rattle.ms_tagged.specs.Bytes.{Byte};
-    ghost use Rattle.ms_tagged.specs.refinement.Granules.{byte_at, bytes_from};
+    ghost use Rattle.ms_tagged.specs.refinement.Granules.{IsBlank, byte_at, bytes_from};
 
     ghost Value = { List Byte };
 
     ghost view = { λ g. bytes_from (byte_at g.plain.items g.masks.items g.handles.items) 0 g.capacity };
+
+    ghost invariant = { λ g. IsBlank g.plain.items g.masks.items g.written.items };
 }
 
 /// Adds copies of an item up to a length.
@@ -71,24 +80,34 @@ fn fill_up<T: Copy>(items: &mut Vec<T>, len: usize, item: T)
     }
 }
 
-/// Adds the plain bytes and masks of the granules up to a place that aren't there yet.
+/// Adds the plain bytes and masks of the blocks up to a place that aren't there yet.
 #[inline(always)]
 fn reach(plain: &mut Vec<u8>, masks: &mut Vec<u16>, end: usize)
     requires plain_for_each { vec_len plain.old ≡ 16 * vec_len masks.old }
-    requires room { (16 * ((end + 15) / 16) ≤ vec_capacity plain.old) × ((end + 15) / 16 ≤ vec_capacity masks.old) }
+    requires room { (4096 * ((end + 4095) / 4096) ≤ vec_capacity plain.old) × (256 * ((end + 4095) / 4096) ≤ vec_capacity masks.old) }
     ensures bytes { (handles : List StoredHandle) (i : ℕ) → byte_at plain.new.items masks.new.items handles i ≡ byte_at plain.old.items masks.old.items handles i }
     ensures there { end ≤ vec_len plain.new }
     ensures plain_for_each { vec_len plain.new ≡ 16 * vec_len masks.new }
     ensures more { vec_len masks.old ≤ vec_len masks.new }
+    ensures few { vec_len plain.new ≤ vec_len plain.old + (4096 * ((end + 4095) / 4096) - vec_len plain.old) }
     ensures room_for_plain { vec_capacity plain.old ≤ vec_capacity plain.new }
     ensures room_for_masks { vec_capacity masks.old ≤ vec_capacity masks.new }
 {
     if end <= plain.len() {
         return;
     }
-    let granules = end.div_ceil(GRANULE);
-    fill_up(plain, granules * GRANULE, 0);
-    fill_up(masks, granules, 0);
+    let blocks = end.div_ceil(BLOCK);
+    fill_up(plain, blocks * BLOCK, 0);
+    fill_up(masks, blocks * (BLOCK / GRANULE), 0);
+}
+
+/// So many words of marks, none of them set.
+fn no_marks(alloc: Global, words: usize) -> Result<Vec<u64>, AllocError>
+    ensures { IfOk result (λ marks. vec_len marks ≡ words) }
+{
+    let mut marks = Vec::with_capacity(alloc, words)?;
+    fill_up(&mut marks, words, 0);
+    Ok(marks)
 }
 
 /// The handle that a granule keeps.
@@ -154,11 +173,13 @@ impl Tagged for Granules {
     ghost bytes = { λ bytes. bytes };
 
     fn new(alloc: Global, capacity: u32) -> Result<Self, AllocError> {
-        let granules = (capacity as usize).div_ceil(GRANULE);
+        let bytes = capacity as usize;
+        let blocks = bytes.div_ceil(BLOCK);
         Ok(Granules {
-            plain: Vec::with_capacity(alloc, granules * GRANULE)?,
-            masks: Vec::with_capacity(alloc, granules)?,
-            handles: Vec::with_capacity(alloc, granules)?,
+            plain: Vec::with_capacity(alloc, blocks * BLOCK)?,
+            masks: Vec::with_capacity(alloc, blocks * (BLOCK / GRANULE))?,
+            handles: Vec::with_capacity(alloc, bytes.div_ceil(GRANULE))?,
+            written: no_marks(alloc, bytes.div_ceil(REGION))?,
             capacity,
         })
     }
@@ -170,6 +191,9 @@ impl Tagged for Granules {
         if hold_data(&self.masks, from, end) {
             return Some(read_word(&self.plain[from..end]));
         }
+        if from >= self.plain.len() {
+            return Some(0);
+        }
         self.number(from, width as usize)
     }
 
@@ -180,6 +204,7 @@ impl Tagged for Granules {
         reach(&mut self.plain, &mut self.masks, end);
         forget_few(&mut self.masks, from, end);
         write_word(&mut self.plain[from..end], value);
+        mark(&mut self.written, from, end);
     }
 
     fn get_handle(&self, address: u32) -> Handle {
@@ -209,14 +234,19 @@ impl Tagged for Granules {
         fill_up(&mut self.handles, granule + 1, UNSET);
         self.masks[granule] = WHOLE;
         self.handles[granule] = StoredHandle { handle };
+        mark(&mut self.written, from, from + GRANULE);
     }
 
     fn clear(&mut self, address: u32, size: u32) {
         let from = address as usize;
         let to = from + size as usize;
-        reach(&mut self.plain, &mut self.masks, to);
-        forget(&mut self.masks, from, to);
-        self.plain[from..to].fill(0);
+        wipe(
+            &mut self.plain,
+            &mut self.masks,
+            &mut self.written,
+            from,
+            to,
+        );
     }
 
     fn shown(&self, address: u32) -> Option<u8> {

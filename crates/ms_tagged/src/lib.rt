@@ -7,6 +7,7 @@
 mod byte_tags;
 mod granules;
 pub mod lanes;
+mod marks;
 mod pieces;
 mod tag;
 mod tagged;

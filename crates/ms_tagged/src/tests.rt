@@ -139,7 +139,7 @@ fn written<T: Tagged>(
 use Step::{Clear, Put, PutHandle};
 use Want::{At, Held, Number, Shown};
 
-const ROWS: [Row; 13] = [
+const ROWS: [Row; 16] = [
     Row {
         name: "new",
         capacity: 72,
@@ -312,6 +312,49 @@ const ROWS: [Row; 13] = [
         ],
     },
     Row {
+        name: "a number in two blocks, of which the second is cleared",
+        capacity: 12_340,
+        steps: &[Put(4092, 8, HIGH), Put(8190, 1, 1), Clear(4096, 4096)],
+        wants: &[
+            Number(4092, 4, Some(0xbbaa_9988)),
+            Shown(4096, 8244, Some(0)),
+            At(4080, Handle::Broken),
+        ],
+    },
+    Row {
+        name: "a part of a block cleared, then all of it",
+        capacity: 12_340,
+        steps: &[
+            Put(0, 1, 1),
+            PutHandle(4080, FIRST),
+            Put(4096, 1, 2),
+            Clear(0, 4090),
+            Clear(0, 4096),
+        ],
+        wants: &[
+            Shown(0, 4096, Some(0)),
+            At(4080, Handle::Null),
+            Shown(4096, 1, Some(2)),
+        ],
+    },
+    Row {
+        name: "from the middle of a block to the end",
+        capacity: 12_340,
+        steps: &[
+            PutHandle(4080, FIRST),
+            PutHandle(4096, SECOND),
+            Put(8191, 2, 0xffff),
+            Put(12_339, 1, 3),
+            Clear(4104, 8236),
+        ],
+        wants: &[
+            At(4080, FIRST),
+            At(4096, Handle::Broken),
+            Held(4103, Some(SECOND)),
+            Shown(4104, 8236, Some(0)),
+        ],
+    },
+    Row {
         name: "nothing",
         capacity: 0,
         steps: &[Clear(0, 0)],
@@ -339,6 +382,63 @@ fn byte_tags_answer_the_rows(rt: HostRuntime) -> Result<(), Fail> {
 #[test]
 fn granules_answer_the_rows(rt: HostRuntime) -> Result<(), Fail> {
     compare_rows::<Granules>(&rt, rt.alloc())?;
+    Ok(())
+}
+
+/// How many bytes drawn steps write: three blocks of 4,096 bytes, and a part of a fourth.
+const MANY: u32 = 12_340;
+
+/// The step that a number draws, at a border of blocks or at the end.
+fn drawn_step(draw: u32) -> Step {
+    let block = draw / 8 % 4 * 4096;
+    let near = (block + 4072 + draw / 32 % 48).min(MANY - 16);
+    match draw % 8 {
+        0 | 1 | 2 | 3 => Put(near, 1 << (draw % 4), HIGH - u64::from(draw)),
+        4 => PutHandle(near / 16 * 16, FIRST),
+        5 => PutHandle(near / 16 * 16, SECOND),
+        6 => Clear(near, (draw / 2048 % 10_000).min(MANY - near)),
+        _ => Clear(block, 4096.min(MANY - block)),
+    }
+}
+
+/// The steps that a seed draws.
+fn drawn(seed: u64) -> [Step; 60] {
+    let mut steps = [Clear(0, 0); 60];
+    let mut state = seed;
+    for at in 0..60 {
+        state = state
+            .wrapping_mul(6_364_136_223_846_793_005)
+            .wrapping_add(1_442_695_040_888_963_407);
+        steps[at] = drawn_step((state >> 33) as u32);
+    }
+    steps
+}
+
+/// Compares all bytes of both forms.
+fn compare_both<S: Tagged, T: Tagged>(rt: &impl Abort, one: &S, other: &T, capacity: u32)
+    requires one { length (S.bytes one.now) ≡ capacity }
+    requires other { length (T.bytes other.now) ≡ capacity }
+{
+    for at in 0..capacity {
+        assert_eq!(rt; one.shown(at), other.shown(at), "byte at {at}");
+        assert!(rt;
+            one.held(at) == other.held(at),
+            "handle of the byte at {at}"
+        );
+    }
+}
+
+/// Both forms are the same after drawn steps.
+#[test]
+fn both_alike(rt: HostRuntime) -> Result<(), Fail> {
+    for seed in 0..40 {
+        let steps = drawn(seed);
+        for len in [3, 8, 20, 60] {
+            let tags: ByteTags = written(&rt, rt.alloc(), MANY, &steps[..len])?;
+            let granules: Granules = written(&rt, rt.alloc(), MANY, &steps[..len])?;
+            compare_both(&rt, &tags, &granules, MANY);
+        }
+    }
     Ok(())
 }
 

@@ -58,3 +58,17 @@ pub record Clears (old new from to : ℕ) : Type 0 where
   pub inside : (i : ℕ) → from ≤ i → i < to → bit_at new i ≡ 0
   pub below : (i : ℕ) → i < from → bit_at new i ≡ bit_at old i
   pub above : (i : ℕ) → to ≤ i → bit_at new i ≡ bit_at old i
+
+-- the mark of the block in which byte i stands, of 64 such marks in a word: 0 where nothing was written in that block, or all of it was cleared since
+abbrev pub mark_bit : List ℕ → ℕ → ℕ
+mark_bit written i = bit_at (slice_index_or written (i / 262144) 0) (i / 4096 % 64)
+
+-- in a block that isn't marked each byte is a data byte 0, whatever handles are kept
+pub record IsBlank (plain masks written : List ℕ) : Type 0 where
+  pub zeros : (handles : List StoredHandle) (i : ℕ) → mark_bit written i ≡ 0 → byte_at plain masks handles i ≡ Data 0
+
+-- the bytes from one up to another are data bytes 0; all others are what they were
+pub record Wipes (plain masks plain' masks' : List ℕ) (from to : ℕ) : Type 0 where
+  pub inside : (handles : List StoredHandle) (i : ℕ) → from ≤ i → i < to → byte_at plain' masks' handles i ≡ Data 0
+  pub below : (handles : List StoredHandle) (i : ℕ) → i < from → byte_at plain' masks' handles i ≡ byte_at plain masks handles i
+  pub above : (handles : List StoredHandle) (i : ℕ) → to ≤ i → byte_at plain' masks' handles i ≡ byte_at plain masks handles i

@@ -1,6 +1,7 @@
-use Rattle.std.proofs.Common.{◌≡◌, ◌≤◌, ◌<◌, ℕ, ◌+◌, ◌-◌, Some, take, drop, sym, ap, ◌∙◌, arith}
+use Rattle.std.proofs.Common.{lit<, ◌≡◌, ◌≤◌, ◌<◌, ℕ, ◌+◌, ◌-◌, Some, take, drop, sym, ap, ◌∙◌, arith}
+use Rattle.std.proofs.Math.Nat.{one-le-pow}
 use Rattle.ms_tagged.specs.refinement.Granules.{number_of, piece_bit}
-use Rattle.ms_tagged.proofs.GranuleBytes.{number-read, width-few}
+use Rattle.ms_tagged.proofs.GranuleBytes.{number-past, number-read, width-few}
 use Rattle.ms_tagged.proofs.granules.GranulesTagged.get.Goals as goal
 
 pub hold_data-requires-clause-some : goal.hold_data-requires-clause-some
@@ -16,3 +17,10 @@ returns-then-hold_data-clause-number c =
     let k : c.args.address + c.args.width - c.args.address ≡ c.args.width = omega arith in
     let read = number-read c.self.inside.plain.items c.self.inside.masks.items c.self.inside.handles.items c.args.self.now c.self.inside.capacity c.args.address c.args.width c.self.view_is c.requires.within (omega (arith, held.there)) none in
     ap Some (c.read_word.ensures.number ∙ (ap (λ n. number_of (take n (drop c.args.address c.deref-then-hold_data.result.now))) k ∙ ap (λ l. number_of (take c.args.width (drop c.args.address l))) c.deref-then-hold_data.ensures.value)) ∙ sym read
+
+pub returns-then-from-len-clause-number : goal.returns-then-from-len-clause-number
+returns-then-from-len-clause-number c =
+    sym (number-past c.self.inside.plain.items c.self.inside.masks.items c.self.inside.handles.items c.args.self.now c.self.inside.capacity c.args.address c.args.width c.self.view_is c.requires.within (omega arith) (omega arith))
+
+pub returns-then-from-len-clause-fits : goal.returns-then-from-len-clause-fits
+returns-then-from-len-clause-fits c = one-le-pow c.args.width 256 (lit< tt)
