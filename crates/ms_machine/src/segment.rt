@@ -1,10 +1,10 @@
 //! Instructions on handles and segments, each in a small function, over any `SegmentMemory`: they see no byte but by its loads.
 
-ghost use Rattle.std.specs.Prelude.{◌≡◌, ◌≢◌, ◌<◌, ◌^◌, List, [], ◌∷◌};
+ghost use Rattle.std.specs.Prelude.{◌≡◌, ◌≢◌, ◌<◌, ◌^◌, List, [], ◌∷◌, false, IsTrue, None};
 ghost use Rattle.ms_handle.specs.Handle.{HasBounds};
-ghost use Rattle.ms_machine.specs.refinement.Doing.{DoesInSegments};
+ghost use Rattle.ms_machine.specs.refinement.Doing.{DoesInSegments, IsStill};
 ghost use Rattle.ms_machine.specs.refinement.Holding.{Each, Fits};
-ghost use Rattle.ms_machine.specs.Segments.{Stuck, is_null, seal_event, segment_on, slice_event};
+ghost use Rattle.ms_machine.specs.Segments.{Gives, Stuck, is_null, seal_event, segment_on, slice_event};
 ghost use Rattle.ms_module.specs.declared.access.Segment.TheVariants as instr;
 
 use crate::fault::{Fault, of_segment};
@@ -45,9 +45,34 @@ pub(crate) fn segment<S: SegmentMemory>(
     }
 }
 
+/// Carries out an instruction on handles alone, or says that it didn't: it traps, memory has run out, or the instruction is
+/// another one. Then nothing has changed.
+#[inline(always)]
+pub(crate) fn on_handles<S: SegmentMemory>(
+    i: Segment,
+    segments: &S,
+    operands: &mut Operands,
+) -> bool
+    requires there { segment_on i (S.memory segments.now) operands.old ≢ Stuck }
+    requires fit { Each (Fits (S.memory segments.now)) operands.old }
+    ensures on { IsTrue result → segment_on i (S.memory segments.now) operands.old ≡ Gives operands.new (S.memory segments.now) None }
+    ensures off { result ≡ false → operands.new ≡ operands.old }
+{
+    match i {
+        Segment::Null => null(segments, operands).is_ok(),
+        Segment::IsNull => is_null(segments, operands).is_ok(),
+        Segment::Eq => are_equal(segments, operands).is_ok(),
+        Segment::Diff => difference(segments, operands).is_ok(),
+        Segment::Add(scale) => add_to(scale, segments, operands).is_ok(),
+        _ => false,
+    }
+}
+
 /// `handle.null`.
+#[inline(always)]
 fn null<S: SegmentMemory>(segments: &S, operands: &mut Operands) -> Result<Option<Event>, Fault>
-    ensures { DoesInSegments (segment_on instr.Null (S.memory segments.now) operands.old) operands.old operands.new (S.memory segments.now) (S.memory segments.now) result }
+    ensures does { DoesInSegments (segment_on instr.Null (S.memory segments.now) operands.old) operands.old operands.new (S.memory segments.now) (S.memory segments.now) result }
+    ensures still { IsStill operands.old operands.new result }
 {
     let _ = segments;
     match operands.push(Value::Handle(Handle::Null)) {
@@ -97,6 +122,7 @@ fn free<S: SegmentMemory>(
 }
 
 /// `handle.add`.
+#[inline(always)]
 fn add_to<S: SegmentMemory>(
     scale: u32,
     segments: &S,
@@ -104,7 +130,8 @@ fn add_to<S: SegmentMemory>(
 ) -> Result<Option<Event>, Fault>
     requires there { segment_on (instr.Add scale) (S.memory segments.now) operands.old ≢ Stuck }
     requires fit { Each (Fits (S.memory segments.now)) operands.old }
-    ensures { DoesInSegments (segment_on (instr.Add scale) (S.memory segments.now) operands.old) operands.old operands.new (S.memory segments.now) (S.memory segments.now) result }
+    ensures does { DoesInSegments (segment_on (instr.Add scale) (S.memory segments.now) operands.old) operands.old operands.new (S.memory segments.now) (S.memory segments.now) result }
+    ensures still { IsStill operands.old operands.new result }
 {
     let _ = segments;
     let Value::I64(delta) = operands.get(0) else {
@@ -170,13 +197,15 @@ fn slice_of<S: SegmentMemory>(segments: &S, operands: &mut Operands) -> Result<O
 }
 
 /// `handle.eq`.
+#[inline(always)]
 fn are_equal<S: SegmentMemory>(
     segments: &S,
     operands: &mut Operands,
 ) -> Result<Option<Event>, Fault>
     requires there { segment_on instr.Eq (S.memory segments.now) operands.old ≢ Stuck }
     requires fit { Each (Fits (S.memory segments.now)) operands.old }
-    ensures { DoesInSegments (segment_on instr.Eq (S.memory segments.now) operands.old) operands.old operands.new (S.memory segments.now) (S.memory segments.now) result }
+    ensures does { DoesInSegments (segment_on instr.Eq (S.memory segments.now) operands.old) operands.old operands.new (S.memory segments.now) (S.memory segments.now) result }
+    ensures still { IsStill operands.old operands.new result }
 {
     let _ = segments;
     let (Value::Handle(b), Value::Handle(a)) = (operands.get(0), operands.get(1)) else {
@@ -188,9 +217,11 @@ fn are_equal<S: SegmentMemory>(
 }
 
 /// `handle.is_null`.
+#[inline(always)]
 fn is_null<S: SegmentMemory>(segments: &S, operands: &mut Operands) -> Result<Option<Event>, Fault>
     requires there { segment_on instr.IsNull (S.memory segments.now) operands.old ≢ Stuck }
-    ensures { DoesInSegments (segment_on instr.IsNull (S.memory segments.now) operands.old) operands.old operands.new (S.memory segments.now) (S.memory segments.now) result }
+    ensures does { DoesInSegments (segment_on instr.IsNull (S.memory segments.now) operands.old) operands.old operands.new (S.memory segments.now) (S.memory segments.now) result }
+    ensures still { IsStill operands.old operands.new result }
 {
     let _ = segments;
     let Value::Handle(handle) = operands.get(0) else {
@@ -201,13 +232,15 @@ fn is_null<S: SegmentMemory>(segments: &S, operands: &mut Operands) -> Result<Op
 }
 
 /// `handle.diff`.
+#[inline(always)]
 fn difference<S: SegmentMemory>(
     segments: &S,
     operands: &mut Operands,
 ) -> Result<Option<Event>, Fault>
     requires there { segment_on instr.Diff (S.memory segments.now) operands.old ≢ Stuck }
     requires fit { Each (Fits (S.memory segments.now)) operands.old }
-    ensures { DoesInSegments (segment_on instr.Diff (S.memory segments.now) operands.old) operands.old operands.new (S.memory segments.now) (S.memory segments.now) result }
+    ensures does { DoesInSegments (segment_on instr.Diff (S.memory segments.now) operands.old) operands.old operands.new (S.memory segments.now) (S.memory segments.now) result }
+    ensures still { IsStill operands.old operands.new result }
 {
     let _ = segments;
     let (Value::Handle(b), Value::Handle(a)) = (operands.get(0), operands.get(1)) else {

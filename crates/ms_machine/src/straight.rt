@@ -1,9 +1,10 @@
-//! Steps in a row that tell nothing: all but those that work on segments, call the host, or go through a table.
+//! Steps in a row that tell nothing: all but those that reach the segment memory or make handles smaller, call the host, or go through
+//! a table.
 
 ghost use Rattle.std.specs.Prelude.{◌≡◌, ◌≢◌, ◌<◌, ◌≤◌, ◌-◌, [], None, false, length, IsTrue, MatchOption, Some};
 ghost use Rattle.ms_machine.specs.refinement.StraightLine.{DoesAgain, DoesCall, DoesLeave, DoesMeet, DoesQuietly, DoesWork, IsAgain, IsCalm, IsHalted, IsNext};
 ghost use Rattle.ms_machine.specs.refinement.Doing.{Can, Carries};
-ghost use Rattle.ms_machine.specs.refinement.Holding.{StoreFits, ThreadFits};
+ghost use Rattle.ms_machine.specs.refinement.Holding.{Each, Fits, StoreFits, ThreadFits};
 ghost use Rattle.ms_machine.specs.Step.{Next, act};
 ghost use Rattle.ms_machine.specs.Typing.{StoreTyped, TaskTyped, outline_of};
 ghost use Rattle.ms_module.specs.declared.instr.Instr.TheVariants as instr;
@@ -13,8 +14,8 @@ ghost use Rattle.ms_task.specs.refinement.View.{at_next, before, thread_of};
 use crate::fault::Fault;
 use crate::lookup::func_address;
 use crate::store::Store;
-use crate::{control, memory, plain};
-use ms_module::{Instr, Linear, Numeric};
+use crate::{control, memory, plain, segment};
+use ms_module::{Instr, Linear, Numeric, Segment};
 use ms_segment::SegmentMemory;
 use ms_task::{CallFault, Task};
 
@@ -35,6 +36,26 @@ fn numeric<M: SegmentMemory>(store: &Store<M>, task: &mut Task, i: Numeric, next
     }
 }
 
+/// Carries out an instruction on handles alone, or says that it didn't; then nothing has changed.
+#[inline(always)]
+fn on_handles<M: SegmentMemory>(
+    store: &Store<M>,
+    task: &mut Task,
+    i: Segment,
+    next: usize,
+) -> bool
+    requires can { Can (instr.Segment i) next store.now task.old }
+    requires fit { Each (Fits store.now.segments) task.old.operands }
+    ensures on { IsTrue result → Carries (instr.Segment i) next store.now task.old task.new }
+    ensures off { result ≡ false → task.new ≡ task.old }
+{
+    if !segment::on_handles(i, &store.segments, &mut task.operands) {
+        return false;
+    }
+    task.go_to(next);
+    true
+}
+
 /// Carries out an instruction that stays within its sequence, behind which the task goes on at `next`, or says that it
 /// didn't; then nothing has changed.
 #[inline(always)]
@@ -44,7 +65,8 @@ fn carry_straight<M: SegmentMemory>(
     instr: &Instr,
     next: usize,
 ) -> bool
-    requires { Can instr.now next store.now task.old }
+    requires can { Can instr.now next store.now task.old }
+    requires fit { Each (Fits store.now.segments) task.old.operands }
     ensures on { IsTrue result → Carries instr.now next store.now task.old task.new }
     ensures off { result ≡ false → task.new ≡ task.old }
 {
@@ -59,6 +81,7 @@ fn carry_straight<M: SegmentMemory>(
         Instr::I32Const(n) => plain::i32_const(store, task, n, next).is_ok(),
         Instr::I64Const(n) => plain::i64_const(store, task, n, next).is_ok(),
         Instr::Numeric(i) => numeric(store, task, i, next),
+        Instr::Segment(i) => on_handles(store, task, i, next),
         _ => false,
     }
 }
@@ -158,6 +181,7 @@ fn straight<'a, M: SegmentMemory>(
     more: bool,
 ) -> CarriedOut<'a>
     requires next { IsNext instr.now next store.now task.old }
+    requires fit { Each (Fits store.now.segments) task.old.operands }
     requires more { IsTrue more → next < length (sequence store.now.funcs task.old.function task.old.sequence) }
     ensures done { DoesQuietly result instr.now next store.now task.old task.new }
     ensures on { result ≡ CarriedOut.On → IsTrue more }
@@ -251,6 +275,7 @@ fn quietly<'a, M: SegmentMemory>(
 ) -> CarriedOut<'a>
     requires before { before store.now.funcs task.old next ≡ Some instr.now }
     requires next { IsNext instr.now next store.now task.old }
+    requires fit { Each (Fits store.now.segments) task.old.operands }
     requires more { IsTrue more → next < length (sequence store.now.funcs task.old.function task.old.sequence) }
     ensures done { DoesQuietly result instr.now next store.now task.old task.new }
     ensures on { result ≡ CarriedOut.On → IsTrue more }
@@ -267,6 +292,11 @@ fn quietly<'a, M: SegmentMemory>(
         Instr::I32Const(_) => straight(store, task, instr, next, more),
         Instr::I64Const(_) => straight(store, task, instr, next, more),
         Instr::Numeric(_) => straight(store, task, instr, next, more),
+        Instr::Segment(Segment::Null) => straight(store, task, instr, next, more),
+        Instr::Segment(Segment::IsNull) => straight(store, task, instr, next, more),
+        Instr::Segment(Segment::Eq) => straight(store, task, instr, next, more),
+        Instr::Segment(Segment::Diff) => straight(store, task, instr, next, more),
+        Instr::Segment(Segment::Add(_)) => straight(store, task, instr, next, more),
         Instr::Block { .. } => leap(store, task, instr, next),
         Instr::Loop { .. } => leap(store, task, instr, next),
         Instr::If { .. } => leap(store, task, instr, next),
@@ -308,6 +338,8 @@ fn go<M: SegmentMemory>(store: &Store<M>, task: &mut Task, most: u64) -> (Met, u
     requires store { StoreTyped (outline_of store.now) }
     requires task { TaskTyped (outline_of store.now) (thread_of store.now.funcs task.old) }
     requires going { (thread_of store.now.funcs task.old).work ≢ [] }
+    requires store_fits { StoreFits store.now }
+    requires task_fits { ThreadFits store.now (thread_of store.now.funcs task.old) }
     ensures left { result.1 ≤ most }
     ensures met { DoesMeet result.0 result.1 most store.now (thread_of store.now.funcs task.old) task.new }
 {
@@ -426,6 +458,8 @@ fn go_quietly<M: SegmentMemory>(store: &mut Store<M>, task: &mut Task, most: u64
     requires store { StoreTyped (outline_of store.old) }
     requires task { TaskTyped (outline_of store.old) (thread_of store.old.funcs task.old) }
     requires going { (thread_of store.old.funcs task.old).work ≢ [] }
+    requires store_fits { StoreFits store.old }
+    requires task_fits { ThreadFits store.old (thread_of store.old.funcs task.old) }
     ensures left { result.1 ≤ most }
     ensures steps { IsHalted result.0 (most - result.1) store.old (thread_of store.old.funcs task.old) store.new (thread_of store.new.funcs task.new) }
 {

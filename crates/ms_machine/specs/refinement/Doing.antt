@@ -62,6 +62,11 @@ abbrev pub IsQuiet : Task → Task → Result (Option Event) Fault → Type 0
 IsQuiet t t' (Ok event) = event ≡ None
 IsQuiet t t' (Err fault) = t' ≡ t
 
+-- the same of the operands
+abbrev pub IsStill : List Value → List Value → Result (Option Event) Fault → Type 0
+IsStill vs vs' (Ok event) = event ≡ None
+IsStill vs vs' (Err fault) = vs' ≡ vs
+
 -- ---- those that stay within their sequence
 
 -- It tells nothing; where it stopped, nothing has changed.

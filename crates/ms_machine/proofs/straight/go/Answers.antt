@@ -3,7 +3,7 @@ use Rattle.std.proofs.lemmas.Bool.{ltb-true}
 use Rattle.ms_module.specs.declared.instr.Instr.{Instr}
 use Rattle.ms_task.specs.Thread.{sequence}
 use Rattle.ms_task.specs.refinement.View.{thread_of}
-use Rattle.ms_machine.proofs.StraightLine.{before_next, going_at, is_next, met_here, quietly_on, quietly_trans, quietly_typed}
+use Rattle.ms_machine.proofs.StraightLine.{before_next, going_at, is_next, met_here, quietly_fits, quietly_on, quietly_trans, quietly_typed}
 use Rattle.ms_machine.proofs.straight.go.Goals as goal
 use Rattle.ms_machine.proofs.straight.go.Goals.{in-On, in-Elsewhere, in-Again}
 
@@ -26,6 +26,12 @@ quietly-requires-clause-next g c =
     let v = l.invariant in
     let typed = quietly_typed s s (thread_of s.funcs c.args.task.now) (thread_of s.funcs l.task) (c.args.most - l.left) v.steps c.requires.store c.requires.task in
     is_next s l.code.now l.task l.place c.index-code-place.result v.code v.place v.within c.index-code-place.is c.requires.store typed.1 v.going
+
+pub quietly-requires-clause-fit : goal.quietly-requires-clause-fit
+quietly-requires-clause-fit g c =
+    let s = c.args.store.now in
+    let l = c.loop-left in
+    (quietly_fits s s (thread_of s.funcs c.args.task.now) (thread_of s.funcs l.task) (c.args.most - l.left) l.invariant.steps c.requires.store_fits c.requires.task_fits).1.operands
 
 pub returns-in-Linear-clause-met : goal.returns-in-Linear-clause-met
 returns-in-Linear-clause-met g c =

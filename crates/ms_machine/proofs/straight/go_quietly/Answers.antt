@@ -5,7 +5,7 @@ use Rattle.ms_machine.specs.refinement.StraightLine.{DoesMeet, DoesWork}
 use Rattle.ms_machine.specs.Typing.{StoreTyped}
 use Rattle.ms_machine.specs.declared.straight.Met.{Met}
 use Rattle.ms_machine.specs.declared.straight.Worked.{Worked}
-use Rattle.ms_machine.proofs.StraightLine.{quietly_trans, quietly_typed, worked_not, worked_on}
+use Rattle.ms_machine.proofs.StraightLine.{quietly_fits, quietly_trans, quietly_typed, worked_not, worked_on}
 use Rattle.ms_machine.proofs.straight.go_quietly.Goals as goal
 use Rattle.ms_machine.proofs.straight.go_quietly.Goals.{in-Linear, in-Global}
 
@@ -20,6 +20,18 @@ go-met-requires-clause-task g c =
     let s0 = c.args.store.now in
     let l = c.loop-left in
     (quietly_typed s0 l.store (thread_of s0.funcs c.args.task.now) (thread_of l.store.funcs l.task) (c.args.most - l.left) l.invariant.steps c.requires.store c.requires.task).1
+
+pub go-met-requires-clause-store_fits : goal.go-met-requires-clause-store_fits
+go-met-requires-clause-store_fits g c =
+    let s0 = c.args.store.now in
+    let l = c.loop-left in
+    (quietly_fits s0 l.store (thread_of s0.funcs c.args.task.now) (thread_of l.store.funcs l.task) (c.args.most - l.left) l.invariant.steps c.requires.store_fits c.requires.task_fits).0
+
+pub go-met-requires-clause-task_fits : goal.go-met-requires-clause-task_fits
+go-met-requires-clause-task_fits g c =
+    let s0 = c.args.store.now in
+    let l = c.loop-left in
+    (quietly_fits s0 l.store (thread_of s0.funcs c.args.task.now) (thread_of l.store.funcs l.task) (c.args.most - l.left) l.invariant.steps c.requires.store_fits c.requires.task_fits).1
 
 pub returns-in-Paused-clause-steps : goal.returns-in-Paused-clause-steps
 returns-in-Paused-clause-steps g c =
