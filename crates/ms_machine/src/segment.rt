@@ -416,10 +416,10 @@ fn store_by<S: SegmentMemory>(
     requires fit { Each (Fits (S.memory segments.old)) operands.old }
     ensures { DoesInSegments (segment_on (instr.Store op) (S.memory segments.old) operands.old) operands.old operands.new (S.memory segments.old) (S.memory segments.new) result }
 {
+    let number = number_for(op, operands.cell(0));
     let Value::Handle(handle) = operands.get(1) else {
         unreachable!()
     };
-    let number = number_for(op, operands.cell(0));
     match segments.store(handle, op.bytes(), number) {
         Ok(event) => {
             operands.cut(2);

@@ -38,7 +38,7 @@ fn numeric<M: SegmentMemory>(store: &Store<M>, task: &mut Task, i: Numeric, next
 
 /// Carries out an instruction on handles alone, or says that it didn't; then nothing has changed.
 #[inline(always)]
-fn on_handles<M: SegmentMemory>(
+fn carry_on_handles<M: SegmentMemory>(
     store: &Store<M>,
     task: &mut Task,
     i: Segment,
@@ -65,8 +65,7 @@ fn carry_straight<M: SegmentMemory>(
     instr: &Instr,
     next: usize,
 ) -> bool
-    requires can { Can instr.now next store.now task.old }
-    requires fit { Each (Fits store.now.segments) task.old.operands }
+    requires { Can instr.now next store.now task.old }
     ensures on { IsTrue result → Carries instr.now next store.now task.old task.new }
     ensures off { result ≡ false → task.new ≡ task.old }
 {
@@ -81,7 +80,6 @@ fn carry_straight<M: SegmentMemory>(
         Instr::I32Const(n) => plain::i32_const(store, task, n, next).is_ok(),
         Instr::I64Const(n) => plain::i64_const(store, task, n, next).is_ok(),
         Instr::Numeric(i) => numeric(store, task, i, next),
-        Instr::Segment(i) => on_handles(store, task, i, next),
         _ => false,
     }
 }
@@ -181,13 +179,39 @@ fn straight<'a, M: SegmentMemory>(
     more: bool,
 ) -> CarriedOut<'a>
     requires next { IsNext instr.now next store.now task.old }
-    requires fit { Each (Fits store.now.segments) task.old.operands }
     requires more { IsTrue more → next < length (sequence store.now.funcs task.old.function task.old.sequence) }
     ensures done { DoesQuietly result instr.now next store.now task.old task.new }
     ensures on { result ≡ CarriedOut.On → IsTrue more }
     ensures once { ¬ IsAgain result }
 {
     if !carry_straight(store, task, instr, next) {
+        return CarriedOut::Not;
+    }
+    if more {
+        return CarriedOut::On;
+    }
+    leave(store, task)
+}
+
+/// An instruction on handles alone, in the same way; each other one on segments is not carried out.
+///
+/// It has an arm of its own in `quietly`, since each arm that `straight` has makes the code longer by all that is straight.
+#[inline(always)]
+fn on_handles<'a, M: SegmentMemory>(
+    store: &'a Store<M>,
+    task: &mut Task,
+    i: Segment,
+    next: usize,
+    more: bool,
+) -> CarriedOut<'a>
+    requires next { IsNext (instr.Segment i) next store.now task.old }
+    requires more { IsTrue more → next < length (sequence store.now.funcs task.old.function task.old.sequence) }
+    requires fit { Each (Fits store.now.segments) task.old.operands }
+    ensures done { DoesQuietly result (instr.Segment i) next store.now task.old task.new }
+    ensures on { result ≡ CarriedOut.On → IsTrue more }
+    ensures once { ¬ IsAgain result }
+{
+    if !carry_on_handles(store, task, i, next) {
         return CarriedOut::Not;
     }
     if more {
@@ -292,11 +316,7 @@ fn quietly<'a, M: SegmentMemory>(
         Instr::I32Const(_) => straight(store, task, instr, next, more),
         Instr::I64Const(_) => straight(store, task, instr, next, more),
         Instr::Numeric(_) => straight(store, task, instr, next, more),
-        Instr::Segment(Segment::Null) => straight(store, task, instr, next, more),
-        Instr::Segment(Segment::IsNull) => straight(store, task, instr, next, more),
-        Instr::Segment(Segment::Eq) => straight(store, task, instr, next, more),
-        Instr::Segment(Segment::Diff) => straight(store, task, instr, next, more),
-        Instr::Segment(Segment::Add(_)) => straight(store, task, instr, next, more),
+        Instr::Segment(i) => on_handles(store, task, i, next, more),
         Instr::Block { .. } => leap(store, task, instr, next),
         Instr::Loop { .. } => leap(store, task, instr, next),
         Instr::If { .. } => leap(store, task, instr, next),
