@@ -3,6 +3,7 @@
 ghost use Rattle.std.specs.Prelude.{◌≡◌, ◌<◌, ◌^◌};
 ghost use Rattle.ms_machine.specs.refinement.Doing.{Can, DoesInstr, Stays, TellsNone};
 ghost use Rattle.ms_machine.specs.refinement.Holding.{Each, Fits};
+ghost use Rattle.ms_module.specs.declared.access.Segment.TheVariants as access;
 ghost use Rattle.ms_module.specs.declared.instr.Instr.TheVariants as instr;
 
 use crate::fault::{Fault, of_fault, of_operate};
@@ -10,7 +11,7 @@ use crate::lookup::memory_address;
 use crate::segment;
 use crate::store::Store;
 use ms_event::Event;
-use ms_module::{Linear, Numeric, Segment};
+use ms_module::{Linear, LoadOp, Numeric, Segment, StoreOp};
 use ms_segment::SegmentMemory;
 use ms_task::Task;
 
@@ -71,6 +72,48 @@ pub(crate) fn segment<M: SegmentMemory>(
     ensures { DoesInstr (instr.Segment i) next store.old task.old store.new task.new result }
 {
     match segment::segment(i, &mut store.segments, &mut task.operands) {
+        Ok(event) => {
+            task.go_to(next);
+            Ok(event)
+        }
+        Err(fault) => Err(fault),
+    }
+}
+
+/// `i32.segload` and its kin.
+#[inline(always)]
+pub(crate) fn load<M: SegmentMemory>(
+    store: &mut Store<M>,
+    task: &mut Task,
+    op: LoadOp,
+    next: usize,
+) -> Result<Option<Event>, Fault>
+    requires can { Can (instr.Segment (access.Load op)) next store.old task.old }
+    requires fit { Each (Fits store.old.segments) task.old.operands }
+    ensures { DoesInstr (instr.Segment (access.Load op)) next store.old task.old store.new task.new result }
+{
+    match segment::load(op, &mut store.segments, &mut task.operands) {
+        Ok(event) => {
+            task.go_to(next);
+            Ok(event)
+        }
+        Err(fault) => Err(fault),
+    }
+}
+
+/// `i32.segstore` and its kin.
+#[inline(always)]
+pub(crate) fn store<M: SegmentMemory>(
+    store: &mut Store<M>,
+    task: &mut Task,
+    op: StoreOp,
+    next: usize,
+) -> Result<Option<Event>, Fault>
+    requires can { Can (instr.Segment (access.Store op)) next store.old task.old }
+    requires fit { Each (Fits store.old.segments) task.old.operands }
+    ensures { DoesInstr (instr.Segment (access.Store op)) next store.old task.old store.new task.new result }
+{
+    match segment::store(op, &mut store.segments, &mut task.operands) {
         Ok(event) => {
             task.go_to(next);
             Ok(event)

@@ -336,7 +336,8 @@ fn seal_top<S: SegmentMemory>(segments: &S, operands: &mut Operands) -> Result<O
 /// `i32.segload` and its kin.
 ///
 /// The operations are told apart here, so that each is a constant in what is done with it.
-fn load<S: SegmentMemory>(
+#[inline(never)]
+pub(crate) fn load<S: SegmentMemory>(
     op: LoadOp,
     segments: &mut S,
     operands: &mut Operands,
@@ -385,7 +386,8 @@ fn load_by<S: SegmentMemory>(
 }
 
 /// `i32.segstore` and its kin. The operations are told apart in the same way.
-fn store<S: SegmentMemory>(
+#[inline(never)]
+pub(crate) fn store<S: SegmentMemory>(
     op: StoreOp,
     segments: &mut S,
     operands: &mut Operands,
