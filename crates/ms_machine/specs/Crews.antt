@@ -46,26 +46,32 @@ pub data Whose : Type 0 where
 pub record Deeds : Type 0 where
   pub puts : List (Whose × ℕ)
   pub events : List (Whose × Event)
+  -- who took input, be it a byte or the end
+  pub takes : List Whose
   -- how many entries were used
   pub used : ℕ
 
 abbrev pub nothing : Deeds
-nothing = record { puts = []; events = []; used = 0 }
+nothing = record { puts = []; events = []; takes = []; used = 0 }
 
 abbrev pub both : Deeds → Deeds → Deeds
-both d e = record { puts = d.puts ++ e.puts; events = d.events ++ e.events; used = d.used + e.used }
+both d e = record { puts = d.puts ++ e.puts; events = d.events ++ e.events; takes = d.takes ++ e.takes; used = d.used + e.used }
 
 abbrev pub marked : {A : Type 0} → Whose → Option A → List (Whose × A)
 marked whose None = []
 marked whose (Some x) = (whose, x) ∷ []
 
+abbrev pub takers : Whose → (took : Bool) → List Whose
+takers whose true = whose ∷ []
+takers whose false = []
+
 -- one entry
-abbrev pub deed : Whose → (put : Option ℕ) → Option Event → Deeds
-deed whose put event = record { puts = marked whose put; events = marked whose event; used = 1 }
+abbrev pub deed : Whose → (took : Bool) → (put : Option ℕ) → Option Event → Deeds
+deed whose took put event = record { puts = marked whose put; events = marked whose event; takes = takers whose took; used = 1 }
 
 -- an entry for a task that has ended, or isn't there
 abbrev pub passed : Deeds
-passed = record { puts = []; events = []; used = 1 }
+passed = record { puts = []; events = []; takes = []; used = 1 }
 
 -- the bytes and the events, in order
 abbrev pub bytes_of : Deeds → List ℕ
@@ -108,7 +114,7 @@ results = map (λ t. slice_get t.operands 0)
 
 -- a step that traps uses up its entry, and changes nothing
 abbrev pub moved : Whose → Move → Crew → Input → (Store → Thread → Crew) → (Crew → Input → Run) → Run
-moved whose (Goes s t took put event) c input next go = behind (deed whose put event) (go (next s t) (rest_of took input))
+moved whose (Goes s t took put event) c input next go = behind (deed whose took put event) (go (next s t) (rest_of took input))
 moved whose (moves.Trap kind) c input next go = behind passed (ends (Trap whose kind) c input)
 moved whose moves.Stuck c input next go = behind passed (ends Stuck c input)
 
