@@ -37,11 +37,11 @@ quiet_counts n r counts = behind_counts n n passed r refl counts
 moved_counts : (whose : Whose) (c : Crew) (t : Thread) (input : Input) (next : Store → Thread → Crew) (go : Crew → Input → Run) → ((s' : Store) (t' : Thread) → (next s' t').store ≡ s') → ((c' : Crew) (input' : Input) → RunCounts (accesses_in c') (go c' input'))
     → (m : Move) → move_of c.store t input ≡ m → RunCounts (accesses_in c) (moved whose m c input next go)
 moved_counts whose c t input next go same goes (Goes s' t' took put event) is =
-    behind_counts (accesses_in c) (accesses_in (next s' t')) (deed whose put event) (go (next s' t') (rest_of took input))
+    behind_counts (accesses_in c) (accesses_in (next s' t')) (deed whose took put event) (go (next s' t') (rest_of took input))
     (
     ap (λ (s : Store). s.segments.accesses) (same s' t')
     ∙ move_counts c.store s' t t' (first_of input) took put event is
-    ∙ ap (λ (es : List Event). counted_all es (accesses_in c)) (sym (deed_events whose put event))
+    ∙ ap (λ (es : List Event). counted_all es (accesses_in c)) (sym (deed_events whose took put event))
     )
     (goes (next s' t') (rest_of took input))
 moved_counts whose c t input next go same goes (moves.Trap trap) is = refl

@@ -1,5 +1,5 @@
 -- What has happened, one thing after another, and what the log makes of it.
-use Rattle.std.proofs.Common.{◌≡◌, ◌≤◌, ◌+◌, ℕ, true, cond, List, [], ◌∷◌, ◌++◌, Option, Some, None, refl, sym, ap, subst, ◌∙◌, append-nil, append_assoc, arith}
+use Rattle.std.proofs.Common.{◌≡◌, ◌≤◌, ◌+◌, ℕ, Bool, true, cond, List, [], ◌∷◌, ◌++◌, Option, Some, None, refl, sym, ap, subst, ◌∙◌, append-nil, append_assoc, arith}
 use Rattle.std.proofs.lemmas.List.{map-append}
 use Rattle.ms_event.specs.declared.event.Event.{Event}
 use Rattle.ms_event.specs.declared.event.Event.TheVariants.{Alloc, Free, Read, Refused, Seal, Slice, Write}
@@ -8,14 +8,17 @@ use Rattle.ms_machine.specs.Running.{with_event}
 use Rattle.ms_machine.proofs.Outsides.{with_byte}
 use Rattle.ms_tasks.specs.refinement.Logs.{CountsUpTo, Log, Trace, all_seen, logged, seen}
 
-deeds_is : (d e : Deeds) → d.puts ≡ e.puts → d.events ≡ e.events → d.used ≡ e.used → d ≡ e
-deeds_is d e a b u = ap (λ p. record { puts = p; events = d.events; used = d.used }) a ∙ (ap (λ p. record { puts = e.puts; events = p; used = d.used }) b ∙ ap (λ p. record { puts = e.puts; events = e.events; used = p }) u)
+deeds_is : (d e : Deeds) → d.puts ≡ e.puts → d.events ≡ e.events → d.takes ≡ e.takes → d.used ≡ e.used → d ≡ e
+deeds_is d e a b t u =
+    ap (λ p. record { puts = p; events = d.events; takes = d.takes; used = d.used }) a
+    ∙ (ap (λ p. record { puts = e.puts; events = p; takes = d.takes; used = d.used }) b
+    ∙ (ap (λ p. record { puts = e.puts; events = e.events; takes = p; used = d.used }) t ∙ ap (λ p. record { puts = e.puts; events = e.events; takes = e.takes; used = p }) u))
 
 nothing_first : (d : Deeds) → both nothing d ≡ d
-nothing_first d = deeds_is (both nothing d) d refl refl (omega arith)
+nothing_first d = deeds_is (both nothing d) d refl refl refl (omega arith)
 
 both_assoc : (a b d : Deeds) → both a (both b d) ≡ both (both a b) d
-both_assoc a b d = deeds_is (both a (both b d)) (both (both a b) d) (sym (append_assoc a.puts b.puts d.puts)) (sym (append_assoc a.events b.events d.events)) (omega arith)
+both_assoc a b d = deeds_is (both a (both b d)) (both (both a b) d) (sym (append_assoc a.puts b.puts d.puts)) (sym (append_assoc a.events b.events d.events)) (sym (append_assoc a.takes b.takes d.takes)) (omega arith)
 
 pub behind_nothing : (r : Run) → behind nothing r ≡ r
 behind_nothing r = ap (λ d. record { deeds = d; end = r.end; input = r.input; crew = r.crew }) (nothing_first r.deeds)
@@ -24,17 +27,17 @@ pub behind_both : (d e : Deeds) (r : Run) → behind d (behind e r) ≡ behind (
 behind_both d e r = ap (λ x. record { deeds = x; end = r.end; input = r.input; crew = r.crew }) (both_assoc d e r.deeds)
 
 pub both_nothing : (d : Deeds) → both d nothing ≡ d
-both_nothing d = deeds_is (both d nothing) d (append-nil d.puts) (append-nil d.events) (omega arith)
+both_nothing d = deeds_is (both d nothing) d (append-nil d.puts) (append-nil d.events) (append-nil d.takes) (omega arith)
 
 -- ---- bytes and events
 
-pub deed_events : (whose : Whose) (put : Option ℕ) (event : Option Event) → events_of (deed whose put event) ≡ with_event event []
-deed_events whose put None = refl
-deed_events whose put (Some e) = refl
+pub deed_events : (whose : Whose) (took : Bool) (put : Option ℕ) (event : Option Event) → events_of (deed whose took put event) ≡ with_event event []
+deed_events whose took put None = refl
+deed_events whose took put (Some e) = refl
 
-pub deed_bytes : (whose : Whose) (put : Option ℕ) (event : Option Event) → bytes_of (deed whose put event) ≡ with_byte put []
-deed_bytes whose None event = refl
-deed_bytes whose (Some b) event = refl
+pub deed_bytes : (whose : Whose) (took : Bool) (put : Option ℕ) (event : Option Event) → bytes_of (deed whose took put event) ≡ with_byte put []
+deed_bytes whose took None event = refl
+deed_bytes whose took (Some b) event = refl
 
 pub both_events : (d e : Deeds) → events_of (both d e) ≡ events_of d ++ events_of e
 both_events d e = map-append (λ (p : Whose × Event). p.1) d.events e.events

@@ -56,7 +56,7 @@ not_ended (u ∷ us) (suc k) t found going = by u.work (not_ended us k t found g
   by (i ∷ w) rest = refl
 
 moved_same : (whose : Whose) (m : Move) (c : Crew) (input : Input) (next next' : Store → Thread → Crew) (go : Crew → Input → Run) → ((s : Store) (t : Thread) → next s t ≡ next' s t) → moved whose m c input next go ≡ moved whose m c input next' go
-moved_same whose (Goes s t took put event) c input next next' go same = ap (λ x. behind (crews.deed whose put event) (go x (rest_of took input))) (same s t)
+moved_same whose (Goes s t took put event) c input next next' go same = ap (λ x. behind (crews.deed whose took put event) (go x (rest_of took input))) (same s t)
 moved_same whose (moves.Trap trap) c input next next' go same = refl
 moved_same whose moves.Stuck c input next next' go same = refl
 
@@ -82,7 +82,7 @@ drop_row (suc u) left (suc m) k rest e = drop_row u left m k rest (omega (arith,
 -- ---- entries that are passed over
 
 abbrev pub passes : ℕ → Deeds
-passes n = record { puts = []; events = []; used = n }
+passes n = record { puts = []; events = []; takes = []; used = n }
 
 idle_turn : (o : Option Thread) (k : ℕ) (c : Crew) (input : Input) (go : Crew → Input → Run) → IsIdle o → task_turn o k c input go ≡ behind passed (go c input)
 idle_turn None k c input go idle = refl

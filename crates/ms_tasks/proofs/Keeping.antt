@@ -72,8 +72,8 @@ module _ (S : List Event → Store → Type 0) (P : List Event → Store → Thr
         → (m : Move) → move_of c.store t input ≡ m → RunKeeps es (moved whose m c input next go)
     moved_keeps es whose c t input next go kept mine going nexts goes (Goes s' t' took put event) is =
         let k = keeps es c.store s' t t' input took put event kept.0 mine going is in
-        behind_keeps es (deed whose put event) (go (next s' t') (rest_of took input))
-        (subst (λ x. RunKeeps (es ++ x) (go (next s' t') (rest_of took input))) (sym (deed_events whose put event)) (goes (es ++ with_event event []) (next s' t') (rest_of took input) (nexts (es ++ with_event event []) s' t' k.0 k.1 k.2)))
+        behind_keeps es (deed whose took put event) (go (next s' t') (rest_of took input))
+        (subst (λ x. RunKeeps (es ++ x) (go (next s' t') (rest_of took input))) (sym (deed_events whose took put event)) (goes (es ++ with_event event []) (next s' t') (rest_of took input) (nexts (es ++ with_event event []) s' t' k.0 k.1 k.2)))
     moved_keeps es whose c t input next go kept mine going nexts goes (moves.Trap kind) is =
         quiet_keeps es (ends (Trap whose kind) c input) (ends_keep es (Trap whose kind) c input (λ e. absurd cc) kept)
     moved_keeps es whose c t input next go kept mine going nexts goes moves.Stuck is = absurd (unstuck es c.store t input kept.0 mine going is)

@@ -52,10 +52,10 @@ row_step whose next zero ks s t input some going row = absurd (omega (arith, som
 row_step whose next (suc n) [] s t input some going row = absurd row
 row_step whose next (suc n) (k ∷ ks) s t input some going row = row.0 s t input going
 
-step_comes : (whose : Whose) (next : Store → Thread → Crew) (n : ℕ) (ks : List ℕ) (s s' : Store) (t t' : Thread) (event : Option Event) (l l' h h' : Content) → 0 < n → t.work ≢ [] → IsRow whose next n ks → (w : Went (move_for s t) event s' t' l l' h h') → Comes l l' h h' (deed whose w.put event) (run_entries ks (next s t)) (run_entries (drop 1 ks) (next s' t'))
+step_comes : (whose : Whose) (next : Store → Thread → Crew) (n : ℕ) (ks : List ℕ) (s s' : Store) (t t' : Thread) (event : Option Event) (l l' h h' : Content) → 0 < n → t.work ≢ [] → IsRow whose next n ks → (w : Went (move_for s t) event s' t' l l' h h') → Comes l l' h h' (deed whose w.took w.put event) (run_entries ks (next s t)) (run_entries (drop 1 ks) (next s' t'))
 step_comes whose next n ks s s' t t' event l l' h h' some going row w = record {
   alike = tells_after w.took w.got l l' w.input;
-  out = subst (λ bs. Puts puts.Done bs h h') (sym (deed_bytes whose w.put event)) (puts_after w.put h h' w.out);
+  out = subst (λ bs. Puts puts.Done bs h h') (sym (deed_bytes whose w.took w.put event)) (puts_after w.put h h' w.out);
   from = λ rest may.
       let b = before w.took w.got l l' w.input rest may in
       let is = moves_so s s' t t' w.took w.got w.put event b.input w.is b.first in (
@@ -63,7 +63,7 @@ step_comes whose next n ks s s' t t' event l l' h h' some going row w = record {
         b.may,
         b.left_is,
         row_step whose next n ks s t b.input some going row
-            ∙ (ap (λ m. moved whose m (next s t) b.input next (run_entries (drop 1 ks))) is ∙ ap (λ i. behind (deed whose w.put event) (run_entries (drop 1 ks) (next s' t') i)) b.rest_is),
+            ∙ (ap (λ m. moved whose m (next s t) b.input next (run_entries (drop 1 ks))) is ∙ ap (λ i. behind (deed whose w.took w.put event) (run_entries (drop 1 ks) (next s' t') i)) b.rest_is),
       );
 }
 
@@ -79,9 +79,9 @@ puts_first whose next n ks s t byte input some going row putting = by (move_of s
   by : (m : Move) → move_of s t input ≡ m → IsPutting byte m → (later : List ℕ) × (bytes_of (run_entries ks (next s t) input).deeds ≡ byte ∷ later)
   by (Goes s' t' took put event) is put-is =
       let r = run_entries (drop 1 ks) (next s' t') (rest_of took input) in
-      let one : run_entries ks (next s t) input ≡ behind (deed whose put event) r =
+      let one : run_entries ks (next s t) input ≡ behind (deed whose took put event) r =
       row_step whose next n ks s t input some going row ∙ ap (λ m. moved whose m (next s t) input next (run_entries (drop 1 ks))) is in
-      (bytes_of r.deeds, ap (λ (x : Run). bytes_of x.deeds) one ∙ (both_bytes (deed whose put event) r.deeds ∙ ap (λ p. bytes_of (deed whose p event) ++ bytes_of r.deeds) put-is))
+      (bytes_of r.deeds, ap (λ (x : Run). bytes_of x.deeds) one ∙ (both_bytes (deed whose took put event) r.deeds ∙ ap (λ p. bytes_of (deed whose took p event) ++ bytes_of r.deeds) put-is))
   by (moves.Trap trap) is none = absurd none
   by moves.Stuck is none = absurd none
 
@@ -124,7 +124,7 @@ module _ (whose : Whose) (next : Store → Thread → Crew) (entries : List ℕ)
   -- a step further
   pub goes_way : (s' : Store) (t' : Thread) (event : Option Event) (trace' : Trace) → Went (move_for s t) event s' t' l' l'' h' h'' → trace' ≡ all_seen (with_event event []) trace → IsUnderWay whose next entries most s0 t0 trace0 (left - 1) s' t' trace' l l'' h h''
   goes_way s' t' event trace' w tells =
-      let d = deed whose w.put event in
+      let d = deed whose w.took w.put event in
       let ks = drop (most - left) entries in
       let used = way.used in
       let all = run_entries entries (next s0 t0) in
@@ -135,7 +135,7 @@ module _ (whose : Whose) (next : Store → Thread → Crew) (entries : List ℕ)
         used = omega (arith, used, some);
         row = subst (IsRow whose next (left - 1)) (one_more most left entries some within) (row_next whose next left ks some way.row);
         seen = tells ∙ (ap (all_seen (with_event event [])) way.seen ∙ (sym (all_seen_both (events_of way.deeds) (with_event event []) trace0)
-            ∙ ap (λ es. all_seen es trace0) (ap (λ es. events_of way.deeds ++ es) (sym (deed_events whose w.put event)) ∙ sym (both_events way.deeds d))));
+            ∙ ap (λ es. all_seen es trace0) (ap (λ es. events_of way.deeds ++ es) (sym (deed_events whose w.took w.put event)) ∙ sym (both_events way.deeds d))));
       }
 
   -- a step that traps
@@ -177,7 +177,7 @@ module _ (whose : Whose) (next : Store → Thread → Crew) (entries : List ℕ)
   -- the step was made, and its event was lost
   pub stops_behind : (s' : Store) (t' : Thread) (event : Option Event) (log0 log' : Log) → log0.trace ≡ trace0 → log'.trace.events ≡ trace.events → Went (move_for s t) event s' t' l' l'' h' h'' → Begun l l'' h h'' log0 log' (run_entries entries (next s0 t0))
   stops_behind s' t' event log0 log' trace-is kept w =
-      let d = deed whose w.put event in
+      let d = deed whose w.took w.put event in
       let ks = drop (most - left) entries in
       let all = run_entries entries (next s0 t0) in
       let mid = run_entries (drop 1 ks) (next s' t') in

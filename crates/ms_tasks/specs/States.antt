@@ -2,13 +2,9 @@
 use Rattle.std.specs.Prelude.{◌==◌, ℕ, if◌then◌else◌, List, [], ◌∷◌, Option, Some, None, slice_get}
 use Rattle.ms_linear.specs.declared.value.Value.{Value}
 use Rattle.ms_machine.specs.Crews.{End, Run, Task, Trap}
-use Rattle.ms_host.specs.declared.trap.TrapKind.{TrapKind}
 use Rattle.ms_task.specs.Thread.{Item, Thread}
-use Rattle.ms_tasks.specs.declared.ran.Stop.{Stop}
 use Rattle.ms_tasks.specs.declared.state.TaskState.{TaskState}
 use Rattle.ms_tasks.specs.declared.state.TaskState.TheVariants.{Unended, Ended, Trapped}
-use Rattle.ms_tasks.specs.declared.whose.Whose.{Whose}
-use Rattle.ms_tasks.specs.declared.whose.Whose.TheVariants as whose
 
 -- by what is left for it to do, and the value that it left, if one
 abbrev pub by_thread : List Item → List Value → TaskState
@@ -26,12 +22,3 @@ if_trapped n end state = state
 
 abbrev pub state_of : ℕ → Run → TaskState
 state_of n r = if_trapped n r.end (in_crew (slice_get r.crew.tasks n))
-
--- the same, by the step that stopped the run, if one did
-abbrev pub by_whose : ℕ → Whose → TrapKind → TaskState → TaskState
-by_whose n whose.Start how state = state
-by_whose n (whose.Task k) how state = if k == n then Trapped how else state
-
-abbrev pub by_stop : ℕ → Option Stop → TaskState → TaskState
-by_stop n None state = state
-by_stop n (Some stop) state = by_whose n stop.whose stop.kind state

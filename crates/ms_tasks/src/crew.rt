@@ -11,13 +11,14 @@ ghost use Rattle.ms_machine.specs.refinement.Safety.{Sound};
 ghost use Rattle.ms_machine.specs.Typing.{StoreTyped, outline_of};
 ghost use Rattle.ms_task.specs.refinement.View.{thread_of};
 ghost use Rattle.ms_tasks.specs.Joined.{AreApart};
-ghost use Rattle.ms_tasks.specs.States.{by_stop, in_crew};
+ghost use Rattle.ms_tasks.specs.States.{in_crew};
 ghost use Rattle.ms_tasks.specs.refinement.Logs.{CountsUpTo};
 ghost use Rattle.ms_tasks.specs.Tasks.{AreAddresses, IsCrewOf};
 ghost use Rattle.ms_tasks.specs.refinement.Making.{Refuses, stop_in};
 ghost use Rattle.ms_tasks.specs.refinement.Ready.{IsReady, threads_of};
 ghost use Rattle.ms_tasks.specs.refinement.Runs.{CountsInput, CountsOut, DoesRun, IsOver};
 ghost use Rattle.ms_tasks.specs.refinement.Schedules.{HasTurns, entries_of};
+ghost use Rattle.ms_tasks.specs.refinement.Steppers.{by_stop};
 
 use crate::all::run_all;
 use crate::log::Log;

@@ -2,7 +2,8 @@
 
 ghost use Rattle.std.specs.Prelude.{◌≡◌, Some};
 ghost use Rattle.ms_task.specs.refinement.View.{thread_of};
-ghost use Rattle.ms_tasks.specs.States.{by_stop, in_crew};
+ghost use Rattle.ms_tasks.specs.States.{in_crew};
+ghost use Rattle.ms_tasks.specs.refinement.Steppers.{by_stop};
 
 use crate::ran::Stop;
 use crate::whose::Whose;

@@ -1,7 +1,8 @@
 use Rattle.std.proofs.Common.{Option, Some, ap, sym, ◌∙◌}
 use Rattle.ms_machine.specs.Store.{Store}
 use Rattle.ms_task.specs.refinement.View.{thread_of}
-use Rattle.ms_tasks.specs.States.{by_stop, in_crew}
+use Rattle.ms_tasks.specs.States.{in_crew}
+use Rattle.ms_tasks.specs.refinement.Steppers.{by_stop}
 use Rattle.ms_tasks.specs.declared.ran.Stop.{Stop}
 use Rattle.ms_tasks.specs.declared.state.TaskState.{TaskState}
 use Rattle.ms_tasks.proofs.crew.Crew.state.Goals as goal
