@@ -1,5 +1,5 @@
 -- Longer runs of a thread go on as shorter ones do; and the run of a crew of one task.
-use Rattle.std.proofs.Common.{◌≡◌, ℕ, zero, suc, ◌≤◌, List, [], ◌∷◌, ◌++◌, replicate, Option, Some, None, refl, sym, ap, ◌∙◌, arith, append-nil}
+use Rattle.std.proofs.Common.{◌≡◌, ℕ, zero, suc, ◌≤◌, Bool, List, [], ◌∷◌, ◌++◌, replicate, Option, Some, None, refl, sym, ap, ◌∙◌, arith, append-nil}
 use Rattle.std.specs.Prelude.{slice_get}
 use Rattle.ms_event.specs.declared.event.Event.{Event}
 use Rattle.ms_linear.specs.declared.value.Value.{Value}
@@ -54,15 +54,15 @@ longer n m le s t input = longer_at n m le s input t.frame t.operands t.work
 
 -- ---- a crew of one task
 
-same_before : (put : Option ℕ) (event : Option Event) (r : Run) (q : Ran) → Same r q → Same (crews.behind (deed (Task 0) put event) r) (before put event q)
-same_before None None r q h = record { bytes = h.bytes; events = h.events; ends = h.ends }
-same_before (Some b) None r q h = record { bytes = ap (λ (l : List ℕ). b ∷ l) h.bytes; events = h.events; ends = h.ends }
-same_before None (Some e) r q h = record { bytes = h.bytes; events = ap (λ (l : List Event). e ∷ l) h.events; ends = h.ends }
-same_before (Some b) (Some e) r q h = record { bytes = ap (λ (l : List ℕ). b ∷ l) h.bytes; events = ap (λ (l : List Event). e ∷ l) h.events; ends = h.ends }
+same_before : (took : Bool) (put : Option ℕ) (event : Option Event) (r : Run) (q : Ran) → Same r q → Same (crews.behind (deed (Task 0) took put event) r) (before put event q)
+same_before took None None r q h = record { bytes = h.bytes; events = h.events; ends = h.ends }
+same_before took (Some b) None r q h = record { bytes = ap (λ (l : List ℕ). b ∷ l) h.bytes; events = h.events; ends = h.ends }
+same_before took None (Some e) r q h = record { bytes = h.bytes; events = ap (λ (l : List Event). e ∷ l) h.events; ends = h.ends }
+same_before took (Some b) (Some e) r q h = record { bytes = ap (λ (l : List ℕ). b ∷ l) h.bytes; events = ap (λ (l : List Event). e ∷ l) h.events; ends = h.ends }
 
 same_move : (mv : Move) (s : Store) (t : Thread) (input : Input) (go : Crew → Input → Run) (go' : Store → Thread → Input → Ran) → ((s' : Store) (t' : Thread) (i : Input) → Same (go (crew_of_one s' t') i) (go' s' t' i))
     → Same (moved (Task 0) mv (crew_of_one s t) input (with_task (crew_of_one s t) 0) go) (after_move mv input go')
-same_move (Goes s' t' took put event) s t input go go' h = same_before put event (go (crew_of_one s' t') (rest_of took input)) (go' s' t' (rest_of took input)) (h s' t' (rest_of took input))
+same_move (Goes s' t' took put event) s t input go go' h = same_before took put event (go (crew_of_one s' t') (rest_of took input)) (go' s' t' (rest_of took input)) (h s' t' (rest_of took input))
 same_move (moves.Trap k) s t input go go' h = record { bytes = refl; events = refl; ends = refl }
 same_move moves.Stuck s t input go go' h = record { bytes = refl; events = refl; ends = refl }
 
@@ -131,18 +131,18 @@ as_shown r q h = record { bytes = h.bytes; events = h.events; ends = by q.stop h
   by Paused e = e
   by Stuck e = e
 
-shows_before : (put : Option ℕ) (event : Option Event) (r : Run) (whose : Whose) (q : Ran) → Shows r whose q → Shows (crews.behind (deed Start put event) r) whose (before put event q)
-shows_before None None r whose q h = record { bytes = h.bytes; events = h.events; ends = h.ends }
-shows_before (Some b) None r whose q h = record { bytes = ap (λ (l : List ℕ). b ∷ l) h.bytes; events = h.events; ends = h.ends }
-shows_before None (Some e) r whose q h = record { bytes = h.bytes; events = ap (λ (l : List Event). e ∷ l) h.events; ends = h.ends }
-shows_before (Some b) (Some e) r whose q h = record { bytes = ap (λ (l : List ℕ). b ∷ l) h.bytes; events = ap (λ (l : List Event). e ∷ l) h.events; ends = h.ends }
+shows_before : (took : Bool) (put : Option ℕ) (event : Option Event) (r : Run) (whose : Whose) (q : Ran) → Shows r whose q → Shows (crews.behind (deed Start took put event) r) whose (before put event q)
+shows_before took None None r whose q h = record { bytes = h.bytes; events = h.events; ends = h.ends }
+shows_before took (Some b) None r whose q h = record { bytes = ap (λ (l : List ℕ). b ∷ l) h.bytes; events = h.events; ends = h.ends }
+shows_before took None (Some e) r whose q h = record { bytes = h.bytes; events = ap (λ (l : List Event). e ∷ l) h.events; ends = h.ends }
+shows_before took (Some b) (Some e) r whose q h = record { bytes = ap (λ (l : List ℕ). b ∷ l) h.bytes; events = ap (λ (l : List Event). e ∷ l) h.events; ends = h.ends }
 
 -- the run of the crew, the steps of the start function alone, and all
 shows_move : (mv : Move) (s : Store) (c : Crew) (t : Thread) (input : Input) (go : Crew → Input → Run) (alone go' : Store → Thread → Input → Ran) → c.tasks ≡ t ∷ []
     → ((s' : Store) (t' : Thread) (i : Input) → Shows (go (with_start c [] s' t') i) (whose_at (alone s' t' i).stop) (go' s' t' i))
     → Shows (moved Start mv c input (with_start c []) go) (whose_at (after_move mv input alone).stop) (after_move mv input go')
 shows_move (Goes s' t' took put event) s c t input go alone go' e h =
-    let i = rest_of took input in shows_before put event (go (with_start c [] s' t') i) (whose_at (alone s' t' i).stop) (go' s' t' i) (h s' t' i)
+    let i = rest_of took input in shows_before took put event (go (with_start c [] s' t') i) (whose_at (alone s' t' i).stop) (go' s' t' i) (h s' t' i)
 shows_move (moves.Trap k) s c t input go alone go' e h = record { bytes = refl; events = refl; ends = refl }
 shows_move moves.Stuck s c t input go alone go' e h = record { bytes = refl; events = refl; ends = refl }
 

@@ -26,10 +26,11 @@ use Rattle.ms_tasks.specs.Tasks.{AreAddresses, IsCrewOf, and_thread, crew_of, ta
 use Rattle.ms_tasks.specs.refinement.Ready.{IsReady}
 use Rattle.ms_tasks.proofs.Safe.{run_ready}
 use Rattle.ms_apart.specs.refinement.Apart.{Divided, EachThread, FunctionOn, OnASide, Owned, SegmentOn, Separated, Sides, ThreadOn, ValueOn}
-use Rattle.ms_apart.specs.Runs.{Calm, IsCut, OwnAlike}
+use Rattle.ms_apart.specs.Runs.{IsCut, IsQuiet, OwnAlike}
 use Rattle.ms_tasks.specs.Alone.{alone}
 use Rattle.ms_apart.proofs.Functions.{dos_functions}
 use Rattle.ms_apart.proofs.Lists.{get_mapped, nothing_past, same_Some, something_below}
+use Rattle.ms_apart.proofs.Quiet.{quiet_calm}
 use Rattle.ms_apart.proofs.Ranks.{Any, Told}
 use Rattle.ms_apart.proofs.Results.{Yields, all_of, chain_yields, run_yields, state_stays, task_yields}
 use Rattle.ms_apart.proofs.Runs.{IsStopped, RunAlike}
@@ -194,12 +195,13 @@ crew_yields s tasks ts store is = all_of Yields ts (λ k u at. let o = origin s 
     inner o a e = cc
 
 abbrev Claim : (n absent : ℕ) → List ℕ → Input → Crew → Type 0
-Claim n absent entries input c = IsReady c → n < length c.tasks → length c.tasks ≤ absent → Calm n entries (begun c) input → Calm n (alone n absent entries) (begun c) input → OwnAlike n (run_of entries c input) (run_of (alone n absent entries) c input)
+Claim n absent entries input c = IsReady c → n < length c.tasks → length c.tasks ≤ absent → IsQuiet n (run_of entries c input).deeds → IsQuiet n (run_of (alone n absent entries) c input).deeds → OwnAlike n (run_of entries c input) (run_of (alone n absent entries) c input)
 
 pub tasks_alike : (s : Store) (tasks : List (ℕ × List ℕ)) (addresses : List ℕ) (c : Crew) (n absent : ℕ) (entries : List ℕ) (input : Input) → IsLinked s → StartsTyped s → IsCrewOf s tasks c → AreAddresses s tasks addresses → IsReady c → IsApart s addresses n → n < length c.tasks → length c.tasks ≤ absent
-    → Calm n entries (begun c) input → Calm n (alone n absent entries) (begun c) input → OwnAlike n (run_of entries c input) (run_of (alone n absent entries) c input)
-tasks_alike s tasks addresses c n absent entries input linked starts crew are ready apart low past calm calm' =
-    subst (Claim n absent entries input) (sym crew.2) (λ ready low past calm calm'.
+    → IsQuiet n (run_of entries c input).deeds → IsQuiet n (run_of (alone n absent entries) c input).deeds → OwnAlike n (run_of entries c input) (run_of (alone n absent entries) c input)
+tasks_alike s tasks addresses c n absent entries input linked starts crew are ready apart low past quiet quiet' =
+    subst (Claim n absent entries input) (sym crew.2) (λ ready low past quiet quiet'.
+    let made = begun (crew_of s crew.0) in
     let d = divided s tasks addresses crew.0 are crew.1 linked ready.store_fits n apart absent low past in
     own_alike n (run_of entries (crew_of s crew.0) input) (run_of (alone n absent entries) (crew_of s crew.0) input) (run_ready entries (crew_of s crew.0) input ready).1 (run_yields entries (crew_of s crew.0) input ready (chain_yields s ready.store s.instances starts) (crew_yields s tasks crew.0 ready.store crew.1))
-    (all_alike n (sides_of apart.set s) absent entries nothing_owned (begun (crew_of s crew.0)) d.0 input [] d.1 (nothing_told s linked) calm calm')) ready low past calm calm'
+    (all_alike n (sides_of apart.set s) absent entries nothing_owned made d.0 input [] d.1 (nothing_told s linked) (quiet_calm n entries made input quiet) (quiet_calm n (alone n absent entries) made input quiet'))) ready low past quiet quiet'

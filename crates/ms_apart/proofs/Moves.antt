@@ -17,7 +17,7 @@ use Rattle.ms_machine.specs.Step.{Calls, Next, Outcome, Stuck, Trap, step_of}
 use Rattle.ms_machine.specs.Store.{Store}
 use Rattle.ms_apart.specs.refinement.Renaming.{Renaming, rename_all, rename_thread}
 use Rattle.ms_apart.specs.refinement.Apart.{Alike, EventAlike, IsSided, Owned, Separated, Sides, Stepped, ThreadOn, ValueOn, kept, owned_after, plain, renamed_after}
-use Rattle.ms_apart.specs.Runs.{IsGranted}
+use Rattle.ms_apart.specs.refinement.Calm.{WasGranted}
 use Rattle.ms_apart.proofs.Control.{exited_renamed}
 use Rattle.ms_apart.proofs.Steps.{Granted, StepAlike, step_alike}
 use Rattle.ms_apart.proofs.Stepping.{OutcomeOn, exit_on, step_on}
@@ -37,7 +37,7 @@ module _ (r : Renaming) where
   host_renamed hosts.Abort got vs = refl
 
 abbrev pub GrantedMove : Move → Type 0
-GrantedMove (Goes s t took put event) = IsGranted event
+GrantedMove (Goes s t took put event) = WasGranted event
 GrantedMove m = Unit {0}
 
 module _ (sides : Sides) (own : Owned) (r : Renaming) (s s' : Store) (alike : Alike sides own r s s') (sided : IsSided sides s) (separated : Separated sides own s) (sound : IsSound s.segments) (sound' : IsSound s'.segments) where

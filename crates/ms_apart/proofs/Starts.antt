@@ -24,7 +24,8 @@ use Rattle.ms_apart.specs.refinement.Apart.{Alike, Divided, EachThread, IsOld, I
 use Rattle.ms_tasks.specs.States.{state_of}
 use Rattle.ms_tasks.specs.declared.state.TaskState.{TaskState}
 use Rattle.ms_tasks.specs.declared.state.TaskState.TheVariants.{Ended, Trapped, Unended}
-use Rattle.ms_apart.specs.Runs.{Calm, CalmEntry, CalmStart, own_of}
+use Rattle.ms_apart.specs.Runs.{own_of}
+use Rattle.ms_apart.specs.refinement.Calm.{Calm, CalmEntry, CalmStart}
 use Rattle.ms_tasks.specs.Alone.{alone}
 use Rattle.ms_apart.proofs.Moves.{MoveOn, move_on_side}
 use Rattle.ms_apart.proofs.Pairs.{After, Paired, after_step, own_after}
@@ -218,11 +219,11 @@ module _ (n : ℕ) where
         whole = λ unstopped. (refl, refl, (same_name, state_same (state_of n a)));
       }
 
-  start_alike : (ps : List Place) (put : Option ℕ) (event : Option Event) (a b : Run) → RunAlike n (grown_by event ps) (grown_by event ps) a b → RunAlike n ps ps (behind (deed Start put event) a) (behind (deed Start put event) b)
-  start_alike ps None None a b x = record { rest = x.rest; puts = x.puts; later = x.later; events = x.events; whole = x.whole }
-  start_alike ps (Some byte) None a b x = record { rest = x.rest; puts = x.puts; later = x.later; events = x.events; whole = x.whole }
-  start_alike ps None (Some e) a b x = record { rest = x.rest; puts = x.puts; later = x.later; events = x.events; whole = x.whole }
-  start_alike ps (Some byte) (Some e) a b x = record { rest = x.rest; puts = x.puts; later = x.later; events = x.events; whole = x.whole }
+  start_alike : (ps : List Place) (took : Bool) (put : Option ℕ) (event : Option Event) (a b : Run) → RunAlike n (grown_by event ps) (grown_by event ps) a b → RunAlike n ps ps (behind (deed Start took put event) a) (behind (deed Start took put event) b)
+  start_alike ps took None None a b x = record { rest = x.rest; puts = x.puts; later = x.later; events = x.events; whole = x.whole }
+  start_alike ps took (Some byte) None a b x = record { rest = x.rest; puts = x.puts; later = x.later; events = x.events; whole = x.whole }
+  start_alike ps took None (Some e) a b x = record { rest = x.rest; puts = x.puts; later = x.later; events = x.events; whole = x.whole }
+  start_alike ps took (Some byte) (Some e) a b x = record { rest = x.rest; puts = x.puts; later = x.later; events = x.events; whole = x.whole }
 
   module _ (sides : Sides) (absent : ℕ) where
     abbrev AllAlike : List ℕ → Type 0
@@ -238,7 +239,7 @@ module _ (n : ℕ) where
         let all : EachThread (OnASide sides own c.store) (t ∷ ts) = subst (EachThread (OnASide sides own c.store)) is d.chain in
         let step = any_step c.store s1 t t1 (first_of input) took put event d.fits all.0.2 e in
         let tells = told_step Any Any ps one_side all_owned true c.store d.fits.segments told s1 t1 event step (λ old id p. tt) (λ size base f id other p. tt) in
-        start_alike ps put event _ _ (goes next.0 (with_start c ts s1 t1) task (rest_of took input) (grown_by event ps) next.1 tells calm calm')
+        start_alike ps took put event _ _ (goes next.0 (with_start c ts s1 t1) task (rest_of took input) (grown_by event ps) next.1 tells calm calm')
     start_turn ks goes own c task input ps d told t ts is (moves.Trap trap) e calm calm' = self_alike ps _
     start_turn ks goes own c task input ps d told t ts is moves.Stuck e calm calm' = self_alike ps _
 

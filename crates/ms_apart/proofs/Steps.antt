@@ -32,7 +32,7 @@ use Rattle.ms_machine.specs.Store.{Store, at, func_address, global_address, inst
 use Rattle.ms_machine.specs.declared.store.Instance.{Instance}
 use Rattle.ms_apart.specs.refinement.Renaming.{Renaming, rename, rename_all, rename_frame, rename_thread, rename_work}
 use Rattle.ms_apart.specs.refinement.Apart.{AddressOn, Alike, EventAlike, FunctionOn, IsSided, Owned, Separated, Sides, ThreadOn, ValueOn, owned_after, renamed_after}
-use Rattle.ms_apart.specs.Runs.{IsGranted}
+use Rattle.ms_apart.specs.refinement.Calm.{WasGranted}
 use Rattle.ms_apart.proofs.Control.{block_renamed, br_if_renamed, br_table_renamed, branch_renamed, call_renamed, exited_renamed, if_renamed, return_renamed}
 use Rattle.ms_apart.proofs.Lists.{get_mapped}
 use Rattle.ms_apart.proofs.Plain.{OutcomeAlike, alike_segments, drop_alike, global_alike, global_set_alike, goes_alike, linear_alike, local_set_alike, local_tee_alike, moved_alike, numeric_alike, pushed_alike, select_alike}
@@ -152,7 +152,7 @@ module _ (sides : Sides) (own : Owned) (r : Renaming) (s s' : Store) (alike : Al
 
     -- it asks for no segment in vain
     abbrev pub Granted : Outcome → Type 0
-    Granted (Next s1 t event) = IsGranted event
+    Granted (Next s1 t event) = WasGranted event
     Granted o = Unit {0}
 
     from_plain : (o o' : Outcome) → Plain o o' → StepAlike o o'

@@ -53,9 +53,9 @@ module _ (n : ℕ) where
 
   moved_few : (whose : Whose) (m : Move) (c : Crew) (input : Input) (next : Store → Thread → Crew) (go : Crew → Input → Run) → AreFew go → IsFew (suc n) (moved whose m c input next go)
   moved_few whose (Goes s t took put event) c input next go few =
-      let one = ap length (deed_events whose put event) in
+      let one = ap length (deed_events whose took put event) in
       let least = one_event event in
-      behind_few n (deed whose put event) (go (next s t) (rest_of took input)) (omega (arith, one, least)) (few (next s t) (rest_of took input))
+      behind_few n (deed whose took put event) (go (next s t) (rest_of took input)) (omega (arith, one, least)) (few (next s t) (rest_of took input))
   moved_few whose (moves.Trap trap) c input next go few = omega arith
   moved_few whose moves.Stuck c input next go few = omega arith
 

@@ -11,7 +11,7 @@ use Rattle.ms_machine.specs.Crews.{Crew, End, Input, OutOfBudget as BudgetEnd, R
 use Rattle.ms_machine.specs.Running.{IsLeft}
 use Rattle.ms_tasks.specs.refinement.Logs.{Log, Trace, all_seen, logged}
 use Rattle.ms_tasks.proofs.Deeds.{events_kept}
-use Rattle.ms_tasks.specs.States.{by_stop, by_whose, if_trapped, in_crew}
+use Rattle.ms_tasks.specs.States.{if_trapped, in_crew}
 use Rattle.ms_tasks.specs.declared.state.TaskState.{TaskState}
 use Rattle.ms_tasks.specs.Tasks.{AreAddresses}
 use Rattle.ms_tasks.specs.refinement.Making.{Addressed}
@@ -20,8 +20,7 @@ use Rattle.ms_tasks.specs.refinement.Runs.{CountsInput, CountsOut, DoesRun}
 use Rattle.ms_tasks.specs.declared.ran.Ran.TheVariants as answers
 use Rattle.ms_tasks.specs.declared.ran.Stop.{Stop}
 use Rattle.ms_tasks.specs.declared.whose.Whose.{Whose}
-use Rattle.ms_tasks.specs.declared.whose.Whose.TheVariants as whoses
-use Rattle.ms_tasks.specs.refinement.Steppers.{whose_of}
+use Rattle.ms_tasks.specs.refinement.Steppers.{by_stop, whose_of}
 use Rattle.ms_run.specs.Answers.{Answer, File}
 use Rattle.ms_run.specs.Executions.{AreLeft, EndsAs, TellsOf}
 use Rattle.ms_run.specs.Flows.{Flowed, RunsPart, RunsWhole, TellsEnd, end_cut, end_printed, end_unprinted, input_failed, out_failed}
@@ -153,17 +152,13 @@ module _ (asked : Inquiry) (run_over : Input → Run) (c : Addressed) (s : Shelv
     stopped_by : {stop : Option Stop} → c.trapped ≡ stop → state_in c ≡ (λ n. by_stop n stop (in_crew (slice_get c.tasks n)))
     stopped_by is = ap (λ (o : Option Stop). λ (n : ℕ). by_stop n o (in_crew (slice_get c.tasks n))) is
 
-    trapped_as : (whose : Whose) (kind : TrapKind) → ◌≡◌ {A = ℕ → TaskState} (λ n. by_whose n whose kind (in_crew (slice_get c.tasks n))) (λ n. if_trapped n (Trap (whose_of whose) kind) (in_crew (slice_get c.tasks n)))
-    trapped_as whoses.Start kind = refl
-    trapped_as (whoses.Task k) kind = refl
-
     pub results_printed : c.trapped ≡ None → CountsInput answers.Results f.takes_old f.takes_new → CountsOut answers.Results f.puts_old f.puts_new → (given : Input) × DoesRun answers.Results c.crew f.left_old f.left_new f.held_old f.held_new old new given (run_over given)
         → Printed_of Done (result_lines (results c.tasks)) → TellsEnd asked run_over s r f result
     results_printed none takes puts (given, does) delivers = ended given (Results (results c.tasks)) Done (result_lines (results c.tasks)) (stopped_by none) does.0 (refl, refl) does.1 takes puts does.2 delivers
 
     pub trap_printed : (whose : Whose) (kind : TrapKind) → c.trapped ≡ Some (record { whose = whose; kind = kind }) → CountsInput (answers.Trap whose kind) f.takes_old f.takes_new → CountsOut (answers.Trap whose kind) f.puts_old f.puts_new → (given : Input) × DoesRun (answers.Trap whose kind) c.crew f.left_old f.left_new f.held_old f.held_new old new given (run_over given)
         → Printed_of Trapped (trap_line kind) → TellsEnd asked run_over s r f result
-    trap_printed whose kind stopped takes puts (given, does) delivers = ended given (Trap (whose_of whose) kind) Trapped (trap_line kind) (stopped_by stopped ∙ trapped_as whose kind) does.0 (refl, refl) does.1 takes puts does.2 delivers
+    trap_printed whose kind stopped takes puts (given, does) delivers = ended given (Trap (whose_of whose) kind) Trapped (trap_line kind) (stopped_by stopped) does.0 (refl, refl) does.1 takes puts does.2 delivers
 
     pub budget_printed : c.trapped ≡ None → CountsInput answers.Budget f.takes_old f.takes_new → CountsOut answers.Budget f.puts_old f.puts_new → (given : Input) × DoesRun answers.Budget c.crew f.left_old f.left_new f.held_old f.held_new old new given (run_over given)
         → Printed_of OutOfBudget budget_line → TellsEnd asked run_over s r f result

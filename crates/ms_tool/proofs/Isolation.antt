@@ -3,12 +3,12 @@ use Rattle.std.proofs.Common.{◌≡◌, ◌∙◌, ◌<◌, ◌≤◌, ℕ, Lis
 use Rattle.std.specs.Prelude.{Option, Some, None, Result, Ok, take}
 use Rattle.ms_apart.proofs.Division.{tasks_alike}
 use Rattle.ms_apart.proofs.Tables.{is_linked}
-use Rattle.ms_apart.specs.Runs.{Calm, OwnAlike}
+use Rattle.ms_apart.specs.Runs.{IsQuiet, OwnAlike}
 use Rattle.ms_command_line.specs.Commands as options
 use Rattle.ms_job.specs.declared.job.Job.{Job}
 use Rattle.ms_link.proofs.Plain.{linked_fits}
 use Rattle.ms_link.proofs.Stores.{linked_typed}
-use Rattle.ms_machine.specs.Crews.{Crew, Input, Run, begun, run_of, turns_from}
+use Rattle.ms_machine.specs.Crews.{Crew, Input, Run, run_of, turns_from}
 use Rattle.ms_machine.specs.Store.{Store}
 use Rattle.ms_run.proofs.Executed.{crew_length}
 use Rattle.ms_run.proofs.Jobs.{same_run}
@@ -46,7 +46,7 @@ ran_alone Has given job n run of_job small h =
     let entries = alone n count of_job.entries in
     let there : n < length h.crew.tasks = let t = h.there in omega (arith, t, many) in
     let past : length h.crew.tasks ≤ count = omega (arith, many) in
-    let alike = tasks_alike h.store job.tasks h.addresses h.crew n count of_job.entries given (is_linked of_job.modules job.memory h.store h.linked_is) typed.1 h.is_crew h.are_addresses ready h.apart there past h.calm h.calm_alone in
+    let alike = tasks_alike h.store job.tasks h.addresses h.crew n count of_job.entries given (is_linked of_job.modules job.memory h.store h.linked_is) typed.1 h.is_crew h.are_addresses ready h.apart there past (subst (λ (x : Run). IsQuiet n x.deeds) (sym same) h.quiet) h.quiet_alone in
     record {
       other = run_of entries h.crew given;
       of_job = record { modules = of_job.modules; entries = entries; loaded = of_job.loaded; scheduled = named_alone Has job n of_job.entries h.all of_job.scheduled; ran = ran entries };

@@ -1,6 +1,7 @@
 -- What was told of the end of a run.
 use Rattle.std.specs.Prelude.{◌≡◌, ◌<◌, ℕ, List, ◌++◌, All, slice_get}
-use Rattle.ms_tasks.specs.States.{by_stop, in_crew}
+use Rattle.ms_tasks.specs.States.{in_crew}
+use Rattle.ms_tasks.specs.refinement.Steppers.{by_stop}
 use Rattle.ms_tasks.specs.declared.state.TaskState.{TaskState}
 use Rattle.ms_tasks.specs.refinement.Logs.{Log}
 use Rattle.ms_tasks.specs.refinement.Making.{Addressed}
