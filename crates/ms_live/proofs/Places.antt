@@ -30,7 +30,7 @@ free-from_apart live capacity n place within apart k below =
     (omega arith, All-weaker (λ s. overlaps place n s ≡ false) (IsOutside (place + k)) (λ s apart. outside-from_apart place n k s below apart) live apart)
 
 -- a segment that overlaps at one place does so at each place from there up to its end
-taken : (live : List Live) (capacity n place lower : ℕ) (s : Live) → 0 < n → Contains live s → overlaps place n s ≡ true → place ≤ lower → lower < s.base + s.size → ¬ (IsFree live capacity n lower)
+pub taken : (live : List Live) (capacity n place lower : ℕ) (s : Live) → 0 < n → Contains live s → overlaps place n s ≡ true → place ≤ lower → lower < s.base + s.size → ¬ (IsFree live capacity n lower)
 taken live capacity n place lower s some has meets from below free =
     let begins = begins_before place n s meets in
     let bytes = has_bytes place n s meets in

@@ -6,8 +6,8 @@ use Rattle.std.proofs.lemmas.Bool.{and_from, and_parts, both_ways, cases_lt, cas
 use Rattle.ms_live.specs.declared.gaps.Live.{Live}
 use Rattle.ms_live.specs.Overlap.{overlaps}
 use Rattle.ms_live.specs.Place.{IsAligned, IsFree, IsPlace}
-use Rattle.ms_live.proofs.Found.{is_some-find}
-use Rattle.ms_live.proofs.Places.{free-from_None, none_at_all, passes, taken}
+use Rattle.ms_live.proofs.Found.{find-None, find-Some, is_some-find}
+use Rattle.ms_live.proofs.Places.{ends_behind, free-from_apart, none_at_all, taken}
 use Rattle.ms_segment.specs.Calls.{is_free, place_from, place_of}
 
 -- ---- whether a place is free
@@ -21,13 +21,15 @@ free_from_test live capacity n place e =
     elim (or_cases (n == 0) (nat_le (place + n) capacity && not (list_any (overlaps place n) live)) e) [
       | inl none ↦ λ k below. absurd (omega (arith, eqb-true n 0 none))
       | inr both ↦ let parts = and_parts (nat_le (place + n) capacity) (not (list_any (overlaps place n) live)) both in
-          free-from_None live capacity n place (leb-true (place + n) capacity parts.0) (none_from (find (overlaps place n) live) (is_some-find (overlaps place n) live ∙ not-true (list_any (overlaps place n) live) parts.1))
+          let nothing = none_from (find (overlaps place n) live) (is_some-find (overlaps place n) live ∙ not-true (list_any (overlaps place n) live) parts.1) in
+          free-from_apart live capacity n place (leb-true (place + n) capacity parts.0) (find-None (overlaps place n) live nothing)
     ]
 
 none_taken : (live : List Live) (capacity n place : ℕ) (o : Option Live) → 0 < n → IsFree live capacity n place → find (overlaps place n) live ≡ o → is_some o ≡ false
 none_taken live capacity n place None some free e = refl
 none_taken live capacity n place (Some s) some free e =
-    absurd (taken live capacity n place place s some e (omega arith) (passes live n place s e) free)
+    let found = find-Some (overlaps place n) live s e in
+    absurd (taken live capacity n place place s some found.0 found.1 (omega arith) (ends_behind place n s found.1) free)
 
 test_from_free : (live : List Live) (capacity n place : ℕ) → IsFree live capacity n place → is_free live capacity n place ≡ true
 test_from_free live capacity zero place free = refl
