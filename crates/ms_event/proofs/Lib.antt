@@ -4,3 +4,4 @@ pub mod Groups
 pub mod Endings
 pub mod OneText
 pub mod Traces
+pub mod Tallies

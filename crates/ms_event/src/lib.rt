@@ -9,7 +9,9 @@ mod event;
 mod fields;
 mod laws;
 mod number;
+mod tally;
 mod text;
 
 pub use event::Event;
 pub use laws::{accepted_by_steps, one_text, prefixes_are_accepted};
+pub use tally::Tally;
