@@ -1,5 +1,6 @@
 pub mod Branches
 pub mod Memories
+pub mod Counted
 pub mod Starts
 pub mod TypedValues
 pub mod TypedWork

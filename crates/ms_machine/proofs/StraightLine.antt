@@ -1,10 +1,15 @@
--- Steps in a row of which the outside and the segment memory see nothing.
-use Rattle.std.proofs.Common.{◌≡◌, ◌≢◌, ◌<◌, ◌+◌, ◌*◌, ◌^◌, Bor, IfSome, MatchOption, ℕ, zero, suc, Bool, false, List, [], ◌∷◌, ◌++◌, Option, Some, None, drop, get_or, length, length-drop, slice_get, refl, sym, ap, subst, ◌∙◌, arith}
+-- Steps in a row of which the outside sees nothing.
+use Rattle.std.proofs.Common.{◌≡◌, ◌≢◌, ◌<◌, ◌≤◌, ◌+◌, ◌*◌, ◌^◌, Bor, IfSome, IsTrue, MatchOption, ℕ, zero, suc, Bool, false, List, [], ◌∷◌, ◌++◌, Option, Some, None, append-nil, drop, get_or, length, length-drop, slice_get, refl, sym, ap, subst, ◌∙◌, arith}
 use Rattle.ms_event.specs.declared.event.Event.{Event}
+use Rattle.ms_event.specs.declared.tally.Tally.{Tally}
+use Rattle.ms_event.specs.refinement.Tally.{LeavesRoom, all_tallied}
+use Rattle.ms_event.proofs.Tallies.{room_after, room_less, tallied_both}
+use Rattle.ms_handle.specs.declared.handle.Handle.{Handle}
 use Rattle.ms_linear.specs.declared.global.GlobalInst.{GlobalInst}
 use Rattle.ms_linear.specs.declared.value.Value.{Value}
 use Rattle.ms_linear.specs.Memory.{Memory as LinearMemory}
 use Rattle.ms_module.specs.declared.access.Linear.{Linear as LinearInstr}
+use Rattle.ms_module.specs.declared.access.Segment.{Segment as SegmentInstr}
 use Rattle.ms_module.specs.declared.instr.Instr.{Instr}
 use Rattle.ms_module.specs.declared.instr.Instr.TheVariants as instr
 use Rattle.ms_operate.specs.Effects as effects
@@ -17,17 +22,21 @@ use Rattle.ms_task.specs.declared.func.FuncInst.{FuncInst}
 use Rattle.ms_task.specs.declared.task.Task.{Task}
 use Rattle.ms_task.proofs.Items.{begins_past}
 use Rattle.ms_task.proofs.Places.{held, held_before}
-use Rattle.ms_machine.specs.refinement.StraightLine.{DoesAgain, DoesQuietly, GoesQuietly, IsCalm, IsHalted, IsMet, IsNext, StepsQuietly}
+use Rattle.ms_segment.specs.Memory.{IsFit}
+use Rattle.ms_machine.specs.refinement.StraightLine.{DoesAgain, DoesQuietly, GoesCounted, GoesQuietly, GoesTelling, IsCalm, IsHalted, IsMet, IsNext, StepsCounted, StepsQuietly}
 use Rattle.ms_machine.specs.declared.straight.CarriedOut.TheVariants as carried
 use Rattle.ms_machine.specs.declared.straight.Stretch.{Stretch}
 use Rattle.ms_machine.specs.declared.straight.Stretch.TheVariants as stretches
 use Rattle.ms_machine.specs.refinement.Doing.{Carries}
 use Rattle.ms_machine.specs.refinement.Holding.{StoreFits, ThreadFits}
 use Rattle.ms_machine.specs.Moves.{Goes, move_for, move_on}
-use Rattle.ms_machine.specs.Step.{Next, Outcome, act, exited, first, in_memory, linear, moved, on_memory, on_top, set_global, set_global_at, step_of}
+use Rattle.ms_machine.specs.Running.{with_event}
+use Rattle.ms_machine.specs.Segments as segments
+use Rattle.ms_machine.specs.Segments.{Effect as SegmentEffect, segment_on}
+use Rattle.ms_machine.specs.Step.{Next, Outcome, act, exited, first, in_memory, in_segments, linear, moved, on_memory, on_top, set_global, set_global_at, step_of}
 use Rattle.ms_machine.specs.Store.{Store, global_address, instance_of, memory_address}
 use Rattle.ms_machine.specs.Typing.{StoreTyped, TaskTyped, outline_of}
-use Rattle.ms_machine.proofs.Moving.{move_keeps, move_stays_typed, move_unstuck}
+use Rattle.ms_machine.proofs.Moving.{Keeps, move_keeps, move_stays_typed, move_unstuck}
 use Rattle.ms_machine.proofs.TypedSteps.{begins_well}
 
 -- ---- one behind the other
@@ -44,15 +53,15 @@ quietly_trans s s1 s' n (suc m) k t t1 t' first (s2, t2, rest, going, step) is =
 
 -- ---- what they keep
 
-step_goes : (s s' : Store) (t t' : Thread) → step_of s t ≡ Next s' t' None → move_for s t None ≡ Goes s' t' false None None
-step_goes s s' t t' is = ap (move_on s None) is
+step_goes : (s s' : Store) (t t' : Thread) (event : Option Event) → step_of s t ≡ Next s' t' event → move_for s t None ≡ Goes s' t' false None event
+step_goes s s' t t' event is = ap (move_on s None) is
 
 pub quietly_typed : (s s' : Store) (t t' : Thread) (n : ℕ) → GoesQuietly s t n s' t' → StoreTyped (outline_of s) → TaskTyped (outline_of s) t → (outline_of s' ≡ outline_of s) × TaskTyped (outline_of s') t'
 quietly_typed s s' t t' zero (same, still) store task =
     (ap outline_of same, subst (λ (x : Store). TaskTyped (outline_of x) t') (sym same) (subst (TaskTyped (outline_of s)) (sym still) task))
 quietly_typed s s' t t' (suc n) (s1, t1, rest, going, step) store task =
     let before = quietly_typed s s1 t t1 n rest store task in
-    let then = move_stays_typed s1 s' t1 t' None false None None (step_goes s1 s' t1 t' step.0) (subst StoreTyped (sym before.0) store) before.1 going in
+    let then = move_stays_typed s1 s' t1 t' None false None None (step_goes s1 s' t1 t' None step) (subst StoreTyped (sym before.0) store) before.1 going in
     (then.0 ∙ before.0, then.1)
 
 pub quietly_fits : (s s' : Store) (t t' : Thread) (n : ℕ) → GoesQuietly s t n s' t' → StoreFits s → ThreadFits s t → StoreFits s' × ThreadFits s' t'
@@ -60,27 +69,88 @@ quietly_fits s s' t t' zero (same, still) store fits =
     (subst StoreFits (sym same) store, subst (λ (x : Store). ThreadFits x t') (sym same) (subst (ThreadFits s) (sym still) fits))
 quietly_fits s s' t t' (suc n) (s1, t1, rest, going, step) store fits =
     let before = quietly_fits s s1 t t1 n rest store fits in
-    let then = move_keeps s1 s' t1 t' None false None None before.0 before.1 (step_goes s1 s' t1 t' step.0) in
+    let then = move_keeps s1 s' t1 t' None false None None before.0 before.1 (step_goes s1 s' t1 t' None step) in
     (then.0, then.1)
 
-pub quietly_segments : (s s' : Store) (t t' : Thread) (n : ℕ) → GoesQuietly s t n s' t' → s'.segments ≡ s.segments
-quietly_segments s s' t t' zero (same, still) = ap (λ (x : Store). x.segments) same
-quietly_segments s s' t t' (suc n) (s1, t1, rest, going, step) = step.1 ∙ quietly_segments s s1 t t1 n rest
+-- ---- steps that tell
 
-pub halted_typed : (q : Stretch) (n : ℕ) (s s' : Store) (t t' : Thread) → IsHalted q n s t s' t' → IsCalm q → StoreTyped (outline_of s) → TaskTyped (outline_of s) t → (outline_of s' ≡ outline_of s) × TaskTyped (outline_of s') t'
-halted_typed stretches.Paused n s s' t t' (steps, going) calm store task = quietly_typed s s' t t' n steps store task
-halted_typed stretches.Ended n s s' t t' (steps, ended) calm store task = quietly_typed s s' t t' n steps store task
-halted_typed stretches.Memory n s s' t t' steps calm store task = absurd calm
+telling_on : (s s1 s' : Store) (n k : ℕ) (es es' : List Event) (event : Option Event) (t t1 t' : Thread) → GoesTelling s t n es s1 t1 → t1.work ≢ [] → step_of s1 t1 ≡ Next s' t' event → es' ≡ es ++ with_event event [] → k ≡ suc n → GoesTelling s t k es' s' t'
+telling_on s s1 s' n k es es' event t t1 t' first going step told is = subst (λ j. GoesTelling s t j es' s' t') (sym is) (s1, t1, es, event, first, going, step, told)
 
-pub halted_fits : (q : Stretch) (n : ℕ) (s s' : Store) (t t' : Thread) → IsHalted q n s t s' t' → IsCalm q → StoreFits s → ThreadFits s t → StoreFits s' × ThreadFits s' t'
-halted_fits stretches.Paused n s s' t t' (steps, going) calm store fits = quietly_fits s s' t t' n steps store fits
-halted_fits stretches.Ended n s s' t t' (steps, ended) calm store fits = quietly_fits s s' t t' n steps store fits
-halted_fits stretches.Memory n s s' t t' steps calm store fits = absurd calm
+-- behind which others tell nothing
+telling_quietly : (s s1 s' : Store) (n m k : ℕ) (es : List Event) (t t1 t' : Thread) → GoesTelling s t n es s1 t1 → GoesQuietly s1 t1 m s' t' → k ≡ n + m → GoesTelling s t k es s' t'
+telling_quietly s s1 s' n zero k es t t1 t' first (store, thread) is =
+    let e : n ≡ k = omega (arith, is) in
+    subst (λ j. GoesTelling s t j es s' t') e (subst (λ (x : Store). GoesTelling s t n es x t') (sym store) (subst (λ x. GoesTelling s t n es s1 x) (sym thread) first))
+telling_quietly s s1 s' n (suc m) k es t t1 t' first (s2, t2, rest, going, step) is =
+    telling_on s s2 s' (n + m) k es es None t t2 t' (telling_quietly s s1 s2 n m (n + m) es t t1 t2 first rest refl) going step (sym (append-nil es)) (omega (arith, is))
 
-pub halted_segments : (q : Stretch) (n : ℕ) (s s' : Store) (t t' : Thread) → IsHalted q n s t s' t' → IsCalm q → s'.segments ≡ s.segments
-halted_segments stretches.Paused n s s' t t' (steps, going) calm = quietly_segments s s' t t' n steps
-halted_segments stretches.Ended n s s' t t' (steps, ended) calm = quietly_segments s s' t t' n steps
-halted_segments stretches.Memory n s s' t t' steps calm = absurd calm
+pub telling_typed : (s s' : Store) (t t' : Thread) (n : ℕ) (es : List Event) → GoesTelling s t n es s' t' → StoreTyped (outline_of s) → TaskTyped (outline_of s) t → (outline_of s' ≡ outline_of s) × TaskTyped (outline_of s') t'
+telling_typed s s' t t' zero es (same, still, none) store task =
+    (ap outline_of same, subst (λ (x : Store). TaskTyped (outline_of x) t') (sym same) (subst (TaskTyped (outline_of s)) (sym still) task))
+telling_typed s s' t t' (suc n) es (s1, t1, es1, event, rest, going, step, told) store task =
+    let before = telling_typed s s1 t t1 n es1 rest store task in
+    let then = move_stays_typed s1 s' t1 t' None false None event (step_goes s1 s' t1 t' event step) (subst StoreTyped (sym before.0) store) before.1 going in
+    (then.0 ∙ before.0, then.1)
+
+-- handles that fit, and how many identities were made
+abbrev Grows : Store → ℕ → Store → Thread → Type 0
+Grows s n s' t' = StoreFits s' × ThreadFits s' t' × (s'.segments.made ≤ s.segments.made + n) × ((h : Handle) → IsFit s.segments h → IsFit s'.segments h)
+
+pub telling_grows : (s s' : Store) (t t' : Thread) (n : ℕ) (es : List Event) → GoesTelling s t n es s' t' → StoreFits s → ThreadFits s t → Grows s n s' t'
+telling_grows s s' t t' zero es (same, still, none) store fits =
+    let first : Grows s 0 s t = (store, fits, omega arith, λ h fit. fit) in
+    subst (λ (x : Store). Grows s 0 x t') (sym same) (subst (λ x. Grows s 0 s x) (sym still) first)
+telling_grows s s' t t' (suc n) es (s1, t1, es1, event, rest, going, step, told) store fits =
+    let before = telling_grows s s1 t t1 n es1 rest store fits in
+    let then = move_keeps s1 s' t1 t' None false None event before.0 before.1 (step_goes s1 s' t1 t' event step) in
+    let some = before.2 in
+    let more = then.2 in
+    (then.0, then.1, omega (arith, some, more), λ h fit. then.3 h (before.3 h fit))
+
+-- ---- steps whose events are counted
+
+pub counted_none : (keep : Bool) (s : Store) (t : Thread) (c : Tally) (n : ℕ) → n ≡ 0 → GoesCounted keep s t c n s t c
+counted_none keep s t c n none = subst (λ k. GoesCounted keep s t c k s t c) (sym none) ([], (refl, refl, refl), refl, λ _. refl)
+
+pub counted_quietly : (keep : Bool) (s s1 s' : Store) (t t1 t' : Thread) (c c' : Tally) (n m k : ℕ) → GoesCounted keep s t c n s1 t1 c' → GoesQuietly s1 t1 m s' t' → k ≡ n + m → GoesCounted keep s t c k s' t' c'
+counted_quietly keep s s1 s' t t1 t' c c' n m k (es, steps, tally, none) rest is = (es, telling_quietly s s1 s' n m k es t t1 t' steps rest is, tally, none)
+
+pub unkept : (keep : Bool) → keep ≡ false → IsTrue keep → ⊥
+unkept keep is kept = cc
+
+-- one more, which tells something only where events are not to be kept
+pub counted_on : (keep : Bool) (s s1 s' : Store) (t t1 t' : Thread) (c c1 c' : Tally) (n k : ℕ) → (IsTrue keep → ⊥) → GoesCounted keep s t c n s1 t1 c1 → t1.work ≢ [] → StepsCounted s1 t1 c1 s' t' c' → k ≡ suc n → GoesCounted keep s t c k s' t' c'
+counted_on keep s s1 s' t t1 t' c c1 c' n k unkept (es, steps, tally, none) going (event, step, told) is = (
+  es ++ with_event event [],
+  telling_on s s1 s' n k es (es ++ with_event event []) event t t1 t' steps going step refl is,
+  told ∙ (ap (all_tallied (with_event event [])) tally ∙ sym (tallied_both es (with_event event []) c)),
+  λ kept. absurd (unkept kept),
+)
+
+-- one more that tells nothing
+pub counted_still : (keep : Bool) (s s1 s' : Store) (t t1 t' : Thread) (c c' : Tally) (n k : ℕ) → GoesCounted keep s t c n s1 t1 c' → t1.work ≢ [] → StepsQuietly s1 t1 s' t' → k ≡ suc n → GoesCounted keep s t c k s' t' c'
+counted_still keep s s1 s' t t1 t' c c' n k (es, steps, tally, none) going step is = (es, telling_on s s1 s' n k es es None t t1 t' steps going step (sym (append-nil es)) is, tally, none)
+
+-- room for what is counted later
+pub room_told : (n m : ℕ) (c c' : Tally) (event : Option Event) → m + 1 ≤ n → c' ≡ all_tallied (with_event event []) c → LeavesRoom n c → LeavesRoom m c'
+room_told n m c c' None less is room = subst (LeavesRoom m) (sym is) (room_less n m c (omega (arith, less)) room)
+room_told n m c c' (Some e) less is room = subst (LeavesRoom m) (sym is) (room_after n m c less room e)
+
+module _ (q : Stretch) (keep : Bool) (n : ℕ) (s s' : Store) (t t' : Thread) (c c' : Tally) where
+  pub halted_typed : IsHalted q keep n s t c s' t' c' → IsCalm q → StoreTyped (outline_of s) → TaskTyped (outline_of s) t → (outline_of s' ≡ outline_of s) × TaskTyped (outline_of s') t'
+  halted_typed halted calm store task = by q halted calm where
+    by : (k : Stretch) → IsHalted k keep n s t c s' t' c' → IsCalm k → (outline_of s' ≡ outline_of s) × TaskTyped (outline_of s') t'
+    by stretches.Paused (steps, going) calm = telling_typed s s' t t' n steps.0 steps.1 store task
+    by stretches.Ended (steps, ended) calm = telling_typed s s' t t' n steps.0 steps.1 store task
+    by stretches.Memory steps calm = absurd calm
+
+  pub halted_grows : IsHalted q keep n s t c s' t' c' → IsCalm q → StoreFits s → ThreadFits s t → Grows s n s' t'
+  halted_grows halted calm store fits = by q halted calm where
+    by : (k : Stretch) → IsHalted k keep n s t c s' t' c' → IsCalm k → Grows s n s' t'
+    by stretches.Paused (steps, going) calm = telling_grows s s' t t' n steps.0 steps.1 store fits
+    by stretches.Ended (steps, ended) calm = telling_grows s s' t t' n steps.0 steps.1 store fits
+    by stretches.Memory steps calm = absurd calm
 
 -- ---- the next instruction
 
@@ -97,8 +167,11 @@ exits_none t b = at t.work b where
   at (Activation k h caller ∷ w) b = absurd b
 
 -- where it leads, with what is then at its end exited
+pub leaves_telling : (s s' : Store) (t t1 u t' : Thread) (i : Instr) (event : Option Event) → t ≡ with_first i t1 → act s i t1 ≡ Next s' u event → t' ≡ exited_thread u → step_of s t ≡ Next s' t' event
+leaves_telling s s' t t1 u t' i event starts acts same = ap (step_of s) starts ∙ ap exited acts ∙ ap (λ x. Next s' x event) (sym same)
+
 pub leaves : (s s' : Store) (t t1 u t' : Thread) (i : Instr) → t ≡ with_first i t1 → act s i t1 ≡ Next s' u None → t' ≡ exited_thread u → step_of s t ≡ Next s' t' None
-leaves s s' t t1 u t' i starts acts same = ap (step_of s) starts ∙ ap exited acts ∙ ap (λ x. Next s' x None) (sym same)
+leaves s s' t t1 u t' i starts acts same = leaves_telling s s' t t1 u t' i None starts acts same
 
 -- nothing is at its end
 pub stays : (s : Store) (t t1 t' : Thread) (i : Instr) → t ≡ with_first i t1 → act s i t1 ≡ Next s t' None → Begins t'.work → step_of s t ≡ Next s t' None
@@ -127,7 +200,7 @@ pub carried_on : (s : Store) (t t' : Task) (i : Instr) (next : ℕ) → IsNext i
 carried_on s t t' i next here (acts, at) within =
     let begins = begins_at s (outer_of s.funcs t') t.function t.sequence next within in
     let e : rest_at s.funcs t.function t.sequence next ≡ rest_at s.funcs t'.function t'.sequence t'.place = rw (at.0, at.1, at.2) refl in
-    ((stays s (thread_of s.funcs t) (at_next s.funcs t next) (thread_of s.funcs t') i here.0 acts (subst (λ w. Begins (w ++ outer_of s.funcs t')) e begins), refl), at)
+    (stays s (thread_of s.funcs t) (at_next s.funcs t next) (thread_of s.funcs t') i here.0 acts (subst (λ w. Begins (w ++ outer_of s.funcs t')) e begins), at)
 
 -- a task that begins a sequence there goes on in it
 pub going_at : (s : Store) (t : Task) → t.place < length (sequence s.funcs t.function t.sequence) → (thread_of s.funcs t).work ≢ []
@@ -150,7 +223,7 @@ module _ (s : Store) (t t' : Task) (i : Instr) (next : ℕ) (here : IsNext i nex
       let first : step_of s t0 ≡ Next s t1 None = stays s t0 (at_next s.funcs t next) t1 i here.0 (acts ∙ ap (moved s) branched) (tt {0}) in
       let second : step_of s t1 ≡ Next s t2 None = stays s t1 u t2 loop refl (ap (moved s) (sym entered)) begins in
       let going : t0.work ≢ [] = subst (λ (x : Thread). x.work ≢ []) (sym here.0) (begins_going (with_first i (at_next s.funcs t next)).work (tt {0})) in
-      ((s, t1, (s, t0, (refl, refl), going, (first, refl)), begins_going t1.work (tt {0}), (second, refl)), (same, within, begins_going t2.work begins, small))
+      ((s, t1, (s, t0, (refl, refl), going, first), begins_going t1.work (tt {0}), second), (same, within, begins_going t2.work begins, small))
 
   pub repeated : (funcs : List FuncInst) (o : Option (Bor (List Instr))) → funcs ≡ s.funcs → MatchOption o (t' ≡ t) (λ code. RepeatsIn funcs (m funcs) code.now t') → IfSome o (λ code. length code.now * 16 < 2 ^ 63) → MatchOption o (t' ≡ t) (λ code. DoesAgain code.now s (thread_of s.funcs t) t')
   repeated funcs None same as-before small = as-before
@@ -196,12 +269,21 @@ module _ (s s' : Store) (t u : Thread) (e : Option Event) where
   pub global_behind : (x : ℕ) → act s (instr.GlobalSet x) t ≡ Next s' u e → u.work ≡ t.work
   global_behind x is = set_top_behind x t.operands is
 
+  effect_behind : (f : SegmentEffect) → in_segments s t f ≡ Next s' u e → u.work ≡ t.work
+  effect_behind (segments.Gives vs m event) is = sym (ap work_after is)
+  effect_behind (segments.Trap _) is = cc
+  effect_behind segments.Stuck is = cc
+
+  -- and behind one on segments
+  pub segment_behind : (j : SegmentInstr) → act s (instr.Segment j) t ≡ Next s' u e → u.work ≡ t.work
+  segment_behind j is = effect_behind (segment_on j s.segments t.operands) is
+
 -- another one stands behind it
-pub worked_behind : (s s' : Store) (t t' : Task) (i : Instr) (next : ℕ) → IsNext i next s t → act s i (at_next s.funcs t next) ≡ Next s' (thread_of s'.funcs t') None → (thread_of s'.funcs t').work ≡ (at_next s.funcs t next).work → next < length (sequence s.funcs t.function t.sequence) → (step_of s (thread_of s.funcs t) ≡ Next s' (thread_of s'.funcs t') None) × ((thread_of s'.funcs t').work ≢ [])
-worked_behind s s' t t' i next here acts behind within =
+pub worked_behind : (s s' : Store) (t t' : Task) (i : Instr) (next : ℕ) (event : Option Event) → IsNext i next s t → act s i (at_next s.funcs t next) ≡ Next s' (thread_of s'.funcs t') event → (thread_of s'.funcs t').work ≡ (at_next s.funcs t next).work → next < length (sequence s.funcs t.function t.sequence) → (step_of s (thread_of s.funcs t) ≡ Next s' (thread_of s'.funcs t') event) × ((thread_of s'.funcs t').work ≢ [])
+worked_behind s s' t t' i next event here acts behind within =
     let u = thread_of s'.funcs t' in
     let begins = subst Begins (sym behind) (begins_at s (outer_of s.funcs t) t.function t.sequence next within) in
-    (leaves s s' (thread_of s.funcs t) (at_next s.funcs t next) u u i here.0 acts (sym (exits_none u begins)), begins_going u.work begins)
+    (leaves_telling s s' (thread_of s.funcs t) (at_next s.funcs t next) u u i event here.0 acts (sym (exits_none u begins)), begins_going u.work begins)
 
 -- the instruction is another's
 pub met_here : (s : Store) (t0 : Thread) (n left next : ℕ) (more : Bool) (t t' : Task) (i j : Instr) → GoesQuietly s t0 n s (thread_of s.funcs t) → 0 < left → IsMet i next more s t → i ≡ j → t' ≡ t → GoesQuietly s t0 n s (thread_of s.funcs t') × (0 < left) × IsMet j next more s t'
@@ -217,19 +299,28 @@ begins_there s funcs t0 n t same steps store task going =
 
 -- ---- an instruction that changes the store, behind others
 
-module _ (s0 s1 s2 s3 : Store) (t0 t1 t2 : Thread) (t3 t4 : Task) (a b c : ℕ)
-    (first : GoesQuietly s0 t0 a s1 t1) (second : GoesQuietly s1 t1 b s1 t2) (going : t2.work ≢ []) (store : s3 ≡ s2) (task : t4 ≡ t3) where
-  pub worked_on : (P : List Item → Type 0) → StepsQuietly s1 t2 s2 (thread_of s2.funcs t3) × P (thread_of s2.funcs t3).work → c ≡ suc (a + b) → GoesQuietly s0 t0 c s3 (thread_of s3.funcs t4) × P (thread_of s3.funcs t4).work
-  worked_on P (step, then) is =
-      subst (λ (x : Store). GoesQuietly s0 t0 c x (thread_of x.funcs t4) × P (thread_of x.funcs t4).work) (sym store)
-      (subst (λ (x : Task). GoesQuietly s0 t0 c s2 (thread_of s2.funcs x) × P (thread_of s2.funcs x).work) (sym task)
-      (quietly_on s0 s1 s2 (a + b) c t0 t2 (thread_of s2.funcs t3) (quietly_trans s0 s1 s1 a b (a + b) t0 t1 t2 first second refl) going step is, then))
+module _ (keep : Bool) (s0 s1 s2 s3 : Store) (t0 t1 t2 : Thread) (t3 t4 : Task) (c0 c1 c2 c3 : Tally) (a b k : ℕ)
+    (first : GoesCounted keep s0 t0 c0 a s1 t1 c1) (second : GoesQuietly s1 t1 b s1 t2) (going : t2.work ≢ []) (store : s3 ≡ s2) (task : t4 ≡ t3) (tally : c3 ≡ c2) where
+  put_there : (P : List Item → Type 0) → GoesCounted keep s0 t0 c0 k s2 (thread_of s2.funcs t3) c2 × P (thread_of s2.funcs t3).work → GoesCounted keep s0 t0 c0 k s3 (thread_of s3.funcs t4) c3 × P (thread_of s3.funcs t4).work
+  put_there P there =
+      subst (λ (x : Store). GoesCounted keep s0 t0 c0 k x (thread_of x.funcs t4) c3 × P (thread_of x.funcs t4).work) (sym store)
+      (subst (λ (x : Task). GoesCounted keep s0 t0 c0 k s2 (thread_of s2.funcs x) c3 × P (thread_of s2.funcs x).work) (sym task)
+      (subst (λ (x : Tally). GoesCounted keep s0 t0 c0 k s2 (thread_of s2.funcs t3) x × P (thread_of s2.funcs t3).work) (sym tally) there))
 
-  pub worked_not : (s2 ≡ s1) × (thread_of s2.funcs t3 ≡ t2) → c ≡ a + b → GoesQuietly s0 t0 c s3 (thread_of s3.funcs t4) × ((thread_of s3.funcs t4).work ≢ [])
-  worked_not (same, still) is =
-      let steps = quietly_trans s0 s1 s1 a b c t0 t1 t2 first second is in
-      subst (λ (x : Store). GoesQuietly s0 t0 c x (thread_of x.funcs t4) × ((thread_of x.funcs t4).work ≢ [])) (sym store)
-      (subst (λ (x : Task). GoesQuietly s0 t0 c s2 (thread_of s2.funcs x) × ((thread_of s2.funcs x).work ≢ [])) (sym task) (
-        subst (λ (x : Store). GoesQuietly s0 t0 c x (thread_of s2.funcs t3)) (sym same) (subst (λ x. GoesQuietly s0 t0 c s1 x) (sym still) steps),
+  pub told_on : (P : List Item → Type 0) → (IsTrue keep → ⊥) → StepsCounted s1 t2 c1 s2 (thread_of s2.funcs t3) c2 × P (thread_of s2.funcs t3).work → k ≡ suc (a + b) → GoesCounted keep s0 t0 c0 k s3 (thread_of s3.funcs t4) c3 × P (thread_of s3.funcs t4).work
+  told_on P unkept (step, then) is =
+      put_there P (counted_on keep s0 s1 s2 t0 t2 (thread_of s2.funcs t3) c0 c1 c2 (a + b) k unkept (counted_quietly keep s0 s1 s1 t0 t1 t2 c0 c1 a b (a + b) first second refl) going step is, then)
+
+  pub told_not : (s2 ≡ s1) × (thread_of s2.funcs t3 ≡ t2) × (c2 ≡ c1) → k ≡ a + b → GoesCounted keep s0 t0 c0 k s3 (thread_of s3.funcs t4) c3 × ((thread_of s3.funcs t4).work ≢ [])
+  told_not (same, still, count) is =
+      let steps = counted_quietly keep s0 s1 s1 t0 t1 t2 c0 c1 a b k first second is in
+      put_there (λ (w : List Item). w ≢ []) (
+        subst (λ (x : Store). GoesCounted keep s0 t0 c0 k x (thread_of s2.funcs t3) c2) (sym same) (subst (λ x. GoesCounted keep s0 t0 c0 k s1 x c2) (sym still) (subst (λ x. GoesCounted keep s0 t0 c0 k s1 t2 x) (sym count) steps)),
         subst (λ (x : Thread). x.work ≢ []) (sym still) going,
-      ))
+      )
+
+  -- one that tells nothing
+  pub worked_on : (P : List Item → Type 0) → c2 ≡ c1 → StepsQuietly s1 t2 s2 (thread_of s2.funcs t3) × P (thread_of s2.funcs t3).work → k ≡ suc (a + b) → GoesCounted keep s0 t0 c0 k s3 (thread_of s3.funcs t4) c3 × P (thread_of s3.funcs t4).work
+  worked_on P count (step, then) is =
+      put_there P (subst (λ x. GoesCounted keep s0 t0 c0 k s2 (thread_of s2.funcs t3) x) (sym count)
+      (counted_still keep s0 s1 s2 t0 t2 (thread_of s2.funcs t3) c0 c1 (a + b) k (counted_quietly keep s0 s1 s1 t0 t1 t2 c0 c1 a b (a + b) first second refl) going step is), then)

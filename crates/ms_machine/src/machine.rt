@@ -24,7 +24,7 @@ use crate::store::Store;
 use crate::{control, memory, plain};
 use ms_event::Event;
 use ms_host::TrapKind;
-use ms_module::{Instr, Segment};
+use ms_module::Instr;
 use ms_outside::{Sink, Source};
 use ms_segment::SegmentMemory;
 use ms_task::Task;
@@ -115,8 +115,6 @@ fn perform<M: SegmentMemory>(
     match *fetched.instr {
         Instr::GlobalSet(x) => and_more(plain::global_set(store, task, x, next), more),
         Instr::Linear(i) => and_more(memory::linear(store, task, i, next), more),
-        Instr::Segment(Segment::Load(op)) => and_more(memory::load(store, task, op, next), more),
-        Instr::Segment(Segment::Store(op)) => and_more(memory::store(store, task, op, next), more),
         Instr::Segment(i) => and_more(memory::segment(store, task, i, next), more),
         _ => carry_out(here, task, fetched.instr, next, more),
     }

@@ -1,17 +1,19 @@
 //! Numeric instructions, and those on the linear memory and on segments, on the store.
 
 ghost use Rattle.std.specs.Prelude.{◌≡◌, ◌<◌, ◌^◌};
-ghost use Rattle.ms_machine.specs.refinement.Doing.{Can, DoesInstr, Stays, TellsNone};
+ghost use Rattle.ms_event.specs.refinement.Tally.{LeavesRoom};
+ghost use Rattle.ms_machine.specs.refinement.Doing.{Can, DoesInstr, DoesTold, Stays, TellsNone};
 ghost use Rattle.ms_machine.specs.refinement.Holding.{Each, Fits};
-ghost use Rattle.ms_module.specs.declared.access.Segment.TheVariants as access;
+ghost use Rattle.ms_machine.specs.Step.{act};
 ghost use Rattle.ms_module.specs.declared.instr.Instr.TheVariants as instr;
+ghost use Rattle.ms_task.specs.refinement.View.{at_next, thread_of};
 
 use crate::fault::{Fault, of_fault, of_operate};
 use crate::lookup::memory_address;
 use crate::segment;
 use crate::store::Store;
-use ms_event::Event;
-use ms_module::{Linear, LoadOp, Numeric, Segment, StoreOp};
+use ms_event::{Event, Tally};
+use ms_module::{Linear, Numeric, Segment};
 use ms_segment::SegmentMemory;
 use ms_task::Task;
 
@@ -80,43 +82,25 @@ pub(crate) fn segment<M: SegmentMemory>(
     }
 }
 
-/// `i32.segload` and its kin.
+/// The same, where what it tells is only counted.
 #[inline(always)]
-pub(crate) fn load<M: SegmentMemory>(
+pub(crate) fn segment_counted<M: SegmentMemory>(
     store: &mut Store<M>,
     task: &mut Task,
-    op: LoadOp,
+    i: Segment,
     next: usize,
-) -> Result<Option<Event>, Fault>
-    requires can { Can (instr.Segment (access.Load op)) next store.old task.old }
+    tally: &mut Tally,
+) -> Result<(), Fault>
+    requires can { Can (instr.Segment i) next store.old task.old }
+    requires few { store.old.segments.made < 2 ^ 63 }
     requires fit { Each (Fits store.old.segments) task.old.operands }
-    ensures { DoesInstr (instr.Segment (access.Load op)) next store.old task.old store.new task.new result }
+    requires room { LeavesRoom 1 tally.old }
+    ensures { DoesTold (act store.old (instr.Segment i) (at_next store.old.funcs task.old next)) store.old (thread_of store.old.funcs task.old) tally.old store.new (thread_of store.new.funcs task.new) tally.new result }
 {
-    match segment::load(op, &mut store.segments, &mut task.operands) {
-        Ok(event) => {
+    match segment::segment_counted(i, &mut store.segments, &mut task.operands, tally) {
+        Ok(()) => {
             task.go_to(next);
-            Ok(event)
-        }
-        Err(fault) => Err(fault),
-    }
-}
-
-/// `i32.segstore` and its kin.
-#[inline(always)]
-pub(crate) fn store<M: SegmentMemory>(
-    store: &mut Store<M>,
-    task: &mut Task,
-    op: StoreOp,
-    next: usize,
-) -> Result<Option<Event>, Fault>
-    requires can { Can (instr.Segment (access.Store op)) next store.old task.old }
-    requires fit { Each (Fits store.old.segments) task.old.operands }
-    ensures { DoesInstr (instr.Segment (access.Store op)) next store.old task.old store.new task.new result }
-{
-    match segment::store(op, &mut store.segments, &mut task.operands) {
-        Ok(event) => {
-            task.go_to(next);
-            Ok(event)
+            Ok(())
         }
         Err(fault) => Err(fault),
     }

@@ -1,14 +1,15 @@
 //! Instructions on handles and segments, each in a small function, over any `SegmentMemory`: they see no byte but by its loads.
 
 ghost use Rattle.std.specs.Prelude.{◌≡◌, ◌≢◌, ◌<◌, ◌^◌, List, [], ◌∷◌, false, IsTrue, None};
+ghost use Rattle.ms_event.specs.refinement.Tally.{LeavesRoom};
 ghost use Rattle.ms_handle.specs.Handle.{HasBounds};
-ghost use Rattle.ms_machine.specs.refinement.Doing.{DoesInSegments, IsStill};
+ghost use Rattle.ms_machine.specs.refinement.Doing.{CountsTold, DoesCounted, DoesInSegments, IsStill};
 ghost use Rattle.ms_machine.specs.refinement.Holding.{Each, Fits};
 ghost use Rattle.ms_machine.specs.Segments.{Gives, Stuck, is_null, seal_event, segment_on, slice_event};
 ghost use Rattle.ms_module.specs.declared.access.Segment.TheVariants as instr;
 
 use crate::fault::{Fault, of_segment};
-use ms_event::Event;
+use ms_event::{Event, Tally};
 use ms_handle::{Handle, Kind, add, diff, eq, seal, slice};
 use ms_host::TrapKind;
 use ms_linear::{Operands, Value};
@@ -18,6 +19,7 @@ use ms_segment::SegmentMemory;
 
 /// Carries out an instruction on handles and segments. Where it stops the program nothing has changed, and where memory runs
 /// out the segment memory is as before.
+#[inline(never)]
 pub(crate) fn segment<S: SegmentMemory>(
     i: Segment,
     segments: &mut S,
@@ -257,6 +259,7 @@ fn difference<S: SegmentMemory>(
 }
 
 /// `handle.load`.
+#[inline(always)]
 fn load_handle<S: SegmentMemory>(
     segments: &mut S,
     operands: &mut Operands,
@@ -278,6 +281,7 @@ fn load_handle<S: SegmentMemory>(
 }
 
 /// `handle.store`.
+#[inline(always)]
 fn store_handle<S: SegmentMemory>(
     segments: &mut S,
     operands: &mut Operands,
@@ -334,37 +338,8 @@ fn seal_top<S: SegmentMemory>(segments: &S, operands: &mut Operands) -> Result<O
 }
 
 /// `i32.segload` and its kin.
-///
-/// The operations are told apart here, so that each is a constant in what is done with it.
-#[inline(never)]
-pub(crate) fn load<S: SegmentMemory>(
-    op: LoadOp,
-    segments: &mut S,
-    operands: &mut Operands,
-) -> Result<Option<Event>, Fault>
-    requires there { segment_on (instr.Load op) (S.memory segments.old) operands.old ≢ Stuck }
-    requires fit { Each (Fits (S.memory segments.old)) operands.old }
-    ensures { DoesInSegments (segment_on (instr.Load op) (S.memory segments.old) operands.old) operands.old operands.new (S.memory segments.old) (S.memory segments.new) result }
-{
-    match op {
-        LoadOp::I32Load => load_by(LoadOp::I32Load, segments, operands),
-        LoadOp::I64Load => load_by(LoadOp::I64Load, segments, operands),
-        LoadOp::I32Load8S => load_by(LoadOp::I32Load8S, segments, operands),
-        LoadOp::I32Load8U => load_by(LoadOp::I32Load8U, segments, operands),
-        LoadOp::I32Load16S => load_by(LoadOp::I32Load16S, segments, operands),
-        LoadOp::I32Load16U => load_by(LoadOp::I32Load16U, segments, operands),
-        LoadOp::I64Load8S => load_by(LoadOp::I64Load8S, segments, operands),
-        LoadOp::I64Load8U => load_by(LoadOp::I64Load8U, segments, operands),
-        LoadOp::I64Load16S => load_by(LoadOp::I64Load16S, segments, operands),
-        LoadOp::I64Load16U => load_by(LoadOp::I64Load16U, segments, operands),
-        LoadOp::I64Load32S => load_by(LoadOp::I64Load32S, segments, operands),
-        LoadOp::I64Load32U => load_by(LoadOp::I64Load32U, segments, operands),
-    }
-}
-
-/// The same, by one operation.
 #[inline(always)]
-fn load_by<S: SegmentMemory>(
+fn load<S: SegmentMemory>(
     op: LoadOp,
     segments: &mut S,
     operands: &mut Operands,
@@ -385,31 +360,9 @@ fn load_by<S: SegmentMemory>(
     }
 }
 
-/// `i32.segstore` and its kin. The operations are told apart in the same way.
-#[inline(never)]
-pub(crate) fn store<S: SegmentMemory>(
-    op: StoreOp,
-    segments: &mut S,
-    operands: &mut Operands,
-) -> Result<Option<Event>, Fault>
-    requires there { segment_on (instr.Store op) (S.memory segments.old) operands.old ≢ Stuck }
-    requires fit { Each (Fits (S.memory segments.old)) operands.old }
-    ensures { DoesInSegments (segment_on (instr.Store op) (S.memory segments.old) operands.old) operands.old operands.new (S.memory segments.old) (S.memory segments.new) result }
-{
-    match op {
-        StoreOp::I32Store => store_by(StoreOp::I32Store, segments, operands),
-        StoreOp::I64Store => store_by(StoreOp::I64Store, segments, operands),
-        StoreOp::I32Store8 => store_by(StoreOp::I32Store8, segments, operands),
-        StoreOp::I32Store16 => store_by(StoreOp::I32Store16, segments, operands),
-        StoreOp::I64Store8 => store_by(StoreOp::I64Store8, segments, operands),
-        StoreOp::I64Store16 => store_by(StoreOp::I64Store16, segments, operands),
-        StoreOp::I64Store32 => store_by(StoreOp::I64Store32, segments, operands),
-    }
-}
-
-/// The same, by one operation.
+/// `i32.segstore` and its kin.
 #[inline(always)]
-fn store_by<S: SegmentMemory>(
+fn store<S: SegmentMemory>(
     op: StoreOp,
     segments: &mut S,
     operands: &mut Operands,
@@ -429,4 +382,186 @@ fn store_by<S: SegmentMemory>(
         }
         Err(trap) => Err(Fault::Trap(of_segment(trap))),
     }
+}
+
+// ---- the same, where what is told is only counted
+
+/// An instruction on handles and segments, where what it tells is only counted.
+///
+/// Loads and stores have functions of their own, in which no event is made.
+#[inline(always)]
+pub(crate) fn segment_counted<S: SegmentMemory>(
+    i: Segment,
+    segments: &mut S,
+    operands: &mut Operands,
+    tally: &mut Tally,
+) -> Result<(), Fault>
+    requires there { segment_on i (S.memory segments.old) operands.old ≢ Stuck }
+    requires few { (S.memory segments.old).made < 2 ^ 63 }
+    requires fit { Each (Fits (S.memory segments.old)) operands.old }
+    requires room { LeavesRoom 1 tally.old }
+    ensures { DoesCounted (segment_on i (S.memory segments.old) operands.old) operands.old operands.new (S.memory segments.old) (S.memory segments.new) tally.old tally.new result }
+{
+    match i {
+        Segment::Load(op) => load_counted(op, segments, operands, tally),
+        Segment::Store(op) => store_counted(op, segments, operands, tally),
+        Segment::LoadHandle => load_handle_counted(segments, operands, tally),
+        Segment::StoreHandle => store_handle_counted(segments, operands, tally),
+        _ => others_counted(i, segments, operands, tally),
+    }
+}
+
+/// Counts what was told.
+#[inline(always)]
+fn counted(outcome: Result<Option<Event>, Fault>, tally: &mut Tally) -> Result<(), Fault>
+    requires { LeavesRoom 1 tally.old }
+    ensures { CountsTold outcome tally.old tally.new result }
+{
+    match outcome {
+        Ok(None) => Ok(()),
+        Ok(Some(event)) => {
+            tally.count(event);
+            Ok(())
+        }
+        Err(fault) => Err(fault),
+    }
+}
+
+/// Any instruction.
+#[inline(always)]
+#[tactic(auto, using(crate::proofs::Counted::counted_does))]
+fn others_counted<S: SegmentMemory>(
+    i: Segment,
+    segments: &mut S,
+    operands: &mut Operands,
+    tally: &mut Tally,
+) -> Result<(), Fault>
+    requires there { segment_on i (S.memory segments.old) operands.old ≢ Stuck }
+    requires few { (S.memory segments.old).made < 2 ^ 63 }
+    requires fit { Each (Fits (S.memory segments.old)) operands.old }
+    requires room { LeavesRoom 1 tally.old }
+    ensures { DoesCounted (segment_on i (S.memory segments.old) operands.old) operands.old operands.new (S.memory segments.old) (S.memory segments.new) tally.old tally.new result }
+{
+    counted(segment(i, segments, operands), tally)
+}
+
+/// `handle.load`.
+#[inline(never)]
+#[tactic(auto, using(crate::proofs::Counted::counted_does))]
+fn load_handle_counted<S: SegmentMemory>(
+    segments: &mut S,
+    operands: &mut Operands,
+    tally: &mut Tally,
+) -> Result<(), Fault>
+    requires there { segment_on instr.LoadHandle (S.memory segments.old) operands.old ≢ Stuck }
+    requires fit { Each (Fits (S.memory segments.old)) operands.old }
+    requires room { LeavesRoom 1 tally.old }
+    ensures { DoesCounted (segment_on instr.LoadHandle (S.memory segments.old) operands.old) operands.old operands.new (S.memory segments.old) (S.memory segments.new) tally.old tally.new result }
+{
+    counted(load_handle(segments, operands), tally)
+}
+
+/// `handle.store`.
+#[inline(never)]
+#[tactic(auto, using(crate::proofs::Counted::counted_does))]
+fn store_handle_counted<S: SegmentMemory>(
+    segments: &mut S,
+    operands: &mut Operands,
+    tally: &mut Tally,
+) -> Result<(), Fault>
+    requires there { segment_on instr.StoreHandle (S.memory segments.old) operands.old ≢ Stuck }
+    requires fit { Each (Fits (S.memory segments.old)) operands.old }
+    requires room { LeavesRoom 1 tally.old }
+    ensures { DoesCounted (segment_on instr.StoreHandle (S.memory segments.old) operands.old) operands.old operands.new (S.memory segments.old) (S.memory segments.new) tally.old tally.new result }
+{
+    counted(store_handle(segments, operands), tally)
+}
+
+/// `i32.segload` and its kin.
+///
+/// The operations are told apart here, so that each is a constant in what is done with it.
+#[inline(never)]
+fn load_counted<S: SegmentMemory>(
+    op: LoadOp,
+    segments: &mut S,
+    operands: &mut Operands,
+    tally: &mut Tally,
+) -> Result<(), Fault>
+    requires there { segment_on (instr.Load op) (S.memory segments.old) operands.old ≢ Stuck }
+    requires fit { Each (Fits (S.memory segments.old)) operands.old }
+    requires room { LeavesRoom 1 tally.old }
+    ensures { DoesCounted (segment_on (instr.Load op) (S.memory segments.old) operands.old) operands.old operands.new (S.memory segments.old) (S.memory segments.new) tally.old tally.new result }
+{
+    match op {
+        LoadOp::I32Load => load_counted_by(LoadOp::I32Load, segments, operands, tally),
+        LoadOp::I64Load => load_counted_by(LoadOp::I64Load, segments, operands, tally),
+        LoadOp::I32Load8S => load_counted_by(LoadOp::I32Load8S, segments, operands, tally),
+        LoadOp::I32Load8U => load_counted_by(LoadOp::I32Load8U, segments, operands, tally),
+        LoadOp::I32Load16S => load_counted_by(LoadOp::I32Load16S, segments, operands, tally),
+        LoadOp::I32Load16U => load_counted_by(LoadOp::I32Load16U, segments, operands, tally),
+        LoadOp::I64Load8S => load_counted_by(LoadOp::I64Load8S, segments, operands, tally),
+        LoadOp::I64Load8U => load_counted_by(LoadOp::I64Load8U, segments, operands, tally),
+        LoadOp::I64Load16S => load_counted_by(LoadOp::I64Load16S, segments, operands, tally),
+        LoadOp::I64Load16U => load_counted_by(LoadOp::I64Load16U, segments, operands, tally),
+        LoadOp::I64Load32S => load_counted_by(LoadOp::I64Load32S, segments, operands, tally),
+        LoadOp::I64Load32U => load_counted_by(LoadOp::I64Load32U, segments, operands, tally),
+    }
+}
+
+/// The same, by one operation.
+#[inline(always)]
+#[tactic(auto, using(crate::proofs::Counted::counted_does))]
+fn load_counted_by<S: SegmentMemory>(
+    op: LoadOp,
+    segments: &mut S,
+    operands: &mut Operands,
+    tally: &mut Tally,
+) -> Result<(), Fault>
+    requires there { segment_on (instr.Load op) (S.memory segments.old) operands.old ≢ Stuck }
+    requires fit { Each (Fits (S.memory segments.old)) operands.old }
+    requires room { LeavesRoom 1 tally.old }
+    ensures { DoesCounted (segment_on (instr.Load op) (S.memory segments.old) operands.old) operands.old operands.new (S.memory segments.old) (S.memory segments.new) tally.old tally.new result }
+{
+    counted(load(op, segments, operands), tally)
+}
+
+/// `i32.segstore` and its kin. The operations are told apart in the same way.
+#[inline(never)]
+fn store_counted<S: SegmentMemory>(
+    op: StoreOp,
+    segments: &mut S,
+    operands: &mut Operands,
+    tally: &mut Tally,
+) -> Result<(), Fault>
+    requires there { segment_on (instr.Store op) (S.memory segments.old) operands.old ≢ Stuck }
+    requires fit { Each (Fits (S.memory segments.old)) operands.old }
+    requires room { LeavesRoom 1 tally.old }
+    ensures { DoesCounted (segment_on (instr.Store op) (S.memory segments.old) operands.old) operands.old operands.new (S.memory segments.old) (S.memory segments.new) tally.old tally.new result }
+{
+    match op {
+        StoreOp::I32Store => store_counted_by(StoreOp::I32Store, segments, operands, tally),
+        StoreOp::I64Store => store_counted_by(StoreOp::I64Store, segments, operands, tally),
+        StoreOp::I32Store8 => store_counted_by(StoreOp::I32Store8, segments, operands, tally),
+        StoreOp::I32Store16 => store_counted_by(StoreOp::I32Store16, segments, operands, tally),
+        StoreOp::I64Store8 => store_counted_by(StoreOp::I64Store8, segments, operands, tally),
+        StoreOp::I64Store16 => store_counted_by(StoreOp::I64Store16, segments, operands, tally),
+        StoreOp::I64Store32 => store_counted_by(StoreOp::I64Store32, segments, operands, tally),
+    }
+}
+
+/// The same, by one operation.
+#[inline(always)]
+#[tactic(auto, using(crate::proofs::Counted::counted_does))]
+fn store_counted_by<S: SegmentMemory>(
+    op: StoreOp,
+    segments: &mut S,
+    operands: &mut Operands,
+    tally: &mut Tally,
+) -> Result<(), Fault>
+    requires there { segment_on (instr.Store op) (S.memory segments.old) operands.old ≢ Stuck }
+    requires fit { Each (Fits (S.memory segments.old)) operands.old }
+    requires room { LeavesRoom 1 tally.old }
+    ensures { DoesCounted (segment_on (instr.Store op) (S.memory segments.old) operands.old) operands.old operands.new (S.memory segments.old) (S.memory segments.new) tally.old tally.new result }
+{
+    counted(store(op, segments, operands), tally)
 }

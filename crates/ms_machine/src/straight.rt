@@ -1,13 +1,16 @@
-//! Steps in a row that tell nothing: all but those that reach the segment memory or make handles smaller, call the host, or go through
-//! a table.
+//! Steps in a row of which the outside sees nothing: all but those that call the host or go through a table, and, where the events of the
+//! segment memory are kept, those that may tell one.
 
-ghost use Rattle.std.specs.Prelude.{◌≡◌, ◌≢◌, ◌<◌, ◌≤◌, ◌-◌, [], None, false, length, IsTrue, MatchOption, Some};
-ghost use Rattle.ms_machine.specs.refinement.StraightLine.{DoesAgain, DoesCall, DoesLeave, DoesMeet, DoesQuietly, DoesWork, IsAgain, IsCalm, IsHalted, IsNext};
+ghost use Rattle.std.specs.Prelude.{◌≡◌, ◌≢◌, ◌<◌, ◌≤◌, ◌+◌, ◌-◌, ◌^◌, [], None, false, length, IsTrue, MatchOption, Some};
+ghost use Rattle.ms_event.specs.refinement.Tally.{LeavesRoom};
+ghost use Rattle.ms_handle.specs.declared.handle.Handle.{Handle};
+ghost use Rattle.ms_machine.specs.refinement.StraightLine.{DoesAgain, DoesCall, DoesLeave, DoesMeet, DoesQuietly, DoesTell, DoesWork, IsAgain, IsCalm, IsHalted, IsNext};
 ghost use Rattle.ms_machine.specs.refinement.Doing.{Can, Carries};
 ghost use Rattle.ms_machine.specs.refinement.Holding.{Each, Fits, StoreFits, ThreadFits};
 ghost use Rattle.ms_machine.specs.Step.{Next, act};
 ghost use Rattle.ms_machine.specs.Typing.{StoreTyped, TaskTyped, outline_of};
 ghost use Rattle.ms_module.specs.declared.instr.Instr.TheVariants as instr;
+ghost use Rattle.ms_segment.specs.Memory.{IsFit};
 ghost use Rattle.ms_task.specs.Thread.{sequence};
 ghost use Rattle.ms_task.specs.refinement.View.{at_next, before, thread_of};
 
@@ -15,6 +18,7 @@ use crate::fault::Fault;
 use crate::lookup::func_address;
 use crate::store::Store;
 use crate::{control, memory, plain, segment};
+use ms_event::Tally;
 use ms_module::{Instr, Linear, Numeric, Segment};
 use ms_segment::SegmentMemory;
 use ms_task::{CallFault, Task};
@@ -151,6 +155,8 @@ pub(crate) enum CarriedOut<'a> {
     Linear(Linear),
     /// It sets the global of this index. Nothing has changed.
     Global(u32),
+    /// It works on segments. Nothing has changed.
+    Segment(Segment),
     /// It was not carried out. Nothing has changed.
     Not,
     /// Memory has run out.
@@ -193,7 +199,7 @@ fn straight<'a, M: SegmentMemory>(
     leave(store, task)
 }
 
-/// An instruction on handles alone, in the same way; each other one on segments is not carried out.
+/// An instruction on handles alone, in the same way; of each other one on segments it says that it is one.
 ///
 /// It has an arm of its own in `quietly`, since each arm that `straight` has makes the code longer by all that is straight.
 #[inline(always)]
@@ -212,7 +218,7 @@ fn on_handles<'a, M: SegmentMemory>(
     ensures once { ¬ IsAgain result }
 {
     if !carry_on_handles(store, task, i, next) {
-        return CarriedOut::Not;
+        return CarriedOut::Segment(i);
     }
     if more {
         return CarriedOut::On;
@@ -347,6 +353,8 @@ pub(crate) enum Met {
     Linear(Linear, usize, bool),
     /// The next instruction sets the global of this index, in the same way.
     Global(u32, usize, bool),
+    /// The next instruction works on segments, in the same way.
+    Segment(Segment, usize, bool),
     /// Memory has run out.
     Memory,
 }
@@ -382,6 +390,7 @@ fn go<M: SegmentMemory>(store: &Store<M>, task: &mut Task, most: u64) -> (Met, u
             CarriedOut::Ended => return (Met::Ended, left - 1),
             CarriedOut::Linear(i) => return (Met::Linear(i, next, next < code.len()), left),
             CarriedOut::Global(x) => return (Met::Global(x, next, next < code.len()), left),
+            CarriedOut::Segment(i) => return (Met::Segment(i, next, next < code.len()), left),
             CarriedOut::Not => return (Met::Paused, left),
             CarriedOut::Memory => return (Met::Memory, left),
         }
@@ -460,6 +469,38 @@ fn global<M: SegmentMemory>(
     }
 }
 
+/// Carries out an instruction on segments, in the same way, and counts what it tells.
+#[inline(always)]
+fn on_segments<M: SegmentMemory>(
+    store: &mut Store<M>,
+    task: &mut Task,
+    i: Segment,
+    next: usize,
+    more: bool,
+    tally: &mut Tally,
+) -> Worked
+    requires next { IsNext (instr.Segment i) next store.old task.old }
+    requires more { IsTrue more → next < length (sequence store.old.funcs task.old.function task.old.sequence) }
+    requires few { store.old.segments.made < 2 ^ 63 }
+    requires fit { Each (Fits store.old.segments) task.old.operands }
+    requires room { LeavesRoom 1 tally.old }
+    ensures { DoesTell result store.old (thread_of store.old.funcs task.old) tally.old store.new (thread_of store.new.funcs task.new) tally.new }
+{
+    match memory::segment_counted(store, task, i, next, tally) {
+        Ok(()) => {
+            if more {
+                return Worked::On;
+            }
+            if task.exit_ended(&store.funcs) {
+                return Worked::Ended;
+            }
+            Worked::On
+        }
+        Err(Fault::Trap(_)) => Worked::Not,
+        Err(_) => Worked::Memory,
+    }
+}
+
 /// What quiet steps in a row came to.
 #[derive(Clone, Copy, PartialEq, Eq)]
 pub enum Stretch {
@@ -471,17 +512,26 @@ pub enum Stretch {
     Memory,
 }
 
-/// Makes the next steps of a task, at most so many, as long as the outside and the segment memory see nothing of them, and no
-/// call goes through a table. It gives how many are left.
+/// Makes the next steps of a task, at most so many, as long as the outside sees nothing of them and no call goes through a
+/// table. It gives how many are left. What they tell of the segment memory is counted; where it is to be kept, they tell
+/// nothing.
 #[inline(always)]
-fn go_quietly<M: SegmentMemory>(store: &mut Store<M>, task: &mut Task, most: u64) -> (Stretch, u64)
+fn go_quietly<M: SegmentMemory>(
+    store: &mut Store<M>,
+    task: &mut Task,
+    most: u64,
+    keep: bool,
+    tally: &mut Tally,
+) -> (Stretch, u64)
     requires store { StoreTyped (outline_of store.old) }
     requires task { TaskTyped (outline_of store.old) (thread_of store.old.funcs task.old) }
     requires going { (thread_of store.old.funcs task.old).work ≢ [] }
+    requires few { store.old.segments.made + most < 2 ^ 63 }
     requires store_fits { StoreFits store.old }
     requires task_fits { ThreadFits store.old (thread_of store.old.funcs task.old) }
+    requires room { LeavesRoom most tally.old }
     ensures left { result.1 ≤ most }
-    ensures steps { IsHalted result.0 (most - result.1) store.old (thread_of store.old.funcs task.old) store.new (thread_of store.new.funcs task.new) }
+    ensures steps { IsHalted result.0 keep (most - result.1) store.old (thread_of store.old.funcs task.old) tally.old store.new (thread_of store.new.funcs task.new) tally.new }
 {
     let mut left = most;
     while left > 0 {
@@ -492,6 +542,12 @@ fn go_quietly<M: SegmentMemory>(store: &mut Store<M>, task: &mut Task, most: u64
             Met::Memory => return (Stretch::Memory, rest),
             Met::Linear(i, next, more) => linear(store, task, i, next, more),
             Met::Global(x, next, more) => global(store, task, x, next, more),
+            Met::Segment(i, next, more) => {
+                if keep {
+                    return (Stretch::Paused, rest);
+                }
+                on_segments(store, task, i, next, more, tally)
+            }
         };
         match worked {
             Worked::On => left = rest - 1,
@@ -503,30 +559,36 @@ fn go_quietly<M: SegmentMemory>(store: &mut Store<M>, task: &mut Task, most: u64
     (Stretch::Paused, left)
 }
 
-/// Makes the next steps of a task, at most so many, as long as the outside and the segment memory see nothing of them, and no
-/// call goes through a table. It gives how many are left.
+/// Makes the next steps of a task, at most so many, as long as the outside sees nothing of them and no call goes through a
+/// table. It gives how many are left. What they tell of the segment memory is counted; where it is to be kept, they tell
+/// nothing.
 ///
-/// The task stays well typed, and handles that fit go on fitting. Where memory has run out nothing is said of the store and
-/// the task.
+/// The task stays well typed, and handles that fit go on fitting, those of other tasks too. Where memory has run out nothing is
+/// said of the store and the task.
 #[inline(never)]
-#[tactic(auto, using(crate::proofs::StraightLine::halted_typed, crate::proofs::StraightLine::halted_fits, crate::proofs::StraightLine::halted_segments))]
+#[tactic(auto, using(crate::proofs::StraightLine::halted_typed, crate::proofs::StraightLine::halted_grows))]
 pub fn run_quietly<M: SegmentMemory>(
     store: &mut Store<M>,
     task: &mut Task,
     most: u64,
+    keep: bool,
+    tally: &mut Tally,
 ) -> (Stretch, u64)
     requires store { StoreTyped (outline_of store.old) }
     requires task { TaskTyped (outline_of store.old) (thread_of store.old.funcs task.old) }
     requires going { (thread_of store.old.funcs task.old).work ≢ [] }
+    requires few { store.old.segments.made + most < 2 ^ 63 }
     requires store_fits { StoreFits store.old }
     requires task_fits { ThreadFits store.old (thread_of store.old.funcs task.old) }
+    requires room { LeavesRoom most tally.old }
     ensures left { result.1 ≤ most }
-    ensures steps { IsHalted result.0 (most - result.1) store.old (thread_of store.old.funcs task.old) store.new (thread_of store.new.funcs task.new) }
+    ensures steps { IsHalted result.0 keep (most - result.1) store.old (thread_of store.old.funcs task.old) tally.old store.new (thread_of store.new.funcs task.new) tally.new }
     ensures outline { IsCalm result.0 → outline_of store.new ≡ outline_of store.old }
     ensures task { IsCalm result.0 → TaskTyped (outline_of store.new) (thread_of store.new.funcs task.new) }
     ensures store_fits { IsCalm result.0 → StoreFits store.new }
     ensures task_fits { IsCalm result.0 → ThreadFits store.new (thread_of store.new.funcs task.new) }
-    ensures segments { IsCalm result.0 → store.new.segments ≡ store.old.segments }
+    ensures others { IsCalm result.0 → (h : Handle) → IsFit store.old.segments h → IsFit store.new.segments h }
+    ensures made { IsCalm result.0 → store.new.segments.made ≤ store.old.segments.made + (most - result.1) }
 {
-    go_quietly(store, task, most)
+    go_quietly(store, task, most, keep, tally)
 }

@@ -8,7 +8,7 @@ use Rattle.ms_run.specs.Telling.{count_lines, counted, how_many, is_alloc, is_fr
 use Rattle.ms_run.specs.declared.telling.Telling.{Telling}
 use Rattle.ms_run.specs.refinement.Counts.{blank, logged_lines}
 
-allocs_seen : (es : List Event) (t : Trace) → (all_seen es t).allocs ≡ t.allocs + how_many is_alloc es
+allocs_seen : (es : List Event) (t : Trace) → (all_seen es t).tally.allocs ≡ t.tally.allocs + how_many is_alloc es
 allocs_seen [] t = omega arith
 allocs_seen (Alloc id address size ∷ es) t = allocs_seen es (seen (Alloc id address size) t) ∙ omega arith
 allocs_seen (Refused size ∷ es) t = allocs_seen es (seen (Refused size) t) ∙ omega arith
@@ -18,7 +18,7 @@ allocs_seen (Read sealed id lo hi address width ∷ es) t = allocs_seen es (seen
 allocs_seen (Write id lo hi address width ∷ es) t = allocs_seen es (seen (Write id lo hi address width) t) ∙ omega arith
 allocs_seen (Free id ∷ es) t = allocs_seen es (seen (Free id) t) ∙ omega arith
 
-frees_seen : (es : List Event) (t : Trace) → (all_seen es t).frees ≡ t.frees + how_many is_free es
+frees_seen : (es : List Event) (t : Trace) → (all_seen es t).tally.frees ≡ t.tally.frees + how_many is_free es
 frees_seen [] t = omega arith
 frees_seen (Alloc id address size ∷ es) t = frees_seen es (seen (Alloc id address size) t) ∙ omega arith
 frees_seen (Refused size ∷ es) t = frees_seen es (seen (Refused size) t) ∙ omega arith
@@ -28,7 +28,7 @@ frees_seen (Read sealed id lo hi address width ∷ es) t = frees_seen es (seen (
 frees_seen (Write id lo hi address width ∷ es) t = frees_seen es (seen (Write id lo hi address width) t) ∙ omega arith
 frees_seen (Free id ∷ es) t = frees_seen es (seen (Free id) t) ∙ omega arith
 
-reads_seen : (es : List Event) (t : Trace) → (all_seen es t).reads ≡ t.reads + how_many is_read es
+reads_seen : (es : List Event) (t : Trace) → (all_seen es t).tally.reads ≡ t.tally.reads + how_many is_read es
 reads_seen [] t = omega arith
 reads_seen (Alloc id address size ∷ es) t = reads_seen es (seen (Alloc id address size) t) ∙ omega arith
 reads_seen (Refused size ∷ es) t = reads_seen es (seen (Refused size) t) ∙ omega arith
@@ -38,7 +38,7 @@ reads_seen (Read sealed id lo hi address width ∷ es) t = reads_seen es (seen (
 reads_seen (Write id lo hi address width ∷ es) t = reads_seen es (seen (Write id lo hi address width) t) ∙ omega arith
 reads_seen (Free id ∷ es) t = reads_seen es (seen (Free id) t) ∙ omega arith
 
-writes_seen : (es : List Event) (t : Trace) → (all_seen es t).writes ≡ t.writes + how_many is_write es
+writes_seen : (es : List Event) (t : Trace) → (all_seen es t).tally.writes ≡ t.tally.writes + how_many is_write es
 writes_seen [] t = omega arith
 writes_seen (Alloc id address size ∷ es) t = writes_seen es (seen (Alloc id address size) t) ∙ omega arith
 writes_seen (Refused size ∷ es) t = writes_seen es (seen (Refused size) t) ∙ omega arith
@@ -56,16 +56,16 @@ module _ (keep : Bool) (d : Deeds) where
   abbrev of_events : List ℕ
   of_events = count_lines d.used (how_many is_alloc (events_of d)) (how_many is_free (events_of d)) (how_many is_read (events_of d)) (how_many is_write (events_of d))
 
-  same_lines : count_lines (0 + d.used) after.allocs after.frees after.reads after.writes ≡ of_events
+  same_lines : count_lines (0 + d.used) after.tally.allocs after.tally.frees after.tally.reads after.tally.writes ≡ of_events
   same_lines =
       let none : 0 + d.used ≡ d.used = omega arith in
-      let allocs : after.allocs ≡ how_many is_alloc (events_of d) = allocs_seen (events_of d) (blank keep).trace ∙ omega arith in
-      let frees : after.frees ≡ how_many is_free (events_of d) = frees_seen (events_of d) (blank keep).trace ∙ omega arith in
-      let reads : after.reads ≡ how_many is_read (events_of d) = reads_seen (events_of d) (blank keep).trace ∙ omega arith in
-      let writes : after.writes ≡ how_many is_write (events_of d) = writes_seen (events_of d) (blank keep).trace ∙ omega arith in
+      let allocs : after.tally.allocs ≡ how_many is_alloc (events_of d) = allocs_seen (events_of d) (blank keep).trace ∙ omega arith in
+      let frees : after.tally.frees ≡ how_many is_free (events_of d) = frees_seen (events_of d) (blank keep).trace ∙ omega arith in
+      let reads : after.tally.reads ≡ how_many is_read (events_of d) = reads_seen (events_of d) (blank keep).trace ∙ omega arith in
+      let writes : after.tally.writes ≡ how_many is_write (events_of d) = writes_seen (events_of d) (blank keep).trace ∙ omega arith in
       rw (none, allocs, frees, reads, writes) refl
 
-  if_counted : (b : Bool) → (if b then count_lines (0 + d.used) after.allocs after.frees after.reads after.writes else []) ≡ (if b then of_events else [])
+  if_counted : (b : Bool) → (if b then count_lines (0 + d.used) after.tally.allocs after.tally.frees after.tally.reads after.tally.writes else []) ≡ (if b then of_events else [])
   if_counted true = same_lines
   if_counted false = refl
 

@@ -1,12 +1,19 @@
 -- What has happened, one thing after another, and what the log makes of it.
-use Rattle.std.proofs.Common.{◌≡◌, ◌≤◌, ◌+◌, ℕ, Bool, true, cond, List, [], ◌∷◌, ◌++◌, Option, Some, None, refl, sym, ap, subst, ◌∙◌, append-nil, append_assoc, arith}
+use Rattle.std.proofs.Common.{◌≡◌, ◌≤◌, ◌<◌, ◌+◌, ◌^◌, ℕ, zero, suc, Bool, true, false, cond, IsTrue, List, [], ◌∷◌, ◌++◌, Option, Some, None, refl, sym, ap, subst, ◌∙◌, append-nil, append_assoc, arith}
 use Rattle.std.proofs.lemmas.List.{map-append}
 use Rattle.ms_event.specs.declared.event.Event.{Event}
+use Rattle.ms_event.specs.declared.tally.Tally.{Tally}
+use Rattle.ms_event.specs.refinement.Tally.{LeavesRoom, all_tallied, tallied}
+use Rattle.ms_task.specs.Thread.{Thread}
 use Rattle.ms_event.specs.declared.event.Event.TheVariants.{Alloc, Free, Read, Refused, Seal, Slice, Write}
 use Rattle.ms_machine.specs.Crews.{Deeds, Run, Whose, behind, both, bytes_of, deed, events_of, nothing}
 use Rattle.ms_machine.specs.Running.{with_event}
+use Rattle.ms_machine.specs.Store.{Store}
+use Rattle.ms_machine.specs.declared.straight.Stretch.{Stretch}
+use Rattle.ms_machine.specs.declared.straight.Stretch.TheVariants as stretches
+use Rattle.ms_machine.specs.refinement.StraightLine.{GoesTelling, IsHalted}
 use Rattle.ms_machine.proofs.Outsides.{with_byte}
-use Rattle.ms_tasks.specs.refinement.Logs.{CountsUpTo, Log, Trace, all_seen, logged, seen}
+use Rattle.ms_tasks.specs.refinement.Logs.{CountsUpTo, GoesSeen, HaltsSeen, Log, Trace, all_seen, logged, seen}
 
 deeds_is : (d e : Deeds) → d.puts ≡ e.puts → d.events ≡ e.events → d.takes ≡ e.takes → d.used ≡ e.used → d ≡ e
 deeds_is d e a b t u =
@@ -67,20 +74,50 @@ logged_both d e l =
 -- ---- its counts
 
 seen_within : (n : ℕ) (e : Event) (t : Trace) → CountsUpTo n t → CountsUpTo (n + 1) (seen e t)
-seen_within n (Alloc id addr size) t h = let a = h.allocs in let b = h.refused in let c = h.slices in let d = h.reads in let e = h.writes in let f = h.frees in let g = h.seals in record { allocs = omega (arith, a); refused = omega (arith, b); slices = omega (arith, c); reads = omega (arith, d); writes = omega (arith, e); frees = omega (arith, f); seals = omega (arith, g) }
-seen_within n (Refused size) t h = let a = h.allocs in let b = h.refused in let c = h.slices in let d = h.reads in let e = h.writes in let f = h.frees in let g = h.seals in record { allocs = omega (arith, a); refused = omega (arith, b); slices = omega (arith, c); reads = omega (arith, d); writes = omega (arith, e); frees = omega (arith, f); seals = omega (arith, g) }
-seen_within n (Seal id lo hi) t h = let a = h.allocs in let b = h.refused in let c = h.slices in let d = h.reads in let e = h.writes in let f = h.frees in let g = h.seals in record { allocs = omega (arith, a); refused = omega (arith, b); slices = omega (arith, c); reads = omega (arith, d); writes = omega (arith, e); frees = omega (arith, f); seals = omega (arith, g) }
-seen_within n (Slice sealed id lo hi lo2 hi2) t h = let a = h.allocs in let b = h.refused in let c = h.slices in let d = h.reads in let e = h.writes in let f = h.frees in let g = h.seals in record { allocs = omega (arith, a); refused = omega (arith, b); slices = omega (arith, c); reads = omega (arith, d); writes = omega (arith, e); frees = omega (arith, f); seals = omega (arith, g) }
-seen_within n (Read sealed id lo hi addr width) t h = let a = h.allocs in let b = h.refused in let c = h.slices in let d = h.reads in let e = h.writes in let f = h.frees in let g = h.seals in record { allocs = omega (arith, a); refused = omega (arith, b); slices = omega (arith, c); reads = omega (arith, d); writes = omega (arith, e); frees = omega (arith, f); seals = omega (arith, g) }
-seen_within n (Write id lo hi addr width) t h = let a = h.allocs in let b = h.refused in let c = h.slices in let d = h.reads in let e = h.writes in let f = h.frees in let g = h.seals in record { allocs = omega (arith, a); refused = omega (arith, b); slices = omega (arith, c); reads = omega (arith, d); writes = omega (arith, e); frees = omega (arith, f); seals = omega (arith, g) }
-seen_within n (Free id) t h = let a = h.allocs in let b = h.refused in let c = h.slices in let d = h.reads in let e = h.writes in let f = h.frees in let g = h.seals in record { allocs = omega (arith, a); refused = omega (arith, b); slices = omega (arith, c); reads = omega (arith, d); writes = omega (arith, e); frees = omega (arith, f); seals = omega (arith, g) }
+seen_within n (Alloc id addr size) t h = let a = h.allocs in let b = h.refused in let c = h.seals in let d = h.slices in let i = h.reads in let j = h.writes in let k = h.frees in record { allocs = omega (arith, a); refused = omega (arith, b); seals = omega (arith, c); slices = omega (arith, d); reads = omega (arith, i); writes = omega (arith, j); frees = omega (arith, k) }
+seen_within n (Refused size) t h = let a = h.allocs in let b = h.refused in let c = h.seals in let d = h.slices in let i = h.reads in let j = h.writes in let k = h.frees in record { allocs = omega (arith, a); refused = omega (arith, b); seals = omega (arith, c); slices = omega (arith, d); reads = omega (arith, i); writes = omega (arith, j); frees = omega (arith, k) }
+seen_within n (Seal id lo hi) t h = let a = h.allocs in let b = h.refused in let c = h.seals in let d = h.slices in let i = h.reads in let j = h.writes in let k = h.frees in record { allocs = omega (arith, a); refused = omega (arith, b); seals = omega (arith, c); slices = omega (arith, d); reads = omega (arith, i); writes = omega (arith, j); frees = omega (arith, k) }
+seen_within n (Slice sealed id lo hi lo2 hi2) t h = let a = h.allocs in let b = h.refused in let c = h.seals in let d = h.slices in let i = h.reads in let j = h.writes in let k = h.frees in record { allocs = omega (arith, a); refused = omega (arith, b); seals = omega (arith, c); slices = omega (arith, d); reads = omega (arith, i); writes = omega (arith, j); frees = omega (arith, k) }
+seen_within n (Read sealed id lo hi addr width) t h = let a = h.allocs in let b = h.refused in let c = h.seals in let d = h.slices in let i = h.reads in let j = h.writes in let k = h.frees in record { allocs = omega (arith, a); refused = omega (arith, b); seals = omega (arith, c); slices = omega (arith, d); reads = omega (arith, i); writes = omega (arith, j); frees = omega (arith, k) }
+seen_within n (Write id lo hi addr width) t h = let a = h.allocs in let b = h.refused in let c = h.seals in let d = h.slices in let i = h.reads in let j = h.writes in let k = h.frees in record { allocs = omega (arith, a); refused = omega (arith, b); seals = omega (arith, c); slices = omega (arith, d); reads = omega (arith, i); writes = omega (arith, j); frees = omega (arith, k) }
+seen_within n (Free id) t h = let a = h.allocs in let b = h.refused in let c = h.seals in let d = h.slices in let i = h.reads in let j = h.writes in let k = h.frees in record { allocs = omega (arith, a); refused = omega (arith, b); seals = omega (arith, c); slices = omega (arith, d); reads = omega (arith, i); writes = omega (arith, j); frees = omega (arith, k) }
 
 pub within_more : (n m : ℕ) (t : Trace) → n ≤ m → CountsUpTo n t → CountsUpTo m t
-within_more n m t le h = let a = h.allocs in let b = h.refused in let c = h.slices in let d = h.reads in let e = h.writes in let f = h.frees in let g = h.seals in record { allocs = omega (arith, a, le); refused = omega (arith, b, le); slices = omega (arith, c, le); reads = omega (arith, d, le); writes = omega (arith, e, le); frees = omega (arith, f, le); seals = omega (arith, g, le) }
+within_more n m t le h = let a = h.allocs in let b = h.refused in let c = h.seals in let d = h.slices in let i = h.reads in let j = h.writes in let k = h.frees in record { allocs = omega (arith, a, le); refused = omega (arith, b, le); seals = omega (arith, c, le); slices = omega (arith, d, le); reads = omega (arith, i, le); writes = omega (arith, j, le); frees = omega (arith, k, le) }
 
 pub within_after : (n m : ℕ) (event : Option Event) (t t' : Trace) → n + 1 ≤ m → t' ≡ all_seen (with_event event []) t → CountsUpTo n t → CountsUpTo m t'
 within_after n m None t t' le is h = subst (CountsUpTo m) (sym is) (within_more n m t (omega (arith, le)) h)
 within_after n m (Some e) t t' le is h = subst (CountsUpTo m) (sym is) (within_more (n + 1) m (seen e t) le (seen_within n e t h))
+
+-- steps tell one event each at most
+within_telling : (s s' : Store) (t t' : Thread) (n k m : ℕ) (es : List Event) (trace : Trace) → GoesTelling s t n es s' t' → k + n ≤ m → CountsUpTo k trace → CountsUpTo m (all_seen es trace)
+within_telling s s' t t' zero k m es trace (same, still, none) le h = subst (λ xs. CountsUpTo m (all_seen xs trace)) (sym none) (within_more k m trace (omega (arith, le)) h)
+within_telling s s' t t' (suc n) k m es trace (s1, t1, es1, event, rest, going, step, told) le h =
+    within_after (k + n) m event (all_seen es1 trace) (all_seen es trace) (omega (arith, le)) (ap (λ xs. all_seen xs trace) told ∙ all_seen_both es1 (with_event event []) trace) (within_telling s s1 t t1 n k (k + n) es1 trace rest (omega arith) h)
+
+pub within_seen : (s s' : Store) (t t' : Thread) (n k m : ℕ) (trace trace' : Trace) → GoesSeen s t trace n s' t' trace' → k + n ≤ m → CountsUpTo k trace → CountsUpTo m trace'
+within_seen s s' t t' n k m trace trace' (es, steps, told) le h = subst (CountsUpTo m) (sym told) (within_telling s s' t t' n k m es trace steps le h)
+
+-- so many more can be counted
+pub room_for : (n m : ℕ) (t : Trace) → n + m < 2 ^ 64 → CountsUpTo n t → LeavesRoom m t.tally
+room_for n m t less h = let a = h.allocs in let b = h.refused in let c = h.seals in let d = h.slices in let i = h.reads in let j = h.writes in let k = h.frees in record { allocs = omega (arith, a, less); refused = omega (arith, b, less); seals = omega (arith, c, less); slices = omega (arith, d, less); reads = omega (arith, i, less); writes = omega (arith, j, less); frees = omega (arith, k, less) }
+
+-- ---- what quiet steps tell
+
+seen_tally : (es : List Event) (keep : Bool) (c : Tally) (events : List Event) → keep ≡ false → record { keep = keep; tally = all_tallied es c; events = events } ≡ all_seen es (record { keep = keep; tally = c; events = events })
+seen_tally [] keep c events none = refl
+seen_tally (e ∷ es) keep c events none = seen_tally es keep (tallied e c) events none ∙ ap (λ xs. all_seen es (record { keep = keep; tally = tallied e c; events = xs })) (sym (ap (λ b. cond b (events ++ e ∷ []) events) none))
+
+told_seen : (es : List Event) (keep : Bool) (c c' : Tally) (events : List Event) → c' ≡ all_tallied es c → (IsTrue keep → es ≡ []) → record { keep = keep; tally = c'; events = events } ≡ all_seen es (record { keep = keep; tally = c; events = events })
+told_seen es true c c' events tally none =
+    let e = none refl in
+    ap (λ x. record { keep = true; tally = x; events = events }) (tally ∙ ap (λ xs. all_tallied xs c) e) ∙ ap (λ xs. all_seen xs (record { keep = true; tally = c; events = events })) (sym e)
+told_seen es false c c' events tally none = ap (λ x. record { keep = false; tally = x; events = events }) tally ∙ seen_tally es false c events refl
+
+pub halted_seen : (q : Stretch) (keep : Bool) (n : ℕ) (s s' : Store) (t t' : Thread) (c c' : Tally) (events : List Event) → IsHalted q keep n s t c s' t' c' → HaltsSeen q s t (record { keep = keep; tally = c; events = events }) n s' t' (record { keep = keep; tally = c'; events = events })
+halted_seen stretches.Paused keep n s s' t t' c c' events ((es, steps, tally, none), going) = ((es, steps, told_seen es keep c c' events tally none), going)
+halted_seen stretches.Ended keep n s s' t t' c c' events ((es, steps, tally, none), ended) = ((es, steps, told_seen es keep c c' events tally none), ended)
+halted_seen stretches.Memory keep n s s' t t' c c' events memory = refl
 
 -- ---- what it keeps
 

@@ -1,7 +1,6 @@
 -- Entries for one thread in a row, a step at a time.
 use Rattle.std.proofs.Common.{◌≡◌, ◌≢◌, ◌<◌, ◌≤◌, ◌+◌, ◌-◌, ℕ, zero, suc, false, List, [], ◌∷◌, ◌++◌, drop, Option, None, refl, sym, ap, subst, ◌∙◌, append-nil, append_assoc, arith}
 use Rattle.ms_event.specs.declared.event.Event.{Event}
-use Rattle.ms_handle.specs.declared.handle.Handle.{Handle}
 use Rattle.ms_host.specs.declared.trap.TrapKind.{TrapKind}
 use Rattle.ms_machine.specs.Crews.{Crew, Deeds, Input, Run, Trap, Whose, behind, both, bytes_of, deed, ends, events_of, moved, nothing, passed, run_entries}
 use Rattle.ms_machine.specs.Moves as moves
@@ -10,14 +9,13 @@ use Rattle.ms_machine.specs.Running.{with_event}
 use Rattle.ms_machine.specs.Step.{Next, step_of}
 use Rattle.ms_machine.specs.refinement.Stepped.{Went}
 use Rattle.ms_machine.specs.Store.{Store}
-use Rattle.ms_machine.specs.refinement.StraightLine.{GoesQuietly}
+use Rattle.ms_machine.specs.refinement.StraightLine.{GoesTelling}
 use Rattle.ms_machine.proofs.Outsides.{Content, before, front_put, left_all, puts_after, puts_none, tells_after, tells_same}
 use Rattle.ms_machine.proofs.Quiet.{moves_so}
 use Rattle.ms_outside.specs.Sink.{IsFront, Puts}
 use Rattle.ms_outside.specs.declared.sink.Put.TheVariants as puts
-use Rattle.ms_segment.specs.Memory.{IsFit}
 use Rattle.ms_task.specs.Thread.{Thread}
-use Rattle.ms_tasks.specs.refinement.Logs.{Log, Trace, all_seen}
+use Rattle.ms_tasks.specs.refinement.Logs.{GoesSeen, Log, Trace, all_seen}
 use Rattle.ms_tasks.specs.refinement.Parts.{HaltsBy, Comes, ComesTo, IsRow}
 use Rattle.ms_tasks.specs.declared.burst.Halt.{Halt}
 use Rattle.ms_tasks.proofs.Coming.{Begun, answers_as, answers_on, begun_here, comes_same, comes_trans, to_same}
@@ -209,43 +207,43 @@ way_pauses whose next entries most left none s t l l' h h' old new run comes =
     let e : most - left ≡ most = omega (arith, none) in
     subst (λ n. ComesTo l l' h h' old new run (run_entries (drop n entries) (next s t))) e comes
 
--- handles fit as before
-pub kept_fit : (s s' : Store) → s'.segments ≡ s.segments → (h : Handle) → IsFit s.segments h → IsFit s'.segments h
-kept_fit s s' same h fit = subst (λ m. IsFit m h) (sym same) fit
-
 -- steps of which the outside sees nothing
-step_quiet : (s s' : Store) (t t' : Thread) (l h : Content) → step_of s t ≡ Next s' t' None → Went (move_for s t) None s' t' l l h h
-step_quiet s s' t t' l h is = record { got = None; took = false; put = None; is = ap (move_on s None) is; input = refl; out = refl }
+step_quiet : (s s' : Store) (t t' : Thread) (event : Option Event) (l h : Content) → step_of s t ≡ Next s' t' event → Went (move_for s t) event s' t' l l h h
+step_quiet s s' t t' event l h is = record { got = None; took = false; put = None; is = ap (move_on s None) is; input = refl; out = refl }
 
-way_quietly : (whose : Whose) (next : Store → Thread → Crew) (entries : List ℕ) (most : ℕ) (s0 : Store) (t0 : Thread) (trace0 : Trace) (n left : ℕ) (s s' : Store) (t t' : Thread) (trace : Trace) (l l' h h' : Content) → n ≤ left → left ≤ most → IsUnderWay whose next entries most s0 t0 trace0 left s t trace l l' h h' → GoesQuietly s t n s' t' → IsUnderWay whose next entries most s0 t0 trace0 (left - n) s' t' trace l l' h h'
-way_quietly whose next entries most s0 t0 trace0 zero left s s' t t' trace l l' h h' some within way (same, still) =
+way_telling : (whose : Whose) (next : Store → Thread → Crew) (entries : List ℕ) (most : ℕ) (s0 : Store) (t0 : Thread) (trace0 : Trace) (n left : ℕ) (s s' : Store) (t t' : Thread) (es : List Event) (trace trace' : Trace) (l l' h h' : Content) → n ≤ left → left ≤ most → IsUnderWay whose next entries most s0 t0 trace0 left s t trace l l' h h' → GoesTelling s t n es s' t' → trace' ≡ all_seen es trace → IsUnderWay whose next entries most s0 t0 trace0 (left - n) s' t' trace' l l' h h'
+way_telling whose next entries most s0 t0 trace0 zero left s s' t t' es trace trace' l l' h h' some within way (same, still, none) told =
     let e : left ≡ left - 0 = omega arith in
-    subst (λ n. IsUnderWay whose next entries most s0 t0 trace0 n s' t' trace l l' h h') e
-    (subst (λ (x : Store). IsUnderWay whose next entries most s0 t0 trace0 left x t' trace l l' h h') (sym same) (subst (λ x. IsUnderWay whose next entries most s0 t0 trace0 left s x trace l l' h h') (sym still) way))
-way_quietly whose next entries most s0 t0 trace0 (suc n) left s s' t t' trace l l' h h' some within way (s1, t1, steps, going, step) =
+    let as-before : trace' ≡ trace = told ∙ ap (λ xs. all_seen xs trace) none in
+    subst (λ n. IsUnderWay whose next entries most s0 t0 trace0 n s' t' trace' l l' h h') e
+    (subst (λ x. IsUnderWay whose next entries most s0 t0 trace0 left s' t' x l l' h h') (sym as-before)
+    (subst (λ (x : Store). IsUnderWay whose next entries most s0 t0 trace0 left x t' trace l l' h h') (sym same) (subst (λ x. IsUnderWay whose next entries most s0 t0 trace0 left s x trace l l' h h') (sym still) way)))
+way_telling whose next entries most s0 t0 trace0 (suc n) left s s' t t' es trace trace' l l' h h' some within way (s1, t1, es1, event, steps, going, step, more) told =
     let e : (left - n) - 1 ≡ left - suc n = omega arith in
-    subst (λ n. IsUnderWay whose next entries most s0 t0 trace0 n s' t' trace l l' h h') e
-    (goes_way whose next entries most s0 t0 trace0 (left - n) s1 t1 trace l l' l' h h' h' (omega (arith, some)) (omega (arith, within)) going
-    (way_quietly whose next entries most s0 t0 trace0 n left s s1 t t1 trace l l' h h' (omega (arith, some)) within way steps) s' t' None trace (step_quiet s1 s' t1 t' l' h' step.0) refl)
+    let trace1 = all_seen es1 trace in
+    subst (λ n. IsUnderWay whose next entries most s0 t0 trace0 n s' t' trace' l l' h h') e
+    (goes_way whose next entries most s0 t0 trace0 (left - n) s1 t1 trace1 l l' l' h h' h' (omega (arith, some)) (omega (arith, within)) going
+    (way_telling whose next entries most s0 t0 trace0 n left s s1 t t1 es1 trace trace1 l l' h h' (omega (arith, some)) within way steps refl) s' t' event trace' (step_quiet s1 s' t1 t' event l' h' step)
+    (told ∙ (ap (λ xs. all_seen xs trace) more ∙ all_seen_both es1 (with_event event []) trace)))
 
 -- so that the rest is left
-pub quiet_way : (whose : Whose) (next : Store → Thread → Crew) (entries : List ℕ) (most : ℕ) (s0 : Store) (t0 : Thread) (trace0 : Trace) (left rest : ℕ) (s s' : Store) (t t' : Thread) (trace : Trace) (l l' h h' : Content) → rest ≤ left → left ≤ most → IsUnderWay whose next entries most s0 t0 trace0 left s t trace l l' h h' → GoesQuietly s t (left - rest) s' t' → IsUnderWay whose next entries most s0 t0 trace0 rest s' t' trace l l' h h'
-quiet_way whose next entries most s0 t0 trace0 left rest s s' t t' trace l l' h h' less within way steps =
+pub quiet_way : (whose : Whose) (next : Store → Thread → Crew) (entries : List ℕ) (most : ℕ) (s0 : Store) (t0 : Thread) (trace0 : Trace) (left rest : ℕ) (s s' : Store) (t t' : Thread) (trace trace' : Trace) (l l' h h' : Content) → rest ≤ left → left ≤ most → IsUnderWay whose next entries most s0 t0 trace0 left s t trace l l' h h' → GoesSeen s t trace (left - rest) s' t' trace' → IsUnderWay whose next entries most s0 t0 trace0 rest s' t' trace' l l' h h'
+quiet_way whose next entries most s0 t0 trace0 left rest s s' t t' trace trace' l l' h h' less within way (es, steps, told) =
     let e : left - (left - rest) ≡ rest = omega (arith, less) in
-    subst (λ n. IsUnderWay whose next entries most s0 t0 trace0 n s' t' trace l l' h h') e
-    (way_quietly whose next entries most s0 t0 trace0 (left - rest) left s s' t t' trace l l' h h' (omega (arith, less)) within way steps)
+    subst (λ n. IsUnderWay whose next entries most s0 t0 trace0 n s' t' trace' l l' h h') e
+    (way_telling whose next entries most s0 t0 trace0 (left - rest) left s s' t t' es trace trace' l l' h h' (omega (arith, less)) within way steps told)
 
 -- ---- quiet steps in front of others
 
 module _ (whose : Whose) (next : Store → Thread → Crew) (entries : List ℕ) (most rest : ℕ) (s0 s : Store) (t0 t : Thread) (l h : Content) (log0 log : Log)
-    (within : rest ≤ most) (row : IsRow whose next most entries) (steps : GoesQuietly s0 t0 (most - rest) s t) (count : log ≡ record { entries = log0.entries + (most - rest); trace = log0.trace }) where
-  quiet_under_way : IsUnderWay whose next entries most s0 t0 log0.trace rest s t log0.trace l l h h
+    (mid-log : Log) (within : rest ≤ most) (row : IsRow whose next most entries) (steps : GoesSeen s0 t0 log0.trace (most - rest) s t mid-log.trace) (used : mid-log.entries ≡ log0.entries) (count : log ≡ record { entries = mid-log.entries + (most - rest); trace = mid-log.trace }) where
+  quiet_under_way : IsUnderWay whose next entries most s0 t0 log0.trace rest s t mid-log.trace l l h h
   quiet_under_way =
       let some : most ≤ most = omega arith in
-      quiet_way whose next entries most s0 t0 log0.trace most rest s0 s t0 t log0.trace l l h h within some (begins_way whose next entries most s0 t0 log0.trace l h row) steps
+      quiet_way whose next entries most s0 t0 log0.trace most rest s0 s t0 t log0.trace mid-log.trace l l h h within some (begins_way whose next entries most s0 t0 log0.trace l h row) steps
 
   pub quiet_comes : ComesTo l l h h log0 log (run_entries entries (next s0 t0)) (run_entries (drop (most - rest) entries) (next s t))
-  quiet_comes = way_here whose next entries most s0 t0 log0 log0 log rest (most - rest) s t l l h h quiet_under_way refl (omega (arith, within)) count
+  quiet_comes = way_here whose next entries most s0 t0 log0 mid-log log rest (most - rest) s t l l h h quiet_under_way used (omega (arith, within)) count
 
   -- what came of the others came of all
   pub quiet_first : (a : Halt) (left : ℕ) (s' : Store) (t' : Thread) (l' h' : Content) (log' : Log) → left ≤ rest

@@ -16,7 +16,7 @@ ghost use Rattle.ms_tasks.specs.refinement.Steppers.{whose_of};
 use crate::log::Log;
 use crate::whose::Whose;
 use ms_host::TrapKind;
-use ms_machine::{Stepped, Store, Stretch, run_quietly, step};
+use ms_machine::{Stepped, Store, Stretch, step};
 use ms_outside::{Sink, Source};
 use ms_segment::SegmentMemory;
 use ms_task::Task;
@@ -75,7 +75,7 @@ pub(crate) fn burst<M: SegmentMemory, I: Source, O: Sink>(
     ensures input_faults { CountsInput result.0 (I.faults input.old) (I.faults input.new) }
     ensures out_faults { CountsOut result.0 (O.faults out.old) (O.faults out.new) }
 {
-    let (stretch, rest) = run_quietly(store, task, most);
+    let (stretch, rest) = log.run_quietly(store, task, most);
     match stretch {
         Stretch::Paused => {}
         Stretch::Ended => {
@@ -148,7 +148,7 @@ fn go_loudly<M: SegmentMemory, I: Source, O: Sink>(
             Stepped::WriteFault => return (Halt::WriteFault, left),
             Stepped::Memory => return (Halt::Memory, left),
         }
-        match run_quietly(store, task, left - 1) {
+        match log.run_quietly(store, task, left - 1) {
             (Stretch::Paused, rest) => left = rest,
             (Stretch::Ended, rest) => {
                 log.count(most - rest);

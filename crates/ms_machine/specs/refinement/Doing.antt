@@ -1,6 +1,8 @@
 -- What the code of an instruction did, against what the definition says of the instruction.
-use Rattle.std.specs.Prelude.{◌≡◌, ◌≢◌, ℕ, Bool, List, Option, None, Result, Ok, Err}
+use Rattle.std.specs.Prelude.{◌≡◌, ◌≢◌, ℕ, Bool, List, [], Option, None, Result, Ok, Err}
 use Rattle.ms_event.specs.declared.event.Event.{Event}
+use Rattle.ms_event.specs.declared.tally.Tally.{Tally}
+use Rattle.ms_event.specs.refinement.Tally.{all_tallied}
 use Rattle.ms_host.specs.declared.host.Host.{Host}
 use Rattle.ms_host.specs.declared.host.Host.TheVariants as hosts
 use Rattle.ms_linear.specs.declared.value.Value.{Value}
@@ -12,6 +14,7 @@ use Rattle.ms_operate.specs.declared.trap.Fault.TheVariants as operate
 use Rattle.ms_task.specs.declared.task.Task.{Task}
 use Rattle.ms_task.specs.Thread.{Thread}
 use Rattle.ms_task.specs.refinement.View.{IsAt, at_next, thread_of}
+use Rattle.ms_machine.specs.Running.{with_event}
 use Rattle.ms_machine.specs.Segments as segments
 use Rattle.ms_machine.specs.Segments.{Effect}
 use Rattle.ms_machine.specs.Step.{Calls, Next, Outcome, Stuck, Trap, act, trap_of}
@@ -36,6 +39,20 @@ DoesInSegments effect old new old-memory new-memory (Err (faults.Trap kind)) = (
 DoesInSegments effect old new old-memory new-memory (Err (faults.Host h)) = ⊥
 DoesInSegments effect old new old-memory new-memory (Err faults.Memory) = new-memory ≡ old-memory
 
+-- what was told, if it was, is counted
+abbrev pub CountsTold : Result (Option Event) Fault → Tally → Tally → Result (Unit {0}) Fault → Type 0
+CountsTold (Ok event) c c' (Ok _) = c' ≡ all_tallied (with_event event []) c
+CountsTold (Err f) c c' (Err g) = (g ≡ f) × (c' ≡ c)
+CountsTold _ c c' _ = ⊥
+
+-- The operands and the memory are those, and the event is counted; or it stopped, and all is as before. Where memory ran out
+-- nothing is said.
+abbrev pub DoesCounted : Effect → List Value → List Value → Memory → Memory → Tally → Tally → Result (Unit {0}) Fault → Type 0
+DoesCounted effect old new old-memory new-memory c c' (Ok _) = (event : Option Event) × (effect ≡ segments.Gives new new-memory event) × (c' ≡ all_tallied (with_event event []) c)
+DoesCounted effect old new old-memory new-memory c c' (Err (faults.Trap _)) = (new ≡ old) × (new-memory ≡ old-memory) × (c' ≡ c)
+DoesCounted effect old new old-memory new-memory c c' (Err (faults.Host h)) = ⊥
+DoesCounted effect old new old-memory new-memory c c' (Err faults.Memory) = Unit {0}
+
 -- The same of a store and a thread: where memory ran out the store is as before.
 abbrev pub DoesOutcome : Outcome → Store → Thread → Store → Thread → Result (Option Event) Fault → Type 0
 DoesOutcome outcome old old-thread new new-thread (Ok event) = outcome ≡ Next new new-thread event
@@ -50,6 +67,13 @@ Can i next s task = act s i (at_next s.funcs task next) ≢ Stuck
 -- The code of the instruction did what the definition says.
 abbrev pub DoesInstr : Instr → ℕ → Store → Task → Store → Task → Result (Option Event) Fault → Type 0
 DoesInstr i next s task s' task' result = DoesOutcome (act s i (at_next s.funcs task next)) s (thread_of s.funcs task) s' (thread_of s'.funcs task') result
+
+-- The same of a store and a thread, where the event is counted.
+abbrev pub DoesTold : Outcome → Store → Thread → Tally → Store → Thread → Tally → Result (Unit {0}) Fault → Type 0
+DoesTold outcome old old-thread c new new-thread c' (Ok _) = (event : Option Event) × (outcome ≡ Next new new-thread event) × (c' ≡ all_tallied (with_event event []) c)
+DoesTold outcome old old-thread c new new-thread c' (Err (faults.Trap _)) = (new ≡ old) × (new-thread ≡ old-thread) × (c' ≡ c)
+DoesTold outcome old old-thread c new new-thread c' (Err (faults.Host h)) = ⊥
+DoesTold outcome old old-thread c new new-thread c' (Err faults.Memory) = Unit {0}
 
 -- ---- instructions that tell nothing
 

@@ -1,5 +1,8 @@
--- Steps in a row of which the outside and the segment memory see nothing.
-use Rattle.std.specs.Prelude.{◌≡◌, ◌≢◌, ◌<◌, ◌-◌, ◌*◌, ◌^◌, ℕ, zero, suc, Bool, List, [], length, IsTrue, None}
+-- Steps in a row of which the outside sees nothing.
+use Rattle.std.specs.Prelude.{◌≡◌, ◌≢◌, ◌<◌, ◌-◌, ◌*◌, ◌^◌, ℕ, zero, suc, Bool, List, [], ◌++◌, length, IsTrue, Option, None}
+use Rattle.ms_event.specs.declared.event.Event.{Event}
+use Rattle.ms_event.specs.declared.tally.Tally.{Tally}
+use Rattle.ms_event.specs.refinement.Tally.{all_tallied}
 use Rattle.ms_module.specs.declared.instr.Instr.{Instr}
 use Rattle.ms_module.specs.declared.instr.Instr.TheVariants as instr
 use Rattle.ms_task.specs.Control.{exited}
@@ -8,6 +11,7 @@ use Rattle.ms_task.specs.refinement.View.{IsAt, at_next, thread_of}
 use Rattle.ms_task.specs.declared.func.FuncInst.{FuncInst}
 use Rattle.ms_task.specs.declared.task.Task.{Task}
 use Rattle.ms_machine.specs.refinement.Doing.{Can}
+use Rattle.ms_machine.specs.Running.{with_event}
 use Rattle.ms_machine.specs.Step.{Next, act, step_of}
 use Rattle.ms_machine.specs.Store.{Store}
 use Rattle.ms_machine.specs.declared.straight.Called.{Called}
@@ -21,20 +25,38 @@ use Rattle.ms_machine.specs.declared.straight.CarriedOut.TheVariants as carried
 use Rattle.ms_machine.specs.declared.straight.Worked.{Worked}
 use Rattle.ms_machine.specs.declared.straight.Worked.TheVariants as works
 
+-- ---- those of which the segment memory sees nothing
+
 -- one of them
 abbrev pub StepsQuietly : Store → Thread → Store → Thread → Type 0
-StepsQuietly s t s' t' = (step_of s t ≡ Next s' t' None) × (s'.segments ≡ s.segments)
+StepsQuietly s t s' t' = step_of s t ≡ Next s' t' None
 
 -- so many
 abbrev pub GoesQuietly : Store → Thread → ℕ → Store → Thread → Type 0
 GoesQuietly s t zero s' t' = (s' ≡ s) × (t' ≡ t)
 GoesQuietly s t (suc n) s' t' = (s1 : Store) × (t1 : Thread) × GoesQuietly s t n s1 t1 × (t1.work ≢ []) × StepsQuietly s1 t1 s' t'
 
+-- ---- those that tell of it
+
+-- so many, which tell these events
+abbrev pub GoesTelling : Store → Thread → ℕ → List Event → Store → Thread → Type 0
+GoesTelling s t zero es s' t' = (s' ≡ s) × (t' ≡ t) × (es ≡ [])
+GoesTelling s t (suc n) es s' t' =
+    (s1 : Store) × (t1 : Thread) × (es1 : List Event) × (event : Option Event) × GoesTelling s t n es1 s1 t1 × (t1.work ≢ []) × (step_of s1 t1 ≡ Next s' t' event) × (es ≡ es1 ++ with_event event [])
+
+-- one whose event is counted
+abbrev pub StepsCounted : Store → Thread → Tally → Store → Thread → Tally → Type 0
+StepsCounted s t c s' t' c' = (event : Option Event) × (step_of s t ≡ Next s' t' event) × (c' ≡ all_tallied (with_event event []) c)
+
+-- so many whose events are counted; where events are to be kept, they tell none
+abbrev pub GoesCounted : (keep : Bool) → Store → Thread → Tally → ℕ → Store → Thread → Tally → Type 0
+GoesCounted keep s t c n s' t' c' = (es : List Event) × GoesTelling s t n es s' t' × (c' ≡ all_tallied es c) × (IsTrue keep → es ≡ [])
+
 -- so many, with what they came to
-abbrev pub IsHalted : Stretch → ℕ → Store → Thread → Store → Thread → Type 0
-IsHalted stretches.Paused n s t s' t' = GoesQuietly s t n s' t' × (t'.work ≢ [])
-IsHalted stretches.Ended n s t s' t' = GoesQuietly s t n s' t' × (t'.work ≡ [])
-IsHalted stretches.Memory n s t s' t' = Unit {0}
+abbrev pub IsHalted : Stretch → (keep : Bool) → ℕ → Store → Thread → Tally → Store → Thread → Tally → Type 0
+IsHalted stretches.Paused keep n s t c s' t' c' = GoesCounted keep s t c n s' t' c' × (t'.work ≢ [])
+IsHalted stretches.Ended keep n s t c s' t' c' = GoesCounted keep s t c n s' t' c' × (t'.work ≡ [])
+IsHalted stretches.Memory keep n s t c s' t' c' = Unit {0}
 
 -- memory has not run out
 abbrev pub IsCalm : Stretch → Type 0
@@ -76,6 +98,7 @@ DoesQuietly (carried.Again code) i next s t t' = DoesAgain code.now s (thread_of
 DoesQuietly carried.Ended i next s t t' = StepsQuietly s (thread_of s.funcs t) s (thread_of s.funcs t') × ((thread_of s.funcs t').work ≡ [])
 DoesQuietly (carried.Linear j) i next s t t' = (i ≡ instr.Linear j) × (t' ≡ t)
 DoesQuietly (carried.Global x) i next s t t' = (i ≡ instr.GlobalSet x) × (t' ≡ t)
+DoesQuietly (carried.Segment j) i next s t t' = (i ≡ instr.Segment j) × (t' ≡ t)
 DoesQuietly carried.Not i next s t t' = t' ≡ t
 DoesQuietly carried.Memory i next s t t' = Unit {0}
 
@@ -89,6 +112,7 @@ DoesMeet mets.Paused left most s t t' = GoesQuietly s t (most - left) s (thread_
 DoesMeet mets.Ended left most s t t' = GoesQuietly s t (most - left) s (thread_of s.funcs t') × ((thread_of s.funcs t').work ≡ [])
 DoesMeet (mets.Linear i next more) left most s t t' = GoesQuietly s t (most - left) s (thread_of s.funcs t') × (0 < left) × IsMet (instr.Linear i) next more s t'
 DoesMeet (mets.Global x next more) left most s t t' = GoesQuietly s t (most - left) s (thread_of s.funcs t') × (0 < left) × IsMet (instr.GlobalSet x) next more s t'
+DoesMeet (mets.Segment i next more) left most s t t' = GoesQuietly s t (most - left) s (thread_of s.funcs t') × (0 < left) × IsMet (instr.Segment i) next more s t'
 DoesMeet mets.Memory left most s t t' = Unit {0}
 
 -- ---- an instruction that changes the store
@@ -98,3 +122,10 @@ DoesWork works.On s t s' t' = StepsQuietly s t s' t' × (t'.work ≢ [])
 DoesWork works.Ended s t s' t' = StepsQuietly s t s' t' × (t'.work ≡ [])
 DoesWork works.Not s t s' t' = (s' ≡ s) × (t' ≡ t)
 DoesWork works.Memory s t s' t' = Unit {0}
+
+-- the same where its event is counted
+abbrev pub DoesTell : Worked → Store → Thread → Tally → Store → Thread → Tally → Type 0
+DoesTell works.On s t c s' t' c' = StepsCounted s t c s' t' c' × (t'.work ≢ [])
+DoesTell works.Ended s t c s' t' c' = StepsCounted s t c s' t' c' × (t'.work ≡ [])
+DoesTell works.Not s t c s' t' c' = (s' ≡ s) × (t' ≡ t) × (c' ≡ c)
+DoesTell works.Memory s t c s' t' c' = Unit {0}

@@ -1,19 +1,19 @@
 -- What a run tells as it goes: how many entries were used, how many events of each kind there were, and the events.
-use Rattle.std.specs.Prelude.{◌≤◌, ℕ, ◌+◌, Bool, if◌then◌else◌, List, [], ◌∷◌, ◌++◌}
+use Rattle.std.specs.Prelude.{◌≡◌, ◌≢◌, ◌≤◌, ℕ, ◌+◌, Bool, if◌then◌else◌, List, [], ◌∷◌, ◌++◌}
 use Rattle.ms_event.specs.declared.event.Event.{Event}
-use Rattle.ms_event.specs.declared.event.Event.TheVariants.{Alloc, Free, Read, Refused, Seal, Slice, Write}
+use Rattle.ms_event.specs.declared.tally.Tally.{Tally}
+use Rattle.ms_event.specs.refinement.Tally.{tallied}
+use Rattle.ms_task.specs.Thread.{Thread}
 use Rattle.ms_machine.specs.Crews.{Deeds, events_of}
+use Rattle.ms_machine.specs.Store.{Store}
+use Rattle.ms_machine.specs.declared.straight.Stretch.{Stretch}
+use Rattle.ms_machine.specs.declared.straight.Stretch.TheVariants as stretches
+use Rattle.ms_machine.specs.refinement.StraightLine.{GoesTelling}
 
 pub record Trace : Type 0 where
   -- whether the events are kept
   pub keep : Bool
-  pub allocs : ℕ
-  pub refused : ℕ
-  pub seals : ℕ
-  pub slices : ℕ
-  pub reads : ℕ
-  pub writes : ℕ
-  pub frees : ℕ
+  pub tally : Tally
   -- the events, where they are kept
   pub events : List Event
 
@@ -21,20 +21,8 @@ pub record Log : Type 0 where
   pub entries : ℕ
   pub trace : Trace
 
-abbrev pub counted : Event → Trace → Trace
-counted (Alloc id addr size) t = record t { allocs = t.allocs + 1 }
-counted (Refused size) t = record t { refused = t.refused + 1 }
-counted (Seal id lo hi) t = record t { seals = t.seals + 1 }
-counted (Slice sealed id lo hi lo2 hi2) t = record t { slices = t.slices + 1 }
-counted (Read sealed id lo hi addr width) t = record t { reads = t.reads + 1 }
-counted (Write id lo hi addr width) t = record t { writes = t.writes + 1 }
-counted (Free id) t = record t { frees = t.frees + 1 }
-
-abbrev pub kept_with : Event → Trace → Trace
-kept_with e t = record t { events = if t.keep then t.events ++ e ∷ [] else t.events }
-
 abbrev pub seen : Event → Trace → Trace
-seen e t = kept_with e (counted e t)
+seen e t = record { keep = t.keep; tally = tallied e t.tally; events = if t.keep then t.events ++ e ∷ [] else t.events }
 
 abbrev pub all_seen : List Event → Trace → Trace
 all_seen [] t = t
@@ -46,10 +34,22 @@ logged d l = record { entries = l.entries + d.used; trace = all_seen (events_of 
 
 -- no count is above this
 pub record CountsUpTo (n : ℕ) (t : Trace) : Type 0 where
-  pub allocs : t.allocs ≤ n
-  pub refused : t.refused ≤ n
-  pub seals : t.seals ≤ n
-  pub slices : t.slices ≤ n
-  pub reads : t.reads ≤ n
-  pub writes : t.writes ≤ n
-  pub frees : t.frees ≤ n
+  pub allocs : t.tally.allocs ≤ n
+  pub refused : t.tally.refused ≤ n
+  pub seals : t.tally.seals ≤ n
+  pub slices : t.tally.slices ≤ n
+  pub reads : t.tally.reads ≤ n
+  pub writes : t.tally.writes ≤ n
+  pub frees : t.tally.frees ≤ n
+
+-- ---- quiet steps
+
+-- so many, after which what they tell was seen
+abbrev pub GoesSeen : Store → Thread → Trace → ℕ → Store → Thread → Trace → Type 0
+GoesSeen s t trace n s' t' trace' = (es : List Event) × GoesTelling s t n es s' t' × (trace' ≡ all_seen es trace)
+
+-- the same with what they came to; where memory ran out no event was lost
+abbrev pub HaltsSeen : Stretch → Store → Thread → Trace → ℕ → Store → Thread → Trace → Type 0
+HaltsSeen stretches.Paused s t trace n s' t' trace' = GoesSeen s t trace n s' t' trace' × (t'.work ≢ [])
+HaltsSeen stretches.Ended s t trace n s' t' trace' = GoesSeen s t trace n s' t' trace' × (t'.work ≡ [])
+HaltsSeen stretches.Memory s t trace n s' t' trace' = trace'.events ≡ trace.events

@@ -53,6 +53,16 @@ returns-in-Global-clause-met g c =
     let behind : IsTrue (nat_lt (l.place + 1) (length l.code.now)) → l.place + 1 < length (sequence s.funcs l.task.function l.task.sequence) = λ yes. subst (λ (is : List Instr). l.place + 1 < length is) v.code (ltb-true (l.place + 1) (length l.code.now) yes) in
     met_here s (thread_of s.funcs c.args.task.now) (c.args.most - l.left) l.left (l.place + 1) (nat_lt (l.place + 1) (length l.code.now)) l.task c.quietly.new.task c.index-code-place.result _ v.steps c.loop-left-test.true (v.going, here, behind) c.in-Global.ensures.done.0 c.in-Global.ensures.done.1
 
+pub returns-in-Segment-clause-met : goal.returns-in-Segment-clause-met
+returns-in-Segment-clause-met g c =
+    let s = c.args.store.now in
+    let l = c.loop-left in
+    let v = l.invariant in
+    let typed = quietly_typed s s (thread_of s.funcs c.args.task.now) (thread_of s.funcs l.task) (c.args.most - l.left) v.steps c.requires.store c.requires.task in
+    let here = is_next s l.code.now l.task l.place c.index-code-place.result v.code v.place v.within c.index-code-place.is c.requires.store typed.1 v.going in
+    let behind : IsTrue (nat_lt (l.place + 1) (length l.code.now)) → l.place + 1 < length (sequence s.funcs l.task.function l.task.sequence) = λ yes. subst (λ (is : List Instr). l.place + 1 < length is) v.code (ltb-true (l.place + 1) (length l.code.now) yes) in
+    met_here s (thread_of s.funcs c.args.task.now) (c.args.most - l.left) l.left (l.place + 1) (nat_lt (l.place + 1) (length l.code.now)) l.task c.quietly.new.task c.index-code-place.result _ v.steps c.loop-left-test.true (v.going, here, behind) c.in-Segment.ensures.done.0 c.in-Segment.ensures.done.1
+
 pub loop-left-preserved : goal.loop-left-preserved
 loop-left-preserved g c =
     let s = c.args.store.now in
@@ -110,3 +120,13 @@ loop-left-preserved g c =
             far = subst (λ (is : List Instr). length is * 16 < 2 ^ 63) (sym codes) there.3;
           }
     ]
+
+pub returns-in-Ended-clause-met : goal.returns-in-Ended-clause-met
+returns-in-Ended-clause-met g c =
+    let s = c.args.store.now in
+    let l = c.loop-left in
+    let v = l.invariant in
+    let some = c.loop-left-test.true in
+    let room = v.left in
+    let done = c.in-Ended.ensures.done in
+    (quietly_on s s s (c.args.most - l.left) (c.args.most - (l.left - 1)) (thread_of s.funcs c.args.task.now) (thread_of s.funcs l.task) (thread_of s.funcs c.quietly.new.task) v.steps v.going done.0 (omega (arith, some, room)), done.1)

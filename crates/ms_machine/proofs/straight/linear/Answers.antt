@@ -15,5 +15,5 @@ returns-then-more g c =
     let i = instr.Linear c.args.i in
     let acts : act s i (at_next s.funcs t c.args.next) ≡ Next s' u None = done.does ∙ ap (Next s' u) done.tells in
     let behind = linear_behind s s' (at_next s.funcs t c.args.next) u None c.args.i acts in
-    let step = worked_behind s s' t c.linear.new.task i c.args.next c.requires.next acts behind (c.requires.more c.if-more.true) in
-    ((step.0, done.segments), step.1)
+    let step = worked_behind s s' t c.linear.new.task i c.args.next None c.requires.next acts behind (c.requires.more c.if-more.true) in
+    step

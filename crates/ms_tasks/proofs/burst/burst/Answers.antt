@@ -1,14 +1,13 @@
-use Rattle.std.proofs.Common.{◌+◌, ◌-◌, refl, ap, subst, sym, ◌∙◌, arith}
-use Rattle.ms_segment.specs.Memory.{Memory}
+use Rattle.std.proofs.Common.{◌+◌, ◌-◌, ◌<◌, ◌^◌, refl, ap, subst, sym, ◌∙◌, arith}
 use Rattle.ms_task.specs.refinement.View.{thread_of}
 use Rattle.ms_machine.specs.Crews.{run_entries}
 use Rattle.ms_machine.specs.Typing.{StoreTyped}
-use Rattle.ms_machine.specs.refinement.StraightLine.{IsCalm, IsHalted}
+use Rattle.ms_machine.specs.refinement.StraightLine.{IsCalm}
 use Rattle.ms_machine.specs.declared.straight.Stretch.{Stretch}
-use Rattle.ms_tasks.specs.refinement.Logs.{CountsUpTo}
+use Rattle.ms_tasks.specs.refinement.Logs.{CountsUpTo, HaltsSeen}
 use Rattle.ms_tasks.specs.refinement.Steppers.{whose_of}
-use Rattle.ms_tasks.proofs.Deeds.{within_more}
-use Rattle.ms_tasks.proofs.Stepping.{begins_way, kept_fit, quiet_comes, quiet_first, stops_before, way_pauses}
+use Rattle.ms_tasks.proofs.Deeds.{room_for, within_seen}
+use Rattle.ms_tasks.proofs.Stepping.{begins_way, quiet_comes, quiet_first, stops_before, way_pauses}
 use Rattle.ms_tasks.proofs.burst.burst.Goals as goal
 
 pub returns-in-Ended-clause-run : goal.returns-in-Ended-clause-run
@@ -24,8 +23,8 @@ returns-in-Ended-clause-run g c = λ next entries row.
     let rest = r.result.1 in
     let left = g.I.Source.left c.args.input.now in
     let held = g.O.Sink.held c.args.out.now in
-    let halted = subst (λ (k : Stretch). IsHalted k (c.args.most - rest) s0 t0 s t) c.in-Ended.is q.steps in
-    quiet_comes whose next entries c.args.most rest s0 s t0 t left held log0 c.count.new.self q.left row halted.0 c.count.ensures
+    let halted = subst (λ (k : Stretch). HaltsSeen k s0 t0 log0.trace (c.args.most - rest) s t r.new.self.trace) c.in-Ended.is q.steps in
+    quiet_comes whose next entries c.args.most rest s0 s t0 t left held log0 c.count.new.self r.new.self q.left row halted.0 q.entries c.count.ensures
 
 pub returns-in-Memory-clause-run : goal.returns-in-Memory-clause-run
 returns-in-Memory-clause-run g c = λ next entries row.
@@ -35,7 +34,9 @@ returns-in-Memory-clause-run g c = λ next entries row.
     let log0 = c.args.log.now in
     let left = g.I.Source.left c.args.input.now in
     let held = g.O.Sink.held c.args.out.now in
-    stops_before whose next entries c.args.most s0 t0 log0.trace c.args.most s0 t0 log0.trace left left left held held held (begins_way whose next entries c.args.most s0 t0 log0.trace left held row) log0 log0 refl refl refl refl
+    let r = c.run_quietly-stretch in
+    let lost = subst (λ (k : Stretch). HaltsSeen k s0 t0 log0.trace (c.args.most - r.result.1) r.new.store (thread_of r.new.store.funcs r.new.task) r.new.self.trace) c.in-Memory.is r.ensures.steps in
+    stops_before whose next entries c.args.most s0 t0 log0.trace c.args.most s0 t0 log0.trace left left left held held held (begins_way whose next entries c.args.most s0 t0 log0.trace left held row) log0 r.new.self refl lost refl refl
 
 pub returns-then-rest-eq0-clause-run : goal.returns-then-rest-eq0-clause-run
 returns-then-rest-eq0-clause-run g c = λ next entries row.
@@ -50,9 +51,9 @@ returns-then-rest-eq0-clause-run g c = λ next entries row.
     let rest = r.result.1 in
     let left = g.I.Source.left c.args.input.now in
     let held = g.O.Sink.held c.args.out.now in
-    let halted = subst (λ (k : Stretch). IsHalted k (c.args.most - rest) s0 t0 s t) c.in-Paused.is q.steps in
+    let halted = subst (λ (k : Stretch). HaltsSeen k s0 t0 log0.trace (c.args.most - rest) s t r.new.self.trace) c.in-Paused.is q.steps in
     way_pauses whose next entries c.args.most rest c.if-rest-eq0.true s t left left held held log0 c.count-2.new.self (run_entries entries (next s0 t0))
-    (quiet_comes whose next entries c.args.most rest s0 s t0 t left held log0 c.count-2.new.self q.left row halted.0 c.count-2.ensures)
+    (quiet_comes whose next entries c.args.most rest s0 s t0 t left held log0 c.count-2.new.self r.new.self q.left row halted.0 q.entries c.count-2.ensures)
 
 pub go_loudly-requires-clause-store : goal.go_loudly-requires-clause-store
 go_loudly-requires-clause-store g c =
@@ -90,7 +91,7 @@ go_loudly-requires-clause-going g c =
     let s = r.new.store in
     let t = thread_of s.funcs r.new.task in
     let rest = r.result.1 in
-    let halted = subst (λ (k : Stretch). IsHalted k (c.args.most - rest) s0 t0 s t) c.in-Paused.is q.steps in
+    let halted = subst (λ (k : Stretch). HaltsSeen k s0 t0 log0.trace (c.args.most - rest) s t r.new.self.trace) c.in-Paused.is q.steps in
     halted.1
 
 pub go_loudly-requires-clause-few : goal.go_loudly-requires-clause-few
@@ -104,7 +105,7 @@ go_loudly-requires-clause-few g c =
     let t = thread_of s.funcs r.new.task in
     let rest = r.result.1 in
     let calm = subst IsCalm (sym c.in-Paused.is) tt in
-    let k = ap (λ (x : Memory). x.made) (q.segments calm) in let few = c.requires.few in let less = q.left in omega (arith, k, few, less)
+    let k = q.made calm in let few = c.requires.few in let less = q.left in omega (arith, k, few, less)
 
 pub go_loudly-requires-clause-store_fits : goal.go_loudly-requires-clause-store_fits
 go_loudly-requires-clause-store_fits g c =
@@ -143,7 +144,9 @@ go_loudly-requires-clause-within g c =
     let t = thread_of s.funcs r.new.task in
     let rest = r.result.1 in
     let count = c.count-2.ensures in
-    subst (λ k. CountsUpTo k.entries k.trace) (sym count) (within_more log0.entries (log0.entries + (c.args.most - rest)) log0.trace (omega arith) c.requires.within)
+    let halted = subst (λ (k : Stretch). HaltsSeen k s0 t0 log0.trace (c.args.most - rest) s t r.new.self.trace) c.in-Paused.is q.steps in
+    let e = q.entries in
+    subst (λ k. CountsUpTo k.entries k.trace) (sym count) (within_seen s0 s t0 t (c.args.most - rest) log0.entries (r.new.self.entries + (c.args.most - rest)) log0.trace r.new.self.trace halted.0 (omega (arith, e)) c.requires.within)
 
 pub returns : goal.returns
 returns g c =
@@ -157,7 +160,7 @@ returns g c =
     let rest = r.result.1 in
     let left = g.I.Source.left c.args.input.now in
     let held = g.O.Sink.held c.args.out.now in
-    let halted = subst (λ (k : Stretch). IsHalted k (c.args.most - rest) s0 t0 s t) c.in-Paused.is q.steps in
+    let halted = subst (λ (k : Stretch). HaltsSeen k s0 t0 log0.trace (c.args.most - rest) s t r.new.self.trace) c.in-Paused.is q.steps in
     let calm = subst IsCalm (sym c.in-Paused.is) tt in
     let e = c.go_loudly.ensures in
     let o = c.go_loudly.result in
@@ -168,14 +171,14 @@ returns g c =
     record {
       run = λ next entries row.
           let whose = whose_of c.args.whose in
-          quiet_first whose next entries c.args.most rest s0 s t0 t left held log0 c.count-2.new.self q.left row halted.0 c.count-2.ensures o.0 o.1 s' t' (g.I.Source.left c.go_loudly.new.input) (g.O.Sink.held c.go_loudly.new.out) c.go_loudly.new.log e.left e.run;
+          quiet_first whose next entries c.args.most rest s0 s t0 t left held log0 c.count-2.new.self r.new.self q.left row halted.0 q.entries c.count-2.ensures o.0 o.1 s' t' (g.I.Source.left c.go_loudly.new.input) (g.O.Sink.held c.go_loudly.new.out) c.go_loudly.new.log e.left e.run;
       outline = λ well. e.outline well ∙ q.outline calm;
       task = e.task;
       store_fits = e.store_fits;
       task_fits = e.task_fits;
-      others = λ well h fit. e.others well h (kept_fit s0 s (q.segments calm) h fit);
-      made = λ well. let m = e.made well in let k = ap (λ (x : Memory). x.made) (q.segments calm) in omega (arith, m, k, less);
-      entries = λ well. let m = e.entries well in let k = ap (λ x. x.entries) count in omega (arith, m, k, less);
+      others = λ well h fit. e.others well h (q.others calm h fit);
+      made = λ well. let m = e.made well in let k = q.made calm in omega (arith, m, k, less);
+      entries = λ well. let m = e.entries well in let k = ap (λ x. x.entries) count in let j = q.entries in omega (arith, m, k, j, less);
       within = e.within;
       left = let x = e.left in omega (arith, x, less);
       ended = e.ended;
@@ -183,3 +186,8 @@ returns g c =
       input_faults = e.input_faults;
       out_faults = e.out_faults;
     }
+
+pub run_quietly-stretch-requires-clause-room : goal.run_quietly-stretch-requires-clause-room
+run_quietly-stretch-requires-clause-room g c =
+    let room = c.requires.room in
+    room_for c.args.log.now.entries c.args.most c.args.log.now.trace (omega (arith, room)) c.requires.within

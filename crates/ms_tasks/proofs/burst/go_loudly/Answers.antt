@@ -1,13 +1,13 @@
 use Rattle.std.proofs.Common.{rules, ◌≡◌, ◌+◌, ◌-◌, ◌≤◌, refl, ap, subst, sym, ◌∙◌, arith}
-use Rattle.ms_segment.specs.Memory.{Memory}
 use Rattle.ms_task.specs.refinement.View.{thread_of}
 use Rattle.ms_machine.specs.Crews.{run_entries}
-use Rattle.ms_machine.specs.refinement.StraightLine.{IsCalm, IsHalted}
+use Rattle.ms_machine.specs.refinement.StraightLine.{IsCalm}
 use Rattle.ms_machine.specs.declared.straight.Stretch.{Stretch}
 use Rattle.ms_machine.proofs.Outsides.{none_taken}
+use Rattle.ms_tasks.specs.refinement.Logs.{HaltsSeen}
 use Rattle.ms_tasks.specs.refinement.Steppers.{whose_of}
-use Rattle.ms_tasks.proofs.Deeds.{within_after}
-use Rattle.ms_tasks.proofs.Stepping.{begins_way, goes_way, kept_fit, quiet_way, stops_before, stops_behind, stops_in, way_here, way_pauses, way_traps}
+use Rattle.ms_tasks.proofs.Deeds.{room_for, within_after, within_seen}
+use Rattle.ms_tasks.proofs.Stepping.{begins_way, goes_way, quiet_way, stops_before, stops_behind, stops_in, way_here, way_pauses, way_traps}
 use Rattle.ms_tasks.proofs.burst.go_loudly.Goals as goal
 
 pub loop-left-init : goal.loop-left-init
@@ -50,7 +50,7 @@ loop-left-preserved g c =
     let q = c.run_quietly.ensures in
     let rest = c.run_quietly.result.1 in
     let less = q.left in
-    let halted = subst (λ (k : Stretch). IsHalted k ((l.left - 1) - rest) s1 t1 s2 t2) c.in-Paused-default.is-0 q.steps in
+    let halted = subst (λ (k : Stretch). HaltsSeen k s1 t1 c.see.new.self.trace ((l.left - 1) - rest) s2 t2 c.run_quietly.new.self.trace) c.in-Paused-default.is-0 q.steps in
     let calm = subst IsCalm (sym c.in-Paused-default.is-0) tt in
     let among = v.left in
     let within : l.left - 1 ≤ c.args.most = omega (arith, among) in
@@ -58,17 +58,18 @@ loop-left-preserved g c =
     record {
       runs = λ whose next entries row.
           let way = goes_way whose next entries c.args.most s0 t0 log0.trace l.left s t l.log.trace (left c.args.input.now) (left l.input) (left c.step.new.input) (held c.args.out.now) (held l.out) (held c.step.new.out) some v.left v.going (v.runs whose next entries row) s1 t1 c.in-On.event c.see.new.self.trace c.in-On.ensures.step.0 c.in-Ok.ensures.trace in
-          quiet_way whose next entries c.args.most s0 t0 log0.trace (l.left - 1) rest s1 s2 t1 t2 c.see.new.self.trace (left c.args.input.now) (left c.step.new.input) (held c.args.out.now) (held c.step.new.out) less within way halted.0;
+          quiet_way whose next entries c.args.most s0 t0 log0.trace (l.left - 1) rest s1 s2 t1 t2 c.see.new.self.trace c.run_quietly.new.self.trace (left c.args.input.now) (left c.step.new.input) (held c.args.out.now) (held c.step.new.out) less within way halted.0;
       outline = q.outline calm ∙ (e.outline tt ∙ v.outline);
       task = q.task calm;
       going = halted.1;
       store_fits = q.store_fits calm;
       task_fits = q.task_fits calm;
-      others = λ h fit. kept_fit s1 s2 (q.segments calm) h (e.others tt h (v.others h fit));
-      made = let m = e.made tt in let k = ap (λ (x : Memory). x.made) (q.segments calm) in omega (arith, m, k, v.made, less, some);
+      others = λ h fit. q.others calm h (e.others tt h (v.others h fit));
+      made = let m = e.made tt in let k = q.made calm in omega (arith, m, k, v.made, less, some);
       left = omega (arith, among, less);
-      entries = c.in-Ok.ensures.entries ∙ v.entries;
-      within = within_after (log0.entries + (c.args.most - l.left)) (log0.entries + (c.args.most - rest)) c.in-On.event l.log.trace c.see.new.self.trace (omega (arith, among, less, some)) c.in-Ok.ensures.trace v.within;
+      entries = q.entries ∙ (c.in-Ok.ensures.entries ∙ v.entries);
+      within = within_seen s1 s2 t1 t2 ((l.left - 1) - rest) (log0.entries + (c.args.most - (l.left - 1))) (log0.entries + (c.args.most - rest)) c.see.new.self.trace c.run_quietly.new.self.trace halted.0 (omega (arith, among, less, some))
+      (within_after (log0.entries + (c.args.most - l.left)) (log0.entries + (c.args.most - (l.left - 1))) c.in-On.event l.log.trace c.see.new.self.trace (omega (arith, among, some)) c.in-Ok.ensures.trace v.within);
       input = e.input_faults ∙ v.input;
       out = e.out_faults ∙ v.out;
     }
@@ -93,13 +94,13 @@ returns-in-Ended-default-clause-run g c = λ next entries row.
     let q = c.run_quietly.ensures in
     let rest = c.run_quietly.result.1 in
     let less = q.left in
-    let halted = subst (λ (k : Stretch). IsHalted k ((l.left - 1) - rest) s1 t1 s2 t2) c.in-Ended-default.is-0 q.steps in
+    let halted = subst (λ (k : Stretch). HaltsSeen k s1 t1 c.see.new.self.trace ((l.left - 1) - rest) s2 t2 c.run_quietly.new.self.trace) c.in-Ended-default.is-0 q.steps in
     let among = v.left in
     let within : l.left - 1 ≤ c.args.most = omega (arith, among) in
     let way = goes_way whose next entries c.args.most s0 t0 log0.trace l.left s t l.log.trace (left c.args.input.now) (left l.input) (left c.step.new.input) (held c.args.out.now) (held l.out) (held c.step.new.out) some v.left v.going (v.runs whose next entries row) s1 t1 c.in-On.event c.see.new.self.trace c.in-On.ensures.step.0 c.in-Ok.ensures.trace in
-    way_here whose next entries c.args.most s0 t0 log0 c.see.new.self c.count-in-Ended-default.new.self rest (c.args.most - rest) s2 t2 (left c.args.input.now) (left c.step.new.input) (held c.args.out.now) (held c.step.new.out)
-    (quiet_way whose next entries c.args.most s0 t0 log0.trace (l.left - 1) rest s1 s2 t1 t2 c.see.new.self.trace (left c.args.input.now) (left c.step.new.input) (held c.args.out.now) (held c.step.new.out) less within way halted.0)
-    (c.in-Ok.ensures.entries ∙ v.entries) (omega (arith, less, within)) c.count-in-Ended-default.ensures
+    way_here whose next entries c.args.most s0 t0 log0 c.run_quietly.new.self c.count-in-Ended-default.new.self rest (c.args.most - rest) s2 t2 (left c.args.input.now) (left c.step.new.input) (held c.args.out.now) (held c.step.new.out)
+    (quiet_way whose next entries c.args.most s0 t0 log0.trace (l.left - 1) rest s1 s2 t1 t2 c.see.new.self.trace c.run_quietly.new.self.trace (left c.args.input.now) (left c.step.new.input) (held c.args.out.now) (held c.step.new.out) less within way halted.0)
+    (q.entries ∙ (c.in-Ok.ensures.entries ∙ v.entries)) (omega (arith, less, within)) c.count-in-Ended-default.ensures
 
 pub returns-in-Memory-default-clause-run : goal.returns-in-Memory-default-clause-run
 returns-in-Memory-default-clause-run g c = λ next entries row.
@@ -117,7 +118,9 @@ returns-in-Memory-default-clause-run g c = λ next entries row.
     let left = g.I.Source.left in
     let held = g.O.Sink.held in
     let way = goes_way whose next entries c.args.most s0 t0 log0.trace l.left s t l.log.trace (left c.args.input.now) (left l.input) (left c.step.new.input) (held c.args.out.now) (held l.out) (held c.step.new.out) some v.left v.going (v.runs whose next entries row) s1 t1 c.in-On.event c.see.new.self.trace c.in-On.ensures.step.0 c.in-Ok.ensures.trace in
-    stops_before whose next entries c.args.most s0 t0 log0.trace (l.left - 1) s1 t1 c.see.new.self.trace (left c.args.input.now) (left c.step.new.input) (left c.step.new.input) (held c.args.out.now) (held c.step.new.out) (held c.step.new.out) way log0 c.see.new.self refl refl refl refl
+    let q = c.run_quietly.ensures in
+    let lost = subst (λ (k : Stretch). HaltsSeen k s1 t1 c.see.new.self.trace ((l.left - 1) - c.run_quietly.result.1) c.run_quietly.new.store (thread_of c.run_quietly.new.store.funcs c.run_quietly.new.task) c.run_quietly.new.self.trace) c.in-Memory-default.is-0 q.steps in
+    stops_before whose next entries c.args.most s0 t0 log0.trace (l.left - 1) s1 t1 c.see.new.self.trace (left c.args.input.now) (left c.step.new.input) (left c.step.new.input) (held c.args.out.now) (held c.step.new.out) (held c.step.new.out) way log0 c.run_quietly.new.self refl lost refl refl
 
 pub returns-in_default-clause-run : goal.returns-in_default-clause-run
 returns-in_default-clause-run g c = λ next entries row.
@@ -262,3 +265,14 @@ returns-clause-run g c = λ next entries row.
     let none : l.left ≡ 0 = omega (arith, c.loop-left-test.false) in
     way_pauses whose next entries c.args.most l.left none s t (left c.args.input.now) (left l.input) (held c.args.out.now) (held l.out) log0 c.count-2.new.self (run_entries entries (next s0 t0))
     (way_here whose next entries c.args.most s0 t0 log0 l.log c.count-2.new.self l.left c.args.most s t (left c.args.input.now) (left l.input) (held c.args.out.now) (held l.out) (v.runs whose next entries row) v.entries (omega (arith, none)) c.count-2.ensures)
+
+pub run_quietly-requires-clause-room : goal.run_quietly-requires-clause-room
+run_quietly-requires-clause-room g c =
+    let l = c.loop-left in
+    let v = l.invariant in
+    let log0 = c.args.log.now in
+    let among = v.left in
+    let some = c.loop-left-test.true in
+    let room = c.requires.room in
+    room_for (log0.entries + (c.args.most - (l.left - 1))) (l.left - 1) c.see.new.self.trace (omega (arith, among, some, room))
+    (within_after (log0.entries + (c.args.most - l.left)) (log0.entries + (c.args.most - (l.left - 1))) c.in-On.event l.log.trace c.see.new.self.trace (omega (arith, among, some)) c.in-Ok.ensures.trace v.within)
