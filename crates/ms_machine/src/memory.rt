@@ -49,7 +49,6 @@ pub(crate) fn linear<M: SegmentMemory>(
     requires { Can (instr.Linear i) next store.old task.old }
     ensures does { DoesInstr (instr.Linear i) next store.old task.old store.new task.new result }
     ensures tells { TellsNone result }
-    ensures segments { store.new.segments ≡ store.old.segments }
 {
     let address = memory_address(store, task);
     let memory = &mut store.memories[address as usize];

@@ -195,7 +195,6 @@ pub(crate) fn global_set<M: SegmentMemory>(
     requires { Can (instr.GlobalSet x) next store.old task.old }
     ensures does { DoesInstr (instr.GlobalSet x) next store.old task.old store.new task.new result }
     ensures tells { TellsNone result }
-    ensures segments { store.new.segments ≡ store.old.segments }
 {
     let address = global_address(store, task, x);
     store.set_global(address, task.operands.get(0));

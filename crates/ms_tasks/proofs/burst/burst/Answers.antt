@@ -191,3 +191,29 @@ pub run_quietly-stretch-requires-clause-room : goal.run_quietly-stretch-requires
 run_quietly-stretch-requires-clause-room g c =
     let room = c.requires.room in
     room_for c.args.log.now.entries c.args.most c.args.log.now.trace (omega (arith, room)) c.requires.within
+
+pub returns-in-Ended-clause-within : goal.returns-in-Ended-clause-within
+returns-in-Ended-clause-within g c = λ _.
+    let s0 = c.args.store.now in
+    let t0 = thread_of s0.funcs c.args.task.now in
+    let log0 = c.args.log.now in
+    let r = c.run_quietly-stretch in
+    let s = r.new.store in
+    let t = thread_of s.funcs r.new.task in
+    let rest = r.result.1 in
+    let halted = subst (λ (k : Stretch). HaltsSeen k s0 t0 log0.trace (c.args.most - rest) s t r.new.self.trace) c.in-Ended.is r.ensures.steps in
+    let e = r.ensures.entries in
+    subst (λ k. CountsUpTo k.entries k.trace) (sym c.count.ensures) (within_seen s0 s t0 t (c.args.most - rest) log0.entries (r.new.self.entries + (c.args.most - rest)) log0.trace r.new.self.trace halted.0 (omega (arith, e)) c.requires.within)
+
+pub returns-then-rest-eq0-clause-within : goal.returns-then-rest-eq0-clause-within
+returns-then-rest-eq0-clause-within g c = λ _.
+    let s0 = c.args.store.now in
+    let t0 = thread_of s0.funcs c.args.task.now in
+    let log0 = c.args.log.now in
+    let r = c.run_quietly-stretch in
+    let s = r.new.store in
+    let t = thread_of s.funcs r.new.task in
+    let rest = r.result.1 in
+    let halted = subst (λ (k : Stretch). HaltsSeen k s0 t0 log0.trace (c.args.most - rest) s t r.new.self.trace) c.in-Paused.is r.ensures.steps in
+    let e = r.ensures.entries in
+    subst (λ k. CountsUpTo k.entries k.trace) (sym c.count-2.ensures) (within_seen s0 s t0 t (c.args.most - rest) log0.entries (r.new.self.entries + (c.args.most - rest)) log0.trace r.new.self.trace halted.0 (omega (arith, e)) c.requires.within)

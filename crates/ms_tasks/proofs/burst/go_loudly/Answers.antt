@@ -4,7 +4,7 @@ use Rattle.ms_machine.specs.Crews.{run_entries}
 use Rattle.ms_machine.specs.refinement.StraightLine.{IsCalm}
 use Rattle.ms_machine.specs.declared.straight.Stretch.{Stretch}
 use Rattle.ms_machine.proofs.Outsides.{none_taken}
-use Rattle.ms_tasks.specs.refinement.Logs.{HaltsSeen}
+use Rattle.ms_tasks.specs.refinement.Logs.{CountsUpTo, HaltsSeen}
 use Rattle.ms_tasks.specs.refinement.Steppers.{whose_of}
 use Rattle.ms_tasks.proofs.Deeds.{room_for, within_after, within_seen}
 use Rattle.ms_tasks.proofs.Stepping.{begins_way, goes_way, quiet_way, stops_before, stops_behind, stops_in, way_here, way_pauses, way_traps}
@@ -276,3 +276,26 @@ run_quietly-requires-clause-room g c =
     let room = c.requires.room in
     room_for (log0.entries + (c.args.most - (l.left - 1))) (l.left - 1) c.see.new.self.trace (omega (arith, among, some, room))
     (within_after (log0.entries + (c.args.most - l.left)) (log0.entries + (c.args.most - (l.left - 1))) c.in-On.event l.log.trace c.see.new.self.trace (omega (arith, among, some)) c.in-Ok.ensures.trace v.within)
+
+pub returns-in-Ended-default-clause-within : goal.returns-in-Ended-default-clause-within
+returns-in-Ended-default-clause-within g c = λ _.
+    let l = c.loop-left in
+    let v = l.invariant in
+    let log0 = c.args.log.now in
+    let s1 = c.step.new.store in
+    let t1 = thread_of s1.funcs c.step.new.task in
+    let s2 = c.run_quietly.new.store in
+    let t2 = thread_of s2.funcs c.run_quietly.new.task in
+    let log2 = c.run_quietly.new.self in
+    let q = c.run_quietly.ensures in
+    let rest = c.run_quietly.result.1 in
+    let less = q.left in
+    let some = c.loop-left-test.true in
+    let among = v.left in
+    let same = q.entries in
+    let before = c.in-Ok.ensures.entries in
+    let first = v.entries in
+    let halted = subst (λ (k : Stretch). HaltsSeen k s1 t1 c.see.new.self.trace ((l.left - 1) - rest) s2 t2 log2.trace) c.in-Ended-default.is-0 q.steps in
+    subst (λ k. CountsUpTo k.entries k.trace) (sym c.count-in-Ended-default.ensures)
+    (within_seen s1 s2 t1 t2 ((l.left - 1) - rest) (log0.entries + (c.args.most - (l.left - 1))) (log2.entries + (c.args.most - rest)) c.see.new.self.trace log2.trace halted.0 (omega (arith, same, before, first, less, some, among))
+    (within_after (log0.entries + (c.args.most - l.left)) (log0.entries + (c.args.most - (l.left - 1))) c.in-On.event l.log.trace c.see.new.self.trace (omega (arith, among, some)) c.in-Ok.ensures.trace v.within))
