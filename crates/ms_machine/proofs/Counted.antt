@@ -1,5 +1,5 @@
 -- An instruction on segments whose event is only counted.
-use Rattle.std.proofs.Common.{◌≡◌, List, Option, Result, Ok, Err, sym, ap, subst, ◌∙◌}
+use Rattle.std.proofs.Common.{◌≡◌, List, Option, Result, Ok, Err, sym, subst}
 use Rattle.ms_event.specs.declared.event.Event.{Event}
 use Rattle.ms_event.specs.declared.tally.Tally.{Tally}
 use Rattle.ms_linear.specs.declared.value.Value.{Value}

@@ -36,7 +36,7 @@ use Rattle.ms_machine.specs.Segments.{Effect as SegmentEffect, segment_on}
 use Rattle.ms_machine.specs.Step.{Next, Outcome, act, exited, first, in_memory, in_segments, linear, moved, on_memory, on_top, set_global, set_global_at, step_of}
 use Rattle.ms_machine.specs.Store.{Store, global_address, instance_of, memory_address}
 use Rattle.ms_machine.specs.Typing.{StoreTyped, TaskTyped, outline_of}
-use Rattle.ms_machine.proofs.Moving.{Keeps, move_keeps, move_stays_typed, move_unstuck}
+use Rattle.ms_machine.proofs.Moving.{move_keeps, move_stays_typed, move_unstuck}
 use Rattle.ms_machine.proofs.TypedSteps.{begins_well}
 
 -- ---- one behind the other
@@ -322,5 +322,8 @@ module _ (keep : Bool) (s0 s1 s2 s3 : Store) (t0 t1 t2 : Thread) (t3 t4 : Task) 
   -- one that tells nothing
   pub worked_on : (P : List Item → Type 0) → c2 ≡ c1 → StepsQuietly s1 t2 s2 (thread_of s2.funcs t3) × P (thread_of s2.funcs t3).work → k ≡ suc (a + b) → GoesCounted keep s0 t0 c0 k s3 (thread_of s3.funcs t4) c3 × P (thread_of s3.funcs t4).work
   worked_on P count (step, then) is =
-      put_there P (subst (λ x. GoesCounted keep s0 t0 c0 k s2 (thread_of s2.funcs t3) x) (sym count)
-      (counted_still keep s0 s1 s2 t0 t2 (thread_of s2.funcs t3) c0 c1 (a + b) k (counted_quietly keep s0 s1 s1 t0 t1 t2 c0 c1 a b (a + b) first second refl) going step is), then)
+      put_there P (
+        subst (λ x. GoesCounted keep s0 t0 c0 k s2 (thread_of s2.funcs t3) x) (sym count)
+            (counted_still keep s0 s1 s2 t0 t2 (thread_of s2.funcs t3) c0 c1 (a + b) k (counted_quietly keep s0 s1 s1 t0 t1 t2 c0 c1 a b (a + b) first second refl) going step is),
+        then,
+      )

@@ -1,4 +1,4 @@
-use Rattle.std.proofs.Common.{◌≡◌, ◌≢◌, ◌-◌, ◌+◌, ◌≤◌, ◌∙◌, List, [], refl, sym, subst, arith}
+use Rattle.std.proofs.Common.{◌≡◌, ◌≢◌, ◌-◌, ◌∙◌, List, [], refl, sym, subst, arith}
 use Rattle.ms_task.specs.Thread.{Item}
 use Rattle.ms_task.specs.refinement.View.{thread_of}
 use Rattle.ms_event.specs.refinement.Tally.{LeavesRoom}
