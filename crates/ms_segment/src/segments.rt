@@ -202,6 +202,7 @@ impl<G: Gaps, T: Tagged> Segments<G, T> {
     }
 
     /// The same of the pieces of a handle.
+    #[inline(always)]
     fn locate_handle(&self, h: Handle) -> Result<Access, SegTrap>
         requires { IsFit self.now h }
         ensures { MatchResult result (λ a. handle_access self.now h ≡ Ok (access_of a)) (λ e. handle_access self.now h ≡ Err e) }
@@ -215,6 +216,7 @@ impl<G: Gaps, T: Tagged> Segments<G, T> {
     }
 
     /// The same of a write of the pieces of a handle.
+    #[inline(always)]
     fn locate_handle_write(&self, h: Handle) -> Result<Access, SegTrap>
         requires { IsFit self.now h }
         ensures { MatchResult result (λ a. writable (handle_access self.now h) ≡ Ok (access_of a)) (λ e. writable (handle_access self.now h) ≡ Err e) }
@@ -260,12 +262,14 @@ impl<G: Gaps, T: Tagged> SegmentMemory for Segments<G, T> {
         Ok(access.write(width))
     }
 
+    #[inline(always)]
     fn load_handle(&mut self, h: Handle) -> Result<(Handle, Event), SegTrap> {
         let access = self.locate_handle(h)?;
         self.accesses = one_more(self.accesses);
         Ok((self.tagged.get_handle(access.address), access.read(WIDTH)))
     }
 
+    #[inline(always)]
     fn store_handle(&mut self, h: Handle, v: Handle) -> Result<Event, SegTrap> {
         let access = self.locate_handle_write(h)?;
         self.tagged.put_handle(access.address, v);
