@@ -4,7 +4,7 @@ use Rattle.std.proofs.lemmas.Bool.{cases_eq, eq-eqb, ne_eqb}
 use Rattle.std.proofs.lemmas.List.Elements.{All-head, All-tail}
 use Rattle.ms_event.specs.declared.event.Event.{Event}
 use Rattle.ms_task.specs.Thread.{Item, Thread}
-use Rattle.ms_machine.specs.Crews.{Crew, Input, OutOfBudget, Results, Run, Start, Task, Whose, are_ended, behind, by_work, deed, ends, is_over, marked, moved, passed, results, run_entries, takers, task_turn, turn, with_start, with_task}
+use Rattle.ms_machine.specs.Crews.{Crew, Input, Results, Run, Start, Task, Whose, are_ended, behind, by_work, deed, ends, is_over, marked, moved, passed, results, run_entries, takers, task_turn, turn, with_start, with_task}
 use Rattle.ms_machine.specs.Moves as moves
 use Rattle.ms_machine.specs.Moves.{Goes, Move, move_of, rest_of}
 use Rattle.ms_apart.specs.Runs.{IsGranted, IsOwn, IsQuiet, own_of}
