@@ -43,6 +43,12 @@ pub enum Keyword {
     SegmentStore(StoreOp),
 }
 
+/// What begins an else arm.
+pub const ELSE_WORD: &[u8] = b"else";
+
+/// What ends a block.
+pub const END_WORD: &[u8] = b"end";
+
 /// The item of a word in a table; in a function that answers an option.
 #[macro_export]
 macro_rules! item_by_word {

@@ -17,7 +17,7 @@ use ms_text_grammar::{
     Index, Param, TextFault, TypeField, TypeUse, Word, item_by_word, value_keywords,
 };
 use ms_text_lex::{Token, text_of};
-use ms_types::ValType::{self, *};
+use ms_types::ValType::{self, Handle, I32, I64};
 use ms_types::{GlobalType, Limits, Vector};
 use std::alloc::Global;
 use std::marker::Model;

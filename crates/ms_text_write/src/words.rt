@@ -43,64 +43,64 @@ fn keyword_word(keyword: Keyword) -> &'static [u8]
 fn linear_word(instr: Linear) -> &'static [u8]
     ensures { result.now ≡ linear_word instr }
 {
-    keyword_word(match instr {
-        Linear::Load(op, _) => Keyword::Load(op),
-        Linear::Store(op, _) => Keyword::Store(op),
-        Linear::Size => MemorySize,
-        Linear::Grow => MemoryGrow,
-    })
+    match instr {
+        Linear::Load(op, _) => keyword_word(Keyword::Load(op)),
+        Linear::Store(op, _) => keyword_word(Keyword::Store(op)),
+        Linear::Size => keyword_word(MemorySize),
+        Linear::Grow => keyword_word(MemoryGrow),
+    }
 }
 
 /// The keyword of an instruction on handles or segments.
 fn segment_word(instr: Segment) -> &'static [u8]
     ensures { result.now ≡ segment_word instr }
 {
-    keyword_word(match instr {
-        Segment::Null => HandleNull,
-        Segment::New(_) => SegmentNew,
-        Segment::Free(_) => SegmentFree,
-        Segment::Add(_) => HandleAdd,
-        Segment::Slice => HandleSlice,
-        Segment::Eq => HandleEq,
-        Segment::IsNull => HandleIsNull,
-        Segment::Diff => HandleDiff,
-        Segment::LoadHandle => HandleLoad,
-        Segment::StoreHandle => HandleStore,
-        Segment::Load(op) => SegmentLoad(op),
-        Segment::Store(op) => SegmentStore(op),
-        Segment::Seal => HandleSeal,
-    })
+    match instr {
+        Segment::Null => keyword_word(HandleNull),
+        Segment::New(_) => keyword_word(SegmentNew),
+        Segment::Free(_) => keyword_word(SegmentFree),
+        Segment::Add(_) => keyword_word(HandleAdd),
+        Segment::Slice => keyword_word(HandleSlice),
+        Segment::Eq => keyword_word(HandleEq),
+        Segment::IsNull => keyword_word(HandleIsNull),
+        Segment::Diff => keyword_word(HandleDiff),
+        Segment::LoadHandle => keyword_word(HandleLoad),
+        Segment::StoreHandle => keyword_word(HandleStore),
+        Segment::Load(op) => keyword_word(SegmentLoad(op)),
+        Segment::Store(op) => keyword_word(SegmentStore(op)),
+        Segment::Seal => keyword_word(HandleSeal),
+    }
 }
 
 /// The keyword of an instruction.
 fn instr_word(instr: &Instr) -> &'static [u8]
     ensures { result.now ≡ instr_word instr.now }
 {
-    keyword_word(match instr {
-        Instr::Block { .. } => return opening_word(Block),
-        Instr::Loop { .. } => return opening_word(Loop),
-        Instr::If { .. } => return opening_word(If),
-        Instr::Linear(instr) => return linear_word(*instr),
-        Instr::Segment(instr) => return segment_word(*instr),
-        Instr::Unreachable => Unreachable,
-        Instr::Nop => Nop,
-        Instr::Br(_) => Br,
-        Instr::BrIf(_) => BrIf,
-        Instr::BrTable(_) => BrTable,
-        Instr::Return => Return,
-        Instr::Call(_) => Call,
-        Instr::CallIndirect(_) => CallIndirect,
-        Instr::Drop => Drop,
-        Instr::Select => Select,
-        Instr::LocalGet(_) => LocalGet,
-        Instr::LocalSet(_) => LocalSet,
-        Instr::LocalTee(_) => LocalTee,
-        Instr::GlobalGet(_) => GlobalGet,
-        Instr::GlobalSet(_) => GlobalSet,
-        Instr::I32Const(_) => I32Const,
-        Instr::I64Const(_) => I64Const,
-        Instr::Numeric(op) => Keyword::Numeric(*op),
-    })
+    match instr {
+        Instr::Unreachable => keyword_word(Unreachable),
+        Instr::Nop => keyword_word(Nop),
+        Instr::Block { .. } => opening_word(Block),
+        Instr::Loop { .. } => opening_word(Loop),
+        Instr::If { .. } => opening_word(If),
+        Instr::Br(_) => keyword_word(Br),
+        Instr::BrIf(_) => keyword_word(BrIf),
+        Instr::BrTable(_) => keyword_word(BrTable),
+        Instr::Return => keyword_word(Return),
+        Instr::Call(_) => keyword_word(Call),
+        Instr::CallIndirect(_) => keyword_word(CallIndirect),
+        Instr::Drop => keyword_word(Drop),
+        Instr::Select => keyword_word(Select),
+        Instr::LocalGet(_) => keyword_word(LocalGet),
+        Instr::LocalSet(_) => keyword_word(LocalSet),
+        Instr::LocalTee(_) => keyword_word(LocalTee),
+        Instr::GlobalGet(_) => keyword_word(GlobalGet),
+        Instr::GlobalSet(_) => keyword_word(GlobalSet),
+        Instr::I32Const(_) => keyword_word(I32Const),
+        Instr::I64Const(_) => keyword_word(I64Const),
+        Instr::Numeric(op) => keyword_word(Keyword::Numeric(*op)),
+        Instr::Linear(instr) => linear_word(*instr),
+        Instr::Segment(instr) => segment_word(*instr),
+    }
 }
 
 /// Writes the keyword of an instruction.
