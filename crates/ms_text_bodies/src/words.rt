@@ -34,6 +34,13 @@ pub fn narrow_word(class: u8, text: &[u8]) -> Option<Keyword>
     }
 }
 
+/// The keyword that a text is, if it is one that begins with `i64.se`. They are too many for the function of the classes beside them.
+fn wide_segment_word(text: &[u8]) -> Option<Keyword>
+    ensures { Finds result (by_word (rows_in 18) text.now) }
+{
+    keywords!(i64_se: item_by_word text;)
+}
+
 /// The keyword of this class that a text is, if it is one, where those of the class begin with `i64.`.
 pub fn wide_word(class: u8, text: &[u8]) -> Option<Keyword>
     requires low { 10 ≤ class }
@@ -49,7 +56,7 @@ pub fn wide_word(class: u8, text: &[u8]) -> Option<Keyword>
         15 => keywords!(i64_m_to_p: item_by_word text;),
         16 => keywords!(i64_r: item_by_word text;),
         17 => keywords!(i64_s: item_by_word text;),
-        18 => keywords!(i64_se: item_by_word text;),
+        18 => wide_segment_word(text),
         _ => keywords!(i64_x: item_by_word text;),
     }
 }
