@@ -10,7 +10,7 @@ use crate::heads::{heading, repeated, sign_of};
 use crate::instructions::instruction;
 use crate::work::Work;
 use ms_module::Opening;
-use ms_text_grammar::{Frame, Plain, Sign, TextFault, Word};
+use ms_text_grammar::{ELSE_WORD, END_WORD, Frame, Plain, Sign, TextFault, Word};
 use ms_text_lex::Token;
 use ms_text_parts::{Words, bad, closing, keyword, opening, the};
 use ms_types::ValType;
@@ -134,7 +134,7 @@ fn else_arm(w: &mut Work, c: &mut Words) -> Result<(), TextFault>
     ensures { StepsTo w.new c.old c.new result ((else_arm c.old.source usual.blocks w.old.frames (framed (Frame.Then ∷ w.old.frames) w.old)).read (length c.old.source) c.old.left) }
 {
     opening(c)?;
-    keyword(b"else", c)?;
+    keyword(ELSE_WORD, c)?;
     w.enter(Frame::Other)?;
     w.enter(Frame::Arm)?;
     w.begin_else()?;
@@ -146,7 +146,7 @@ fn else_arm(w: &mut Work, c: &mut Words) -> Result<(), TextFault>
 fn flat_end(w: &mut Work, label: Option<Token>, c: &mut Words) -> Result<(), TextFault>
     ensures { StepsTo w.new c.old c.new result ((marked c.old.source usual.blocks end_word label (ended w.old.frames w.old)).read (length c.old.source) c.old.left) }
 {
-    keyword(b"end", c)?;
+    keyword(END_WORD, c)?;
     repeated(label, c)?;
     w.end()?;
     Ok(())
@@ -160,7 +160,7 @@ fn flat_else(w: &mut Work, label: Option<Token>, may: bool, c: &mut Words) -> Re
     if !may {
         return Err(bad(c));
     }
-    keyword(b"else", c)?;
+    keyword(ELSE_WORD, c)?;
     repeated(label, c)?;
     w.enter(Frame::Flat {
         label,

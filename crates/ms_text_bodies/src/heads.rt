@@ -7,8 +7,11 @@ ghost use Rattle.ms_text_grammar.specs.Bounds.{usual};
 ghost use Rattle.ms_text_grammar.specs.Advances.{heading, is_label, marked, repeated, sign_of, word_sign};
 ghost use Rattle.ms_text_parts.specs.refinement.Readers.{Reads};
 
-use ms_module::{MOST_BLOCKS, Opening};
-use ms_text_grammar::{Counted, Sign, TextFault, Word};
+use ms_module::MOST_BLOCKS;
+use ms_module::Opening::{self, Block, If, Loop};
+use ms_text_grammar::{
+    Counted, ELSE_WORD, END_WORD, Sign, TextFault, Word, item_by_word, opening_keywords,
+};
 use ms_text_lex::{Token, text_of};
 use ms_text_parts::{
     Words, bad, block_type, is_close, is_keyword, is_open, next_is_id, optional_id,
@@ -19,25 +22,16 @@ use ms_types::ValType;
 fn opening_word(text: &[u8]) -> Option<Opening>
     ensures { result ≡ by_word opening_rows text.now }
 {
-    if text == b"block".as_slice() {
-        return Some(Opening::Block);
-    }
-    if text == b"loop".as_slice() {
-        return Some(Opening::Loop);
-    }
-    if text == b"if".as_slice() {
-        return Some(Opening::If);
-    }
-    None
+    opening_keywords!(item_by_word text)
 }
 
 fn word_sign(text: &[u8]) -> Sign
     ensures { result ≡ word_sign text.now }
 {
-    if text == b"end".as_slice() {
+    if text == END_WORD {
         return Sign::Ends;
     }
-    if text == b"else".as_slice() {
+    if text == ELSE_WORD {
         return Sign::Elses;
     }
     if text == Word::Then.spelling() {

@@ -7,11 +7,10 @@ ghost use Rattle.ms_text_grammar.specs.Instructions.{behind, fresh_of, id_in, in
 ghost use Rattle.ms_text_bodies.specs.refinement.Forms.{form_is};
 ghost use Rattle.ms_text_parts.specs.refinement.Readers.{Reads};
 
-use crate::keyword::Keyword;
 use crate::lookup::keyword_of;
 use ms_handle::Kind;
 use ms_module::{Instr, Linear, Segment};
-use ms_text_grammar::{Fresh, Index, Plain, TextFault, Word};
+use ms_text_grammar::{Fresh, Index, Keyword, Plain, TextFault, Word};
 use ms_text_lex::{Token, text_of};
 use ms_text_parts::{
     Steps, Words, bad, constant_32, constant_64, index, is_keyword, mem_arg, next_is_index, number,

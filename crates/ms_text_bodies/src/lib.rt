@@ -9,11 +9,8 @@ mod advances;
 mod bodies;
 mod heads;
 mod instructions;
-mod keyword;
 mod lookup;
-mod narrow_words;
-mod other_words;
-mod wide_words;
+mod words;
 mod work;
 
 pub use bodies::{body, folded_body};

@@ -5,8 +5,8 @@ ghost use Rattle.ms_module.specs.Instructions.{begins_with, by_word};
 ghost use Rattle.ms_text_grammar.specs.Instructions.{form_of};
 ghost use Rattle.ms_text_bodies.specs.refinement.Classes.{Finds, class_of, class_with_width, class_without, rows_in};
 
-use crate::keyword::Keyword;
-use crate::{narrow_words, other_words, wide_words};
+use crate::words::{narrow_word, other_word, wide_word};
+use ms_text_grammar::Keyword;
 
 /// The byte at a place, or 0 where there is none.
 fn letter(text: &[u8], at: usize) -> u8
@@ -88,33 +88,13 @@ fn in_class(class: u8, text: &[u8]) -> Option<Keyword>
     requires { class ≤ 24 }
     ensures { Finds result (by_word (rows_in class) text.now) }
 {
-    match class {
-        0 => narrow_words::i32_a_to_c(text),
-        1 => narrow_words::i32_d_to_e(text),
-        2 => narrow_words::i32_g(text),
-        3 => narrow_words::i32_le_to_lt(text),
-        4 => narrow_words::i32_lo(text),
-        5 => narrow_words::i32_m_to_p(text),
-        6 => narrow_words::i32_r(text),
-        7 => narrow_words::i32_s(text),
-        8 => narrow_words::i32_se(text),
-        9 => narrow_words::i32_w_to_x(text),
-        10 => wide_words::i64_a_to_c(text),
-        11 => wide_words::i64_d_to_e(text),
-        12 => wide_words::i64_g(text),
-        13 => wide_words::i64_le_to_lt(text),
-        14 => wide_words::i64_lo(text),
-        15 => wide_words::i64_m_to_p(text),
-        16 => wide_words::i64_r(text),
-        17 => wide_words::i64_s(text),
-        18 => wide_words::i64_se(text),
-        19 => wide_words::i64_x(text),
-        20 => other_words::b_to_d(text),
-        21 => other_words::g_or_l(text),
-        22 => other_words::h(text),
-        23 => other_words::m_to_r(text),
-        _ => other_words::s_to_u(text),
+    if class < 10 {
+        return narrow_word(class, text);
     }
+    if class < 20 {
+        return wide_word(class, text);
+    }
+    other_word(class, text)
 }
 
 /// The keyword that a text is, if it is one of an instruction that is no block.

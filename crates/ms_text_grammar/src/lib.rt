@@ -7,6 +7,7 @@
 
 mod fault;
 mod frame;
+mod keyword;
 mod laws;
 mod placed;
 mod surface;
@@ -14,6 +15,7 @@ mod word;
 
 pub use fault::{Counted, TextFault};
 pub use frame::{Frame, Fresh, Sign};
+pub use keyword::{ELSE_WORD, END_WORD, Keyword};
 pub use laws::{
     fields_are_spelled_in_one_way, folded_instructions_are_taken, greater_bounds_spell_it,
     one_module_is_spelled, scanned_uses_are_those_of_fields,

@@ -13,9 +13,12 @@ use crate::numbers::{index, number};
 use crate::parts::{closing, next_begins, next_closes, no_group, opening, optional_id, the};
 use crate::steps::{Steps, run};
 use crate::words::{Words, bad, is_keyword, is_number};
-use ms_text_grammar::{Index, Param, TextFault, TypeField, TypeUse, Word};
+use ms_text_grammar::{
+    Index, Param, TextFault, TypeField, TypeUse, Word, item_by_word, value_keywords,
+};
 use ms_text_lex::{Token, text_of};
-use ms_types::{GlobalType, Limits, ValType, Vector};
+use ms_types::ValType::{self, Handle, I32, I64};
+use ms_types::{GlobalType, Limits, Vector};
 use std::alloc::Global;
 use std::marker::Model;
 
@@ -24,16 +27,7 @@ use std::marker::Model;
 fn value_word(text: &[u8]) -> Option<ValType>
     ensures { result ≡ by_word value_rows text.now }
 {
-    if text == b"i32".as_slice() {
-        return Some(ValType::I32);
-    }
-    if text == b"i64".as_slice() {
-        return Some(ValType::I64);
-    }
-    if text == b"handle".as_slice() {
-        return Some(ValType::Handle);
-    }
-    None
+    value_keywords!(item_by_word text)
 }
 
 /// The value type that a token is.

@@ -2,3 +2,4 @@
 pub mod Limits
 pub mod Ranges
 pub mod ReadBack
+pub mod Words

@@ -13,7 +13,7 @@ use crate::words::{opening_word, write_keyword};
 use ms_flat::{Step, Walk};
 use ms_handle::Kind;
 use ms_module::{BrTable, Code, Instr, Linear, MemArg, Segment};
-use ms_text_grammar::Word;
+use ms_text_grammar::{ELSE_WORD, END_WORD, Word};
 use ms_types::ValType;
 use std::alloc::{AllocError, Global};
 
@@ -176,8 +176,8 @@ fn write_step(alloc: Global, step: Step<'_>, out: &mut Vec<u8>) -> Result<(), Al
             out.extend_from_slice(opening_word(opening))?;
             write_block_type(alloc, ty, out)
         }
-        Step::Else => out.extend_from_slice(b"else"),
-        Step::End => out.extend_from_slice(b"end"),
+        Step::Else => out.extend_from_slice(ELSE_WORD),
+        Step::End => out.extend_from_slice(END_WORD),
     }
 }
 

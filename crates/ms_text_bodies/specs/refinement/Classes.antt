@@ -2,7 +2,7 @@
 use Rattle.std.specs.Prelude.{◌≡◌, ◌==◌, ◌+◌, ℕ, List, [], ◌∷◌, Option, Some, None, MatchOption, codes, get_or, nat_lt, if◌then◌else◌}
 use Rattle.ms_module.specs.Instructions.{Row, begins_with, by_word}
 use Rattle.ms_text_grammar.specs.Instructions.{Form_, form_rows}
-use Rattle.ms_text_bodies.specs.declared.keyword.Keyword.{Keyword}
+use Rattle.ms_text_grammar.specs.declared.keyword.Keyword.{Keyword}
 use Rattle.ms_text_bodies.specs.refinement.Forms.{form_is}
 
 -- by the two letters behind `i32.` or `i64.`

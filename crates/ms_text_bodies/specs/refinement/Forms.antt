@@ -4,8 +4,8 @@ use Rattle.ms_module.specs.declared.access.Linear.TheVariants as linear
 use Rattle.ms_module.specs.declared.access.Segment.TheVariants as segment
 use Rattle.ms_module.specs.declared.instr.Instr.TheVariants as instr
 use Rattle.ms_text_grammar.specs.Instructions.{Form_, load, numeric, operand, segment_load, segment_store, store}
-use Rattle.ms_text_bodies.specs.declared.keyword.Keyword.{Keyword}
-use Rattle.ms_text_bodies.specs.declared.keyword.Keyword.TheVariants as word
+use Rattle.ms_text_grammar.specs.declared.keyword.Keyword.{Keyword}
+use Rattle.ms_text_grammar.specs.declared.keyword.Keyword.TheVariants as word
 
 abbrev pub form_is : Keyword → Form_
 form_is word.Unreachable = operand (Bare instr.Unreachable)
