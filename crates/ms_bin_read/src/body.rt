@@ -11,7 +11,7 @@ use crate::instrs::plain_of;
 use crate::items::{byte_of, marks_of};
 use crate::steps::{Steps, run};
 use crate::types::block_type_of;
-use ms_bin_grammar::{Counted, ReadFault};
+use ms_bin_grammar::{Counted, ReadFault, opcodes};
 use ms_bytes::Cursor;
 use ms_module::{Builder, Code, ELSE_CODE, END_CODE, MOST_BLOCKS, Opening};
 use std::alloc::Global;
@@ -43,9 +43,9 @@ fn advance_on(
     ensures { StepsTo b.new c.old c.new result ((advance_codes usual.blocks b.old).read at code c.old.end c.old.left) }
 {
     match code {
-        0x02 => open(b, at, Opening::Block, c),
-        0x03 => open(b, at, Opening::Loop, c),
-        0x04 => open(b, at, Opening::If, c),
+        opcodes::BLOCK => open(b, at, Opening::Block, c),
+        opcodes::LOOP => open(b, at, Opening::Loop, c),
+        opcodes::IF => open(b, at, Opening::If, c),
         ELSE_CODE => {
             if !b.may_else() {
                 return Err(ReadFault::Malformed { at });

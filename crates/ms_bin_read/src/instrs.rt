@@ -9,7 +9,7 @@ ghost use Rattle.ms_bin_read.specs.refinement.Readers.{Reads};
 
 use crate::items::{Item, byte_of, marks_of};
 use crate::numbers::{i32_of, i64_of, u32_of};
-use ms_bin_grammar::ReadFault;
+use ms_bin_grammar::{FRAME, HEAP, ReadFault, opcodes, segment_codes};
 use ms_bytes::Cursor;
 use ms_handle::Kind;
 use ms_module::{
@@ -40,8 +40,8 @@ fn kind_of(c: &mut Cursor) -> Result<Kind, ReadFault>
 {
     let at = c.at();
     match byte_of(c)? {
-        0x00 => Ok(Kind::Heap),
-        0x01 => Ok(Kind::Frame),
+        HEAP => Ok(Kind::Heap),
+        FRAME => Ok(Kind::Frame),
         _ => Err(ReadFault::Malformed { at }),
     }
 }
@@ -68,17 +68,17 @@ fn segment_of(at: usize, code: u8, c: &mut Cursor) -> Result<Instr, ReadFault>
     ensures plain { IfOk result IsPlain }
 {
     match code {
-        0x00 => Ok(Instr::Segment(Segment::Null)),
-        0x01 => Ok(Instr::Segment(Segment::New(kind_of(c)?))),
-        0x02 => Ok(Instr::Segment(Segment::Free(kind_of(c)?))),
-        0x03 => Ok(Instr::Segment(Segment::Add(u32_of(c)?))),
-        0x04 => Ok(Instr::Segment(Segment::Slice)),
-        0x05 => Ok(Instr::Segment(Segment::Eq)),
-        0x06 => Ok(Instr::Segment(Segment::IsNull)),
-        0x07 => Ok(Instr::Segment(Segment::Diff)),
-        0x08 => Ok(Instr::Segment(Segment::LoadHandle)),
-        0x09 => Ok(Instr::Segment(Segment::StoreHandle)),
-        0x1D => Ok(Instr::Segment(Segment::Seal)),
+        segment_codes::HANDLE_NULL => Ok(Instr::Segment(Segment::Null)),
+        segment_codes::SEGMENT_NEW => Ok(Instr::Segment(Segment::New(kind_of(c)?))),
+        segment_codes::SEGMENT_FREE => Ok(Instr::Segment(Segment::Free(kind_of(c)?))),
+        segment_codes::HANDLE_ADD => Ok(Instr::Segment(Segment::Add(u32_of(c)?))),
+        segment_codes::HANDLE_SLICE => Ok(Instr::Segment(Segment::Slice)),
+        segment_codes::HANDLE_EQ => Ok(Instr::Segment(Segment::Eq)),
+        segment_codes::HANDLE_IS_NULL => Ok(Instr::Segment(Segment::IsNull)),
+        segment_codes::HANDLE_DIFF => Ok(Instr::Segment(Segment::Diff)),
+        segment_codes::HANDLE_LOAD => Ok(Instr::Segment(Segment::LoadHandle)),
+        segment_codes::HANDLE_STORE => Ok(Instr::Segment(Segment::StoreHandle)),
+        segment_codes::HANDLE_SEAL => Ok(Instr::Segment(Segment::Seal)),
         _ => segment_access_of(at, code, c),
     }
 }
@@ -135,35 +135,35 @@ pub fn plain_of(alloc: Global, at: usize, code: u8, c: &mut Cursor) -> Result<In
     ensures plain { IfOk result IsPlain }
 {
     match code {
-        0x00 => Ok(Instr::Unreachable),
-        0x01 => Ok(Instr::Nop),
-        0x0C => Ok(Instr::Br(u32_of(c)?)),
-        0x0D => Ok(Instr::BrIf(u32_of(c)?)),
-        0x0E => Ok(Instr::BrTable(br_table_of(alloc, c)?)),
-        0x0F => Ok(Instr::Return),
-        0x10 => Ok(Instr::Call(u32_of(c)?)),
-        0x11 => {
+        opcodes::UNREACHABLE => Ok(Instr::Unreachable),
+        opcodes::NOP => Ok(Instr::Nop),
+        opcodes::BR => Ok(Instr::Br(u32_of(c)?)),
+        opcodes::BR_IF => Ok(Instr::BrIf(u32_of(c)?)),
+        opcodes::BR_TABLE => Ok(Instr::BrTable(br_table_of(alloc, c)?)),
+        opcodes::RETURN => Ok(Instr::Return),
+        opcodes::CALL => Ok(Instr::Call(u32_of(c)?)),
+        opcodes::CALL_INDIRECT => {
             let sig = u32_of(c)?;
             marks_of(&[0x00], c)?;
             Ok(Instr::CallIndirect(sig))
         }
-        0x1A => Ok(Instr::Drop),
-        0x1B => Ok(Instr::Select),
-        0x20 => Ok(Instr::LocalGet(u32_of(c)?)),
-        0x21 => Ok(Instr::LocalSet(u32_of(c)?)),
-        0x22 => Ok(Instr::LocalTee(u32_of(c)?)),
-        0x23 => Ok(Instr::GlobalGet(u32_of(c)?)),
-        0x24 => Ok(Instr::GlobalSet(u32_of(c)?)),
-        0x3F => {
+        opcodes::DROP => Ok(Instr::Drop),
+        opcodes::SELECT => Ok(Instr::Select),
+        opcodes::LOCAL_GET => Ok(Instr::LocalGet(u32_of(c)?)),
+        opcodes::LOCAL_SET => Ok(Instr::LocalSet(u32_of(c)?)),
+        opcodes::LOCAL_TEE => Ok(Instr::LocalTee(u32_of(c)?)),
+        opcodes::GLOBAL_GET => Ok(Instr::GlobalGet(u32_of(c)?)),
+        opcodes::GLOBAL_SET => Ok(Instr::GlobalSet(u32_of(c)?)),
+        opcodes::MEMORY_SIZE => {
             marks_of(&[0x00], c)?;
             Ok(Instr::Linear(Linear::Size))
         }
-        0x40 => {
+        opcodes::MEMORY_GROW => {
             marks_of(&[0x00], c)?;
             Ok(Instr::Linear(Linear::Grow))
         }
-        0x41 => Ok(Instr::I32Const(i32_of(c)?)),
-        0x42 => Ok(Instr::I64Const(i64_of(c)?)),
+        opcodes::I32_CONST => Ok(Instr::I32Const(i32_of(c)?)),
+        opcodes::I64_CONST => Ok(Instr::I64Const(i64_of(c)?)),
         _ => operation_of(at, code, c),
     }
 }

@@ -8,7 +8,7 @@ ghost use Rattle.ms_bin_read.specs.refinement.Readers.{Reads};
 
 use crate::items::{Item, byte_of, marks_of};
 use crate::numbers::u32_of;
-use ms_bin_grammar::ReadFault;
+use ms_bin_grammar::{ANY_FUNC, FUNC_TYPE, NO_RESULT, ReadFault};
 use ms_bytes::Cursor;
 use ms_module::{is_float_type, val_type_from_code};
 use ms_types::{FuncType, GlobalType, Limits, ValType, Vector};
@@ -36,7 +36,7 @@ pub fn block_type_of(c: &mut Cursor) -> Result<Option<ValType>, ReadFault>
 {
     let at = c.at();
     let code = byte_of(c)?;
-    if code == 0x40 {
+    if code == NO_RESULT {
         return Ok(None);
     }
     match val_type_from_code(code) {
@@ -51,7 +51,7 @@ impl Item for FuncType {
 
     #[tactic(auto, unfolding(ms_bin_grammar::specs::Types::func_type))]
     fn read(alloc: Global, c: &mut Cursor) -> Result<Self, ReadFault> {
-        marks_of(&[0x60], c)?;
+        marks_of(&[FUNC_TYPE], c)?;
         let params = Item::read(alloc, c)?;
         let results = Item::read(alloc, c)?;
         Ok(FuncType { params, results })
@@ -88,7 +88,7 @@ impl Item for Limits {
 pub fn table_type_of(alloc: Global, c: &mut Cursor) -> Result<Limits, ReadFault>
     ensures { Reads c.old c.new result (table_type.read c.old.end c.old.left) }
 {
-    marks_of(&[0x70], c)?;
+    marks_of(&[ANY_FUNC], c)?;
     Limits::read(alloc, c)
 }
 

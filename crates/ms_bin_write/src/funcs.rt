@@ -11,6 +11,7 @@ ghost use Rattle.ms_bin_write.specs.Written.{IsTooMany, func_bytes, locals_bytes
 use crate::fault::BinFault;
 use crate::items::{Item, is_large, write_section, write_sized};
 use crate::opcodes::value_code;
+use ms_bin_grammar::ANY_FUNC;
 use ms_leb::write_u;
 use ms_module::{Func, Locals};
 use ms_types::{Limits, Vector};
@@ -90,7 +91,7 @@ fn write_tables(alloc: Global, tables: &[Limits], out: &mut Vec<u8>) -> Result<(
 {
     write_u(tables.len() as u64, out)?;
     for limits in tables {
-        out.push(0x70)?;
+        out.push(ANY_FUNC)?;
         limits.write(alloc, out)?;
     }
     Ok(())

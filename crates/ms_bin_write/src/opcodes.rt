@@ -7,6 +7,7 @@ ghost use Rattle.ms_flat.specs.refinement.Places.{block_of};
 ghost use Rattle.ms_bin_write.specs.Types.{block_type_code, value_code};
 ghost use Rattle.ms_bin_write.specs.Instrs.{kind_code, linear_code, numeric_code, opcode, segment_code};
 
+use ms_bin_grammar::{FRAME, HEAP, NO_RESULT, opcodes, segment_codes};
 use ms_handle::Kind;
 use ms_module::BinOp::*;
 use ms_module::LoadOp::{self, *};
@@ -38,7 +39,7 @@ pub fn block_type_code(ty: Option<ValType>) -> u8
     ensures { result ≡ block_type_code ty }
 {
     match ty {
-        None => 0x40,
+        None => NO_RESULT,
         Some(ty) => value_code(ty),
     }
 }
@@ -49,9 +50,9 @@ pub fn opening_code(opening: Opening) -> u8
     ensures { result ≡ code_of opening_rows (opening_word opening) }
 {
     match opening {
-        Opening::Block => 0x02,
-        Opening::Loop => 0x03,
-        Opening::If => 0x04,
+        Opening::Block => opcodes::BLOCK,
+        Opening::Loop => opcodes::LOOP,
+        Opening::If => opcodes::IF,
     }
 }
 
@@ -87,8 +88,8 @@ fn linear_code(instr: Linear) -> u8
     match instr {
         Linear::Load(op, _) => load_code(op),
         Linear::Store(op, _) => store_code(op),
-        Linear::Size => 0x3F,
-        Linear::Grow => 0x40,
+        Linear::Size => opcodes::MEMORY_SIZE,
+        Linear::Grow => opcodes::MEMORY_GROW,
     }
 }
 
@@ -114,19 +115,19 @@ pub fn segment_code(instr: Segment) -> u8
     ensures { result ≡ segment_code instr }
 {
     match instr {
-        Segment::Null => 0x00,
-        Segment::New(_) => 0x01,
-        Segment::Free(_) => 0x02,
-        Segment::Add(_) => 0x03,
-        Segment::Slice => 0x04,
-        Segment::Eq => 0x05,
-        Segment::IsNull => 0x06,
-        Segment::Diff => 0x07,
-        Segment::LoadHandle => 0x08,
-        Segment::StoreHandle => 0x09,
+        Segment::Null => segment_codes::HANDLE_NULL,
+        Segment::New(_) => segment_codes::SEGMENT_NEW,
+        Segment::Free(_) => segment_codes::SEGMENT_FREE,
+        Segment::Add(_) => segment_codes::HANDLE_ADD,
+        Segment::Slice => segment_codes::HANDLE_SLICE,
+        Segment::Eq => segment_codes::HANDLE_EQ,
+        Segment::IsNull => segment_codes::HANDLE_IS_NULL,
+        Segment::Diff => segment_codes::HANDLE_DIFF,
+        Segment::LoadHandle => segment_codes::HANDLE_LOAD,
+        Segment::StoreHandle => segment_codes::HANDLE_STORE,
         Segment::Load(op) => segment_load_code(op),
         Segment::Store(op) => segment_store_code(op),
-        Segment::Seal => 0x1D,
+        Segment::Seal => segment_codes::HANDLE_SEAL,
     }
 }
 
@@ -135,8 +136,8 @@ pub fn kind_code(kind: Kind) -> u8
     ensures { result ≡ kind_code kind }
 {
     match kind {
-        Kind::Heap => 0x00,
-        Kind::Frame => 0x01,
+        Kind::Heap => HEAP,
+        Kind::Frame => FRAME,
     }
 }
 
@@ -148,23 +149,23 @@ pub fn opcode(instr: &Instr) -> u8
 {
     match instr {
         Instr::Block { .. } | Instr::Loop { .. } | Instr::If { .. } => unreachable!(),
-        Instr::Unreachable => 0x00,
-        Instr::Nop => 0x01,
-        Instr::Br(_) => 0x0C,
-        Instr::BrIf(_) => 0x0D,
-        Instr::BrTable(_) => 0x0E,
-        Instr::Return => 0x0F,
-        Instr::Call(_) => 0x10,
-        Instr::CallIndirect(_) => 0x11,
-        Instr::Drop => 0x1A,
-        Instr::Select => 0x1B,
-        Instr::LocalGet(_) => 0x20,
-        Instr::LocalSet(_) => 0x21,
-        Instr::LocalTee(_) => 0x22,
-        Instr::GlobalGet(_) => 0x23,
-        Instr::GlobalSet(_) => 0x24,
-        Instr::I32Const(_) => 0x41,
-        Instr::I64Const(_) => 0x42,
+        Instr::Unreachable => opcodes::UNREACHABLE,
+        Instr::Nop => opcodes::NOP,
+        Instr::Br(_) => opcodes::BR,
+        Instr::BrIf(_) => opcodes::BR_IF,
+        Instr::BrTable(_) => opcodes::BR_TABLE,
+        Instr::Return => opcodes::RETURN,
+        Instr::Call(_) => opcodes::CALL,
+        Instr::CallIndirect(_) => opcodes::CALL_INDIRECT,
+        Instr::Drop => opcodes::DROP,
+        Instr::Select => opcodes::SELECT,
+        Instr::LocalGet(_) => opcodes::LOCAL_GET,
+        Instr::LocalSet(_) => opcodes::LOCAL_SET,
+        Instr::LocalTee(_) => opcodes::LOCAL_TEE,
+        Instr::GlobalGet(_) => opcodes::GLOBAL_GET,
+        Instr::GlobalSet(_) => opcodes::GLOBAL_SET,
+        Instr::I32Const(_) => opcodes::I32_CONST,
+        Instr::I64Const(_) => opcodes::I64_CONST,
         Instr::Numeric(op) => numeric_code(*op),
         Instr::Linear(instr) => linear_code(*instr),
         Instr::Segment(_) => PREFIX,

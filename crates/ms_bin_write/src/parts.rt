@@ -7,6 +7,7 @@ ghost use Rattle.ms_flat.specs.refinement.Ranges.{ElementFits, ExportDescFits, G
 ghost use Rattle.ms_bin_write.specs.refinement.Ranges.{ExportFits, FillFits, ImportFits, NameFits};
 
 use crate::items::{Item, write_sized, write_vec};
+use ms_bin_grammar::ANY_FUNC;
 use ms_module::{Element, Export, ExportDesc, Fill, Import, ImportDesc, Name};
 use std::alloc::{AllocError, Global};
 
@@ -33,7 +34,7 @@ impl Item for ImportDesc {
             }
             ImportDesc::Table(limits) => {
                 out.push(0x01)?;
-                out.push(0x70)?;
+                out.push(ANY_FUNC)?;
                 limits.write(alloc, out)
             }
             ImportDesc::Memory(limits) => {

@@ -6,6 +6,7 @@ ghost use Rattle.ms_flat.specs.refinement.Ranges.{LimitsFit};
 
 use crate::items::{Item, write_vec};
 use crate::opcodes::value_code;
+use ms_bin_grammar::FUNC_TYPE;
 use ms_types::{FuncType, GlobalType, Limits, ValType};
 use std::alloc::{AllocError, Global};
 
@@ -26,7 +27,7 @@ impl Item for FuncType {
     ghost fits = { λ _. Unit {0} };
 
     fn write(&self, alloc: Global, out: &mut Vec<u8>) -> Result<(), AllocError> {
-        out.push(0x60)?;
+        out.push(FUNC_TYPE)?;
         write_vec(alloc, self.params.as_slice(), out)?;
         write_vec(alloc, self.results.as_slice(), out)
     }

@@ -1,6 +1,6 @@
 -- Keywords of instructions by their letters, so that few are compared with a text.
-use Rattle.std.specs.Prelude.{◌≡◌, ◌==◌, ◌+◌, ℕ, List, [], ◌∷◌, Option, Some, None, MatchOption, codes, get_or, nat_lt, if◌then◌else◌}
-use Rattle.ms_module.specs.Instructions.{Row, begins_with, by_word}
+use Rattle.std.specs.Prelude.{◌≡◌, ◌==◌, ◌+◌, ℕ, List, [], ◌∷◌, Option, Some, None, codes, get_or, nat_lt, if◌then◌else◌}
+use Rattle.ms_module.specs.Instructions.{Row, begins_with}
 use Rattle.ms_text_grammar.specs.Instructions.{Form_, form_rows}
 use Rattle.ms_text_grammar.specs.declared.keyword.Keyword.{Keyword}
 use Rattle.ms_text_bodies.specs.refinement.Forms.{form_is}

@@ -1,5 +1,5 @@
 -- What the code tells of a keyword, as the table has it.
-use Rattle.ms_module.specs.Instructions.{Bare, Form, Func, Global, Int32, Int64, KindOf, Label, Labels, Local, Memory, Scale, Type_}
+use Rattle.ms_module.specs.Instructions.{Bare, Func, Global, Int32, Int64, KindOf, Label, Labels, Local, Memory, Scale, Type_}
 use Rattle.ms_module.specs.declared.access.Linear.TheVariants as linear
 use Rattle.ms_module.specs.declared.access.Segment.TheVariants as segment
 use Rattle.ms_module.specs.declared.instr.Instr.TheVariants as instr

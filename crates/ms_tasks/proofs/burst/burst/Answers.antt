@@ -1,4 +1,4 @@
-use Rattle.std.proofs.Common.{◌+◌, ◌-◌, ◌<◌, ◌^◌, refl, ap, subst, sym, ◌∙◌, arith}
+use Rattle.std.proofs.Common.{◌+◌, ◌-◌, refl, ap, subst, sym, ◌∙◌, arith}
 use Rattle.ms_task.specs.refinement.View.{thread_of}
 use Rattle.ms_machine.specs.Crews.{run_entries}
 use Rattle.ms_machine.specs.Typing.{StoreTyped}
