@@ -69,7 +69,7 @@ loop-left-preserved g c =
       left = omega (arith, among, less);
       entries = q.entries ∙ (c.in-Ok.ensures.entries ∙ v.entries);
       within = within_seen s1 s2 t1 t2 ((l.left - 1) - rest) (log0.entries + (c.args.most - (l.left - 1))) (log0.entries + (c.args.most - rest)) c.see.new.self.trace c.run_quietly.new.self.trace halted.0 (omega (arith, among, less, some))
-      (within_after (log0.entries + (c.args.most - l.left)) (log0.entries + (c.args.most - (l.left - 1))) c.in-On.event l.log.trace c.see.new.self.trace (omega (arith, among, some)) c.in-Ok.ensures.trace v.within);
+          (within_after (log0.entries + (c.args.most - l.left)) (log0.entries + (c.args.most - (l.left - 1))) c.in-On.event l.log.trace c.see.new.self.trace (omega (arith, among, some)) c.in-Ok.ensures.trace v.within);
       input = e.input_faults ∙ v.input;
       out = e.out_faults ∙ v.out;
     }
