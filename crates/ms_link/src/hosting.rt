@@ -8,8 +8,8 @@ ghost use Rattle.ms_machine.specs.declared.externs.Extern.{Extern as Given};
 
 use ms_host::Host;
 use ms_machine::Extern;
-use ms_module::{Builder, Code, Instr, Locals};
-use ms_task::FuncInst;
+use ms_module::{Builder, Code, Instr};
+use ms_task::{FuncInst, SharedLocals};
 use ms_types::{FuncType, SharedType, ValType, Vector};
 use std::alloc::{AllocError, Global};
 
@@ -59,7 +59,7 @@ fn host_func(alloc: Global, host: Host, instance: u32, x: u32) -> Result<FuncIns
         instance,
         ty: SharedType::new(alloc, host_type(alloc, host)?)?,
         host: Some(host),
-        locals: Locals::new(alloc),
+        locals: SharedLocals::none(),
         body: host_body(alloc, host, x)?,
     })
 }

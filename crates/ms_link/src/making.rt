@@ -13,7 +13,7 @@ use crate::hosting::{funcs_in, push_hosts};
 use ms_linear::{GlobalInst, Linear, Table};
 use ms_machine::Extern;
 use ms_module::{Func, Global as ModuleGlobal};
-use ms_task::FuncInst;
+use ms_task::{FuncInst, SharedLocals};
 use ms_types::{FuncType, Limits, SharedType};
 use std::alloc::{AllocError, Global};
 
@@ -58,7 +58,12 @@ fn push_numbers(all: &mut Vec<u32>, from: usize, count: usize) -> Result<(), All
 }
 
 /// A function of an instance with these types. Its locals and its body are moved.
-fn own_func(types: &[SharedType], instance: u32, func: Func) -> Result<FuncInst, AllocError>
+fn own_func(
+    alloc: Global,
+    types: &[SharedType],
+    instance: u32,
+    func: Func,
+) -> Result<FuncInst, AllocError>
     requires { func.sig < length types.now }
     ensures { («module» : Module) → types.now ≡ «module».sigs → IfOk result (λ f. f ≡ linked.own_func «module» instance func) }
 {
@@ -68,13 +73,14 @@ fn own_func(types: &[SharedType], instance: u32, func: Func) -> Result<FuncInst,
         instance,
         ty,
         host: None,
-        locals,
+        locals: SharedLocals::new(alloc, locals)?,
         body,
     })
 }
 
 /// Adds the functions of an instance with these types.
 fn push_funcs(
+    alloc: Global,
     all: &mut Vec<FuncInst>,
     types: &[SharedType],
     instance: u32,
@@ -84,7 +90,7 @@ fn push_funcs(
     ensures { («module» : Module) → types.now ≡ «module».sigs → OnOk result (all.new.items ≡ all.old.items ++ map (linked.own_func «module» instance) funcs.items) }
 {
     for func in funcs {
-        all.push(own_func(types, instance, func)?)?;
+        all.push(own_func(alloc, types, instance, func)?)?;
     }
     Ok(())
 }
@@ -104,7 +110,7 @@ pub(crate) fn add_funcs(
     let mut addresses = funcs_in(alloc, all.len(), externs)?;
     push_hosts(alloc, all, instance, externs)?;
     push_numbers(&mut addresses, all.len(), funcs.len())?;
-    push_funcs(all, types, instance, funcs)?;
+    push_funcs(alloc, all, types, instance, funcs)?;
     Ok(addresses)
 }
 

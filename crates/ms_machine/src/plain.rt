@@ -117,13 +117,21 @@ pub(crate) fn local_get<M: SegmentMemory>(
     ensures stays { Stays task.old next task.new result }
 {
     let _ = store;
-    let cell = task.frames.get(x as usize);
-    match task.operands.push_cell(cell) {
-        Ok(()) => {
-            task.go_to(next);
-            Ok(None)
-        }
-        Err(_) => Err(Fault::Memory),
+    match task.frames.get_near(x as usize) {
+        Some(cell) => match task.operands.push_cell(cell) {
+            Ok(()) => {
+                task.go_to(next);
+                Ok(None)
+            }
+            Err(_) => Err(Fault::Memory),
+        },
+        None => match task.frames.push_to(x as usize, &mut task.operands) {
+            Ok(()) => {
+                task.go_to(next);
+                Ok(None)
+            }
+            Err(_) => Err(Fault::Memory),
+        },
     }
 }
 
@@ -140,7 +148,11 @@ pub(crate) fn local_set<M: SegmentMemory>(
 {
     let _ = store;
     let cell = task.operands.cell(0);
-    task.frames.set(x as usize, cell);
+    if !task.frames.set_near(x as usize, cell)
+        && task.frames.set_to_top(x as usize, &task.operands).is_err()
+    {
+        return Err(Fault::Memory);
+    }
     task.operands.cut(1);
     task.go_to(next);
     Ok(None)
@@ -159,7 +171,11 @@ pub(crate) fn local_tee<M: SegmentMemory>(
 {
     let _ = store;
     let cell = task.operands.cell(0);
-    task.frames.set(x as usize, cell);
+    if !task.frames.set_near(x as usize, cell)
+        && task.frames.set_to_top(x as usize, &task.operands).is_err()
+    {
+        return Err(Fault::Memory);
+    }
     task.go_to(next);
     Ok(None)
 }

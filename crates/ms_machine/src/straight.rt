@@ -4,13 +4,14 @@
 ghost use Rattle.std.specs.Prelude.{◌≡◌, ◌≢◌, ◌<◌, ◌≤◌, ◌+◌, ◌-◌, ◌^◌, [], None, false, length, IsTrue, MatchOption, Some};
 ghost use Rattle.ms_event.specs.refinement.Tally.{LeavesRoom};
 ghost use Rattle.ms_handle.specs.declared.handle.Handle.{Handle};
-ghost use Rattle.ms_machine.specs.refinement.StraightLine.{DoesAgain, DoesCall, DoesLeave, DoesMeet, DoesQuietly, DoesTell, DoesWork, IsAgain, IsCalm, IsHalted, IsNext};
+ghost use Rattle.ms_machine.specs.refinement.StraightLine.{DoesAgain, DoesCall, DoesMeet, DoesQuietly, DoesTell, DoesWork, IsAgain, IsCalm, IsHalted, IsIn, IsNext};
 ghost use Rattle.ms_machine.specs.refinement.Doing.{Can, Carries};
 ghost use Rattle.ms_machine.specs.refinement.Holding.{Each, Fits, StoreFits, ThreadFits};
 ghost use Rattle.ms_machine.specs.Step.{Next, act};
 ghost use Rattle.ms_machine.specs.Typing.{StoreTyped, TaskTyped, outline_of};
 ghost use Rattle.ms_module.specs.declared.instr.Instr.TheVariants as instr;
 ghost use Rattle.ms_segment.specs.Memory.{IsFit};
+ghost use Rattle.ms_task.specs.Control.{exited};
 ghost use Rattle.ms_task.specs.Thread.{sequence};
 ghost use Rattle.ms_task.specs.refinement.View.{at_next, before, thread_of};
 
@@ -145,12 +146,10 @@ fn call<M: SegmentMemory>(store: &Store<M>, task: &mut Task, x: u32, next: usize
 pub(crate) enum CarriedOut<'a> {
     /// It was carried out, and the task goes on behind it in the same sequence.
     On,
-    /// It was carried out, and the task goes on in this sequence.
-    Elsewhere(&'a [Instr]),
+    /// It was carried out, but for the exit of blocks and calls that are then at their ends.
+    Behind,
     /// It was carried out, and behind it a loop was begun again: two steps. The task goes on in this sequence.
     Again(&'a [Instr]),
-    /// It was carried out, and the task has ended.
-    Ended,
     /// It works on the linear memory. Nothing has changed.
     Linear(Linear),
     /// It sets the global of this index. Nothing has changed.
@@ -161,17 +160,6 @@ pub(crate) enum CarriedOut<'a> {
     Not,
     /// Memory has run out.
     Memory,
-}
-
-/// Exits the blocks and calls that are at their ends.
-#[inline(always)]
-fn leave<'a, M: SegmentMemory>(store: &'a Store<M>, task: &mut Task) -> CarriedOut<'a>
-    ensures { DoesLeave result store.now.funcs (thread_of store.now.funcs task.old) task.new }
-{
-    match task.resume(&store.funcs) {
-        Some(code) => CarriedOut::Elsewhere(code),
-        None => CarriedOut::Ended,
-    }
 }
 
 /// An instruction that stays within its sequence, behind which the task goes on at `next`, where `more` says that another
@@ -194,9 +182,10 @@ fn straight<'a, M: SegmentMemory>(
         return CarriedOut::Not;
     }
     if more {
-        return CarriedOut::On;
+        CarriedOut::On
+    } else {
+        CarriedOut::Behind
     }
-    leave(store, task)
 }
 
 /// An instruction on handles alone, in the same way; of each other one on segments it says that it is one.
@@ -221,9 +210,10 @@ fn on_handles<'a, M: SegmentMemory>(
         return CarriedOut::Segment(i);
     }
     if more {
-        return CarriedOut::On;
+        CarriedOut::On
+    } else {
+        CarriedOut::Behind
     }
-    leave(store, task)
 }
 
 /// A jump, behind which the task goes on at `next` where it doesn't lead elsewhere.
@@ -241,7 +231,7 @@ fn leap<'a, M: SegmentMemory>(
     ensures once { ¬ IsAgain result }
 {
     if jump(store, task, instr, next) {
-        leave(store, task)
+        CarriedOut::Behind
     } else {
         CarriedOut::Memory
     }
@@ -265,21 +255,44 @@ fn repeat<'a, M: SegmentMemory>(
     }
 }
 
-/// A branch. Where `two` steps may be made, one to a loop begins it again.
+/// Goes on behind a branch that isn't taken, or says that it did nothing.
+#[inline(always)]
+fn pass<M: SegmentMemory>(store: &Store<M>, task: &mut Task, instr: &Instr, next: usize) -> bool
+    requires { Can instr.now next store.now task.old }
+    ensures on { IsTrue result → Carries instr.now next store.now task.old task.new }
+    ensures off { result ≡ false → task.new ≡ task.old }
+{
+    match *instr {
+        Instr::BrIf(label) => task.pass(&store.funcs, label, next),
+        _ => false,
+    }
+}
+
+/// A branch, behind which another instruction stands in its sequence where `more` says so. Where `two` steps may be made, one to
+/// a loop begins it again.
 #[inline(always)]
 fn branch<'a, M: SegmentMemory>(
     store: &'a Store<M>,
     task: &mut Task,
     instr: &Instr,
     next: usize,
+    more: bool,
     two: bool,
 ) -> CarriedOut<'a>
     requires before { before store.now.funcs task.old next ≡ Some instr.now }
     requires next { IsNext instr.now next store.now task.old }
+    requires more { IsTrue more → next < length (sequence store.now.funcs task.old.function task.old.sequence) }
     ensures done { DoesQuietly result instr.now next store.now task.old task.new }
-    ensures off { result ≢ CarriedOut.On }
+    ensures on { result ≡ CarriedOut.On → IsTrue more }
     ensures again { IsAgain result → IsTrue two }
 {
+    if pass(store, task, instr, next) {
+        return if more {
+            CarriedOut::On
+        } else {
+            CarriedOut::Behind
+        };
+    }
     if !two {
         return leap(store, task, instr, next);
     }
@@ -326,18 +339,31 @@ fn quietly<'a, M: SegmentMemory>(
         Instr::Block { .. } => leap(store, task, instr, next),
         Instr::Loop { .. } => leap(store, task, instr, next),
         Instr::If { .. } => leap(store, task, instr, next),
-        Instr::Br(_) => branch(store, task, instr, next, two),
-        Instr::BrIf(_) => branch(store, task, instr, next, two),
+        Instr::Br(_) => branch(store, task, instr, next, more, two),
+        Instr::BrIf(_) => branch(store, task, instr, next, more, two),
         Instr::BrTable(_) => leap(store, task, instr, next),
         Instr::Return => leap(store, task, instr, next),
         Instr::Call(x) => match call(store, task, x, next) {
-            Called::Made => leave(store, task),
+            Called::Made => CarriedOut::Behind,
             Called::Not => CarriedOut::Not,
             Called::Memory => CarriedOut::Memory,
         },
         Instr::Linear(i) => CarriedOut::Linear(i),
         Instr::GlobalSet(x) => CarriedOut::Global(x),
         _ => CarriedOut::Not,
+    }
+}
+
+/// Exits the blocks and calls that are at their ends, and gives the sequence in which the task goes on, or nothing where it has
+/// ended.
+#[inline(always)]
+fn leave<'a, M: SegmentMemory>(store: &'a Store<M>, task: &mut Task) -> Option<&'a [Instr]>
+    ensures exited { thread_of store.now.funcs task.new ≡ exited (thread_of store.now.funcs task.old) }
+    ensures code { MatchOption result ((thread_of store.now.funcs task.new).work ≡ []) (λ code. IsIn code.now store.now.funcs task.new) }
+{
+    match task.resume(&store.funcs) {
+        Some(code) => Some(code),
+        None => None,
     }
 }
 
@@ -378,16 +404,18 @@ fn go<M: SegmentMemory>(store: &Store<M>, task: &mut Task, most: u64) -> (Met, u
         let next = place + 1;
         match quietly(store, task, &code[place], next, next < code.len(), left > 1) {
             CarriedOut::On => place = next,
-            CarriedOut::Elsewhere(there) => {
-                code = there;
-                place = task.place();
-            }
+            CarriedOut::Behind => match leave(store, task) {
+                Some(there) => {
+                    code = there;
+                    place = task.place();
+                }
+                None => return (Met::Ended, left - 1),
+            },
             CarriedOut::Again(there) => {
                 code = there;
                 place = task.place();
                 left -= 1;
             }
-            CarriedOut::Ended => return (Met::Ended, left - 1),
             CarriedOut::Linear(i) => return (Met::Linear(i, next, next < code.len()), left),
             CarriedOut::Global(x) => return (Met::Global(x, next, next < code.len()), left),
             CarriedOut::Segment(i) => return (Met::Segment(i, next, next < code.len()), left),

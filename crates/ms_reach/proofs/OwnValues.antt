@@ -1,7 +1,7 @@
 -- The own values of a thread are those that the code keeps from two places on.
 use Rattle.std.proofs.Common.{◌≡◌, ◌≤◌, ◌+◌, ◌-◌, inl, inr, ℕ, min, Bool, true, false, cond, List, [], ◌∷◌, ◌++◌, length, take, drop, slice_get, refl, sym, ap, subst, ◌∙◌, arith, length-take}
 use Rattle.std.specs.List.{Contains}
-use Rattle.std.proofs.lemmas.List.{drop-append-le, length-append, take-append-drop}
+use Rattle.std.proofs.lemmas.List.{drop-append-le, take-append-drop}
 use Rattle.std.proofs.lemmas.List.Elements.{Contains-append_cases, Contains-append_left, Contains-append_right}
 use Rattle.ms_linear.specs.declared.value.Value.{Value}
 use Rattle.ms_module.specs.declared.instr.Instr.{Instr}
@@ -65,12 +65,6 @@ module _ (inside : ℕ → Bool) (funcs : List FuncInst) where
 
   -- as the code has it
   module _ (t : Task) (ms : List Mark) (base at : ℕ) (all : List Value) (are_marks : ms ≡ t.marks) (is_base : base ≡ length t.frames.0) (are_all : all ≡ t.frames.0 ++ t.frames.1) (is_at : at ≡ lowest inside funcs base ms) where
-    pub at_within : at ≤ length all
-    at_within =
-        let low = lowest_le base ms in
-        let long : length all ≡ length t.frames.0 + length t.frames.1 = ap (λ (xs : List Value). length xs) are_all ∙ length-append t.frames.0 t.frames.1 in
-        omega (arith, is_at, low, is_base, long)
-
     pub locals_from : drop at all ≡ drop (lowest inside funcs (length t.frames.0) t.marks) (t.frames.0 ++ t.frames.1)
     locals_from =
         let place = is_at ∙ (ap (λ n. lowest inside funcs n ms) is_base ∙ ap (lowest inside funcs (length t.frames.0)) are_marks) in

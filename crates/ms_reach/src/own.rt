@@ -1,6 +1,6 @@
 //! The values of a task and of instances, from which handles are followed.
 
-ghost use Rattle.std.specs.Prelude.{◌≡◌, ◌≤◌, ◌^◌, ◌-◌, OnOk, drop, flat_map, length, slice_get, take};
+ghost use Rattle.std.specs.Prelude.{◌≡◌, ◌≤◌, ◌^◌, ◌-◌, ◌++◌, OnOk, drop, flat_map, length, slice_get, take};
 ghost use Rattle.ms_machine.specs.refinement.Holding.{Each, EachGlobal};
 ghost use Rattle.ms_reach.specs.Count.{is_among};
 ghost use Rattle.ms_reach.specs.Reach.{is_in};
@@ -9,11 +9,11 @@ ghost use Rattle.ms_reach.specs.refinement.Leading.{EndBelow, IsRising, IsValueI
 ghost use Rattle.ms_reach.specs.refinement.OwnValues.{floor_in, lent_values, lowest, task_values, value_at, values_of};
 
 use crate::closing::Closing;
-use ms_linear::{Cell, GlobalInst, Operands};
+use ms_linear::{GlobalInst, Operands};
 use ms_live::Live;
 use ms_machine::{Store, has_ended};
 use ms_segment::SegmentMemory;
-use ms_task::{FuncInst, Mark, Marks, Task};
+use ms_task::{Frames, FuncInst, Mark, Marks, Task};
 use std::alloc::AllocError;
 
 /// What lies below the last call of a task whose caller isn't of the set.
@@ -65,25 +65,22 @@ fn is_inside(funcs: &[FuncInst], function: usize, set: &[u32]) -> bool
     }
 }
 
-/// What these values lead to is to be looked at.
-fn add_cells(closing: &mut Closing, live: &[Live], cells: &[Cell]) -> Result<(), AllocError>
+/// What the locals of all frames lead to, from this number on, is to be looked at.
+fn add_locals(
+    closing: &mut Closing,
+    live: &[Live],
+    frames: &Frames,
+    at: usize,
+) -> Result<(), AllocError>
     requires rising { IsRising live.now }
     requires end { EndBelow live.now (2 ^ 32 - 1) }
-    requires inside { Each (IsValueInside live.now) cells.now }
-    ensures { OnOk result (Gathers live.now cells.now closing.old closing.new) }
+    requires inside { Each (IsValueInside live.now) (drop at (frames.now.0 ++ frames.now.1)) }
+    ensures { OnOk result (Gathers live.now (drop at (frames.now.0 ++ frames.now.1)) closing.old closing.new) }
 {
-    for i in 0..cells.len() {
-        closing.add_value(live, cells[i].value())?;
+    for i in 0..frames.total().saturating_sub(at) {
+        closing.add_value(live, frames.local(at + i).value())?;
     }
     Ok(())
-}
-
-/// The values from a place on.
-fn behind(cells: &[Cell], at: usize) -> &[Cell]
-    requires { at ≤ length cells.now }
-    ensures { result.now ≡ drop at cells.now }
-{
-    &cells[at..]
 }
 
 /// What the topmost operands lead to, so many of them, is to be looked at.
@@ -121,7 +118,7 @@ fn add_task(
     let cut = cut_of(funcs, task.marks(), set, task.frames.base());
     let n = task.operands.len().saturating_sub(cut.operands);
     add_operands(closing, live, &task.operands, n)?;
-    add_cells(closing, live, behind(task.frames.all(), cut.locals))
+    add_locals(closing, live, &task.frames, cut.locals)
 }
 
 /// What the values of a task lead to is to be looked at, unless it has ended: then it has none.

@@ -73,5 +73,10 @@ pub br_if_taken : (l n : ℕ) (fr : Frame) (vs rest : List Value) (w : List Item
 br_if_taken l zero fr vs rest w e n = absurd (n refl)
 br_if_taken l (suc n) fr vs rest w e h = ap (λ x. br_if_on l (thread fr x w)) e
 
+-- at 0 the work goes on behind it
+pub br_if_passed : (l n : ℕ) (fr : Frame) (vs rest : List Value) (w : List Item) → vs ≡ I32 n ∷ rest → n ≡ 0 → To (thread fr rest w) ≡ br_if_on l (thread fr vs w)
+br_if_passed l zero fr vs rest w e n = ap (λ x. br_if_on l (thread fr x w)) (sym e)
+br_if_passed l (suc n) fr vs rest w e h = absurd (omega (arith, h))
+
 pub table_at : (ls : List ℕ) (d l n : ℕ) (fr : Frame) (vs rest : List Value) (w : List Item) → vs ≡ I32 n ∷ rest → l ≡ unwrap_or (slice_get ls n) d → br_table_on ls d (thread fr vs w) ≡ branch l fr rest w
 table_at ls d l n fr vs rest w e h = ap (λ x. br_table_on ls d (thread fr x w)) e ∙ ap (λ k. branch k fr rest w) (sym h)

@@ -1,5 +1,5 @@
 -- A call and the start of a task, as the code makes them.
-use Rattle.std.proofs.Common.{◌≡◌, ◌≢◌, ℕ, zero, suc, ◌+◌, ◌-◌, ◌<◌, ◌≤◌, List, [], ◌∷◌, ◌++◌, length, drop, take, slice_get, Option, Some, refl, sym, ap, ◌∙◌, arith, length-drop, subst, ⊎_elim, reverse, map, cond, append_assoc, get_or, replicate, append-nil}
+use Rattle.std.proofs.Common.{◌≡◌, ◌≢◌, ℕ, zero, suc, ◌+◌, ◌-◌, ◌<◌, ◌≤◌, List, [], ◌∷◌, ◌++◌, length, drop, take, slice_get, Option, Some, refl, sym, ap, ◌∙◌, arith, length-drop, subst, ⊎_elim, reverse, map, cond, append_assoc, get_or, replicate, append-nil, min}
 use Rattle.ms_types.specs.declared.types.ValType.{ValType}
 use Rattle.ms_linear.specs.declared.value.Value.{Value}
 use Rattle.ms_linear.specs.Values.{default_of}
@@ -11,7 +11,7 @@ use Rattle.ms_task.specs.declared.marks.Mark.TheVariants as marks
 use Rattle.ms_task.specs.refinement.Marks.{calls_in}
 use Rattle.std.proofs.lemmas.Bool.{lt-ltb, le-ltb, le-leb, cases_lt, lt-leb}
 use Rattle.std.proofs.lemmas.Option.{slice_get_past, get_or_from_slice_get}
-use Rattle.std.proofs.lemmas.List.{drop_all, length-take-le, get_or-take, reverse-append}
+use Rattle.std.proofs.lemmas.List.{drop_all, take_all, length-take-le, get_or-take, reverse-append}
 use Rattle.std.proofs.Math.Seq.{take-append_seam, drop-append_seam, drop-cons}
 use Rattle.ms_task.specs.Control.{To, Stuck, TooDeep, call_on, deepest, enter, entered, started}
 use Rattle.ms_task.specs.Thread.{Activation, Frame, Thread, depth_of, dos, result_of, sequence, thread}
@@ -44,18 +44,12 @@ call_room funcs f g t n h e =
     (λ le. le)
     (cases_lt (length t.operands) (length g.ty.params))
 
--- the locals of the new frame, behind those that are kept
-entered_frames : (below here args others : List Value) (frames1 frames2 frames3 : List Value × List Value) → frames1 ≡ (below ++ here, []) → frames2 ≡ (frames1.0, frames1.1 ++ args) → frames3 ≡ (frames2.0, frames2.1 ++ others) → frames3 ≡ (below ++ here, args ++ others)
-entered_frames below here args others frames1 frames2 frames3 is1 is2 is3 =
-    is3 ∙ ap (λ (x : List Value × List Value). (x.0, x.1 ++ others)) (is2 ∙ ap (λ (x : List Value × List Value). (x.0, x.1 ++ args)) is1)
-
-pub call_enters : (funcs : List FuncInst) (f fn s next : ℕ) (g : FuncInst) (below here vs : List Value) (ms ms' : List Mark) (n base height floor : ℕ) (k : Option ValType) (frames1 frames2 frames3 : List Value × List Value) (vs' : List Value) → slice_get funcs f ≡ Some g → n ≡ length g.ty.params → n ≤ length vs → calls_in ms < deepest → base ≡ length below → k ≡ result_of g → frames1 ≡ (below ++ here, []) → frames2 ≡ (frames1.0, frames1.1 ++ reverse (take n vs)) → frames3 ≡ (frames2.0, frames2.1 ++ map default_of g.locals) → vs' ≡ drop n vs → height ≡ length vs' → ms' ≡ marks.Activation k height fn s next base floor ∷ ms → To (thread (record { function = f; locals = frames3.1 }) vs' (rest_at funcs f 0 0 ++ items_of funcs f frames3.0 ms')) ≡ call_on funcs f (thread (record { function = fn; locals = here }) vs (rest_at funcs fn s next ++ items_of funcs fn below ms))
-call_enters funcs f fn s next g below here vs ms ms' n base height floor k frames1 frames2 frames3 vs' found n-is room shallow base-is keeps is1 is2 is3 vs-is height-is ms-is =
+pub call_enters : (funcs : List FuncInst) (f fn s next : ℕ) (g : FuncInst) (below here vs : List Value) (ms ms' : List Mark) (n base height floor : ℕ) (k : Option ValType) (frames : List Value × List Value) (vs' : List Value) → slice_get funcs f ≡ Some g → n ≡ length g.ty.params → n ≤ length vs → calls_in ms < deepest → base ≡ length below → k ≡ result_of g → frames ≡ (below ++ here, reverse (take n vs) ++ map default_of g.locals) → vs' ≡ drop n vs → height ≡ length vs' → ms' ≡ marks.Activation k height fn s next base floor ∷ ms → To (thread (record { function = f; locals = frames.1 }) vs' (rest_at funcs f 0 0 ++ items_of funcs f frames.0 ms')) ≡ call_on funcs f (thread (record { function = fn; locals = here }) vs (rest_at funcs fn s next ++ items_of funcs fn below ms))
+call_enters funcs f fn s next g below here vs ms ms' n base height floor k frames vs' found n-is room shallow base-is keeps all vs-is height-is ms-is =
     let fr : Frame = record { function = fn; locals = here } in
     let w = rest_at funcs fn s next ++ items_of funcs fn below ms in
     let t = thread fr vs w in
     let fr' : Frame = record { function = f; locals = reverse (take n vs) ++ map default_of g.locals } in
-    let all = entered_frames below here (reverse (take n vs)) (map default_of g.locals) frames1 frames2 frames3 is1 is2 is3 in
     let deep : depth_of w < deepest = rw (depth_of_rest funcs fn s next below ms) shallow in
     let high : height ≡ length vs - length g.ty.params = omega (arith, ap length vs-is, length-drop n vs) in
     let back : take base (below ++ here) ≡ below = ap (λ k. take k (below ++ here)) base-is ∙ take-append_seam below here in
@@ -90,15 +84,30 @@ many_more : (n : ℕ) (ty : ValType) (types : List ValType) → replicate n (def
 many_more zero ty types = refl
 many_more (suc n) ty types = ap (λ l. default_of ty ∷ l) (many_more n ty types)
 
-pub locals_more : (runs : List Run) (i from : ℕ) (run d : Run) (v : Value) (vs : List Value) → i < length runs → run ≡ get_or runs i d → v ≡ default_of run.ty → (vs ++ replicate (run.end - from) v) ++ map default_of (types_of run.end (drop (i + 1) runs)) ≡ vs ++ map default_of (types_of from (drop i runs))
-locals_more runs i from run d v vs within read default =
+take_many : (m k : ℕ) (ty : ValType) (types : List ValType) → take m (replicate k ty ++ types) ≡ replicate (min k m) ty ++ take (m - k) types
+take_many m zero ty types = let a : min zero m ≡ zero = omega arith in let b : m - zero ≡ m = omega arith in ap (λ n. take n types) (sym b) ∙ ap (λ n. replicate n ty ++ take (m - zero) types) (sym a)
+take_many zero (suc k) ty types = let a : min (suc k) zero ≡ zero = omega arith in let b : zero - suc k ≡ zero = omega arith in ap (λ n. take n types) (sym b) ∙ ap (λ n. replicate n ty ++ take (zero - suc k) types) (sym a)
+take_many (suc m) (suc k) ty types =
+    let a : min (suc k) (suc m) ≡ suc (min k m) = omega arith in
+    let b : suc m - suc k ≡ m - k = omega arith in
+    ap (λ l. ty ∷ l) (take_many m k ty types) ∙ ap (λ n. replicate n ty ++ take (m - k) types) (sym a) ∙ ap (λ n. replicate (min (suc k) (suc m)) ty ++ take n types) (sym b)
+
+-- the locals of one more run, of the first so many
+pub locals_more : (most : ℕ) (runs : List Run) (i from : ℕ) (run d : Run) (v : Value) (vs : List Value) → i < length runs → run ≡ get_or runs i d → v ≡ default_of run.ty → from < run.end → (vs ++ replicate (min run.end most - from) v) ++ map default_of (take (most - run.end) (types_of run.end (drop (i + 1) runs))) ≡ vs ++ map default_of (take (most - from) (types_of from (drop i runs)))
+locals_more most runs i from run d v vs within read default rises =
     let one : suc i ≡ i + 1 = omega arith in
+    let rest = types_of run.end (drop (i + 1) runs) in
     let here : drop i runs ≡ run ∷ drop (i + 1) runs = drop-cons runs i d within ∙ (ap (λ (r : Run). r ∷ drop (suc i) runs) (sym read) ∙ ap (λ k. run ∷ drop k runs) one) in
-    append_assoc vs (replicate (run.end - from) v) (map default_of (types_of run.end (drop (i + 1) runs)))
+    let a : min run.end most - from ≡ min (run.end - from) (most - from) = omega (arith, rises) in
+    let b : most - run.end ≡ most - from - (run.end - from) = omega (arith, rises) in
+    append_assoc vs (replicate (min run.end most - from) v) (map default_of (take (most - run.end) rest))
     ∙ ap (λ l. vs ++ l)
-    (ap (λ x. replicate (run.end - from) x ++ map default_of (types_of run.end (drop (i + 1) runs))) default
-    ∙ many_more (run.end - from) run.ty (types_of run.end (drop (i + 1) runs))
-    ∙ sym (ap (λ l. map default_of (types_of from l)) here))
+    (ap (λ x. replicate (min run.end most - from) x ++ map default_of (take (most - run.end) rest)) default
+    ∙ many_more (min run.end most - from) run.ty (take (most - run.end) rest)
+    ∙ ap (λ n. map default_of (replicate n run.ty ++ take (most - run.end) rest)) a
+    ∙ ap (λ n. map default_of (replicate (min (run.end - from) (most - from)) run.ty ++ take n rest)) b
+    ∙ ap (map default_of) (sym (take_many (most - from) (run.end - from) run.ty rest))
+    ∙ sym (ap (λ l. map default_of (take (most - from) (types_of from l))) here))
 
 pub rises_on : (runs : List Run) (i from : ℕ) (run d : Run) → i < length runs → run ≡ get_or runs i d → Rise from (drop i runs) → (from < run.end) × Rise run.end (drop (i + 1) runs)
 rises_on runs i from run d within read rise =
@@ -106,19 +115,25 @@ rises_on runs i from run d within read rise =
     let here : drop i runs ≡ run ∷ drop (i + 1) runs = drop-cons runs i d within ∙ (ap (λ (r : Run). r ∷ drop (suc i) runs) (sym read) ∙ ap (λ k. run ∷ drop k runs) one) in
     subst (Rise from) here rise
 
-pub locals_all : (runs : List Run) (i from : ℕ) (frames old : List Value × List Value) (types : List ValType) → length runs ≤ i → frames.0 ≡ old.0 → frames.1 ++ map default_of (types_of from (drop i runs)) ≡ old.1 ++ map default_of types → frames ≡ (old.0, old.1 ++ map default_of types)
-locals_all runs i from frames old types past kept added =
+-- all of them
+pub locals_all : (most : ℕ) (runs : List Run) (i from : ℕ) (items old : List Value) (types : List ValType) → length runs ≤ i → items ++ map default_of (take (most - from) (types_of from (drop i runs))) ≡ old ++ map default_of (take most types) → items ≡ old ++ map default_of (take most types)
+locals_all most runs i from items old types past added =
     let none = drop_all i runs past in
-    let more = sym (append-nil frames.1) ∙ (ap (λ l. frames.1 ++ map default_of (types_of from l)) (sym none) ∙ added) in
-    ap (λ a. (a, frames.1)) kept ∙ ap (λ b. (old.0, b)) more
+    let no_more = take_all (most - from) (types_of from []) (omega arith) in
+    sym (append-nil items) ∙ ap (λ l. items ++ map default_of l) (sym no_more) ∙ ap (λ l. items ++ map default_of (take (most - from) (types_of from l))) (sym none) ∙ added
+
+pub locals_enough : (most : ℕ) (runs : List Run) (i from : ℕ) (items old : List Value) (types : List ValType) → most ≤ from → items ++ map default_of (take (most - from) (types_of from (drop i runs))) ≡ old ++ map default_of (take most types) → items ≡ old ++ map default_of (take most types)
+locals_enough most runs i from items old types enough added =
+    let none : 0 ≡ most - from = omega (arith, enough) in
+    sym (append-nil items) ∙ ap (λ n. items ++ map default_of (take n (types_of from (drop i runs)))) none ∙ added
 
 -- ---- the start
 
-pub start_is : (funcs : List FuncInst) (f : ℕ) (g : FuncInst) (vs : List Value) (frames0 frames1 frames2 : List Value × List Value) (ms ms0 : List Mark) (base floor : ℕ) (k : Option ValType) → frames0 ≡ ([], []) → frames1 ≡ (frames0.0 ++ frames0.1, []) → frames2 ≡ (frames1.0, frames1.1 ++ map default_of g.locals) → ms0 ≡ [] → ms ≡ marks.Activation k 0 (length funcs) 0 0 base floor ∷ ms0 → base ≡ length frames0.0 → k ≡ result_of g → vs ≡ [] → thread (record { function = f; locals = frames2.1 }) vs (rest_at funcs f 0 0 ++ items_of funcs f frames2.0 ms) ≡ started funcs f g
-start_is funcs f g vs frames0 frames1 frames2 ms ms0 base floor k e0 e1 e2 m0 m b keeps v =
+pub start_is : (funcs : List FuncInst) (f : ℕ) (g : FuncInst) (vs : List Value) (frames0 frames : List Value × List Value) (ms ms0 : List Mark) (base floor : ℕ) (k : Option ValType) → frames0 ≡ ([], []) → frames ≡ (frames0.0 ++ frames0.1, map default_of g.locals) → ms0 ≡ [] → ms ≡ marks.Activation k 0 (length funcs) 0 0 base floor ∷ ms0 → base ≡ length frames0.0 → k ≡ result_of g → vs ≡ [] → thread (record { function = f; locals = frames.1 }) vs (rest_at funcs f 0 0 ++ items_of funcs f frames.0 ms) ≡ started funcs f g
+start_is funcs f g vs frames0 frames ms ms0 base floor k e0 e1 m0 m b keeps v =
     let fr : Frame = record { function = f; locals = map default_of g.locals } in
     let no : Frame = record { function = length funcs; locals = [] } in
-    let all : frames2 ≡ ([], map default_of g.locals) = e2 ∙ ap (λ (x : List Value × List Value). (x.0, x.1 ++ map default_of g.locals)) (e1 ∙ ap (λ (x : List Value × List Value). (x.0 ++ x.1, [])) e0) in
+    let all : frames ≡ ([], map default_of g.locals) = e1 ∙ ap (λ (x : List Value × List Value). (x.0 ++ x.1, map default_of g.locals)) e0 in
     let zero_base : base ≡ 0 = b ∙ ap (λ (x : List Value × List Value). length x.0) e0 in
     let bottom : ms ≡ marks.Activation k 0 (length funcs) 0 0 0 floor ∷ [] = m ∙ ap (λ l. marks.Activation k 0 (length funcs) 0 0 base floor ∷ l) m0 ∙ ap (λ j. marks.Activation k 0 (length funcs) 0 0 j floor ∷ []) zero_base in
     let nothing : rest_at funcs (length funcs) 0 0 ≡ [] = ap dos (no_function funcs (length funcs) 0 (omega arith)) in

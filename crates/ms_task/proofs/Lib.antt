@@ -1,4 +1,9 @@
 mod Counted
+pub mod FarValues
+pub mod Stacked
+mod Writing
+mod Laid
+mod Beginnings
 pub mod Places
 pub mod Items
 pub mod Kept

@@ -1,19 +1,17 @@
 //! The control instructions, each in a small function (WebAssembly 1.0, 4.4.5).
 
-ghost use Rattle.std.specs.Prelude.{◌≡◌, ◌≢◌, ℕ, ◌≤◌, List, [], ◌∷◌, ◌++◌, length, drop, take, reverse, map, slice_get, unwrap_or, OnErr, OnOk, Option, Some, None, Err};
-ghost use Rattle.ms_linear.specs.Values.{default_of};
+ghost use Rattle.std.specs.Prelude.{◌≡◌, ◌≢◌, ℕ, ◌≤◌, List, length, slice_get, unwrap_or, IsTrue, OnErr, OnOk, Option, Some, None, Err, false};
 ghost use Rattle.ms_task.specs.Control.{To, Stuck, TooDeep, block_on, br_if_on, br_table_on, branch, call_on, if_on, keep, return_on};
 ghost use Rattle.ms_task.specs.Thread.{sequence};
-ghost use Rattle.ms_task.specs.refinement.View.{again_at, at_next, frame_of, outer_of, resume, thread_of};
+ghost use Rattle.ms_task.specs.refinement.View.{IsAt, again_at, at_next, frame_of, outer_of, resume, thread_of};
 ghost use Rattle.ms_task.specs.declared.func.FuncInst.{FuncInst};
 ghost use Rattle.ms_task.specs.declared.control.CallFault.{CallFault};
 
-use crate::frames::Frames;
 use crate::func::FuncInst;
 use crate::marks::Mark;
 use crate::task::Task;
-use ms_linear::{Cell, Operands, Value};
-use ms_module::{BrTable, Locals};
+use ms_linear::{Operands, Value};
+use ms_module::BrTable;
 use ms_types::ValType;
 use std::alloc::AllocError;
 
@@ -57,32 +55,6 @@ fn resume_at(again: bool, next: usize) -> usize
     ensures { result ≡ resume again next }
 {
     if again { next.saturating_sub(1) } else { next }
-}
-
-/// Moves the arguments, of which the last is topmost, to the new frame's locals.
-#[inline(always)]
-fn take_arguments(operands: &mut Operands, frames: &mut Frames, n: usize) -> Result<(), AllocError>
-    requires { n ≤ length operands.old }
-    ensures operands { OnOk result (operands.new ≡ drop n operands.old) }
-    ensures frames { OnOk result (frames.new ≡ (frames.old.0, frames.old.1 ++ reverse (take n operands.old))) }
-{
-    for i in 0..n {
-        frames.add(operands.cell(n - 1 - i))?;
-    }
-    operands.cut(n);
-    Ok(())
-}
-
-/// Adds the frame's other locals, a run of one type at a time.
-pub(crate) fn add_locals(frames: &mut Frames, types: &Locals) -> Result<(), AllocError>
-    ensures { OnOk result (frames.new ≡ (frames.old.0, frames.old.1 ++ map default_of types.now)) }
-{
-    let mut from = 0;
-    for run in types.runs() {
-        frames.add_many(Cell::of(Value::default_of(run.ty)), run.end - from)?;
-        from = run.end;
-    }
-    Ok(())
 }
 
 /// The label for an operand.
@@ -200,6 +172,28 @@ impl Task {
         }
     }
 
+    /// Goes on at `next`, behind a branch at an operand that is not 0, where it is 0, and says whether it is; else nothing has
+    /// changed.
+    #[inline(always)]
+    pub fn pass(&mut self, funcs: &[FuncInst], label: u32, next: usize) -> bool
+        requires { br_if_on label (at_next funcs.now self.old next) ≢ Stuck }
+        ensures on { IsTrue result → To (thread_of funcs.now self.new) ≡ br_if_on label (at_next funcs.now self.old next) }
+        ensures place { IsTrue result → IsAt self.old next self.new }
+        ensures off { result ≡ false → self.new ≡ self.old }
+    {
+        let _ = funcs;
+        let _ = label;
+        let Value::I32(n) = self.operands.get(0) else {
+            unreachable!()
+        };
+        if n != 0 {
+            return false;
+        }
+        self.operands.cut(1);
+        self.place = next;
+        true
+    }
+
     /// Branches to the label for the operand.
     pub fn branch_by_table(&mut self, funcs: &[FuncInst], table: &BrTable, next: usize)
         requires { br_table_on table.now.labels table.now.default (at_next funcs.now self.old next) ≢ Stuck }
@@ -233,9 +227,9 @@ impl Task {
             return Err(CallFault::TooDeep);
         }
         let func = &funcs[address as usize];
-        let base = self.frames.enter();
-        take_arguments(&mut self.operands, &mut self.frames, func.ty.params().len())?;
-        add_locals(&mut self.frames, &func.locals)?;
+        let n = func.ty.params().len();
+        let base = self.frames.open(&self.operands, n, &func.locals)?;
+        self.operands.cut(n);
         self.marks.push_call(
             func.result(),
             self.operands.len(),

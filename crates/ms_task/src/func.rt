@@ -3,8 +3,9 @@
 ghost use Rattle.std.specs.Prelude.{◌≡◌};
 ghost use Rattle.ms_task.specs.Thread.{result_of};
 
+use crate::locals::SharedLocals;
 use ms_host::Host;
-use ms_module::{Code, Locals};
+use ms_module::Code;
 use ms_types::{SharedType, ValType};
 
 /// A function of the store (WebAssembly 1.0, 4.2.6).
@@ -17,7 +18,7 @@ pub struct FuncInst {
     /// The function of the host that a call of it is, if it is one.
     pub host: Option<Host>,
     /// The types of the locals that it declares, its parameters not among them.
-    pub locals: Locals,
+    pub locals: SharedLocals,
     /// Its body.
     pub body: Code,
 }

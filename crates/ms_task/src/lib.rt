@@ -5,14 +5,18 @@
 #![tactic(auto)]
 
 mod control;
+mod far;
 mod frames;
 mod func;
+mod locals;
 mod marks;
+mod near;
 mod repeat;
 mod task;
 
 pub use control::CallFault;
 pub use frames::Frames;
 pub use func::FuncInst;
+pub use locals::SharedLocals;
 pub use marks::{Mark, Marks};
 pub use task::{Fetched, Task};

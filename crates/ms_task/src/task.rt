@@ -6,7 +6,7 @@ ghost use Rattle.ms_task.specs.Thread.{Begins, depth_of, sequence, with_first};
 ghost use Rattle.ms_task.specs.refinement.View.{IsAt, at_next, before, frame_of, items_of, exit_one, thread_of};
 ghost use Rattle.ms_task.specs.declared.func.FuncInst.{FuncInst};
 
-use crate::control::{DEEPEST, add_locals};
+use crate::control::DEEPEST;
 use crate::frames::Frames;
 use crate::func::FuncInst;
 use crate::marks::{Mark, Marks};
@@ -52,17 +52,17 @@ impl Task {
         requires { (g : FuncInst) × (slice_get funcs.now address ≡ Some g) × (g.ty.params ≡ []) }
         ensures { (g : FuncInst) → slice_get funcs.now address ≡ Some g → IfOk result (λ t. thread_of funcs.now t ≡ exited (started funcs.now address g)) }
     {
-        let mut frames = Frames::new(alloc, room.share()?);
-        let base = frames.enter();
         let func = &funcs[address as usize];
-        add_locals(&mut frames, &func.locals)?;
+        let operands = Operands::new(alloc, room.share()?);
+        let mut frames = Frames::new(alloc, room.share()?);
+        let base = frames.open(&operands, 0, &func.locals)?;
         let mut marks = Marks::new(alloc, room.share()?);
         marks.push_call(func.result(), 0, funcs.len(), 0, 0, base)?;
         let mut task = Task {
             function: address as usize,
             sequence: 0,
             place: 0,
-            operands: Operands::new(alloc, room.share()?),
+            operands,
             frames,
             marks,
         };

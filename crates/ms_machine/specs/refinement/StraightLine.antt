@@ -5,7 +5,6 @@ use Rattle.ms_event.specs.declared.tally.Tally.{Tally}
 use Rattle.ms_event.specs.refinement.Tally.{all_tallied}
 use Rattle.ms_module.specs.declared.instr.Instr.{Instr}
 use Rattle.ms_module.specs.declared.instr.Instr.TheVariants as instr
-use Rattle.ms_task.specs.Control.{exited}
 use Rattle.ms_task.specs.Thread.{Thread, sequence, with_first}
 use Rattle.ms_task.specs.refinement.View.{IsAt, at_next, thread_of}
 use Rattle.ms_task.specs.declared.func.FuncInst.{FuncInst}
@@ -78,11 +77,6 @@ IsNext i next s t = (thread_of s.funcs t ≡ with_first i (at_next s.funcs t nex
 abbrev pub IsIn : List Instr → List FuncInst → Task → Type 0
 IsIn code funcs t = (code ≡ sequence funcs t.function t.sequence) × (t.place < length code) × ((thread_of funcs t).work ≢ []) × (length code * 16 < 2 ^ 63)
 
-abbrev pub DoesLeave : CarriedOut → List FuncInst → Thread → Task → Type 0
-DoesLeave (carried.Elsewhere code) funcs t t' = (thread_of funcs t' ≡ exited t) × IsIn code.now funcs t'
-DoesLeave carried.Ended funcs t t' = (thread_of funcs t' ≡ exited t) × ((thread_of funcs t').work ≡ [])
-DoesLeave _ funcs t t' = ⊥
-
 -- two steps, behind which a task goes on in this sequence
 abbrev pub DoesAgain : List Instr → Store → Thread → Task → Type 0
 DoesAgain code s t t' = GoesQuietly s t 2 s (thread_of s.funcs t') × IsIn code s.funcs t'
@@ -93,9 +87,8 @@ IsAgain _ = ⊥
 
 abbrev pub DoesQuietly : CarriedOut → Instr → ℕ → Store → Task → Task → Type 0
 DoesQuietly carried.On i next s t t' = StepsQuietly s (thread_of s.funcs t) s (thread_of s.funcs t') × IsAt t next t'
-DoesQuietly (carried.Elsewhere code) i next s t t' = StepsQuietly s (thread_of s.funcs t) s (thread_of s.funcs t') × IsIn code.now s.funcs t'
+DoesQuietly carried.Behind i next s t t' = act s i (at_next s.funcs t next) ≡ Next s (thread_of s.funcs t') None
 DoesQuietly (carried.Again code) i next s t t' = DoesAgain code.now s (thread_of s.funcs t) t'
-DoesQuietly carried.Ended i next s t t' = StepsQuietly s (thread_of s.funcs t) s (thread_of s.funcs t') × ((thread_of s.funcs t').work ≡ [])
 DoesQuietly (carried.Linear j) i next s t t' = (i ≡ instr.Linear j) × (t' ≡ t)
 DoesQuietly (carried.Global x) i next s t t' = (i ≡ instr.GlobalSet x) × (t' ≡ t)
 DoesQuietly (carried.Segment j) i next s t t' = (i ≡ instr.Segment j) × (t' ≡ t)

@@ -9,7 +9,7 @@ ghost use Rattle.ms_task.specs.declared.func.FuncInst.{FuncInst};
 use super::shared::{Part, body, gives};
 use ms_linear::{Room, Value};
 use ms_module::{Locals, Opening};
-use ms_task::{FuncInst, Task};
+use ms_task::{FuncInst, SharedLocals, Task};
 use ms_types::{SharedType, ValType, Vector};
 use std::alloc::{AllocError, Global};
 use std::process::Abort;
@@ -26,7 +26,7 @@ fn func<R: Abort>(rt: &R, alloc: Global) -> Result<FuncInst, AllocError> {
         instance: 0,
         ty: SharedType::new(alloc, ty)?,
         host: None,
-        locals,
+        locals: SharedLocals::new(alloc, locals)?,
         body,
     })
 }

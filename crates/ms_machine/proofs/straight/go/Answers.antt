@@ -1,11 +1,14 @@
 use Rattle.std.proofs.Common.{◌≡◌, ◌-◌, ◌+◌, ◌*◌, ◌^◌, ◌<◌, ◌∙◌, Bor, List, length, IsTrue, nat_lt, refl, sym, ap, subst, arith}
 use Rattle.std.proofs.lemmas.Bool.{ltb-true}
 use Rattle.ms_module.specs.declared.instr.Instr.{Instr}
+use Rattle.ms_task.specs.Control.{exited}
 use Rattle.ms_task.specs.Thread.{sequence}
-use Rattle.ms_task.specs.refinement.View.{thread_of}
-use Rattle.ms_machine.proofs.StraightLine.{before_next, going_at, is_next, met_here, quietly_fits, quietly_on, quietly_trans, quietly_typed}
+use Rattle.ms_task.specs.refinement.View.{IsAt, at_next, thread_of}
+use Rattle.ms_task.specs.declared.task.Task.{Task}
+use Rattle.ms_machine.specs.refinement.StraightLine.{DoesAgain, IsIn, StepsQuietly}
+use Rattle.ms_machine.proofs.StraightLine.{before_next, going_at, is_next, leaves, met_here, quietly_fits, quietly_on, quietly_trans, quietly_typed}
 use Rattle.ms_machine.proofs.straight.go.Goals as goal
-use Rattle.ms_machine.proofs.straight.go.Goals.{in-On, in-Elsewhere, in-Again}
+use Rattle.ms_machine.proofs.straight.go.Goals.{in-On, in-Behind+in-Some, in-Again}
 
 pub overflow_add-next : goal.overflow_add-next
 overflow_add-next g c = let v = c.loop-left.invariant in omega (arith, v.within, v.far)
@@ -68,20 +71,22 @@ loop-left-preserved g c =
     let s = c.args.store.now in
     let l = c.loop-left in
     let v = l.invariant in
-    let t' = c.quietly.new.task in
+    let t' = c.match-quietly.task in
     let n = c.args.most - l.left in
     let t0 = thread_of s.funcs c.args.task.now in
+    let t1 = thread_of s.funcs l.task in
     let some = c.loop-left-test.true in
     let room = v.left in
     elim c.match-quietly.branch [
       | in-On w ↦
-          let at = w.in-On.ensures.done.1 in
+          let done = subst (λ (x : Task). StepsQuietly s t1 s (thread_of s.funcs x) × IsAt l.task (l.place + 1) x) (sym w.task-is) w.in-On.ensures.done in
+          let at = done.1 in
           let codes : c.match-quietly.code.now ≡ l.code.now = ap (λ (b : Bor (List Instr)). b.now) w.code-is in
           let same : l.code.now ≡ sequence s.funcs t'.function t'.sequence = rw (at.0, at.1) v.code in
           let within = ltb-true (l.place + 1) (length l.code.now) (w.in-On.ensures.on refl) in
           let inside = subst (λ n. n < length l.code.now) (sym at.2) within in
           record {
-            steps = quietly_on s s s n (c.args.most - (c.match-quietly.left - 1)) t0 (thread_of s.funcs l.task) (thread_of s.funcs t') v.steps v.going w.in-On.ensures.done.0 (omega (arith, some, room, w.left-is));
+            steps = quietly_on s s s n (c.args.most - (c.match-quietly.left - 1)) t0 t1 (thread_of s.funcs t') v.steps v.going done.0 (omega (arith, some, room, w.left-is));
             left = omega (arith, some, room, w.left-is);
             going = going_at s t' (subst (λ (is : List Instr). t'.place < length is) same inside);
             code = codes ∙ same;
@@ -89,29 +94,33 @@ loop-left-preserved g c =
             within = subst (λ n. n < length c.match-quietly.code.now) (sym w.place-is) (subst (λ (is : List Instr). l.place + 1 < length is) (sym codes) within);
             far = subst (λ (is : List Instr). length is * 16 < 2 ^ 63) (sym codes) v.far;
           }
-      | in-Elsewhere w ↦
-          let there = w.in-Elsewhere.ensures.done.1 in
-          let code = w.in-Elsewhere.there.now in
+      | in-Behind+in-Some w ↦
+          let code = w.in-Some.there.now in
+          let typed = quietly_typed s s t0 t1 n v.steps c.requires.store c.requires.task in
+          let here = is_next s l.code.now l.task l.place c.index-code-place.result v.code v.place v.within c.index-code-place.is c.requires.store typed.1 v.going in
+          let left = subst (λ (x : Task). thread_of s.funcs x ≡ exited (thread_of s.funcs c.quietly.new.task)) (sym w.task-is) w.in-Some.ensures.exited in
+          let there = subst (λ (x : Task). IsIn code s.funcs x) (sym w.task-is) w.in-Some.ensures.code in
+          let step = leaves s s t1 (at_next s.funcs l.task (l.place + 1)) (thread_of s.funcs c.quietly.new.task) (thread_of s.funcs t') c.index-code-place.result here.0 w.in-Behind.ensures.done left in
           let codes : c.match-quietly.code.now ≡ code = ap (λ (b : Bor (List Instr)). b.now) w.code-is in
-          let places = w.place-is ∙ w.place-place-in-Elsewhere.ensures in
-          let far : length code * 16 < 2 ^ 63 = there.3 in
+          let places = w.place-is ∙ w.place-place-in-Some.ensures ∙ ap (λ (x : Task). x.place) (sym w.task-is) in
           record {
-            steps = quietly_on s s s n (c.args.most - (c.match-quietly.left - 1)) t0 (thread_of s.funcs l.task) (thread_of s.funcs t') v.steps v.going w.in-Elsewhere.ensures.done.0 (omega (arith, some, room, w.left-is));
+            steps = quietly_on s s s n (c.args.most - (c.match-quietly.left - 1)) t0 t1 (thread_of s.funcs t') v.steps v.going step (omega (arith, some, room, w.left-is));
             left = omega (arith, some, room, w.left-is);
             going = there.2;
             code = codes ∙ there.0;
             place = places;
             within = subst (λ n. n < length c.match-quietly.code.now) (sym places) (subst (λ (is : List Instr). t'.place < length is) (sym codes) there.1);
-            far = subst (λ (is : List Instr). length is * 16 < 2 ^ 63) (sym codes) far;
+            far = subst (λ (is : List Instr). length is * 16 < 2 ^ 63) (sym codes) there.3;
           }
       | in-Again w ↦
-          let there = w.in-Again.ensures.done.1 in
           let code = w.in-Again.there.now in
+          let done = subst (λ (x : Task). DoesAgain code s t1 x) (sym w.task-is) w.in-Again.ensures.done in
+          let there = done.1 in
           let codes : c.match-quietly.code.now ≡ code = ap (λ (b : Bor (List Instr)). b.now) w.code-is in
-          let places = w.place-is ∙ w.place-place-in-Again.ensures in
+          let places = w.place-is ∙ w.place-place-in-Again.ensures ∙ ap (λ (x : Task). x.place) (sym w.task-is) in
           let two = ltb-true 1 l.left (w.in-Again.ensures.again (tt {0})) in
           record {
-            steps = quietly_trans s s s n 2 (c.args.most - (c.match-quietly.left - 1)) t0 (thread_of s.funcs l.task) (thread_of s.funcs t') v.steps w.in-Again.ensures.done.0 (omega (arith, room, two, w.left-is));
+            steps = quietly_trans s s s n 2 (c.args.most - (c.match-quietly.left - 1)) t0 t1 (thread_of s.funcs t') v.steps done.0 (omega (arith, room, two, w.left-is));
             left = omega (arith, room, two, w.left-is);
             going = there.2;
             code = codes ∙ there.0;
@@ -121,12 +130,17 @@ loop-left-preserved g c =
           }
     ]
 
-pub returns-in-Ended-clause-met : goal.returns-in-Ended-clause-met
-returns-in-Ended-clause-met g c =
+pub returns-in-None-clause-met : goal.returns-in-None-clause-met
+returns-in-None-clause-met g c =
     let s = c.args.store.now in
     let l = c.loop-left in
     let v = l.invariant in
     let some = c.loop-left-test.true in
     let room = v.left in
-    let done = c.in-Ended.ensures.done in
-    (quietly_on s s s (c.args.most - l.left) (c.args.most - (l.left - 1)) (thread_of s.funcs c.args.task.now) (thread_of s.funcs l.task) (thread_of s.funcs c.quietly.new.task) v.steps v.going done.0 (omega (arith, some, room)), done.1)
+    let t0 = thread_of s.funcs c.args.task.now in
+    let t1 = thread_of s.funcs l.task in
+    let t' = thread_of s.funcs c.leave.new.task in
+    let typed = quietly_typed s s t0 t1 (c.args.most - l.left) v.steps c.requires.store c.requires.task in
+    let here = is_next s l.code.now l.task l.place c.index-code-place.result v.code v.place v.within c.index-code-place.is c.requires.store typed.1 v.going in
+    let step = leaves s s t1 (at_next s.funcs l.task (l.place + 1)) (thread_of s.funcs c.quietly.new.task) t' c.index-code-place.result here.0 c.in-Behind.ensures.done c.leave.ensures.exited in
+    (quietly_on s s s (c.args.most - l.left) (c.args.most - (l.left - 1)) t0 t1 t' v.steps v.going step (omega (arith, some, room)), c.in-None.ensures.code)

@@ -1,4 +1,4 @@
-use Rattle.std.proofs.Common.{◌<◌, ◌≤◌, ap, sym, refl, length}
+use Rattle.std.proofs.Common.{◌≡◌, ◌<◌, ◌≤◌, ap, sym, refl, length}
 use Rattle.std.proofs.lemmas.Option.{slice_get_read}
 use Rattle.ms_task.specs.Control.{deepest}
 use Rattle.ms_task.specs.refinement.Marks.{calls_in}
@@ -23,15 +23,25 @@ bounds-funcs-address c =
     let shallow : depth_of (at_next funcs t c.args.next).work < deepest = rw (d, ← c.depth.ensures) c.if-depth-ge-DEEPEST.false in
     call_found funcs c.args.address (at_next funcs t c.args.next) c.requires shallow
 
-pub take_arguments-requires : goal.take_arguments-requires
-take_arguments-requires c =
+pub open-requires : goal.open-requires
+open-requires c =
     let t = c.args.self.now in
     let funcs = c.args.funcs.now in
     let d = depth_of_rest funcs t.function t.sequence c.args.next t.frames.0 t.marks in
     let shallow : depth_of (at_next funcs t c.args.next).work < deepest = rw (d, ← c.depth.ensures) c.if-depth-ge-DEEPEST.false in
     let within = call_found funcs c.args.address (at_next funcs t c.args.next) c.requires shallow in
     let found = slice_get_read funcs (length funcs) c.args.address c.index-funcs-address.result refl within c.index-funcs-address.is in
-    rw (ap length c.params.ensures) (call_room funcs c.args.address c.index-funcs-address.result (at_next funcs t c.args.next) c.requires shallow found)
+    rw (ap length c.params-n.ensures) (call_room funcs c.args.address c.index-funcs-address.result (at_next funcs t c.args.next) c.requires shallow found)
+
+pub cut-requires : goal.cut-requires
+cut-requires c =
+    let t = c.args.self.now in
+    let funcs = c.args.funcs.now in
+    let d = depth_of_rest funcs t.function t.sequence c.args.next t.frames.0 t.marks in
+    let shallow : depth_of (at_next funcs t c.args.next).work < deepest = rw (d, ← c.depth.ensures) c.if-depth-ge-DEEPEST.false in
+    let within = call_found funcs c.args.address (at_next funcs t c.args.next) c.requires shallow in
+    let found = slice_get_read funcs (length funcs) c.args.address c.index-funcs-address.result refl within c.index-funcs-address.is in
+    rw (ap length c.params-n.ensures) (call_room funcs c.args.address c.index-funcs-address.result (at_next funcs t c.args.next) c.requires shallow found)
 
 pub returns-clause-ok : goal.returns-clause-ok
 returns-clause-ok c =
@@ -45,4 +55,5 @@ returns-clause-ok c =
     let found = slice_get_read funcs (length funcs) c.args.address c.index-funcs-address.result refl within c.index-funcs-address.is in
     let room = call_room funcs c.args.address g (at_next funcs t c.args.next) c.requires shallow found in
     let pushed = c.in_ok-push_call.ensures.ok in
-    call_enters funcs c.args.address t.function t.sequence c.args.next g t.frames.0 t.frames.1 t.operands t.marks c.push_call.new.self (length c.params.result.now) c.enter-base.result c.len.result pushed.0 c.result.result c.enter-base.new.self c.take_arguments.new.frames c.add_locals.new.frames c.take_arguments.new.operands found (ap length c.params.ensures) (rw (ap length c.params.ensures) room) calls c.enter-base.ensures.base c.result.ensures c.enter-base.ensures.locals c.in_ok-take_arguments.ensures.frames c.in_ok-add_locals.ensures c.in_ok-take_arguments.ensures.operands c.len.ensures pushed.1
+    let n_is : length c.params-n.result.now ≡ length g.ty.params = ap length c.params-n.ensures in
+    call_enters funcs c.args.address t.function t.sequence c.args.next g t.frames.0 t.frames.1 t.operands t.marks c.push_call.new.self (length c.params-n.result.now) c.in_ok-base.base c.len.result pushed.0 c.result.result c.open.new.self c.cut.new.self found n_is (rw n_is room) calls c.in_ok-base.ensures.base c.result.ensures c.in_ok-base.ensures.locals c.cut.ensures c.len.ensures pushed.1

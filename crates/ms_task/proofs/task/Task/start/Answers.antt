@@ -11,5 +11,5 @@ returns c = λ g found.
     let func = c.index-funcs-address.result in
     let pushed = c.in_ok-push_call.ensures.ok in
     c.exit_ended.ensures.thread
-    ∙ ap exited (start_is funcs f func c.new.result c.new-frames.result c.enter-base.new.self c.add_locals.new.frames c.push_call.new.self c.new-marks.result c.enter-base.result pushed.0 c.result.result c.new-frames.ensures c.enter-base.ensures.locals c.in_ok-add_locals.ensures c.new-marks.ensures pushed.1 c.enter-base.ensures.base c.result.ensures c.new.ensures
+    ∙ ap exited (start_is funcs f func c.new-operands.result c.new-frames.result c.open.new.self c.push_call.new.self c.new-marks.result c.in_ok-base.base pushed.0 c.result.result c.new-frames.ensures c.in_ok-base.ensures.locals c.new-marks.ensures pushed.1 c.in_ok-base.ensures.base c.result.ensures c.new-operands.ensures
     ∙ ap (started funcs f) (c.index-funcs-address.is ∙ get_or_from_slice_get funcs f g func found))
