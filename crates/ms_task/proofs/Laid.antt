@@ -1,6 +1,6 @@
 -- The locals of all frames, and those of the current one.
 use Rattle.std.proofs.Common.{◌≡◌, ℕ, ◌+◌, ◌-◌, ◌<◌, ◌≤◌, inl, inr, List, [], ◌∷◌, ◌++◌, length, take, drop, set, map, min, reverse, slice_get, Some, refl, sym, ap, subst, ◌∙◌, ⊎_elim, arith, append_assoc}
-use Rattle.std.proofs.lemmas.List.{drop-append-le, drop-set-add, drop_all, length-append, length-drop, length-map, length-set, length-take, drop_min, map-append, reverse-append, take-append-drop, take-append-le, take-set-le, take_min, take-take, take_all}
+use Rattle.std.proofs.lemmas.List.{drop-append-le, drop-set-add, drop_all, length-append, length-drop, length-map, length-reverse, length-set, length-take, drop_min, map-append, reverse-append, take-append-drop, take-append-le, take-set-le, take_min, take-take, take_all}
 use Rattle.ms_linear.specs.declared.value.Value.{Value}
 use Rattle.ms_linear.specs.Values.{default_of}
 use Rattle.ms_types.specs.declared.types.ValType.{ValType}
@@ -29,7 +29,7 @@ set_current base len i p all all' v at lt is =
     ∙ ap (λ (l : List Value). (l, drop base (set (take len all) (base + i) v))) (take-set-le base (take len all) (base + i) v (omega arith))
     ∙ ap (λ (l : List Value). (take base (take len all), l)) (drop-set-add base (take len all) i v)
 
-module _ (fs : List Far) (items : List Value) (ds : List ℕ) (ws : List Written) (start many base len : ℕ) (h : AreLaid fs (length items) (length ds) (length ws) start many base len) where
+module _ (fs : List Far) (items : List Value) (ds : List ℕ) (ws : List Written) (start base len : ℕ) (h : AreLaid fs (length items) (length ds) (length ws) start base len) where
   within_all : len ≤ length (all_of fs items ds ws)
   within_all = omega (arith, h.len_within, length-all_of fs items ds ws)
 
@@ -47,24 +47,21 @@ module _ (fs : List Far) (items : List Value) (ds : List ℕ) (ws : List Written
 
   -- ---- one of the near ones of the current frame
 
-  pub near_bound : (i : ℕ) → i < many → start + i < length items
-  near_bound i lt = ⊎_elim (λ none. absurd (omega (arith, none, lt))) (λ p. omega (arith, p.0, lt)) h.first
-
-  near_get_all : (i : ℕ) → i < many → slice_get (all_of fs items ds ws) (base + i) ≡ slice_get items (start + i)
+  near_get_all : (i : ℕ) → start + i < length items → slice_get (all_of fs items ds ws) (base + i) ≡ slice_get items (start + i)
   near_get_all i lt = ⊎_elim
       (λ none. absurd (omega (arith, none, lt)))
-      (λ p. ⊎_elim (λ over. get_over fs items ds ws start base i over (omega (arith, p.0, lt))) (λ under. by fs h.stacked under) p.1)
+      (λ first. ⊎_elim (λ over. get_over fs items ds ws start base i over lt) (λ under. by fs h.stacked under) first)
       h.first where
-        by : (gs : List Far) → IsStacked gs (length items) (length ds) (length ws) → IsUnderLast gs start many base → slice_get (all_of gs items ds ws) (base + i) ≡ slice_get items (start + i)
+        by : (gs : List Far) → IsStacked gs (length items) (length ds) (length ws) → IsUnderLast gs (length items) start base → slice_get (all_of gs items ds ws) (base + i) ≡ slice_get items (start + i)
         by [] st under = absurd under
         by (g ∷ gs) st under = get_under g gs items ds ws (length ds) (length ws) start base i st.0 under.1 (omega (arith, under.0, lt))
 
-  near_set_all : (i : ℕ) (v : Value) → i < many → all_of fs (set items (start + i) v) ds ws ≡ set (all_of fs items ds ws) (base + i) v
+  near_set_all : (i : ℕ) (v : Value) → start + i < length items → all_of fs (set items (start + i) v) ds ws ≡ set (all_of fs items ds ws) (base + i) v
   near_set_all i v lt = ⊎_elim
       (λ none. absurd (omega (arith, none, lt)))
-      (λ p. ⊎_elim (λ over. set_over fs items ds ws start base i v over (omega (arith, p.0, lt))) (λ under. by fs h.stacked under) p.1)
+      (λ first. ⊎_elim (λ over. set_over fs items ds ws start base i v over lt) (λ under. by fs h.stacked under) first)
       h.first where
-        by : (gs : List Far) → IsStacked gs (length items) (length ds) (length ws) → IsUnderLast gs start many base → all_of gs (set items (start + i) v) ds ws ≡ set (all_of gs items ds ws) (base + i) v
+        by : (gs : List Far) → IsStacked gs (length items) (length ds) (length ws) → IsUnderLast gs (length items) start base → all_of gs (set items (start + i) v) ds ws ≡ set (all_of gs items ds ws) (base + i) v
         by [] st under = absurd under
         by (g ∷ gs) st under = set_under g gs items ds ws (length ds) (length ws) start base i v st.0 under.1 (omega (arith, under.0, lt))
 
@@ -72,28 +69,28 @@ module _ (fs : List Far) (items : List Value) (ds : List ℕ) (ws : List Written
     pub below_len : base + i < len
     below_len = omega (arith, here, current_long)
 
-    pub near_get : i < many → slice_get (drop base (take len (all_of fs items ds ws))) i ≡ slice_get items (start + i)
+    pub near_get : start + i < length items → slice_get (drop base (take len (all_of fs items ds ws))) i ≡ slice_get items (start + i)
     near_get lt = get_current base len i (all_of fs items ds ws) below_len ∙ near_get_all i lt
 
     pub far_get : (v : Value) → slice_get (all_of fs items ds ws) (base + i) ≡ Some v → slice_get (drop base (take len (all_of fs items ds ws))) i ≡ Some v
     far_get v is = get_current base len i (all_of fs items ds ws) below_len ∙ is
 
-    pub near_set : (v : Value) → i < many → split base (take len (all_of fs (set items (start + i) v) ds ws)) ≡ (take base (take len (all_of fs items ds ws)), set (drop base (take len (all_of fs items ds ws))) i v)
+    pub near_set : (v : Value) → start + i < length items → split base (take len (all_of fs (set items (start + i) v) ds ws)) ≡ (take base (take len (all_of fs items ds ws)), set (drop base (take len (all_of fs items ds ws))) i v)
     near_set v lt = set_current base len i (base + i) (all_of fs items ds ws) (all_of fs (set items (start + i) v) ds ws) v refl below_len (near_set_all i v lt)
 
-  pub near_set_laid : (p : ℕ) (v : Value) → AreLaid fs (length (set items p v)) (length ds) (length ws) start many base len
-  near_set_laid p v = subst (λ n. AreLaid fs n (length ds) (length ws) start many base len) (sym (length-set items p v)) h
+  pub near_set_laid : (p : ℕ) (v : Value) → AreLaid fs (length (set items p v)) (length ds) (length ws) start base len
+  near_set_laid p v = subst (λ n. AreLaid fs n (length ds) (length ws) start base len) (sym (length-set items p v)) h
 
 -- ---- a far one is written
 
-module _ (f : Far) (fs : List Far) (items : List Value) (ds : List ℕ) (ws : List Written) (start many base len : ℕ) (h : AreLaid (f ∷ fs) (length items) (length ds) (length ws) start many base len) (ds' : List ℕ) (ws' : List Written) (i j : ℕ) (v : Value) (at : base + i ≡ f.first + j) (puts : Puts ds ws ds' ws' f j v) where
+module _ (f : Far) (fs : List Far) (items : List Value) (ds : List ℕ) (ws : List Written) (start base len : ℕ) (h : AreLaid (f ∷ fs) (length items) (length ds) (length ws) start base len) (ds' : List ℕ) (ws' : List Written) (i j : ℕ) (v : Value) (at : base + i ≡ f.first + j) (puts : Puts ds ws ds' ws' f j v) where
   pub far_set : i < length (drop base (take len (all_of (f ∷ fs) items ds ws))) → f.first + j < f.end → split base (take len (all_of (f ∷ fs) items ds' ws')) ≡ (take base (take len (all_of (f ∷ fs) items ds ws)), set (drop base (take len (all_of (f ∷ fs) items ds ws))) i v)
   far_set here lt =
       let l = h.stacked.0 in
-      set_current base len i (base + i) (all_of (f ∷ fs) items ds ws) (all_of (f ∷ fs) items ds' ws') v refl (below_len (f ∷ fs) items ds ws start many base len h i here)
+      set_current base len i (base + i) (all_of (f ∷ fs) items ds ws) (all_of (f ∷ fs) items ds' ws') v refl (below_len (f ∷ fs) items ds ws start base len h i here)
       (set_among f fs items ds ws ds' ws' (length ds) (length ws) (base + i) j v l at (omega (arith, l.end, lt)) puts)
 
-  pub far_set_laid : AreLaid (f ∷ fs) (length items) (length ds') (length ws') start many base len
+  pub far_set_laid : AreLaid (f ∷ fs) (length items) (length ds') (length ws') start base len
   far_set_laid = record {
     stacked = stacked_in_more (f ∷ fs) (length items) (length ds) (length ws) (length items) (length ds') (length ws') (omega arith) (omega (arith, puts.length_directory)) puts.length_written h.stacked;
     base_within = h.base_within;
@@ -110,18 +107,24 @@ opened base len n all xs all' long is more =
     let high : drop len (all ++ xs) ≡ xs = drop-append-le len all xs (omega (arith, long)) ∙ ap (λ l. l ++ xs) (drop_all len all (omega (arith, long))) in
     ap (split len) whole ∙ ap (λ (l : List Value). (l, drop len (all ++ xs))) low ∙ ap (λ (l : List Value). (take base (take len all) ++ drop base (take len all), l)) high
 
+pub near_long : (items items' vs : List Value) (types : List ValType) (n : ℕ) → n ≤ length vs → items' ≡ (items ++ reverse (take n vs)) ++ map default_of (take near types) → n + min (length types) near + length items ≡ length items'
+near_long items items' vs types n le are =
+    let args = reverse (take n vs) in
+    let declared = map default_of (take near types) in
+    omega (arith, ap length are, length-append (items ++ args) declared, length-append items args, length-reverse (take n vs), length-take n vs, length-map (take near types) default_of, length-take near types, le)
+
 over_all : (fs : List Far) (n d w len : ℕ) → IsStacked fs n d w → len ≡ n + total fs → IsOver fs n len
 over_all [] n d w len h is = omega (arith, is)
 over_all (f ∷ fs) n d w len h is = (h.0.at, is)
 
-module _ (fs : List Far) (items : List Value) (ds : List ℕ) (ws : List Written) (start many base len : ℕ) (h : AreLaid fs (length items) (length ds) (length ws) start many base len) where
-  -- more near locals over all don't matter yet
-  pub grown_laid : (n d : ℕ) → length items ≤ n → length ds ≤ d → AreLaid fs n d (length ws) start many base len
-  grown_laid n d le more = record {
-    stacked = stacked_in_more fs (length items) (length ds) (length ws) n d (length ws) le more (omega arith) h.stacked;
+module _ (fs : List Far) (items : List Value) (ds : List ℕ) (ws : List Written) (start base len : ℕ) (h : AreLaid fs (length items) (length ds) (length ws) start base len) where
+  -- a longer directory doesn't matter yet
+  pub grown_laid : (d : ℕ) → length ds ≤ d → AreLaid fs (length items) d (length ws) start base len
+  grown_laid d more = record {
+    stacked = stacked_in_more fs (length items) (length ds) (length ws) (length items) d (length ws) (omega arith) more (omega arith) h.stacked;
     base_within = h.base_within;
-    len_within = omega (arith, h.len_within, le);
-    first = ⊎_elim (λ none. inl none) (λ p. inr (omega (arith, p.0, le), p.1)) h.first;
+    len_within = h.len_within;
+    first = h.first;
   }
 
   module _ (is_whole : len ≡ length items + total fs) (items' args : List Value) (types : List ValType) (are : items' ≡ (items ++ args) ++ map default_of (take near types)) (n k : ℕ) (n_is : n + length items ≡ length items') (k_is : k ≡ len + n) where
@@ -143,12 +146,12 @@ module _ (fs : List Far) (items : List Value) (ds : List ℕ) (ws : List Written
         opened base len k (all_of fs items ds ws) (args ++ map default_of (take near types)) (all_of fs items' ds ws) long_all all_near (omega (arith, k_is, n_is, long_near))
         ∙ ap (λ (l : List ValType). (take base (take len (all_of fs items ds ws)) ++ drop base (take len (all_of fs items ds ws)), args ++ map default_of l)) all_types
 
-    pub opened_near_laid : AreLaid fs (length items') (length ds) (length ws) (length items) n len k
+    pub opened_near_laid : AreLaid fs (length items') (length ds) (length ws) (length items) len k
     opened_near_laid = record {
       stacked = stacked_in_more fs (length items) (length ds) (length ws) (length items') (length ds) (length ws) (omega (arith, n_is)) (omega arith) (omega arith) h.stacked;
       base_within = omega (arith, k_is);
       len_within = omega (arith, k_is, n_is, is_whole);
-      first = inr (omega (arith, n_is), inl (over_all fs (length items) (length ds) (length ws) len h.stacked is_whole));
+      first = inr (inl (over_all fs (length items) (length ds) (length ws) len h.stacked is_whole));
     }
 
     module _ (far far' : List Far) (f : Far) (ds' : List ℕ) (reversed : reverse far ≡ fs) (pushed : IsPushed far far' f (length items') k (length ws) types) (low : take (length ds) ds' ≡ ds) (more : length ds ≤ length ds') (fits : f.directory + count f ≤ length ds') where
@@ -186,12 +189,12 @@ module _ (fs : List Far) (items : List Value) (ds : List ℕ) (ws : List Written
           ap (λ l. split len (take f.end (all_of l items' ds' ws))) on_top
           ∙ opened base len f.end (all_of fs items ds ws) (args ++ map default_of types) (all_of (f ∷ fs) items' ds' ws) long_all all_pushed long_far
 
-      pub opened_far_laid : AreLaid (reverse far') (length items') (length ds') (length ws) (length items) n len f.end
-      opened_far_laid = subst (λ l. AreLaid l (length items') (length ds') (length ws) (length items) n len f.end) (sym on_top) (record {
+      pub opened_far_laid : AreLaid (reverse far') (length items') (length ds') (length ws) (length items) len f.end
+      opened_far_laid = subst (λ l. AreLaid l (length items') (length ds') (length ws) (length items) len f.end) (sym on_top) (record {
         stacked = (record { at = omega (arith, pushed.lies_at); directory = fits; written = omega (arith, pushed.in_written); first = omega (arith, pushed.lies_first, pushed.lies_at, k_is, n_is, is_whole); end = pushed.ends ∙ omega (arith, pushed.lies_first) }, lower);
         base_within = omega (arith, pushed.ends, k_is);
         len_within = omega (arith, pushed.ends, k_is, n_is, is_whole);
-        first = inr (omega (arith, n_is), inr (omega (arith, pushed.lies_at, n_is), over_all fs (length items) (length ds) (length ws) len h.stacked is_whole));
+        first = inr (inr (omega (arith, pushed.lies_at), over_all fs (length items) (length ds) (length ws) len h.stacked is_whole));
       }) where
         lower : IsStacked fs f.at f.directory f.written
         lower = stacked_in_more fs (length items') (directory_end fs) (length ws) f.at f.directory f.written (omega (arith, pushed.lies_at)) (omega (arith, in_directory)) (omega (arith, pushed.in_written))

@@ -286,15 +286,6 @@ pub(crate) fn cut(
     drop_near(far, items, directory, written, len);
 }
 
-/// Near locals of a frame that lie before all its far ones.
-#[derive(Clone, Copy)]
-pub(crate) struct Near {
-    /// Where they begin.
-    pub(crate) start: usize,
-    /// How many they are.
-    pub(crate) count: usize,
-}
-
 /// Where the near locals of a frame begin that lies over all far ones, with so many locals below.
 fn start_over(far: &[Far], base: usize) -> Option<usize>
     requires { (n d w : ℕ) × IsStacked (reverse far.now) n d w }
@@ -309,34 +300,32 @@ fn start_over(far: &[Far], base: usize) -> Option<usize>
     Some(base - (f.end - f.at))
 }
 
-/// The first near locals of the last frame, with so many locals below.
-pub(crate) fn first_near(far: &[Far], items: usize, base: usize) -> Near
+/// Where the near locals of the last frame begin, which are the last of so many, with so many locals below. Where they aren't, it
+/// gives what is behind all.
+pub(crate) fn first_near(far: &[Far], items: usize, base: usize) -> usize
     requires { (d w : ℕ) × IsStacked (reverse far.now) items d w }
-    ensures { AreFirst (reverse far.now) items result.start result.count base }
+    ensures { AreFirst (reverse far.now) items result base }
 {
-    if let Some(start) = start_over(far, base) {
-        return Near {
-            start,
-            count: items.saturating_sub(start),
-        };
+    match start_over(far, base) {
+        Some(start) => start,
+        None => first_below(far, items, base),
     }
-    first_below(far, base)
 }
 
 /// The same of a frame that has the last far locals.
-fn first_below(far: &[Far], base: usize) -> Near
-    requires { (n d w : ℕ) × IsStacked (reverse far.now) n d w }
-    ensures { (n d w : ℕ) → IsStacked (reverse far.now) n d w → AreFirst (reverse far.now) n result.start result.count base }
+fn first_below(far: &[Far], items: usize, base: usize) -> usize
+    requires { (d w : ℕ) × IsStacked (reverse far.now) items d w }
+    ensures { AreFirst (reverse far.now) items result base }
 {
     let Some((f, below)) = last(far) else {
-        return Near { start: 0, count: 0 };
+        return items;
     };
-    let Some(start) = start_over(below, base) else {
-        return Near { start: 0, count: 0 };
-    };
-    Near {
-        start,
-        count: f.at.saturating_sub(start),
+    if f.at < items {
+        return items;
+    }
+    match start_over(below, base) {
+        Some(start) => start,
+        None => items,
     }
 }
 

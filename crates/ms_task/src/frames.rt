@@ -6,9 +6,9 @@ ghost use Rattle.std.specs.Prelude.{◌≡◌, ℕ, ◌+◌, ◌<◌, ◌≤◌,
 ghost use Rattle.ms_linear.specs.Values.{default_of};
 ghost use Rattle.ms_linear.specs.declared.value.Value.{Value};
 
-use crate::far::{Far, NEAR, Near, Written, count_of, cut, first_near, last, push, read};
+use crate::far::{Far, NEAR, Written, count_of, cut, first_near, last, push, read};
 use crate::locals::SharedLocals;
-use crate::near::{push_arguments, push_declared};
+use crate::near::fill;
 use ms_linear::{Cell, Operands, Room};
 use std::alloc::{AllocError, Global};
 use std::marker::Model;
@@ -28,10 +28,8 @@ pub struct Frames {
     directory: Vec<u32>,
     /// What was written to far locals.
     written: Vec<Written>,
-    /// Where the near locals of the current frame begin.
+    /// Where the near locals of the current frame begin, which are the last ones.
     start: usize,
-    /// How many they are.
-    near: usize,
     /// How many locals lie below the current frame.
     base: usize,
     /// How many locals all frames have.
@@ -48,7 +46,7 @@ impl Model for Frames {
 
     ghost view = { λ l. split l.base (whole l.far.items l.items.items l.directory.items l.written.items l.len) };
 
-    ghost invariant = { λ l. AreLaid (reverse l.far.items) (length l.items.items) (length l.directory.items) (length l.written.items) l.start l.near l.base l.len };
+    ghost invariant = { λ l. AreLaid (reverse l.far.items) (length l.items.items) (length l.directory.items) (length l.written.items) l.start l.base l.len };
 }
 
 impl Frames {
@@ -62,7 +60,6 @@ impl Frames {
             directory: Vec::new(alloc),
             written: Vec::new(alloc),
             start: 0,
-            near: 0,
             base: 0,
             len: 0,
             room,
@@ -75,8 +72,9 @@ impl Frames {
         requires { i < length self.now.1 }
         ensures { IfSome result (λ v. slice_get self.now.1 i ≡ Some v) }
     {
-        if i < self.near {
-            return Some(self.items[self.start + i]);
+        let at = self.start.checked_add(i)?;
+        if at < self.items.len() {
+            return Some(self.items[at]);
         }
         None
     }
@@ -142,8 +140,10 @@ impl Frames {
         ensures near { IsTrue result → self.new ≡ (self.old.0, slice_set self.old.1 i v) }
         ensures far { result ≡ false → self.new ≡ self.old }
     {
-        if i < self.near {
-            let at = self.start + i;
+        let Some(at) = self.start.checked_add(i) else {
+            return false;
+        };
+        if at < self.items.len() {
             self.items[at] = v;
             return true;
         }
@@ -209,15 +209,17 @@ impl Frames {
         if below < hidden || below - hidden != start {
             return Err(AllocError);
         }
-        push_arguments(&mut self.items, &self.room, operands, n)?;
-        push_declared(&mut self.items, &self.room, types)?;
-        let near = self.items.len() - start;
+        let declared = types.len();
+        let Some(near) = n.checked_add(declared.min(NEAR as usize)) else {
+            return Err(AllocError);
+        };
         let Some(first) = below.checked_add(near) else {
             return Err(AllocError);
         };
-        if types.len() <= NEAR as usize {
+        self.room.reserve(&mut self.items, near, size_of::<Cell>())?;
+        if declared <= NEAR as usize {
+            fill(&mut self.items, operands, n, types);
             self.start = start;
-            self.near = near;
             self.base = below;
             self.len = first;
             return Ok(kept);
@@ -231,8 +233,8 @@ impl Frames {
             first,
             types,
         )?;
+        fill(&mut self.items, operands, n, types);
         self.start = start;
-        self.near = near;
         self.base = below;
         self.len = len;
         Ok(kept)
@@ -250,7 +252,6 @@ impl Frames {
         self.len = self.base;
         self.base = base.min(self.len);
         self.start = self.base;
-        self.near = self.len - self.base;
     }
 
     /// The same where a frame has far locals.
@@ -268,8 +269,6 @@ impl Frames {
         );
         self.len = len;
         self.base = base.min(len);
-        let Near { start, count } = first_near(&self.far, self.items.len(), self.base);
-        self.start = start;
-        self.near = count;
+        self.start = first_near(&self.far, self.items.len(), self.base);
     }
 }

@@ -1,72 +1,65 @@
 //! Locals near the beginning of a frame: its arguments, and the first ones that it declares.
 
-ghost use Rattle.std.specs.Prelude.{◌≡◌, ◌≤◌, ◌++◌, ◌∷◌, [], length, map, replicate, reverse, take, OnOk};
+ghost use Rattle.std.specs.Prelude.{◌≡◌, ◌+◌, ◌≤◌, ◌++◌, length, map, min, replicate, reverse, take, vec_len, vec_capacity};
 ghost use Rattle.ms_linear.specs.Values.{default_of};
 ghost use Rattle.ms_task.specs.refinement.Far.{near};
 
 use crate::far::NEAR;
 use crate::locals::SharedLocals;
-use ms_linear::{Cell, Operands, Room, Value};
-use std::alloc::AllocError;
+use ms_linear::{Cell, Operands, Value};
 
-/// Adds a local.
+/// Adds the locals of a frame that are near, for which there is room: arguments, of which the last is the topmost operand, and
+/// the first declared ones.
 #[inline(always)]
-fn push(items: &mut Vec<Cell>, room: &Room, v: Cell) -> Result<(), AllocError>
-    ensures ok { OnOk result (items.new.items ≡ items.old.items ++ v ∷ []) }
-    ensures more { length items.old.items ≤ length items.new.items }
+pub(crate) fn fill(items: &mut Vec<Cell>, operands: &Operands, n: usize, types: &SharedLocals)
+    requires within { n ≤ length operands.now }
+    requires room { vec_len items.old + (n + min (length types.now) near) ≤ vec_capacity items.old }
+    ensures { items.new.items ≡ (items.old.items ++ reverse (take n operands.now)) ++ map default_of (take near types.now) }
 {
-    room.reserve(items, 1, size_of::<Cell>())?;
-    items.push_reserved(v);
-    Ok(())
+    push_arguments(items, operands, n);
+    push_declared(items, types);
 }
 
-/// Adds the same value so many times.
-#[inline(never)]
-fn push_many(items: &mut Vec<Cell>, room: &Room, v: Cell, n: u32) -> Result<(), AllocError>
-    ensures ok { OnOk result (items.new.items ≡ items.old.items ++ replicate n v) }
-    ensures more { length items.old.items ≤ length items.new.items }
-{
-    room.reserve(items, n as usize, size_of::<Cell>())?;
-    items.resize(items.len() + n as usize, v)?;
-    Ok(())
-}
-
-/// Adds arguments, of which the last is the topmost operand.
+/// Adds arguments.
 #[inline(always)]
-pub(crate) fn push_arguments(
-    items: &mut Vec<Cell>,
-    room: &Room,
-    operands: &Operands,
-    n: usize,
-) -> Result<(), AllocError>
-    requires { n ≤ length operands.now }
-    ensures ok { OnOk result (items.new.items ≡ items.old.items ++ reverse (take n operands.now)) }
-    ensures more { length items.old.items ≤ length items.new.items }
+fn push_arguments(items: &mut Vec<Cell>, operands: &Operands, n: usize)
+    requires within { n ≤ length operands.now }
+    requires room { vec_len items.old + n ≤ vec_capacity items.old }
+    ensures items { items.new.items ≡ items.old.items ++ reverse (take n operands.now) }
+    ensures len { vec_len items.new ≡ vec_len items.old + n }
+    ensures capacity { vec_capacity items.new ≡ vec_capacity items.old }
 {
     for i in 0..n {
-        push(items, room, operands.cell(n - 1 - i))?;
+        items.push_reserved(operands.cell(n - 1 - i));
     }
-    Ok(())
 }
 
 /// Adds the first declared locals, a run of one type at a time.
 #[inline(always)]
-pub(crate) fn push_declared(
-    items: &mut Vec<Cell>,
-    room: &Room,
-    types: &SharedLocals,
-) -> Result<(), AllocError>
-    ensures ok { OnOk result (items.new.items ≡ items.old.items ++ map default_of (take near types.now)) }
-    ensures more { length items.old.items ≤ length items.new.items }
+fn push_declared(items: &mut Vec<Cell>, types: &SharedLocals)
+    requires { vec_len items.old + min (length types.now) near ≤ vec_capacity items.old }
+    ensures { items.new.items ≡ items.old.items ++ map default_of (take near types.now) }
 {
     let mut from = 0;
     for run in types.runs() {
         if from >= NEAR {
-            return Ok(());
+            return;
         }
         let n = run.end.min(NEAR) - from;
-        push_many(items, room, Cell::of(Value::default_of(run.ty)), n)?;
+        push_run(items, Cell::of(Value::default_of(run.ty)), n);
         from = run.end;
     }
-    Ok(())
+}
+
+/// Adds the same value so many times.
+#[inline(always)]
+fn push_run(items: &mut Vec<Cell>, v: Cell, n: u32)
+    requires { vec_len items.old + n ≤ vec_capacity items.old }
+    ensures items { items.new.items ≡ items.old.items ++ replicate n v }
+    ensures len { vec_len items.new ≡ vec_len items.old + n }
+    ensures capacity { vec_capacity items.new ≡ vec_capacity items.old }
+{
+    for _ in 0..n {
+        items.push_reserved(v);
+    }
 }

@@ -91,19 +91,19 @@ HaveBegun (f ∷ fs) p = f.first ≤ p
 
 -- ---- the near locals of the current frame
 
--- they begin at this place of the near ones, over all far ones, where so many locals lie below
+-- they begin at this place of all near ones, over all far ones, where so many locals lie below
 abbrev pub IsOver : List Far → (start base : ℕ) → Type 0
 IsOver [] start base = base ≡ start
 IsOver (f ∷ fs) start base = (f.at ≤ start) × (base ≡ start + total (f ∷ fs))
 
--- the same of so many that end below the last far ones
-abbrev pub IsUnderLast : List Far → (start count base : ℕ) → Type 0
-IsUnderLast [] start n base = ⊥
-IsUnderLast (f ∷ fs) start n base = (start + n ≤ f.at) × IsOver fs start base
+-- the same where all of them, so many, lie below the last far ones, which are the frame's own
+abbrev pub IsUnderLast : List Far → (items start base : ℕ) → Type 0
+IsUnderLast [] n start base = ⊥
+IsUnderLast (f ∷ fs) n start base = (n ≤ f.at) × IsOver fs start base
 
--- So many near locals, from this place on, are the first of the current frame.
-abbrev pub AreFirst : List Far → (items start count base : ℕ) → Type 0
-AreFirst fs n start k base = (k ≡ 0) ⊎ ((start + k ≤ n) × (IsOver fs start base ⊎ IsUnderLast fs start k base))
+-- The near locals from this place on are the first of the current frame; there are none of them where it's behind all.
+abbrev pub AreFirst : List Far → (items start base : ℕ) → Type 0
+AreFirst fs n start base = (n ≤ start) ⊎ (IsOver fs start base ⊎ IsUnderLast fs n start base)
 
 -- the frame's far ones were put on top of the others
 pub record IsPushed (far far' : List Far) (f : Far) (at first written : ℕ) (types : List ValType) : Type 0 where

@@ -13,8 +13,8 @@ whole far items ds ws len = take len (all_of (reverse far) items ds ws)
 abbrev pub split : ℕ → List Value → List Value × List Value
 split base vs = (take base vs, drop base vs)
 
-pub record AreLaid (fs : List Far) (n d w start many base len : ℕ) : Type 0 where
+pub record AreLaid (fs : List Far) (n d w start base len : ℕ) : Type 0 where
   pub stacked : IsStacked fs n d w
   pub base_within : base ≤ len
   pub len_within : len ≤ n + total fs
-  pub first : AreFirst fs n start many base
+  pub first : AreFirst fs n start base

@@ -16,7 +16,7 @@ returns c =
     let i = c.args.i in
     let p = l.len - (l.len - l.base - i) in
     let here : i < length (drop l.base (take l.len (all_of fs items ds ws))) = subst (λ (v : List Value × List Value). i < length v.1) (sym c.self.view_is) c.requires in
-    let at : l.base + i ≡ p = omega (arith, below_len fs l.items.items l.directory.items l.written.items l.start l.near l.base l.len c.self.invariant i here) in
+    let at : l.base + i ≡ p = omega (arith, below_len fs l.items.items l.directory.items l.written.items l.start l.base l.len c.self.invariant i here) in
     let found : slice_get (all_of fs items ds ws) (l.base + i) ≡ Some c.read.result =
     ap (slice_get (all_of fs items ds ws)) at
     ∙ ap (λ (x : List Value). slice_get (all_of fs x ds ws) p) (sym c.deref.ensures.value)
@@ -25,4 +25,4 @@ returns c =
     ∙ ap (λ (x : List Written). slice_get (all_of (reverse c.deref-2.result.now) c.deref.result.now c.deref-3.result.now x) p) (sym c.deref-4.ensures.value)
     ∙ c.read.ensures in
     subst (λ (v : List Value × List Value). slice_get v.1 i ≡ Some c.read.result) c.self.view_is
-    (far_get fs l.items.items l.directory.items l.written.items l.start l.near l.base l.len c.self.invariant i here c.read.result found)
+    (far_get fs l.items.items l.directory.items l.written.items l.start l.base l.len c.self.invariant i here c.read.result found)

@@ -18,12 +18,12 @@ returns-clause-ok c =
     let i = c.args.i in
     let j = l.base + i - f.first in
     let parts : reverse l.far.items ≡ f ∷ fs = sym (ap reverse c.deref.ensures.value) ∙ c.in-Some.ensures in
-    let laid = subst (λ (gs : List Far). AreLaid gs (length items) (length ds) (length ws) l.start l.near l.base l.len) parts c.self.invariant in
+    let laid = subst (λ (gs : List Far). AreLaid gs (length items) (length ds) (length ws) l.start l.base l.len) parts c.self.invariant in
     let now : i < length (drop l.base (take l.len (all_of (reverse l.far.items) items ds ws))) = subst (λ (v : List Value × List Value). i < length v.1) (sym c.self.view_is) c.requires in
     let here = subst (λ (gs : List Far). i < length (drop l.base (take l.len (all_of gs items ds ws)))) parts now in
     on_ok_weaker c.put.result
     (λ puts.
     subst (λ (v : List Value × List Value). split l.base (take l.len (all_of (reverse l.far.items) items c.put.new.directory.items c.put.new.written.items)) ≡ (v.0, slice_set v.1 i c.args.v)) c.self.view_is
     (subst (λ (gs : List Far). split l.base (take l.len (all_of gs items c.put.new.directory.items c.put.new.written.items)) ≡ (take l.base (take l.len (all_of gs items ds ws)), slice_set (drop l.base (take l.len (all_of gs items ds ws))) i c.args.v)) (sym parts)
-    (far_set f fs items ds ws l.start l.near l.base l.len laid c.put.new.directory.items c.put.new.written.items i j c.args.v (omega (arith, c.if-p-f.false)) puts here (omega (arith, c.if-p-f.false, c.if-f-p.false)))))
+    (far_set f fs items ds ws l.start l.base l.len laid c.put.new.directory.items c.put.new.written.items i j c.args.v (omega (arith, c.if-p-f.false)) puts here (omega (arith, c.if-p-f.false, c.if-f-p.false)))))
     c.put.ensures.ok

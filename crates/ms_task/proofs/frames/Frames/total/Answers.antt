@@ -7,4 +7,4 @@ pub returns : goal.returns
 returns c =
     let l = c.self.inside in
     let fs = reverse l.far.items in
-    sym (subst (λ (v : List Value × List Value). length (v.0 ++ v.1) ≡ l.len) c.self.view_is (both_long fs l.items.items l.directory.items l.written.items l.start l.near l.base l.len c.self.invariant))
+    sym (subst (λ (v : List Value × List Value). length (v.0 ++ v.1) ≡ l.len) c.self.view_is (both_long fs l.items.items l.directory.items l.written.items l.start l.base l.len c.self.invariant))
