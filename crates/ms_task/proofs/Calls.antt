@@ -1,5 +1,5 @@
 -- A call and the start of a task, as the code makes them.
-use Rattle.std.proofs.Common.{◌≡◌, ◌≢◌, ℕ, zero, suc, ◌+◌, ◌-◌, ◌<◌, ◌≤◌, List, [], ◌∷◌, ◌++◌, length, drop, take, slice_get, Option, Some, refl, sym, ap, ◌∙◌, arith, length-drop, subst, ⊎_elim, reverse, map, cond, append_assoc, get_or, replicate, append-nil, min}
+use Rattle.std.proofs.Common.{◌≡◌, ◌≢◌, ℕ, zero, suc, ◌+◌, ◌-◌, ◌<◌, ◌≤◌, List, [], ◌∷◌, ◌++◌, length, drop, take, slice_get, Option, Some, refl, sym, ap, ◌∙◌, arith, length-drop, subst, ⊎_elim, reverse, map, cond, append_assoc, get_or, replicate, min}
 use Rattle.ms_types.specs.declared.types.ValType.{ValType}
 use Rattle.ms_linear.specs.declared.value.Value.{Value}
 use Rattle.ms_linear.specs.Values.{default_of}
@@ -11,7 +11,7 @@ use Rattle.ms_task.specs.declared.marks.Mark.TheVariants as marks
 use Rattle.ms_task.specs.refinement.Marks.{calls_in}
 use Rattle.std.proofs.lemmas.Bool.{lt-ltb, le-ltb, le-leb, cases_lt, lt-leb}
 use Rattle.std.proofs.lemmas.Option.{slice_get_past, get_or_from_slice_get}
-use Rattle.std.proofs.lemmas.List.{drop_all, take_all, length-take-le, get_or-take, reverse-append}
+use Rattle.std.proofs.lemmas.List.{length-take-le, get_or-take, reverse-append}
 use Rattle.std.proofs.Math.Seq.{take-append_seam, drop-append_seam, drop-cons}
 use Rattle.ms_task.specs.Control.{To, Stuck, TooDeep, call_on, deepest, enter, entered, started}
 use Rattle.ms_task.specs.Thread.{Activation, Frame, Thread, depth_of, dos, result_of, sequence, thread}
@@ -114,18 +114,6 @@ rises_on runs i from run d within read rise =
     let one : suc i ≡ i + 1 = omega arith in
     let here : drop i runs ≡ run ∷ drop (i + 1) runs = drop-cons runs i d within ∙ (ap (λ (r : Run). r ∷ drop (suc i) runs) (sym read) ∙ ap (λ k. run ∷ drop k runs) one) in
     subst (Rise from) here rise
-
--- all of them
-pub locals_all : (most : ℕ) (runs : List Run) (i from : ℕ) (items old : List Value) (types : List ValType) → length runs ≤ i → items ++ map default_of (take (most - from) (types_of from (drop i runs))) ≡ old ++ map default_of (take most types) → items ≡ old ++ map default_of (take most types)
-locals_all most runs i from items old types past added =
-    let none = drop_all i runs past in
-    let no_more = take_all (most - from) (types_of from []) (omega arith) in
-    sym (append-nil items) ∙ ap (λ l. items ++ map default_of l) (sym no_more) ∙ ap (λ l. items ++ map default_of (take (most - from) (types_of from l))) (sym none) ∙ added
-
-pub locals_enough : (most : ℕ) (runs : List Run) (i from : ℕ) (items old : List Value) (types : List ValType) → most ≤ from → items ++ map default_of (take (most - from) (types_of from (drop i runs))) ≡ old ++ map default_of (take most types) → items ≡ old ++ map default_of (take most types)
-locals_enough most runs i from items old types enough added =
-    let none : 0 ≡ most - from = omega (arith, enough) in
-    sym (append-nil items) ∙ ap (λ n. items ++ map default_of (take n (types_of from (drop i runs)))) none ∙ added
 
 -- ---- the start
 
