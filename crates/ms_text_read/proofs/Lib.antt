@@ -2,3 +2,4 @@ pub mod Params
 pub mod Stops
 pub mod Named
 pub mod Texts
+pub mod Among

@@ -19,40 +19,29 @@ use ms_types::Vector;
 use std::alloc::{AllocError, Global};
 use std::marker::Model;
 
+/// The words of fields.
+const FIELD_WORDS: [Word; 10] = [
+    Word::Type,
+    Word::Import,
+    Word::Func,
+    Word::Table,
+    Word::Memory,
+    Word::Global,
+    Word::Export,
+    Word::Start,
+    Word::Elem,
+    Word::Data,
+];
+
 /// The word of a field that a text is, if it is one.
 #[tactic(auto, unfolding(ms_text_grammar::specs::Fields::field_words))]
 fn word_of(text: &[u8]) -> Option<Word>
     ensures { result ≡ among field_words text.now }
 {
-    if text == b"type".as_slice() {
-        return Some(Word::Type);
-    }
-    if text == b"import".as_slice() {
-        return Some(Word::Import);
-    }
-    if text == b"func".as_slice() {
-        return Some(Word::Func);
-    }
-    if text == b"table".as_slice() {
-        return Some(Word::Table);
-    }
-    if text == b"memory".as_slice() {
-        return Some(Word::Memory);
-    }
-    if text == b"global".as_slice() {
-        return Some(Word::Global);
-    }
-    if text == b"export".as_slice() {
-        return Some(Word::Export);
-    }
-    if text == b"start".as_slice() {
-        return Some(Word::Start);
-    }
-    if text == b"elem".as_slice() {
-        return Some(Word::Elem);
-    }
-    if text == b"data".as_slice() {
-        return Some(Word::Data);
+    for word in FIELD_WORDS {
+        if text == word.spelling() {
+            return Some(word);
+        }
     }
     None
 }
