@@ -46,19 +46,6 @@ impl<T: Copy + Drop> BoundedStack<T> {
         ensures ok { OnOk result (self.new ≡ item ∷ self.old) }
         ensures err { OnErr result (self.new ≡ self.old) }
     {
-        if self.items.len() >= self.items.capacity() {
-            return self.push_growing(item);
-        }
-        self.items.push_reserved(item);
-        Ok(())
-    }
-
-    /// The same where there may be no room for it yet. It's a function of its own, so that its caller saves no registers for it.
-    #[inline(never)]
-    fn push_growing(&mut self, item: T) -> Result<(), AllocError>
-        ensures ok { OnOk result (self.new ≡ item ∷ self.old) }
-        ensures err { OnErr result (self.new ≡ self.old) }
-    {
         self.room.reserve(&mut self.items, 1, self.size)?;
         self.items.push_reserved(item);
         Ok(())

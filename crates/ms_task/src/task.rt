@@ -19,10 +19,9 @@ use std::alloc::{AllocError, Global};
 /// Contracts see it, among the functions of its store, as the thread `thread_of`.
 #[derive(Drop)]
 pub struct Task {
-    // In this order, so that a call doesn't read function and sequence as one right behind writing each.
     pub(crate) function: usize,
-    pub(crate) place: usize,
     pub(crate) sequence: usize,
+    pub(crate) place: usize,
     /// The operands, the last one topmost.
     pub operands: Operands,
     /// The locals of the current frame, over those of its callers.
