@@ -1,6 +1,6 @@
 //! A tree of rooms in an arena that is reserved as a whole.
 
-ghost use Rattle.std.specs.Prelude.{◌≡◌, ◌<◌, ◌≤◌, ◌+◌, ◌^◌, ◌++◌, ◌∷◌, ◌⊎◌, ℕ, List, [], cond, false, true, length, nat_eq, None, Some, IfOk, MatchOption, IsSome, vec_len, vec_capacity};
+ghost use Rattle.std.specs.Prelude.{◌≡◌, ◌≢◌, ◌<◌, ◌≤◌, ◌+◌, ◌^◌, ◌++◌, ◌∷◌, ◌⊎◌, ℕ, List, [], cond, false, true, length, nat_eq, None, Some, IfOk, MatchOption, IsSome, vec_len, vec_capacity};
 ghost use Rattle.ms_gap_tree.specs.refinement.Arena.{blank, tree_of};
 ghost use Rattle.ms_gap_tree.specs.refinement.Tree.{half, has, insert, remove, removed, yields, IsApart, IsWithinArena};
 ghost use Rattle.ms_gap_tree.specs.refinement.Rooms.{IsLast, IsLowest, nodes_looked_at, room_at, size_of};
@@ -110,10 +110,13 @@ impl Rooms {
         lowest(self.nodes.as_slice(), self.levels, self.root, n, steps)
     }
 
-    /// The item of the greatest key up to this one.
+    /// The item of the greatest key up to this one: that of the key itself, where it has one.
     pub fn last(&self, key: u64) -> Option<Item>
         ensures { IsLast (room_at self.now) key result }
     {
+        if let Some(room) = self.find(key) {
+            return Some(Item { key, room });
+        }
         last(self.nodes.as_slice(), self.levels, 0, self.root, key)
     }
 
@@ -197,5 +200,25 @@ impl Rooms {
         }
         self.replace(rest);
         self.insert(next);
+    }
+
+    /// The room under a key goes, and there is another room under a key that has one, as where two gaps become one. Where the
+    /// key that goes is the one at the root, and the new item has as much room as any other, that takes its place at once.
+    pub fn join(&mut self, key: u64, item: Item)
+        requires there { IsSome (room_at self.old key) }
+        requires other { IsSome (room_at self.old item.key) }
+        requires apart { key ≢ item.key }
+        requires below { item.key < half self.old.levels }
+        ensures rooms { (other : ℕ) → room_at self.new other ≡ cond (nat_eq other item.key) (Some item.room) (cond (nat_eq other key) None (room_at self.old other)) }
+        ensures size { 1 + size_of self.new ≡ size_of self.old }
+        ensures levels { self.new.levels ≡ self.old.levels }
+        ensures most { self.new.most ≡ self.old.most }
+    {
+        self.remove(item.key);
+        if self.exchange(key, item) {
+            return;
+        }
+        self.remove(key);
+        self.insert(item);
     }
 }

@@ -11,7 +11,7 @@ use Rattle.ms_gap_tree.specs.refinement.Rooms.{Arena, IsLowest, room_at, size_of
 use Rattle.ms_gap_tree.specs.refinement.Tree.{half}
 use Rattle.ms_gap_tree.proofs.Inserted.{cond_false}
 use Rattle.ms_gap_tree.proofs.Levels.{differ_test}
-use Rattle.ms_live.specs.refinement.Kept.{filled, IsKept, Kept}
+use Rattle.ms_live.specs.refinement.Kept.{AreEnough, filled, IsKept, Kept}
 use Rattle.ms_live.specs.refinement.Layout.{behind, Begins, Ends, IsBegun, IsLayout, IsRun}
 use Rattle.ms_live.specs.Place.{contains_id, without, IsAligned, IsFree, IsOutside, IsPlace}
 use Rattle.ms_live.specs.declared.gaps.Live.{Live}
@@ -19,9 +19,10 @@ use Rattle.ms_live.specs.declared.gaps.TheConstants.{MOST_LIVE, GAP_LEVELS}
 use Rattle.ms_live.proofs.Found.{find-Some, is_some-find, not_false, other_id, same_id}
 use Rattle.ms_live.proofs.Layouts.{begins, entered, entered_empty, layout_new, left, left_empty, near, Joins, Leaves}
 
-pub key_below : (levels key : ℕ) → levels ≡ GAP_LEVELS → key ≤ 268435456 → key < half levels
+-- as many levels as are enough at any capacity
+pub all_levels : (levels capacity : ℕ) → levels ≡ GAP_LEVELS → capacity < 4294967296 → AreEnough levels capacity
 unfolding half
-key_below levels key e h = subst (λ (n : ℕ). key < 2 ^ n / 2) (sym e) (omega arith)
+all_levels levels capacity e few = (omega arith, subst (λ (n : ℕ). (capacity + 15) / 16 < 2 ^ n / 2) (sym e) (omega arith))
 
 -- ---- places
 
@@ -178,7 +179,7 @@ begun live capacity f s l some p =
 pub at_other : (capacity k : ℕ) → k ≢ 0 → cond (nat_eq k 0) (Some capacity) None ≡ None
 at_other capacity k n = cond_false (nat_eq k 0) (Some capacity) None (differ_test k 0 n)
 
-pub kept_new : (capacity : ℕ) (a : Arena) → capacity < 4294967296 → ((key : ℕ) → room_at a key ≡ cond (nat_eq key 0) (Some capacity) None) → size_of a ≡ 1 → a.levels ≡ GAP_LEVELS → a.most ≡ MOST_LIVE + 1 → IsKept (record { addresses = capacity; live = []; rooms = a })
+pub kept_new : (capacity : ℕ) (a : Arena) → capacity < 4294967296 → ((key : ℕ) → room_at a key ≡ cond (nat_eq key 0) (Some capacity) None) → size_of a ≡ 1 → AreEnough a.levels capacity → a.most ≡ MOST_LIVE + 1 → IsKept (record { addresses = capacity; live = []; rooms = a })
 kept_new capacity a few rooms size levels most =
     record {
       layout = layout_new (Contains []) capacity (room_at a) (λ s c. let l = c.1 in omega arith) (rooms 0) (λ k n. rooms k ∙ at_other capacity k n);
@@ -211,7 +212,7 @@ kept_entered k s a kept few newest place begins same size levels most =
       rising = all_pairs_push (λ (s t : Live). s.id < t.id) k.live s kept.rising newest;
       few = omega arith;
       size = omega arith;
-      levels = levels ∙ kept.levels;
+      levels = subst (λ (n : ℕ). AreEnough n k.addresses) (sym levels) kept.levels;
       most = most ∙ kept.most;
     }
 
@@ -243,7 +244,7 @@ kept_left k id s a kept found ends same size levels most =
       rising = AllPairs-filter (λ (s t : Live). s.id < t.id) (λ t. not (t.id == id)) k.live kept.rising;
       few = omega arith;
       size = omega arith;
-      levels = levels ∙ kept.levels;
+      levels = subst (λ (n : ℕ). AreEnough n k.addresses) (sym levels) kept.levels;
       most = most ∙ kept.most;
     }
 
@@ -257,6 +258,10 @@ first_is k kept = subst IsSome (sym kept.layout.first.1) refl
 
 pub within_is : (k : Kept) (id : ℕ) (s : Live) → IsKept k → find (λ (t : Live). t.id == id) k.live ≡ Some s → 0 < s.size → s.base + s.size ≤ k.addresses
 within_is k id s kept found some = kept.layout.within s (find-Some (λ (t : Live). t.id == id) k.live s found).0 some
+
+-- what begins at its place ends within the capacity
+pub placed_within : (live : List Live) (capacity : ℕ) (s : Live) → 0 < s.size → IsPlace live capacity s.size (Some s.base) → s.base + s.size ≤ capacity
+placed_within live capacity s some p = let last = (p.1 (s.size - 1) (omega arith)).0 in omega arith
 
 pub near_is : (k : Kept) → IsKept k → (key room : ℕ) → room_at k.rooms key ≡ Some room → 16 * key + room ≤ 4294967296
 near_is k kept key room e = near (Contains k.live) k.addresses (room_at k.rooms) kept.layout kept.addresses key room e

@@ -11,7 +11,7 @@ pub const MOST_LIVE: u32 = 65_536;
 /// Each segment, and so each gap, begins at a multiple of this.
 pub const ALIGNMENT: u64 = 16;
 
-/// How many levels a tree has that has the keys of all gaps: a multiple of 16 up to 2^32, by 16.
+/// How many levels are enough for the keys of all gaps at any capacity: a multiple of 16 up to 2^32, by 16.
 pub const GAP_LEVELS: u32 = 30;
 
 /// A live segment.

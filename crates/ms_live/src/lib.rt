@@ -15,4 +15,4 @@ mod tree_gaps;
 
 pub use gaps::{ALIGNMENT, GAP_LEVELS, Gaps, Live, MOST_LIVE};
 pub use list_gaps::ListGaps;
-pub use tree_gaps::TreeGaps;
+pub use tree_gaps::{TreeGaps, levels_for};

@@ -2,14 +2,14 @@
 
 ghost use Rattle.std.specs.Prelude.{◌≡◌, ◌+◌, ◌*◌, ◌<◌, ◌≤◌, ◌^◌, ℕ, cond, nat_lt, length, IsSome, Some};
 ghost use Rattle.ms_gap_tree.specs.refinement.Rooms.{room_at, size_of};
-ghost use Rattle.ms_live.specs.refinement.Kept.{looked_at};
+ghost use Rattle.ms_gap_tree.specs.refinement.Tree.{half};
+ghost use Rattle.ms_live.specs.refinement.Kept.{AreEnough, looked_at};
 ghost use Rattle.ms_live.specs.refinement.Layout.{Begins, Ends, IsBegun, behind};
 ghost use Rattle.ms_live.specs.Place.{IsPlace};
-ghost use Rattle.ms_live.specs.declared.gaps.TheConstants.{GAP_LEVELS};
 
 use crate::gaps::{ALIGNMENT, GAP_LEVELS, Gaps, Live, MOST_LIVE};
 use crate::hinted::HintedIds;
-use ms_gap_tree::{Item, Rooms, Steps};
+use ms_gap_tree::{Item, Rooms, Steps, half};
 use std::alloc::{AllocError, Global};
 use std::marker::{Brand, Model};
 use std::sync::ledger::{Blank, Ledger};
@@ -33,6 +33,19 @@ impl Model for TreeGaps {
     ghost invariant = { λ g. IsKept (record { addresses = g.capacity; live = g.ids; rooms = g.rooms }) };
 }
 
+/// How many levels a tree has that has the keys of all gaps within a capacity: no more than it takes, since a search passes by each.
+pub fn levels_for(capacity: u32) -> u32
+    ensures { AreEnough result capacity }
+{
+    let last = (u64::from(capacity) + ALIGNMENT - 1) / ALIGNMENT;
+    for levels in 1..GAP_LEVELS {
+        if last < half(levels) {
+            return levels;
+        }
+    }
+    GAP_LEVELS
+}
+
 /// The key of the gap behind the segment.
 fn behind(segment: Live) -> u64
     ensures { result ≡ behind segment }
@@ -45,7 +58,7 @@ fn behind(segment: Live) -> u64
 fn begin(rooms: &mut Rooms, segment: Live)
     requires begun { 0 < segment.size → (key : ℕ) × (room : ℕ) × IsBegun (room_at rooms.old) segment key room }
     requires near { (key room : ℕ) → room_at rooms.old key ≡ Some room → 16 * key + room ≤ 2 ^ 32 }
-    requires levels { rooms.old.levels ≡ GAP_LEVELS }
+    requires below { 0 < segment.size → behind segment < half rooms.old.levels }
     requires few { size_of rooms.old < rooms.old.most }
     ensures begins { 0 < segment.size → (key room : ℕ) → IsBegun (room_at rooms.old) segment key room → Begins (room_at rooms.old) (room_at rooms.new) segment key room }
     ensures same { segment.size ≡ 0 → rooms.new ≡ rooms.old }
@@ -77,7 +90,7 @@ fn end(rooms: &mut Rooms, capacity: u32, segment: Live)
     requires back { 0 < segment.size → IsSome (room_at rooms.old (behind segment)) }
     requires near { (key room : ℕ) → room_at rooms.old key ≡ Some room → 16 * key + room ≤ 2 ^ 32 }
     requires within { 0 < segment.size → segment.base + segment.size ≤ capacity }
-    requires levels { rooms.old.levels ≡ GAP_LEVELS }
+    requires levels { AreEnough rooms.old.levels capacity }
     ensures ends { 0 < segment.size → (key : ℕ) × (room : ℕ) × (rest : ℕ) × Ends capacity (room_at rooms.old) (room_at rooms.new) segment key room rest }
     ensures same { segment.size ≡ 0 → rooms.new ≡ rooms.old }
     ensures size { cond (nat_lt 0 segment.size) 1 0 + size_of rooms.new ≡ size_of rooms.old }
@@ -95,11 +108,13 @@ fn end(rooms: &mut Rooms, capacity: u32, segment: Live)
         unreachable!()
     };
     let to = (ALIGNMENT * next + rest).min(u64::from(capacity));
-    rooms.remove(next);
-    rooms.replace(Item {
-        key: before.key,
-        room: to - ALIGNMENT * before.key,
-    });
+    rooms.join(
+        next,
+        Item {
+            key: before.key,
+            room: to - ALIGNMENT * before.key,
+        },
+    );
 }
 
 /// The place, with steps that are not counted.
@@ -135,7 +150,7 @@ impl Gaps for TreeGaps {
     ghost live = { λ gaps. gaps.live };
 
     fn new(alloc: Global, capacity: u32) -> Result<Self, AllocError> {
-        let mut rooms = Rooms::new(alloc, GAP_LEVELS, MOST_LIVE + 1)?;
+        let mut rooms = Rooms::new(alloc, levels_for(capacity), MOST_LIVE + 1)?;
         rooms.insert(Item {
             key: 0,
             room: u64::from(capacity),

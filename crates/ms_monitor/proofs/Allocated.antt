@@ -1,5 +1,5 @@
 -- An allocation: when it may come, and what is kept and shown after it.
-use Rattle.std.proofs.Common.{◌≡◌, ◌≢◌, ℕ, zero, suc, ◌+◌, ◌*◌, ◌%◌, ◌<◌, ◌≤◌, true, false, cond, nat_lt, List, [], ◌∷◌, ◌++◌, Option, Some, None, refl, arith, ap, sym, ◌∙◌, subst, inl, inr}
+use Rattle.std.proofs.Common.{◌≡◌, ◌≢◌, ℕ, zero, suc, ◌+◌, ◌-◌, ◌*◌, ◌%◌, ◌<◌, ◌≤◌, true, false, cond, nat_lt, List, [], ◌∷◌, ◌++◌, Option, Some, None, refl, arith, ap, sym, ◌∙◌, subst, inl, inr}
 use Rattle.std.specs.List.{Contains}
 use Rattle.std.proofs.lemmas.Bool.{cases_eq, cases_lt}
 use Rattle.std.proofs.lemmas.List.{length-append}
@@ -9,7 +9,9 @@ use Rattle.ms_event.specs.Monitor.{May, Paint, Shade, State, after, coat, coat_f
 use Rattle.ms_event.specs.Monitor as monitor
 use Rattle.ms_event.specs.declared.event.Event.TheVariants.{Alloc}
 use Rattle.ms_gap_tree.specs.refinement.Rooms.{Arena, room_at, size_of}
+use Rattle.ms_gap_tree.specs.refinement.Tree.{half}
 use Rattle.ms_handle.specs.declared.handle.Kind.TheVariants.{Heap}
+use Rattle.ms_live.specs.refinement.Kept.{AreEnough}
 use Rattle.ms_live.specs.refinement.Layout.{IsLayout}
 use Rattle.ms_live.specs.declared.gaps.Live.{Live}
 use Rattle.ms_live.proofs.Layouts.{entered_empty, near, Joins}
@@ -68,6 +70,14 @@ alloc_may k s id base size key room shows kept begins b fits = (
 pub near_is : (k : Kept) → IsKept k → IsNear (room_at k.rooms)
 near_is k kept key room e = near (IsLive k.colours) k.capacity (room_at k.rooms) kept.layout kept.addresses key room e
 
+pub back_below : (k : Kept) (base size key room : ℕ) → IsKept k → IsBefore (room_at k.rooms) base key room → (0 < size → base + size ≤ 16 * key + room) → 0 < size → back base size < half k.rooms.levels
+back_below k base size key room kept b fits some =
+    let up = b.up_to in
+    let f = fits some in
+    let last = (kept.layout.free key room b.found (base + size - 1) (omega arith) (omega arith)).0 in
+    let enough = kept.levels.1 in
+    omega arith
+
 pub few_is : (k : Kept) → IsKept k → live_in k.colours < most_live → size_of k.rooms < k.rooms.most
 few_is k kept few = let f = filled_few k.colours in let s = kept.size in let m = kept.most in omega arith
 
@@ -111,7 +121,7 @@ alloc_kept k id base size key room new shades rooms kept begins b fits adds spli
       addresses = kept.addresses;
       few = omega arith;
       size = omega arith;
-      levels = levels ∙ kept.levels;
+      levels = subst (λ (n : ℕ). AreEnough n k.capacity) (sym levels) kept.levels;
       most = most ∙ kept.most;
     }
 

@@ -6,10 +6,10 @@ use Rattle.ms_live.proofs.Layouts.{layout_new}
 use Rattle.ms_monitor.specs.refinement.Colours.{colour_of, filled_in, live_in}
 use Rattle.ms_monitor.specs.refinement.Kept.{IsKept, IsLive}
 use Rattle.ms_monitor.specs.declared.colours.Colour.{Colour}
-use Rattle.ms_live.specs.declared.gaps.TheConstants.{GAP_LEVELS}
+use Rattle.ms_live.specs.refinement.Kept.{AreEnough}
 use Rattle.ms_live.proofs.Keeping.{at_other}
 
-pub begun_kept : (capacity : ℕ) (colours : List (ℕ × Colour)) (shades : List Shade) (rooms : Arena) → colours ≡ [] → capacity < 4294967296 → ((key : ℕ) → room_at rooms key ≡ cond (nat_eq key 0) (Some capacity) None) → size_of rooms ≡ 1 → rooms.levels ≡ GAP_LEVELS → rooms.most ≡ most_live + 1
+pub begun_kept : (capacity : ℕ) (colours : List (ℕ × Colour)) (shades : List Shade) (rooms : Arena) → colours ≡ [] → capacity < 4294967296 → ((key : ℕ) → room_at rooms key ≡ cond (nat_eq key 0) (Some capacity) None) → size_of rooms ≡ 1 → AreEnough rooms.levels capacity → rooms.most ≡ most_live + 1
     → IsKept (record { capacity = capacity; colours = colours; shades = shades; rooms = rooms })
 begun_kept capacity colours shades rooms none below at size levels most =
     let l = ap live_in none in

@@ -7,6 +7,7 @@ use Rattle.std.proofs.lemmas.List.Kept.{AllPairs-filter}
 use Rattle.ms_event.specs.Monitor.{Paint, Shade, State, after}
 use Rattle.ms_event.specs.declared.event.Event.TheVariants.{Free}
 use Rattle.ms_gap_tree.specs.refinement.Rooms.{Arena, room_at, size_of}
+use Rattle.ms_live.specs.refinement.Kept.{AreEnough}
 use Rattle.ms_live.specs.refinement.Layout.{IsLayout}
 use Rattle.ms_live.specs.refinement.Layout as layout
 use Rattle.ms_live.specs.declared.gaps.Live.{Live}
@@ -101,7 +102,7 @@ free_kept k id c new shades rooms kept found live ends joined same count levels 
       addresses = kept.addresses;
       few = omega arith;
       size = omega arith;
-      levels = levels ∙ kept.levels;
+      levels = subst (λ (n : ℕ). AreEnough n k.capacity) (sym levels) kept.levels;
       most = most ∙ kept.most;
     }
 

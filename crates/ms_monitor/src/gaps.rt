@@ -2,9 +2,10 @@
 
 ghost use Rattle.std.specs.Prelude.{◌≡◌, ℕ, ◌+◌, ◌*◌, ◌/◌, ◌<◌, ◌≤◌, ◌^◌, ◌↔◌, IsTrue, IsSome, None, Some, cond, nat_lt};
 ghost use Rattle.ms_gap_tree.specs.refinement.Rooms.{HasRoom, room_at, size_of};
+ghost use Rattle.ms_gap_tree.specs.refinement.Tree.{half};
+ghost use Rattle.ms_live.specs.refinement.Kept.{AreEnough};
 ghost use Rattle.ms_live.specs.refinement.Layout as layout;
 ghost use Rattle.ms_monitor.specs.refinement.Gaps.{IsBefore, IsNear, Splits, back, segment};
-ghost use Rattle.ms_live.specs.declared.gaps.TheConstants.{GAP_LEVELS};
 
 use ms_gap_tree::{Item, Rooms, Steps};
 use ms_live::ALIGNMENT;
@@ -43,7 +44,7 @@ pub(crate) fn split(rooms: &mut Rooms, gap: Item, base: u32, size: u32)
     requires fits { 0 < size → base + size ≤ 16 * gap.key + gap.room }
     requires near { IsNear (room_at rooms.old) }
     requires absent { 0 < size → room_at rooms.old (back base size) ≡ None }
-    requires levels { rooms.old.levels ≡ GAP_LEVELS }
+    requires below { 0 < size → back base size < half rooms.old.levels }
     requires few { size_of rooms.old < rooms.old.most }
     ensures splits { 0 < size → Splits (room_at rooms.old) (room_at rooms.new) base size gap.key gap.room }
     ensures same { size ≡ 0 → rooms.new ≡ rooms.old }
@@ -71,7 +72,7 @@ pub(crate) fn join(rooms: &mut Rooms, capacity: u32, base: u32, size: u32)
     requires back { 0 < size → IsSome (room_at rooms.old (back base size)) }
     requires near { IsNear (room_at rooms.old) }
     requires within { 0 < size → base + size ≤ capacity }
-    requires levels { rooms.old.levels ≡ GAP_LEVELS }
+    requires levels { AreEnough rooms.old.levels capacity }
     ensures ends { 0 < size → (key : ℕ) × (room : ℕ) × (rest : ℕ) × layout.Ends capacity (room_at rooms.old) (room_at rooms.new) (segment 0 base size) key room rest }
     ensures same { size ≡ 0 → rooms.new ≡ rooms.old }
     ensures size { cond (nat_lt 0 size) 1 0 + size_of rooms.new ≡ size_of rooms.old }
@@ -87,11 +88,13 @@ pub(crate) fn join(rooms: &mut Rooms, capacity: u32, base: u32, size: u32)
         unreachable!()
     };
     let to = (ALIGNMENT * next + rest).min(u64::from(capacity));
-    rooms.remove(next);
-    rooms.replace(Item {
-        key: before.key,
-        room: to - ALIGNMENT * before.key,
-    });
+    rooms.join(
+        next,
+        Item {
+            key: before.key,
+            room: to - ALIGNMENT * before.key,
+        },
+    );
 }
 
 /// Whether a gap has so much room.

@@ -12,7 +12,7 @@ use crate::gaps::{gap_before, has_room, join, reaches, split};
 use crate::shades::{Part, Shades};
 use ms_event::Event;
 use ms_gap_tree::{Item, Rooms};
-use ms_live::{GAP_LEVELS, MOST_LIVE};
+use ms_live::{MOST_LIVE, levels_for};
 use std::alloc::{AllocError, Global};
 use std::marker::Model;
 
@@ -51,7 +51,7 @@ impl Monitor {
         ensures shows { IfOk result (λ m. Shows m nothing_yet) }
         ensures capacity { IfOk result (λ m. m.capacity ≡ capacity) }
     {
-        let mut rooms = Rooms::new(alloc, GAP_LEVELS, MOST_LIVE + 1)?;
+        let mut rooms = Rooms::new(alloc, levels_for(capacity), MOST_LIVE + 1)?;
         rooms.insert(Item {
             key: 0,
             room: u64::from(capacity),

@@ -3,11 +3,11 @@ use Rattle.std.specs.Prelude.{◌≡◌, ℕ, ◌+◌, ◌<◌, ◌≤◌, true,
 use Rattle.ms_event.specs.Monitor.{Shade, most_live}
 use Rattle.ms_gap_tree.specs.refinement.Rooms.{Arena, room_at, size_of}
 use Rattle.ms_handle.specs.declared.handle.Kind.TheVariants.{Heap}
+use Rattle.ms_live.specs.refinement.Kept.{AreEnough}
 use Rattle.ms_live.specs.refinement.Layout.{IsLayout}
 use Rattle.ms_live.specs.declared.gaps.Live.{Live}
 use Rattle.ms_monitor.specs.refinement.Colours.{colour_of, filled_in, live_in}
 use Rattle.ms_monitor.specs.declared.colours.Colour.{Colour}
-use Rattle.ms_live.specs.declared.gaps.TheConstants.{GAP_LEVELS}
 
 -- how many addresses there are, all colours used, the shades that were sliced or sealed, and the rooms of the gaps between live allocations
 pub record Kept : Type 0 where
@@ -26,5 +26,5 @@ pub record IsKept (k : Kept) : Type 0 where
   pub addresses : k.capacity < 4294967296
   pub few : live_in k.colours ≤ most_live
   pub size : size_of k.rooms ≡ 1 + filled_in k.colours
-  pub levels : k.rooms.levels ≡ GAP_LEVELS
+  pub levels : AreEnough k.rooms.levels k.capacity
   pub most : k.rooms.most ≡ most_live + 1

@@ -1,11 +1,11 @@
-use Rattle.std.proofs.Common.{◌<◌, List, Some, All, length, subst, sym}
+use Rattle.std.proofs.Common.{◌<◌, List, Some, All, arith, length, subst, sym}
 use Rattle.ms_gap_tree.specs.refinement.Rooms.{room_at}
 use Rattle.ms_live.specs.refinement.Kept.{IsKept, Kept}
 use Rattle.ms_live.specs.Place.{IsPlace}
 use Rattle.ms_live.specs.declared.gaps.Live.{Live}
 use Rattle.ms_live.specs.declared.gaps.TheConstants.{MOST_LIVE}
 use Rattle.ms_live.specs.declared.tree_gaps.TreeGaps.TheInside.{Inside}
-use Rattle.ms_live.proofs.Keeping.{begun, few_is, kept_entered, near_is}
+use Rattle.ms_live.proofs.Keeping.{begun, few_is, kept_entered, near_is, placed_within}
 use Rattle.ms_live.proofs.tree_gaps.TreeGapsGaps.enter.Goals as goal
 
 abbrev kept : Inside → Kept
@@ -19,6 +19,14 @@ begin-requires-clause-begun c some =
 
 pub begin-requires-clause-near : goal.begin-requires-clause-near
 begin-requires-clause-near c key room e = near_is (kept c.self.inside) c.self.invariant key room e
+
+pub begin-requires-clause-below : goal.begin-requires-clause-below
+begin-requires-clause-below c some =
+    let g = c.self.inside in
+    let place = subst (λ (k : Kept). IsPlace k.live k.addresses c.args.segment.size (Some c.args.segment.base)) (sym c.self.view_is) c.requires.placed in
+    let within = placed_within g.ids g.capacity c.args.segment some place in
+    let enough = c.self.invariant.levels.1 in
+    omega arith
 
 pub begin-requires-clause-few : goal.begin-requires-clause-few
 begin-requires-clause-few c = few_is (kept c.self.inside) c.self.invariant (subst (λ (k : Kept). length k.live < MOST_LIVE) (sym c.self.view_is) c.requires.few)

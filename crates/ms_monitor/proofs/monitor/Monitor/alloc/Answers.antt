@@ -4,7 +4,7 @@ use Rattle.ms_monitor.specs.refinement.Judging.{Judges}
 use Rattle.ms_monitor.specs.refinement.Kept.{Kept}
 use Rattle.ms_monitor.specs.declared.colours.Colour.{Colour}
 use Rattle.ms_monitor.specs.declared.monitor.Verdict.TheVariants.{Memory, Reject}
-use Rattle.ms_monitor.proofs.Allocated.{absent_is, alloc_kept, alloc_may, alloc_shows, few_is, may_begin, may_fit, near_is}
+use Rattle.ms_monitor.proofs.Allocated.{absent_is, back_below, alloc_kept, alloc_may, alloc_shows, few_is, may_begin, may_fit, near_is}
 use Rattle.ms_monitor.proofs.Fields.{kept}
 use Rattle.ms_monitor.proofs.monitor.Monitor.alloc.Goals as goal
 
@@ -34,6 +34,10 @@ split-requires-clause-near c key room e = near_is (kept c.self.inside) c.self.in
 pub split-requires-clause-absent : goal.split-requires-clause-absent
 split-requires-clause-absent c some =
     absent_is (kept c.self.inside) c.args.base c.args.size c.gap_before-gap.result.key c.gap_before-gap.result.room c.self.invariant (c.may_begin.ensures.0 c.if-not-may_begin.false).2 c.gap_before-gap.ensures (c.reaches.ensures.0 c.if-not-reaches.false) some
+
+pub split-requires-clause-below : goal.split-requires-clause-below
+split-requires-clause-below c some =
+    back_below (kept c.self.inside) c.args.base c.args.size c.gap_before-gap.result.key c.gap_before-gap.result.room c.self.invariant c.gap_before-gap.ensures (c.reaches.ensures.0 c.if-not-reaches.false) some
 
 pub split-requires-clause-few : goal.split-requires-clause-few
 split-requires-clause-few c = few_is (kept c.self.inside) c.self.invariant (c.may_begin.ensures.0 c.if-not-may_begin.false).0

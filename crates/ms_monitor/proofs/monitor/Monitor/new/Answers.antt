@@ -1,11 +1,12 @@
-use Rattle.std.proofs.Common.{◌≡◌, ◌∙◌, ℕ, Some, None, cond, nat_eq, ap, arith}
+use Rattle.std.proofs.Common.{◌≡◌, ◌∙◌, ℕ, Some, None, cond, nat_eq, ap, arith, subst, sym}
 use Rattle.ms_gap_tree.specs.refinement.Rooms.{room_at, size_of}
-use Rattle.ms_live.proofs.Keeping.{key_below}
+use Rattle.ms_live.specs.refinement.Kept.{AreEnough}
 use Rattle.ms_monitor.proofs.Begun.{begun_kept}
 use Rattle.ms_monitor.proofs.monitor.Monitor.new.Goals as goal
 
 pub insert-requires-clause-key : goal.insert-requires-clause-key
-insert-requires-clause-key c = key_below c.in_ok-rooms.rooms.levels 0 c.in_ok-rooms.ensures.levels (omega arith)
+insert-requires-clause-key c =
+    let enough = (subst (λ (n : ℕ). AreEnough n c.args.capacity) (sym c.in_ok-rooms.ensures.levels) c.levels_for.ensures).1 in omega arith
 
 pub invariant_of-result : goal.invariant_of-result
 invariant_of-result c =
@@ -14,4 +15,4 @@ invariant_of-result c =
     let was : cond (nat_eq key 0) (Some c.from.result) (room_at c.in_ok-rooms.rooms key) ≡ cond (nat_eq key 0) (Some c.from.result) None = ap (cond (nat_eq key 0) (Some c.from.result)) (c.in_ok-rooms.ensures.rooms key) in
     c.insert.ensures.rooms key ∙ (was ∙ ap (λ (n : ℕ). cond (nat_eq key 0) (Some n) None) c.from.ensures) in
     let size : size_of a ≡ 1 = let s = c.insert.ensures.size in let z = c.in_ok-rooms.ensures.size in omega arith in
-    begun_kept c.args.capacity c.new-2.result c.new-3.result a c.new-2.ensures (omega arith) rooms size (c.insert.ensures.levels ∙ c.in_ok-rooms.ensures.levels) (c.insert.ensures.most ∙ c.in_ok-rooms.ensures.most)
+    begun_kept c.args.capacity c.new-2.result c.new-3.result a c.new-2.ensures (omega arith) rooms size (subst (λ (n : ℕ). AreEnough n c.args.capacity) (sym (c.insert.ensures.levels ∙ c.in_ok-rooms.ensures.levels)) c.levels_for.ensures) (c.insert.ensures.most ∙ c.in_ok-rooms.ensures.most)
