@@ -49,6 +49,12 @@ pub const ELSE_WORD: &[u8] = b"else";
 /// What ends a block.
 pub const END_WORD: &[u8] = b"end";
 
+/// What stands in front of the number of an offset, in one token with it.
+pub const OFFSET_FRONT: &[u8] = b"offset=";
+
+/// What stands in front of the number of an alignment, in one token with it.
+pub const ALIGN_FRONT: &[u8] = b"align=";
+
 /// The item of a word in a table; in a function that answers an option.
 #[macro_export]
 macro_rules! item_by_word {

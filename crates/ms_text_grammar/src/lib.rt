@@ -15,7 +15,7 @@ mod word;
 
 pub use fault::{Counted, TextFault};
 pub use frame::{Frame, Fresh, Sign};
-pub use keyword::{ELSE_WORD, END_WORD, Keyword};
+pub use keyword::{ALIGN_FRONT, ELSE_WORD, END_WORD, Keyword, OFFSET_FRONT};
 pub use laws::{
     fields_are_spelled_in_one_way, folded_instructions_are_taken, greater_bounds_spell_it,
     one_module_is_spelled, scanned_uses_are_those_of_fields,

@@ -11,7 +11,7 @@ ghost use Rattle.ms_text_parts.specs.refinement.Readers.{Reads};
 use crate::parts::{identifier, next_is_id};
 use crate::words::{Words, bad, is_float, is_id, is_keyword, is_number};
 use ms_module::MemArg;
-use ms_text_grammar::{Index, TextFault};
+use ms_text_grammar::{ALIGN_FRONT, Index, OFFSET_FRONT, TextFault};
 use ms_text_lex::{Token, constant, index as index_of, is_signed, is_unsigned, text_of};
 
 /// What the text of a number is worth as a constant of 32 bits.
@@ -186,17 +186,17 @@ fn power_below(most: u32, n: u32) -> Option<u32>
 fn offset(c: &mut Words) -> Result<u32, TextFault>
     ensures { Reads c.old c.new result ((offset c.old.source).read (length c.old.source) c.old.left) }
 {
-    if !next_is_front(b"offset=", c) {
+    if !next_is_front(OFFSET_FRONT, c) {
         return Ok(0);
     }
     let [token, ..] = c.rest() else {
         return Err(bad(c));
     };
     let token = *token;
-    if !is_numbered(c.source(), b"offset=", token) {
+    if !is_numbered(c.source(), OFFSET_FRONT, token) {
         return Err(bad(c));
     }
-    let Some(value) = index_of(behind(c.source(), b"offset=", token)) else {
+    let Some(value) = index_of(behind(c.source(), OFFSET_FRONT, token)) else {
         return Err(TextFault::Range { at: token.at });
     };
     c.skip();
@@ -216,17 +216,17 @@ fn exponent_in(digits: &[u8]) -> Option<u32>
 fn align(natural: u32, c: &mut Words) -> Result<u32, TextFault>
     ensures { Reads c.old c.new result ((align c.old.source natural).read (length c.old.source) c.old.left) }
 {
-    if !next_is_front(b"align=", c) {
+    if !next_is_front(ALIGN_FRONT, c) {
         return Ok(natural);
     }
     let [token, ..] = c.rest() else {
         return Err(bad(c));
     };
     let token = *token;
-    if !is_numbered(c.source(), b"align=", token) {
+    if !is_numbered(c.source(), ALIGN_FRONT, token) {
         return Err(bad(c));
     }
-    let Some(exponent) = exponent_in(behind(c.source(), b"align=", token)) else {
+    let Some(exponent) = exponent_in(behind(c.source(), ALIGN_FRONT, token)) else {
         return Err(TextFault::Range { at: token.at });
     };
     c.skip();

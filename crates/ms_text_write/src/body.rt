@@ -13,7 +13,7 @@ use crate::words::{opening_word, write_keyword};
 use ms_flat::{Step, Walk};
 use ms_handle::Kind;
 use ms_module::{BrTable, Code, Instr, Linear, MemArg, Segment};
-use ms_text_grammar::{ELSE_WORD, END_WORD, Word};
+use ms_text_grammar::{ALIGN_FRONT, ELSE_WORD, END_WORD, OFFSET_FRONT, Word};
 use ms_types::ValType;
 use std::alloc::{AllocError, Global};
 
@@ -40,7 +40,8 @@ fn write_offset(offset: u32, out: &mut Vec<u8>) -> Result<(), AllocError>
     if offset == 0 {
         return Ok(());
     }
-    out.extend_from_slice(b" offset=")?;
+    out.push(b' ')?;
+    out.extend_from_slice(OFFSET_FRONT)?;
     write_number(offset, out)
 }
 
@@ -61,7 +62,8 @@ fn write_align(natural: u32, align: u32, out: &mut Vec<u8>) -> Result<(), AllocE
     if bytes == natural {
         return Ok(());
     }
-    out.extend_from_slice(b" align=")?;
+    out.push(b' ')?;
+    out.extend_from_slice(ALIGN_FRONT)?;
     write_number(bytes, out)
 }
 
