@@ -1,6 +1,7 @@
 """What the measurements share: modules in bytes, the programs that are measured, and processor time."""
 
 import os
+import re
 import shutil
 import subprocess
 import sys
@@ -145,6 +146,18 @@ def changed_program(name, source, changes):
         shutil.copy2(program, kept)
         os.utime(kept)
     return kept
+
+
+# Instructions of the processor
+
+
+def instructions(command, variables=None):
+    """How many instructions of the processor a command takes, in an environment with these variables more."""
+    with tempfile.NamedTemporaryFile("r") as log:
+        words = ["valgrind", "--tool=callgrind", "--callgrind-out-file=/dev/null", f"--log-file={log.name}", *command]
+        how = {"stdin": subprocess.DEVNULL, "stderr": subprocess.DEVNULL, "env": {**os.environ, **(variables or {})}}
+        subprocess.run(words, check=True, **how)
+        return int(re.search(r"Collected : (\d+)", log.read()).group(1))
 
 
 # Processor time
