@@ -1,6 +1,6 @@
 //! Stacks within a room.
 
-ghost use Rattle.std.specs.Prelude.{◌≡◌, ◌<◌, ◌≤◌, List, [], ◌∷◌, drop, length, reverse, slice_get, OnOk, OnErr, Some};
+ghost use Rattle.std.specs.Prelude.{◌≡◌, ◌<◌, ◌≤◌, List, [], ◌∷◌, drop, length, reverse, slice_get, false, IsTrue, OnOk, OnErr, Some};
 
 use crate::room::Room;
 use std::alloc::{AllocError, Global};
@@ -51,6 +51,19 @@ impl<T: Copy + Drop> BoundedStack<T> {
         Ok(())
     }
 
+    /// Puts an item on top where there is room for it already, and says whether there is; else nothing has changed.
+    #[inline(always)]
+    pub fn push_within(&mut self, item: T) -> bool
+        ensures on { IsTrue result → self.new ≡ item ∷ self.old }
+        ensures off { result ≡ false → self.new ≡ self.old }
+    {
+        if self.items.len() == self.items.capacity() {
+            return false;
+        }
+        self.items.push_reserved(item);
+        true
+    }
+
     /// Takes the topmost item.
     #[inline(always)]
     pub fn pop(&mut self) -> T
@@ -99,5 +112,16 @@ impl<T: Copy + Drop> BoundedStack<T> {
     {
         let top = self.items.len() - 1;
         self.items[top] = item;
+    }
+
+    /// Puts an item in the place of the two topmost ones.
+    #[inline(always)]
+    pub fn set_top_two(&mut self, item: T)
+        requires { 1 < length self.old }
+        ensures { self.new ≡ item ∷ drop 2 self.old }
+    {
+        let top = self.items.len() - 1;
+        self.items[top - 1] = item;
+        self.items.truncate(top);
     }
 }

@@ -1,6 +1,6 @@
 //! Values as operands and locals keep them.
 
-ghost use Rattle.std.specs.Prelude.{◌≡◌, ◌<◌, ◌≤◌, [], ◌∷◌, drop, length, slice_get, OnErr, OnOk, Some};
+ghost use Rattle.std.specs.Prelude.{◌≡◌, ◌<◌, ◌≤◌, [], ◌∷◌, drop, length, slice_get, false, IfSome, IsTrue, OnErr, OnOk, Some};
 ghost use Rattle.ms_linear.specs.Values.{type_of};
 ghost use Rattle.ms_linear.specs.declared.value.Value.TheVariants as values;
 ghost use Rattle.ms_types.specs.declared.types.ValType.TheVariants as types;
@@ -121,6 +121,29 @@ impl Cell {
         }
     }
 
+    /// The handle that is in the cell, where it is a good one.
+    #[inline(always)]
+    pub fn good(self) -> Option<Handle>
+        ensures { IfSome result (λ h. self ≡ values.Handle h) }
+    {
+        match self.kept {
+            Kept::Good {
+                sealed,
+                id,
+                base,
+                length,
+                offset,
+            } => Some(Handle::Good {
+                sealed,
+                id,
+                base,
+                length,
+                offset,
+            }),
+            _ => None,
+        }
+    }
+
     /// The value of the cell.
     #[inline(always)]
     pub fn value(self) -> Value
@@ -199,6 +222,15 @@ impl Operands {
         self.cells.push(cell)
     }
 
+    /// Puts a cell on top where there is room for it already, and says whether there is; else nothing has changed.
+    #[inline(always)]
+    pub fn push_within(&mut self, cell: Cell) -> bool
+        ensures on { IsTrue result → self.new ≡ cell ∷ self.old }
+        ensures off { result ≡ false → self.new ≡ self.old }
+    {
+        self.cells.push_within(cell)
+    }
+
     /// Takes the topmost operand.
     #[inline(always)]
     pub fn pop(&mut self) -> Value
@@ -258,5 +290,14 @@ impl Operands {
         ensures { self.new ≡ cell ∷ drop 1 self.old }
     {
         self.cells.set_top(cell);
+    }
+
+    /// Puts a cell in the place of the two topmost operands.
+    #[inline(always)]
+    pub fn set_top_two(&mut self, cell: Cell)
+        requires { 1 < length self.old }
+        ensures { self.new ≡ cell ∷ drop 2 self.old }
+    {
+        self.cells.set_top_two(cell);
     }
 }

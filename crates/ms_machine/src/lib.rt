@@ -13,6 +13,7 @@ mod hosting;
 mod lookup;
 mod machine;
 mod memory;
+mod near;
 mod plain;
 mod segment;
 mod starting;

@@ -10,7 +10,7 @@ ghost use Rattle.ms_task.specs.refinement.View.{at_next, thread_of};
 
 use crate::fault::{Fault, of_fault, of_operate};
 use crate::lookup::memory_address;
-use crate::segment;
+use crate::segment::{self, Told};
 use crate::store::Store;
 use ms_event::{Event, Tally};
 use ms_module::{Linear, Numeric, Segment};
@@ -89,7 +89,7 @@ pub(crate) fn segment_counted<M: SegmentMemory>(
     i: Segment,
     next: usize,
     tally: &mut Tally,
-) -> Result<(), Fault>
+) -> Told
     requires can { Can (instr.Segment i) next store.old task.old }
     requires few { store.old.segments.made < 2 ^ 63 }
     requires fit { Each (Fits store.old.segments) task.old.operands }
@@ -97,10 +97,11 @@ pub(crate) fn segment_counted<M: SegmentMemory>(
     ensures { DoesTold (act store.old (instr.Segment i) (at_next store.old.funcs task.old next)) store.old (thread_of store.old.funcs task.old) tally.old store.new (thread_of store.new.funcs task.new) tally.new result }
 {
     match segment::segment_counted(i, &mut store.segments, &mut task.operands, tally) {
-        Ok(()) => {
+        Told::Done => {
             task.go_to(next);
-            Ok(())
+            Told::Done
         }
-        Err(fault) => Err(fault),
+        Told::Not => Told::Not,
+        Told::Memory => Told::Memory,
     }
 }

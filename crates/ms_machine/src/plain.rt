@@ -117,21 +117,18 @@ pub(crate) fn local_get<M: SegmentMemory>(
     ensures stays { Stays task.old next task.new result }
 {
     let _ = store;
-    match task.frames.get_near(x as usize) {
-        Some(cell) => match task.operands.push_cell(cell) {
-            Ok(()) => {
-                task.go_to(next);
-                Ok(None)
-            }
-            Err(_) => Err(Fault::Memory),
-        },
-        None => match task.frames.push_to(x as usize, &mut task.operands) {
-            Ok(()) => {
-                task.go_to(next);
-                Ok(None)
-            }
-            Err(_) => Err(Fault::Memory),
-        },
+    if let Some(cell) = task.frames.get_near(x as usize) {
+        if task.operands.push_within(cell) {
+            task.go_to(next);
+            return Ok(None);
+        }
+    }
+    match task.frames.push_to(x as usize, &mut task.operands) {
+        Ok(()) => {
+            task.go_to(next);
+            Ok(None)
+        }
+        Err(_) => Err(Fault::Memory),
     }
 }
 

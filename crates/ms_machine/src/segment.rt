@@ -1,6 +1,6 @@
 //! Instructions on handles and segments, each in a small function, over any `SegmentMemory`: they see no byte but by its loads.
 
-ghost use Rattle.std.specs.Prelude.{◌≡◌, ◌≢◌, ◌<◌, ◌^◌, List, [], ◌∷◌, false, IsTrue, None};
+ghost use Rattle.std.specs.Prelude.{◌≡◌, ◌≢◌, ◌<◌, ◌^◌, List, [], ◌∷◌, false, IsTrue, MatchOption, None, Some};
 ghost use Rattle.ms_event.specs.refinement.Tally.{LeavesRoom};
 ghost use Rattle.ms_handle.specs.Handle.{HasBounds};
 ghost use Rattle.ms_machine.specs.refinement.Doing.{CountsTold, DoesCounted, DoesInSegments, IsStill};
@@ -9,10 +9,11 @@ ghost use Rattle.ms_machine.specs.Segments.{Gives, Stuck, is_null, seal_event, s
 ghost use Rattle.ms_module.specs.declared.access.Segment.TheVariants as instr;
 
 use crate::fault::{Fault, of_segment};
+use crate::near::near;
 use ms_event::{Event, Tally};
 use ms_handle::{Handle, Kind, add, diff, eq, seal, slice};
 use ms_host::TrapKind;
-use ms_linear::{Operands, Value};
+use ms_linear::{Cell, Operands, Value};
 use ms_module::{LoadOp, Segment, StoreOp};
 use ms_operate::{number_for, value_of};
 use ms_segment::SegmentMemory;
@@ -47,7 +48,7 @@ pub(crate) fn segment<S: SegmentMemory>(
     }
 }
 
-/// Carries out an instruction on handles alone, or says that it didn't: it traps, memory has run out, or the instruction is
+/// Carries out an instruction on handles alone, or says that it didn't: it traps, memory has run out, it is a rare move, or it is
 /// another one. Then nothing has changed.
 #[inline(always)]
 pub(crate) fn on_handles<S: SegmentMemory>(
@@ -65,7 +66,7 @@ pub(crate) fn on_handles<S: SegmentMemory>(
         Segment::IsNull => is_null(segments, operands).is_ok(),
         Segment::Eq => are_equal(segments, operands).is_ok(),
         Segment::Diff => difference(segments, operands).is_ok(),
-        Segment::Add(scale) => add_to(scale, segments, operands).is_ok(),
+        Segment::Add(scale) => add_near(scale, segments, operands),
         _ => false,
     }
 }
@@ -145,6 +146,28 @@ fn add_to<S: SegmentMemory>(
     operands.pop();
     operands.set_top(Value::Handle(add(handle, delta.cast_signed(), scale)));
     Ok(None)
+}
+
+/// `handle.add` in the cases that programs have most, in which alone it is carried out here; in others it says that nothing
+/// has changed.
+#[inline(always)]
+fn add_near<S: SegmentMemory>(scale: u32, segments: &S, operands: &mut Operands) -> bool
+    requires there { segment_on (instr.Add scale) (S.memory segments.now) operands.old ≢ Stuck }
+    ensures on { IsTrue result → segment_on (instr.Add scale) (S.memory segments.now) operands.old ≡ Gives operands.new (S.memory segments.now) None }
+    ensures off { result ≡ false → operands.new ≡ operands.old }
+{
+    let _ = segments;
+    let Value::I64(delta) = operands.get(0) else {
+        unreachable!()
+    };
+    let Some(handle) = operands.cell(1).good() else {
+        return false;
+    };
+    let Some(there) = near(handle, delta.cast_signed(), scale) else {
+        return false;
+    };
+    operands.set_top_two(Cell::of(Value::Handle(there)));
+    true
 }
 
 /// What a slice of a handle that gave this tells.
@@ -386,6 +409,17 @@ fn store<S: SegmentMemory>(
 
 // ---- the same, where what is told is only counted
 
+/// What came of an instruction whose event is only counted.
+#[derive(Clone, Copy)]
+pub(crate) enum Told {
+    /// It was carried out, and its event, if there was one, is counted.
+    Done,
+    /// It was not carried out. Nothing has changed.
+    Not,
+    /// Memory has run out.
+    Memory,
+}
+
 /// An instruction on handles and segments, where what it tells is only counted.
 ///
 /// Loads and stores have functions of their own, in which no event is made.
@@ -395,7 +429,7 @@ pub(crate) fn segment_counted<S: SegmentMemory>(
     segments: &mut S,
     operands: &mut Operands,
     tally: &mut Tally,
-) -> Result<(), Fault>
+) -> Told
     requires there { segment_on i (S.memory segments.old) operands.old ≢ Stuck }
     requires few { (S.memory segments.old).made < 2 ^ 63 }
     requires fit { Each (Fits (S.memory segments.old)) operands.old }
@@ -413,17 +447,19 @@ pub(crate) fn segment_counted<S: SegmentMemory>(
 
 /// Counts what was told.
 #[inline(always)]
-fn counted(outcome: Result<Option<Event>, Fault>, tally: &mut Tally) -> Result<(), Fault>
+fn counted(outcome: Result<Option<Event>, Fault>, tally: &mut Tally) -> Told
     requires { LeavesRoom 1 tally.old }
     ensures { CountsTold outcome tally.old tally.new result }
 {
     match outcome {
-        Ok(None) => Ok(()),
+        Ok(None) => Told::Done,
         Ok(Some(event)) => {
             tally.count(event);
-            Ok(())
+            Told::Done
         }
-        Err(fault) => Err(fault),
+        Err(Fault::Trap(_)) => Told::Not,
+        Err(Fault::Host(_)) => Told::Not,
+        Err(Fault::Memory) => Told::Memory,
     }
 }
 
@@ -435,7 +471,7 @@ fn others_counted<S: SegmentMemory>(
     segments: &mut S,
     operands: &mut Operands,
     tally: &mut Tally,
-) -> Result<(), Fault>
+) -> Told
     requires there { segment_on i (S.memory segments.old) operands.old ≢ Stuck }
     requires few { (S.memory segments.old).made < 2 ^ 63 }
     requires fit { Each (Fits (S.memory segments.old)) operands.old }
@@ -452,7 +488,7 @@ fn load_handle_counted<S: SegmentMemory>(
     segments: &mut S,
     operands: &mut Operands,
     tally: &mut Tally,
-) -> Result<(), Fault>
+) -> Told
     requires there { segment_on instr.LoadHandle (S.memory segments.old) operands.old ≢ Stuck }
     requires fit { Each (Fits (S.memory segments.old)) operands.old }
     requires room { LeavesRoom 1 tally.old }
@@ -468,13 +504,35 @@ fn store_handle_counted<S: SegmentMemory>(
     segments: &mut S,
     operands: &mut Operands,
     tally: &mut Tally,
-) -> Result<(), Fault>
+) -> Told
     requires there { segment_on instr.StoreHandle (S.memory segments.old) operands.old ≢ Stuck }
     requires fit { Each (Fits (S.memory segments.old)) operands.old }
     requires room { LeavesRoom 1 tally.old }
     ensures { DoesCounted (segment_on instr.StoreHandle (S.memory segments.old) operands.old) operands.old operands.new (S.memory segments.old) (S.memory segments.new) tally.old tally.new result }
 {
     counted(store_handle(segments, operands), tally)
+}
+
+/// `i32.segload` and its kin through a good handle, with what it tells; `None` where it was not carried out, and nothing has
+/// changed.
+#[inline(always)]
+fn load_good<S: SegmentMemory>(
+    op: LoadOp,
+    segments: &mut S,
+    operands: &mut Operands,
+) -> Option<Event>
+    requires there { segment_on (instr.Load op) (S.memory segments.old) operands.old ≢ Stuck }
+    requires fit { Each (Fits (S.memory segments.old)) operands.old }
+    ensures { MatchOption result ((operands.new ≡ operands.old) × (S.memory segments.new ≡ S.memory segments.old)) (λ event. segment_on (instr.Load op) (S.memory segments.old) operands.old ≡ Gives operands.new (S.memory segments.new) (Some event)) }
+{
+    let handle = operands.cell(0).good()?;
+    match segments.load(handle, op.bytes()) {
+        Ok((number, event)) => {
+            operands.set_top_cell(value_of(op, number));
+            Some(event)
+        }
+        Err(_) => None,
+    }
 }
 
 /// `i32.segload` and its kin.
@@ -486,7 +544,7 @@ fn load_counted<S: SegmentMemory>(
     segments: &mut S,
     operands: &mut Operands,
     tally: &mut Tally,
-) -> Result<(), Fault>
+) -> Told
     requires there { segment_on (instr.Load op) (S.memory segments.old) operands.old ≢ Stuck }
     requires fit { Each (Fits (S.memory segments.old)) operands.old }
     requires room { LeavesRoom 1 tally.old }
@@ -510,19 +568,46 @@ fn load_counted<S: SegmentMemory>(
 
 /// The same, by one operation.
 #[inline(always)]
-#[tactic(auto, using(crate::proofs::Counted::counted_does))]
 fn load_counted_by<S: SegmentMemory>(
     op: LoadOp,
     segments: &mut S,
     operands: &mut Operands,
     tally: &mut Tally,
-) -> Result<(), Fault>
+) -> Told
     requires there { segment_on (instr.Load op) (S.memory segments.old) operands.old ≢ Stuck }
     requires fit { Each (Fits (S.memory segments.old)) operands.old }
     requires room { LeavesRoom 1 tally.old }
     ensures { DoesCounted (segment_on (instr.Load op) (S.memory segments.old) operands.old) operands.old operands.new (S.memory segments.old) (S.memory segments.new) tally.old tally.new result }
 {
-    counted(load(op, segments, operands), tally)
+    match load_good(op, segments, operands) {
+        Some(event) => {
+            tally.count(event);
+            Told::Done
+        }
+        None => Told::Not,
+    }
+}
+
+/// `i32.segstore` and its kin through a good handle, in the same way.
+#[inline(always)]
+fn store_good<S: SegmentMemory>(
+    op: StoreOp,
+    segments: &mut S,
+    operands: &mut Operands,
+) -> Option<Event>
+    requires there { segment_on (instr.Store op) (S.memory segments.old) operands.old ≢ Stuck }
+    requires fit { Each (Fits (S.memory segments.old)) operands.old }
+    ensures { MatchOption result ((operands.new ≡ operands.old) × (S.memory segments.new ≡ S.memory segments.old)) (λ event. segment_on (instr.Store op) (S.memory segments.old) operands.old ≡ Gives operands.new (S.memory segments.new) (Some event)) }
+{
+    let number = number_for(op, operands.cell(0));
+    let handle = operands.cell(1).good()?;
+    match segments.store(handle, op.bytes(), number) {
+        Ok(event) => {
+            operands.cut(2);
+            Some(event)
+        }
+        Err(_) => None,
+    }
 }
 
 /// `i32.segstore` and its kin. The operations are told apart in the same way.
@@ -532,7 +617,7 @@ fn store_counted<S: SegmentMemory>(
     segments: &mut S,
     operands: &mut Operands,
     tally: &mut Tally,
-) -> Result<(), Fault>
+) -> Told
     requires there { segment_on (instr.Store op) (S.memory segments.old) operands.old ≢ Stuck }
     requires fit { Each (Fits (S.memory segments.old)) operands.old }
     requires room { LeavesRoom 1 tally.old }
@@ -551,17 +636,22 @@ fn store_counted<S: SegmentMemory>(
 
 /// The same, by one operation.
 #[inline(always)]
-#[tactic(auto, using(crate::proofs::Counted::counted_does))]
 fn store_counted_by<S: SegmentMemory>(
     op: StoreOp,
     segments: &mut S,
     operands: &mut Operands,
     tally: &mut Tally,
-) -> Result<(), Fault>
+) -> Told
     requires there { segment_on (instr.Store op) (S.memory segments.old) operands.old ≢ Stuck }
     requires fit { Each (Fits (S.memory segments.old)) operands.old }
     requires room { LeavesRoom 1 tally.old }
     ensures { DoesCounted (segment_on (instr.Store op) (S.memory segments.old) operands.old) operands.old operands.new (S.memory segments.old) (S.memory segments.new) tally.old tally.new result }
 {
-    counted(store(op, segments, operands), tally)
+    match store_good(op, segments, operands) {
+        Some(event) => {
+            tally.count(event);
+            Told::Done
+        }
+        None => Told::Not,
+    }
 }

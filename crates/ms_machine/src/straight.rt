@@ -17,6 +17,7 @@ ghost use Rattle.ms_task.specs.refinement.View.{at_next, before, thread_of};
 
 use crate::fault::Fault;
 use crate::lookup::func_address;
+use crate::segment::Told;
 use crate::store::Store;
 use crate::{control, memory, plain, segment};
 use ms_event::Tally;
@@ -515,7 +516,7 @@ fn on_segments<M: SegmentMemory>(
     ensures { DoesTell result store.old (thread_of store.old.funcs task.old) tally.old store.new (thread_of store.new.funcs task.new) tally.new }
 {
     match memory::segment_counted(store, task, i, next, tally) {
-        Ok(()) => {
+        Told::Done => {
             if more {
                 return Worked::On;
             }
@@ -524,8 +525,8 @@ fn on_segments<M: SegmentMemory>(
             }
             Worked::On
         }
-        Err(Fault::Trap(_)) => Worked::Not,
-        Err(_) => Worked::Memory,
+        Told::Not => Worked::Not,
+        Told::Memory => Worked::Memory,
     }
 }
 

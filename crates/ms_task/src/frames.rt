@@ -202,6 +202,41 @@ impl Frames {
         ensures base { IfOk result (λ base. base ≡ length self.old.0) }
         ensures locals { OnOk result (self.new ≡ (self.old.0 ++ self.old.1, reverse (take n operands.now) ++ map default_of types.now)) }
     {
+        if !self.far.is_empty() {
+            return self.open_far(operands, n, types);
+        }
+        let declared = types.len();
+        if declared > NEAR as usize {
+            return self.open_far(operands, n, types);
+        }
+        let kept = self.base;
+        let start = self.items.len();
+        if self.len != start {
+            return Err(AllocError);
+        }
+        let Some(near) = n.checked_add(declared) else {
+            return Err(AllocError);
+        };
+        self.room.reserve(&mut self.items, near, size_of::<Cell>())?;
+        fill(&mut self.items, operands, n, types);
+        self.start = start;
+        self.base = start;
+        self.len = self.items.len();
+        Ok(kept)
+    }
+
+    /// The same where a frame has far locals, or this one will.
+    #[inline(never)]
+    fn open_far(
+        &mut self,
+        operands: &Operands,
+        n: usize,
+        types: &SharedLocals,
+    ) -> Result<usize, AllocError>
+        requires { n ≤ length operands.now }
+        ensures base { IfOk result (λ base. base ≡ length self.old.0) }
+        ensures locals { OnOk result (self.new ≡ (self.old.0 ++ self.old.1, reverse (take n operands.now) ++ map default_of types.now)) }
+    {
         let kept = self.base;
         let below = self.len;
         let start = self.items.len();

@@ -21,6 +21,8 @@ use Rattle.ms_machine.specs.Step.{Calls, Next, Outcome, Stuck, Trap, act, trap_o
 use Rattle.ms_machine.specs.Store.{Store}
 use Rattle.ms_machine.specs.declared.fault.Fault.{Fault}
 use Rattle.ms_machine.specs.declared.fault.Fault.TheVariants as faults
+use Rattle.ms_machine.specs.declared.segment.Told.{Told}
+use Rattle.ms_machine.specs.declared.segment.Told.TheVariants as told
 
 abbrev pub fault_of : OperateFault → Fault
 fault_of (operate.Trap trap) = faults.Trap (trap_of trap)
@@ -40,18 +42,19 @@ DoesInSegments effect old new old-memory new-memory (Err (faults.Host h)) = ⊥
 DoesInSegments effect old new old-memory new-memory (Err faults.Memory) = new-memory ≡ old-memory
 
 -- what was told, if it was, is counted
-abbrev pub CountsTold : Result (Option Event) Fault → Tally → Tally → Result (Unit {0}) Fault → Type 0
-CountsTold (Ok event) c c' (Ok _) = c' ≡ all_tallied (with_event event []) c
-CountsTold (Err f) c c' (Err g) = (g ≡ f) × (c' ≡ c)
+abbrev pub CountsTold : Result (Option Event) Fault → Tally → Tally → Told → Type 0
+CountsTold (Ok event) c c' told.Done = c' ≡ all_tallied (with_event event []) c
+CountsTold (Err (faults.Trap _)) c c' told.Not = c' ≡ c
+CountsTold (Err (faults.Host _)) c c' told.Not = c' ≡ c
+CountsTold (Err faults.Memory) c c' told.Memory = Unit {0}
 CountsTold _ c c' _ = ⊥
 
--- The operands and the memory are those, and the event is counted; or it stopped, and all is as before. Where memory ran out
--- nothing is said.
-abbrev pub DoesCounted : Effect → List Value → List Value → Memory → Memory → Tally → Tally → Result (Unit {0}) Fault → Type 0
-DoesCounted effect old new old-memory new-memory c c' (Ok _) = (event : Option Event) × (effect ≡ segments.Gives new new-memory event) × (c' ≡ all_tallied (with_event event []) c)
-DoesCounted effect old new old-memory new-memory c c' (Err (faults.Trap _)) = (new ≡ old) × (new-memory ≡ old-memory) × (c' ≡ c)
-DoesCounted effect old new old-memory new-memory c c' (Err (faults.Host h)) = ⊥
-DoesCounted effect old new old-memory new-memory c c' (Err faults.Memory) = Unit {0}
+-- The operands and the memory are those, and the event is counted; or it wasn't carried out, and all is as before. Where memory
+-- ran out nothing is said.
+abbrev pub DoesCounted : Effect → List Value → List Value → Memory → Memory → Tally → Tally → Told → Type 0
+DoesCounted effect old new old-memory new-memory c c' told.Done = (event : Option Event) × (effect ≡ segments.Gives new new-memory event) × (c' ≡ all_tallied (with_event event []) c)
+DoesCounted effect old new old-memory new-memory c c' told.Not = (new ≡ old) × (new-memory ≡ old-memory) × (c' ≡ c)
+DoesCounted effect old new old-memory new-memory c c' told.Memory = Unit {0}
 
 -- The same of a store and a thread: where memory ran out the store is as before.
 abbrev pub DoesOutcome : Outcome → Store → Thread → Store → Thread → Result (Option Event) Fault → Type 0
@@ -69,11 +72,10 @@ abbrev pub DoesInstr : Instr → ℕ → Store → Task → Store → Task → R
 DoesInstr i next s task s' task' result = DoesOutcome (act s i (at_next s.funcs task next)) s (thread_of s.funcs task) s' (thread_of s'.funcs task') result
 
 -- The same of a store and a thread, where the event is counted.
-abbrev pub DoesTold : Outcome → Store → Thread → Tally → Store → Thread → Tally → Result (Unit {0}) Fault → Type 0
-DoesTold outcome old old-thread c new new-thread c' (Ok _) = (event : Option Event) × (outcome ≡ Next new new-thread event) × (c' ≡ all_tallied (with_event event []) c)
-DoesTold outcome old old-thread c new new-thread c' (Err (faults.Trap _)) = (new ≡ old) × (new-thread ≡ old-thread) × (c' ≡ c)
-DoesTold outcome old old-thread c new new-thread c' (Err (faults.Host h)) = ⊥
-DoesTold outcome old old-thread c new new-thread c' (Err faults.Memory) = Unit {0}
+abbrev pub DoesTold : Outcome → Store → Thread → Tally → Store → Thread → Tally → Told → Type 0
+DoesTold outcome old old-thread c new new-thread c' told.Done = (event : Option Event) × (outcome ≡ Next new new-thread event) × (c' ≡ all_tallied (with_event event []) c)
+DoesTold outcome old old-thread c new new-thread c' told.Not = (new ≡ old) × (new-thread ≡ old-thread) × (c' ≡ c)
+DoesTold outcome old old-thread c new new-thread c' told.Memory = Unit {0}
 
 -- ---- instructions that tell nothing
 
