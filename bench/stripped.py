@@ -85,7 +85,12 @@ def files_of(crate, *parts):
 
 
 def copy(crate, folder, is_stripped):
-    for path in files_of(crate, *(("src",) if is_stripped else ("src", "specs", "proofs"))):
+    paths = list(files_of(crate, *(("src",) if is_stripped else ("src", "specs", "proofs"))))
+    for at, _, names in os.walk(os.path.join(folder, "crates", crate, "src")):
+        for name in names:
+            if os.path.relpath(os.path.join(at, name), folder) not in paths:
+                os.remove(os.path.join(at, name))
+    for path in paths:
         with open(os.path.join(TOP, path)) as file:
             text = file.read()
         put(os.path.join(folder, path), without_clauses(without_models(text)) if is_stripped else text)
