@@ -1,6 +1,6 @@
 //! Instructions on handles and segments, each in a small function, over any `SegmentMemory`: they see no byte but by its loads.
 
-ghost use Rattle.std.specs.Prelude.{◌≡◌, ◌≢◌, ◌<◌, ◌^◌, List, [], ◌∷◌, false, IsTrue, MatchOption, None, Some};
+ghost use Rattle.std.specs.Prelude.{◌≡◌, ◌≢◌, ◌<◌, ◌^◌, List, [], ◌∷◌, false, IsTrue, None};
 ghost use Rattle.ms_event.specs.refinement.Tally.{LeavesRoom};
 ghost use Rattle.ms_handle.specs.Handle.{HasBounds};
 ghost use Rattle.ms_machine.specs.refinement.Doing.{CountsTold, DoesCounted, DoesInSegments, IsStill};
@@ -422,7 +422,7 @@ pub(crate) enum Told {
 
 /// An instruction on handles and segments, where what it tells is only counted.
 ///
-/// Loads and stores have functions of their own, in which no event is made.
+/// Loads and stores have functions of their own, in which an event is counted where it is made.
 #[inline(always)]
 pub(crate) fn segment_counted<S: SegmentMemory>(
     i: Segment,
@@ -513,28 +513,6 @@ fn store_handle_counted<S: SegmentMemory>(
     counted(store_handle(segments, operands), tally)
 }
 
-/// `i32.segload` and its kin through a good handle, with what it tells; `None` where it was not carried out, and nothing has
-/// changed.
-#[inline(always)]
-fn load_good<S: SegmentMemory>(
-    op: LoadOp,
-    segments: &mut S,
-    operands: &mut Operands,
-) -> Option<Event>
-    requires there { segment_on (instr.Load op) (S.memory segments.old) operands.old ≢ Stuck }
-    requires fit { Each (Fits (S.memory segments.old)) operands.old }
-    ensures { MatchOption result ((operands.new ≡ operands.old) × (S.memory segments.new ≡ S.memory segments.old)) (λ event. segment_on (instr.Load op) (S.memory segments.old) operands.old ≡ Gives operands.new (S.memory segments.new) (Some event)) }
-{
-    let handle = operands.cell(0).good()?;
-    match segments.load(handle, op.bytes()) {
-        Ok((number, event)) => {
-            operands.set_top_cell(value_of(op, number));
-            Some(event)
-        }
-        Err(_) => None,
-    }
-}
-
 /// `i32.segload` and its kin.
 ///
 /// The operations are told apart here, so that each is a constant in what is done with it.
@@ -579,34 +557,16 @@ fn load_counted_by<S: SegmentMemory>(
     requires room { LeavesRoom 1 tally.old }
     ensures { DoesCounted (segment_on (instr.Load op) (S.memory segments.old) operands.old) operands.old operands.new (S.memory segments.old) (S.memory segments.new) tally.old tally.new result }
 {
-    match load_good(op, segments, operands) {
-        Some(event) => {
+    let Some(handle) = operands.cell(0).good() else {
+        return Told::Not;
+    };
+    match segments.load(handle, op.bytes()) {
+        Ok((number, event)) => {
+            operands.set_top_cell(value_of(op, number));
             tally.count(event);
             Told::Done
         }
-        None => Told::Not,
-    }
-}
-
-/// `i32.segstore` and its kin through a good handle, in the same way.
-#[inline(always)]
-fn store_good<S: SegmentMemory>(
-    op: StoreOp,
-    segments: &mut S,
-    operands: &mut Operands,
-) -> Option<Event>
-    requires there { segment_on (instr.Store op) (S.memory segments.old) operands.old ≢ Stuck }
-    requires fit { Each (Fits (S.memory segments.old)) operands.old }
-    ensures { MatchOption result ((operands.new ≡ operands.old) × (S.memory segments.new ≡ S.memory segments.old)) (λ event. segment_on (instr.Store op) (S.memory segments.old) operands.old ≡ Gives operands.new (S.memory segments.new) (Some event)) }
-{
-    let number = number_for(op, operands.cell(0));
-    let handle = operands.cell(1).good()?;
-    match segments.store(handle, op.bytes(), number) {
-        Ok(event) => {
-            operands.cut(2);
-            Some(event)
-        }
-        Err(_) => None,
+        Err(_) => Told::Not,
     }
 }
 
@@ -647,11 +607,16 @@ fn store_counted_by<S: SegmentMemory>(
     requires room { LeavesRoom 1 tally.old }
     ensures { DoesCounted (segment_on (instr.Store op) (S.memory segments.old) operands.old) operands.old operands.new (S.memory segments.old) (S.memory segments.new) tally.old tally.new result }
 {
-    match store_good(op, segments, operands) {
-        Some(event) => {
+    let number = number_for(op, operands.cell(0));
+    let Some(handle) = operands.cell(1).good() else {
+        return Told::Not;
+    };
+    match segments.store(handle, op.bytes(), number) {
+        Ok(event) => {
+            operands.cut(2);
             tally.count(event);
             Told::Done
         }
-        None => Told::Not,
+        Err(_) => Told::Not,
     }
 }
