@@ -32,6 +32,7 @@ WORDS = {
     "store": "Linear(Linear::Store(StoreOp::I32Store, MemArg {{ align: 2, offset: 0 }}))",
     "new": "Segment(Segment::New(Kind::Frame))",
     "move": "Segment(Segment::Add({}))",
+    "slice": "Segment(Segment::Slice)",
     "segload": "Segment(Segment::Load(LoadOp::I32Load))",
     "segstore": "Segment(Segment::Store(StoreOp::I32Store))",
     "segstore8": "Segment(Segment::Store(StoreOp::I32Store8))",
@@ -47,6 +48,7 @@ LOOPS = {
     "a load and a store": ("", f"const 16, const 16, load, const 1, add, store, {COUNT}"),
     "through a handle": ("const 32, new, set 1", f"get 1, get 1, segload, const 1, add, segstore, {COUNT}"),
     "a sieve's loop": ("const 1048000, new, set 1", f"get 1, get 0, extend, move 1, const 1, segstore8, {COUNT}"),
+    "a slice": ("const 32, new, set 1", f"get 1, const 4, const 8, slice, drop, {COUNT}"),
 }
 # A segment of 16 bytes made and freed while up to a thousand are live, the latest first: a turn is a thousand of each.
 PAIRS = len(LOOPS)

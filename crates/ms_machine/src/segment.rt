@@ -203,6 +203,7 @@ fn event_of_slice(handle: Handle, part: Handle) -> Option<Event>
 }
 
 /// `handle.slice`.
+#[inline(always)]
 fn slice_of<S: SegmentMemory>(segments: &S, operands: &mut Operands) -> Result<Option<Event>, Fault>
     requires there { segment_on instr.Slice (S.memory segments.now) operands.old ≢ Stuck }
     requires fit { Each (Fits (S.memory segments.now)) operands.old }
@@ -441,6 +442,7 @@ pub(crate) fn segment_counted<S: SegmentMemory>(
         Segment::Store(op) => store_counted(op, segments, operands, tally),
         Segment::LoadHandle => load_handle_counted(segments, operands, tally),
         Segment::StoreHandle => store_handle_counted(segments, operands, tally),
+        Segment::Slice => slice_counted(segments, operands, tally),
         _ => others_counted(i, segments, operands, tally),
     }
 }
@@ -511,6 +513,18 @@ fn store_handle_counted<S: SegmentMemory>(
     ensures { DoesCounted (segment_on instr.StoreHandle (S.memory segments.old) operands.old) operands.old operands.new (S.memory segments.old) (S.memory segments.new) tally.old tally.new result }
 {
     counted(store_handle(segments, operands), tally)
+}
+
+/// `handle.slice`.
+#[inline(never)]
+#[tactic(auto, using(crate::proofs::Counted::counted_does))]
+fn slice_counted<S: SegmentMemory>(segments: &S, operands: &mut Operands, tally: &mut Tally) -> Told
+    requires there { segment_on instr.Slice (S.memory segments.now) operands.old ≢ Stuck }
+    requires fit { Each (Fits (S.memory segments.now)) operands.old }
+    requires room { LeavesRoom 1 tally.old }
+    ensures { DoesCounted (segment_on instr.Slice (S.memory segments.now) operands.old) operands.old operands.new (S.memory segments.now) (S.memory segments.now) tally.old tally.new result }
+{
+    counted(slice_of(segments, operands), tally)
 }
 
 /// `i32.segload` and its kin.
