@@ -1,5 +1,6 @@
 -- Steps in a row of which the outside sees nothing.
-use Rattle.std.proofs.Common.{◌≡◌, ◌≢◌, ◌<◌, ◌≤◌, ◌+◌, ◌*◌, ◌^◌, Bor, IfSome, IsTrue, MatchOption, ℕ, zero, suc, Bool, false, List, [], ◌∷◌, ◌++◌, Option, Some, None, append-nil, drop, get_or, length, length-drop, slice_get, refl, sym, ap, subst, ◌∙◌, arith}
+use Rattle.std.proofs.Common.{◌≡◌, ◌≢◌, ◌<◌, ◌≤◌, ◌+◌, ◌-◌, ◌*◌, ◌^◌, Bor, IfSome, IsTrue, MatchOption, ℕ, zero, suc, Bool, false, List, [], ◌∷◌, ◌++◌, Option, Some, None, append-nil, drop, get_or, get_or-drop, length, length-drop, nat_lt, slice_get, take, take_all, refl, sym, ap, subst, ◌∙◌, arith}
+use Rattle.std.proofs.lemmas.Bool.{ltb-true}
 use Rattle.ms_event.specs.declared.event.Event.{Event}
 use Rattle.ms_event.specs.declared.tally.Tally.{Tally}
 use Rattle.ms_event.specs.refinement.Tally.{LeavesRoom, all_tallied}
@@ -191,6 +192,21 @@ module _ (s : Store) (code : List Instr) (t : Task) (place : ℕ) (i : Instr)
   pub is_next : StoreTyped (outline_of s) → TaskTyped (outline_of s) (thread_of s.funcs t) → (thread_of s.funcs t).work ≢ [] → IsNext i (place + 1) s t
   is_next store task going =
       (stands, λ stuck. move_unstuck s (thread_of s.funcs t) None store task going (ap (move_on s None) (ap (step_of s) stands ∙ ap exited stuck)))
+
+-- all from a place on
+pub rest_from : (is : List Instr) (place : ℕ) → take (length is - place) (drop place is) ≡ drop place is
+rest_from is place = take_all (length is - place) (drop place is) (omega (arith, length-drop place is))
+
+-- where the rest of a sequence begins at a place
+module _ (is rest : List Instr) (place : ℕ) (rest-is : rest ≡ drop place is) (some : 0 < length rest) where
+  pub rest_within : place < length is
+  rest_within = omega (arith, length-drop place is, ap length rest-is, some)
+
+  pub rest_read : (i : Instr) → i ≡ get_or rest 0 i → i ≡ get_or is place i
+  rest_read i read = let e : place + 0 ≡ place = omega arith in read ∙ ap (λ xs. get_or xs 0 i) rest-is ∙ get_or-drop place is 0 i ∙ ap (λ n. get_or is n i) e
+
+  pub rest_behind : IsTrue (nat_lt 1 (length rest)) → place + 1 < length is
+  rest_behind more-is = let more = ltb-true 1 (length rest) more-is in omega (arith, length-drop place is, ap length rest-is, more)
 
 begins_at : (s : Store) (w : List Item) (f q next : ℕ) → next < length (sequence s.funcs f q) → Begins (rest_at s.funcs f q next ++ w)
 begins_at s w f q next within = begins_past (drop next (sequence s.funcs f q)) w (λ e. absurd (omega (arith, within, length-drop next (sequence s.funcs f q), ap length e)))

@@ -399,27 +399,31 @@ fn go<M: SegmentMemory>(store: &Store<M>, task: &mut Task, most: u64) -> (Met, u
     ensures met { DoesMeet result.0 result.1 most store.now (thread_of store.now.funcs task.old) task.new }
 {
     let mut left = most;
-    let mut code = task.code(&store.funcs);
     let mut place = task.place();
+    let mut rest = &task.code(&store.funcs)[place..];
     while left > 0 {
         let next = place + 1;
-        match quietly(store, task, &code[place], next, next < code.len(), left > 1) {
-            CarriedOut::On => place = next,
+        let more = rest.len() > 1;
+        match quietly(store, task, &rest[0], next, more, left > 1) {
+            CarriedOut::On => {
+                rest = &rest[1..];
+                place = next;
+            }
             CarriedOut::Behind => match leave(store, task) {
-                Some(there) => {
-                    code = there;
+                Some(code) => {
                     place = task.place();
+                    rest = &code[place..];
                 }
                 None => return (Met::Ended, left - 1),
             },
-            CarriedOut::Again(there) => {
-                code = there;
+            CarriedOut::Again(code) => {
                 place = task.place();
+                rest = &code[place..];
                 left -= 1;
             }
-            CarriedOut::Linear(i) => return (Met::Linear(i, next, next < code.len()), left),
-            CarriedOut::Global(x) => return (Met::Global(x, next, next < code.len()), left),
-            CarriedOut::Segment(i) => return (Met::Segment(i, next, next < code.len()), left),
+            CarriedOut::Linear(i) => return (Met::Linear(i, next, more), left),
+            CarriedOut::Global(x) => return (Met::Global(x, next, more), left),
+            CarriedOut::Segment(i) => return (Met::Segment(i, next, more), left),
             CarriedOut::Not => return (Met::Paused, left),
             CarriedOut::Memory => return (Met::Memory, left),
         }

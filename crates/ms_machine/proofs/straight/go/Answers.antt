@@ -1,4 +1,4 @@
-use Rattle.std.proofs.Common.{◌≡◌, ◌-◌, ◌+◌, ◌*◌, ◌^◌, ◌<◌, ◌∙◌, Bor, List, length, IsTrue, nat_lt, refl, sym, ap, subst, arith}
+use Rattle.std.proofs.Common.{◌≡◌, ◌-◌, ◌+◌, ◌*◌, ◌^◌, ◌<◌, ◌∙◌, Bor, List, drop, drop-drop, length, length-drop, nat_lt, refl, sym, ap, subst, arith}
 use Rattle.std.proofs.lemmas.Bool.{ltb-true}
 use Rattle.ms_module.specs.declared.instr.Instr.{Instr}
 use Rattle.ms_task.specs.Control.{exited}
@@ -6,29 +6,26 @@ use Rattle.ms_task.specs.Thread.{sequence}
 use Rattle.ms_task.specs.refinement.View.{IsAt, at_next, thread_of}
 use Rattle.ms_task.specs.declared.task.Task.{Task}
 use Rattle.ms_machine.specs.refinement.StraightLine.{DoesAgain, IsIn, StepsQuietly}
-use Rattle.ms_machine.proofs.StraightLine.{before_next, going_at, is_next, leaves, met_here, quietly_fits, quietly_on, quietly_trans, quietly_typed}
+use Rattle.ms_machine.proofs.StraightLine.{before_next, going_at, is_next, leaves, met_here, quietly_fits, quietly_on, quietly_trans, quietly_typed, rest_behind, rest_from, rest_read, rest_within}
 use Rattle.ms_machine.proofs.straight.go.Goals as goal
 use Rattle.ms_machine.proofs.straight.go.Goals.{in-On, in-Behind+in-Some, in-Again}
-
-pub overflow_add-next : goal.overflow_add-next
-overflow_add-next g c = let v = c.loop-left.invariant in omega (arith, v.within, v.far)
-
-pub offset_bounds-code-place : goal.offset_bounds-code-place
-offset_bounds-code-place g c = let v = c.loop-left.invariant in omega (arith, v.within, v.far)
 
 pub quietly-requires-clause-before : goal.quietly-requires-clause-before
 quietly-requires-clause-before g c =
     let l = c.loop-left in
     let v = l.invariant in
-    before_next c.args.store.now l.code.now l.task l.place c.index-code-place.result v.code v.place v.within c.index-code-place.is
+    let s = c.args.store.now in
+    let is = sequence s.funcs l.task.function l.task.sequence in
+    before_next s is l.task l.place c.index-rest-0.result refl v.place (rest_within is l.rest.now l.place v.rest v.some) (rest_read is l.rest.now l.place v.rest v.some c.index-rest-0.result c.index-rest-0.is)
 
 pub quietly-requires-clause-next : goal.quietly-requires-clause-next
 quietly-requires-clause-next g c =
     let s = c.args.store.now in
     let l = c.loop-left in
     let v = l.invariant in
+    let is = sequence s.funcs l.task.function l.task.sequence in
     let typed = quietly_typed s s (thread_of s.funcs c.args.task.now) (thread_of s.funcs l.task) (c.args.most - l.left) v.steps c.requires.store c.requires.task in
-    is_next s l.code.now l.task l.place c.index-code-place.result v.code v.place v.within c.index-code-place.is c.requires.store typed.1 v.going
+    is_next s is l.task l.place c.index-rest-0.result refl v.place (rest_within is l.rest.now l.place v.rest v.some) (rest_read is l.rest.now l.place v.rest v.some c.index-rest-0.result c.index-rest-0.is) c.requires.store typed.1 v.going
 
 pub quietly-requires-clause-fit : goal.quietly-requires-clause-fit
 quietly-requires-clause-fit g c =
@@ -41,36 +38,40 @@ returns-in-Linear-clause-met g c =
     let s = c.args.store.now in
     let l = c.loop-left in
     let v = l.invariant in
+    let is = sequence s.funcs l.task.function l.task.sequence in
     let typed = quietly_typed s s (thread_of s.funcs c.args.task.now) (thread_of s.funcs l.task) (c.args.most - l.left) v.steps c.requires.store c.requires.task in
-    let here = is_next s l.code.now l.task l.place c.index-code-place.result v.code v.place v.within c.index-code-place.is c.requires.store typed.1 v.going in
-    let behind : IsTrue (nat_lt (l.place + 1) (length l.code.now)) → l.place + 1 < length (sequence s.funcs l.task.function l.task.sequence) = λ yes. subst (λ (is : List Instr). l.place + 1 < length is) v.code (ltb-true (l.place + 1) (length l.code.now) yes) in
-    met_here s (thread_of s.funcs c.args.task.now) (c.args.most - l.left) l.left (l.place + 1) (nat_lt (l.place + 1) (length l.code.now)) l.task c.quietly.new.task c.index-code-place.result _ v.steps c.loop-left-test.true (v.going, here, behind) c.in-Linear.ensures.done.0 c.in-Linear.ensures.done.1
+    let here = is_next s is l.task l.place c.index-rest-0.result refl v.place (rest_within is l.rest.now l.place v.rest v.some) (rest_read is l.rest.now l.place v.rest v.some c.index-rest-0.result c.index-rest-0.is) c.requires.store typed.1 v.going in
+    let behind = rest_behind is l.rest.now l.place v.rest v.some in
+    met_here s (thread_of s.funcs c.args.task.now) (c.args.most - l.left) l.left (l.place + 1) (nat_lt 1 (length l.rest.now)) l.task c.quietly.new.task c.index-rest-0.result _ v.steps c.loop-left-test.true (v.going, here, behind) c.in-Linear.ensures.done.0 c.in-Linear.ensures.done.1
 
 pub returns-in-Global-clause-met : goal.returns-in-Global-clause-met
 returns-in-Global-clause-met g c =
     let s = c.args.store.now in
     let l = c.loop-left in
     let v = l.invariant in
+    let is = sequence s.funcs l.task.function l.task.sequence in
     let typed = quietly_typed s s (thread_of s.funcs c.args.task.now) (thread_of s.funcs l.task) (c.args.most - l.left) v.steps c.requires.store c.requires.task in
-    let here = is_next s l.code.now l.task l.place c.index-code-place.result v.code v.place v.within c.index-code-place.is c.requires.store typed.1 v.going in
-    let behind : IsTrue (nat_lt (l.place + 1) (length l.code.now)) → l.place + 1 < length (sequence s.funcs l.task.function l.task.sequence) = λ yes. subst (λ (is : List Instr). l.place + 1 < length is) v.code (ltb-true (l.place + 1) (length l.code.now) yes) in
-    met_here s (thread_of s.funcs c.args.task.now) (c.args.most - l.left) l.left (l.place + 1) (nat_lt (l.place + 1) (length l.code.now)) l.task c.quietly.new.task c.index-code-place.result _ v.steps c.loop-left-test.true (v.going, here, behind) c.in-Global.ensures.done.0 c.in-Global.ensures.done.1
+    let here = is_next s is l.task l.place c.index-rest-0.result refl v.place (rest_within is l.rest.now l.place v.rest v.some) (rest_read is l.rest.now l.place v.rest v.some c.index-rest-0.result c.index-rest-0.is) c.requires.store typed.1 v.going in
+    let behind = rest_behind is l.rest.now l.place v.rest v.some in
+    met_here s (thread_of s.funcs c.args.task.now) (c.args.most - l.left) l.left (l.place + 1) (nat_lt 1 (length l.rest.now)) l.task c.quietly.new.task c.index-rest-0.result _ v.steps c.loop-left-test.true (v.going, here, behind) c.in-Global.ensures.done.0 c.in-Global.ensures.done.1
 
 pub returns-in-Segment-clause-met : goal.returns-in-Segment-clause-met
 returns-in-Segment-clause-met g c =
     let s = c.args.store.now in
     let l = c.loop-left in
     let v = l.invariant in
+    let is = sequence s.funcs l.task.function l.task.sequence in
     let typed = quietly_typed s s (thread_of s.funcs c.args.task.now) (thread_of s.funcs l.task) (c.args.most - l.left) v.steps c.requires.store c.requires.task in
-    let here = is_next s l.code.now l.task l.place c.index-code-place.result v.code v.place v.within c.index-code-place.is c.requires.store typed.1 v.going in
-    let behind : IsTrue (nat_lt (l.place + 1) (length l.code.now)) → l.place + 1 < length (sequence s.funcs l.task.function l.task.sequence) = λ yes. subst (λ (is : List Instr). l.place + 1 < length is) v.code (ltb-true (l.place + 1) (length l.code.now) yes) in
-    met_here s (thread_of s.funcs c.args.task.now) (c.args.most - l.left) l.left (l.place + 1) (nat_lt (l.place + 1) (length l.code.now)) l.task c.quietly.new.task c.index-code-place.result _ v.steps c.loop-left-test.true (v.going, here, behind) c.in-Segment.ensures.done.0 c.in-Segment.ensures.done.1
+    let here = is_next s is l.task l.place c.index-rest-0.result refl v.place (rest_within is l.rest.now l.place v.rest v.some) (rest_read is l.rest.now l.place v.rest v.some c.index-rest-0.result c.index-rest-0.is) c.requires.store typed.1 v.going in
+    let behind = rest_behind is l.rest.now l.place v.rest v.some in
+    met_here s (thread_of s.funcs c.args.task.now) (c.args.most - l.left) l.left (l.place + 1) (nat_lt 1 (length l.rest.now)) l.task c.quietly.new.task c.index-rest-0.result _ v.steps c.loop-left-test.true (v.going, here, behind) c.in-Segment.ensures.done.0 c.in-Segment.ensures.done.1
 
 pub loop-left-preserved : goal.loop-left-preserved
 loop-left-preserved g c =
     let s = c.args.store.now in
     let l = c.loop-left in
     let v = l.invariant in
+    let is = sequence s.funcs l.task.function l.task.sequence in
     let t' = c.match-quietly.task in
     let n = c.args.most - l.left in
     let t0 = thread_of s.funcs c.args.task.now in
@@ -81,52 +82,58 @@ loop-left-preserved g c =
       | in-On w ↦
           let done = subst (λ (x : Task). StepsQuietly s t1 s (thread_of s.funcs x) × IsAt l.task (l.place + 1) x) (sym w.task-is) w.in-On.ensures.done in
           let at = done.1 in
-          let codes : c.match-quietly.code.now ≡ l.code.now = ap (λ (b : Bor (List Instr)). b.now) w.code-is in
-          let same : l.code.now ≡ sequence s.funcs t'.function t'.sequence = rw (at.0, at.1) v.code in
-          let within = ltb-true (l.place + 1) (length l.code.now) (w.in-On.ensures.on refl) in
-          let inside = subst (λ n. n < length l.code.now) (sym at.2) within in
+          let behind = w.in-On.ensures.on refl in
+          let more = ltb-true 1 (length l.rest.now) behind in
+          let rests : c.match-quietly.rest.now ≡ drop 1 l.rest.now = ap (λ (b : Bor (List Instr)). b.now) w.rest-is ∙ rest_from l.rest.now 1 in
+          let same : is ≡ sequence s.funcs t'.function t'.sequence = rw (at.0, at.1) refl in
+          let inside = subst (λ n. n < length is) (sym at.2) (rest_behind is l.rest.now l.place v.rest v.some behind) in
+          let far = v.far in
           record {
             steps = quietly_on s s s n (c.args.most - (c.match-quietly.left - 1)) t0 t1 (thread_of s.funcs t') v.steps v.going done.0 (omega (arith, some, room, w.left-is));
             left = omega (arith, some, room, w.left-is);
-            going = going_at s t' (subst (λ (is : List Instr). t'.place < length is) same inside);
-            code = codes ∙ same;
+            going = going_at s t' (subst (λ (xs : List Instr). t'.place < length xs) same inside);
+            rest = rests ∙ ap (drop 1) v.rest ∙ drop-drop 1 l.place is ∙ ap (λ p. drop p is) (sym w.place-is) ∙ ap (drop c.match-quietly.place) same;
             place = w.place-is ∙ sym at.2;
-            within = subst (λ n. n < length c.match-quietly.code.now) (sym w.place-is) (subst (λ (is : List Instr). l.place + 1 < length is) (sym codes) within);
-            far = subst (λ (is : List Instr). length is * 16 < 2 ^ 63) (sym codes) v.far;
+            some = omega (arith, ap length rests, length-drop 1 l.rest.now, more);
+            far = omega (arith, ap length rests, length-drop 1 l.rest.now, more, w.place-is, far);
           }
       | in-Behind+in-Some w ↦
-          let code = w.in-Some.there.now in
+          let code = w.in-Some.code.now in
           let typed = quietly_typed s s t0 t1 n v.steps c.requires.store c.requires.task in
-          let here = is_next s l.code.now l.task l.place c.index-code-place.result v.code v.place v.within c.index-code-place.is c.requires.store typed.1 v.going in
+          let here = is_next s is l.task l.place c.index-rest-0.result refl v.place (rest_within is l.rest.now l.place v.rest v.some) (rest_read is l.rest.now l.place v.rest v.some c.index-rest-0.result c.index-rest-0.is) c.requires.store typed.1 v.going in
           let left = subst (λ (x : Task). thread_of s.funcs x ≡ exited (thread_of s.funcs c.quietly.new.task)) (sym w.task-is) w.in-Some.ensures.exited in
           let there = subst (λ (x : Task). IsIn code s.funcs x) (sym w.task-is) w.in-Some.ensures.code in
-          let step = leaves s s t1 (at_next s.funcs l.task (l.place + 1)) (thread_of s.funcs c.quietly.new.task) (thread_of s.funcs t') c.index-code-place.result here.0 w.in-Behind.ensures.done left in
-          let codes : c.match-quietly.code.now ≡ code = ap (λ (b : Bor (List Instr)). b.now) w.code-is in
+          let step = leaves s s t1 (at_next s.funcs l.task (l.place + 1)) (thread_of s.funcs c.quietly.new.task) (thread_of s.funcs t') c.index-rest-0.result here.0 w.in-Behind.ensures.done left in
+          let rests : c.match-quietly.rest.now ≡ drop w.place-place-in-Some.result code = ap (λ (b : Bor (List Instr)). b.now) w.rest-is ∙ rest_from code w.place-place-in-Some.result in
           let places = w.place-is ∙ w.place-place-in-Some.ensures ∙ ap (λ (x : Task). x.place) (sym w.task-is) in
+          let within = there.1 in
+          let far = there.3 in
           record {
             steps = quietly_on s s s n (c.args.most - (c.match-quietly.left - 1)) t0 t1 (thread_of s.funcs t') v.steps v.going step (omega (arith, some, room, w.left-is));
             left = omega (arith, some, room, w.left-is);
             going = there.2;
-            code = codes ∙ there.0;
+            rest = rests ∙ ap (λ p. drop p code) (sym w.place-is) ∙ ap (drop c.match-quietly.place) there.0;
             place = places;
-            within = subst (λ n. n < length c.match-quietly.code.now) (sym places) (subst (λ (is : List Instr). t'.place < length is) (sym codes) there.1);
-            far = subst (λ (is : List Instr). length is * 16 < 2 ^ 63) (sym codes) there.3;
+            some = omega (arith, ap length rests, length-drop w.place-place-in-Some.result code, w.place-is, places, within);
+            far = omega (arith, ap length rests, length-drop w.place-place-in-Some.result code, w.place-is, places, within, far);
           }
       | in-Again w ↦
-          let code = w.in-Again.there.now in
+          let code = w.in-Again.code.now in
           let done = subst (λ (x : Task). DoesAgain code s t1 x) (sym w.task-is) w.in-Again.ensures.done in
           let there = done.1 in
-          let codes : c.match-quietly.code.now ≡ code = ap (λ (b : Bor (List Instr)). b.now) w.code-is in
+          let rests : c.match-quietly.rest.now ≡ drop w.place-place-in-Again.result code = ap (λ (b : Bor (List Instr)). b.now) w.rest-is ∙ rest_from code w.place-place-in-Again.result in
           let places = w.place-is ∙ w.place-place-in-Again.ensures ∙ ap (λ (x : Task). x.place) (sym w.task-is) in
           let two = ltb-true 1 l.left (w.in-Again.ensures.again (tt {0})) in
+          let within = there.1 in
+          let far = there.3 in
           record {
             steps = quietly_trans s s s n 2 (c.args.most - (c.match-quietly.left - 1)) t0 t1 (thread_of s.funcs t') v.steps done.0 (omega (arith, room, two, w.left-is));
             left = omega (arith, room, two, w.left-is);
             going = there.2;
-            code = codes ∙ there.0;
+            rest = rests ∙ ap (λ p. drop p code) (sym w.place-is) ∙ ap (drop c.match-quietly.place) there.0;
             place = places;
-            within = subst (λ n. n < length c.match-quietly.code.now) (sym places) (subst (λ (is : List Instr). t'.place < length is) (sym codes) there.1);
-            far = subst (λ (is : List Instr). length is * 16 < 2 ^ 63) (sym codes) there.3;
+            some = omega (arith, ap length rests, length-drop w.place-place-in-Again.result code, w.place-is, places, within);
+            far = omega (arith, ap length rests, length-drop w.place-place-in-Again.result code, w.place-is, places, within, far);
           }
     ]
 
@@ -135,12 +142,13 @@ returns-in-None-clause-met g c =
     let s = c.args.store.now in
     let l = c.loop-left in
     let v = l.invariant in
+    let is = sequence s.funcs l.task.function l.task.sequence in
     let some = c.loop-left-test.true in
     let room = v.left in
     let t0 = thread_of s.funcs c.args.task.now in
     let t1 = thread_of s.funcs l.task in
     let t' = thread_of s.funcs c.leave.new.task in
     let typed = quietly_typed s s t0 t1 (c.args.most - l.left) v.steps c.requires.store c.requires.task in
-    let here = is_next s l.code.now l.task l.place c.index-code-place.result v.code v.place v.within c.index-code-place.is c.requires.store typed.1 v.going in
-    let step = leaves s s t1 (at_next s.funcs l.task (l.place + 1)) (thread_of s.funcs c.quietly.new.task) t' c.index-code-place.result here.0 c.in-Behind.ensures.done c.leave.ensures.exited in
+    let here = is_next s is l.task l.place c.index-rest-0.result refl v.place (rest_within is l.rest.now l.place v.rest v.some) (rest_read is l.rest.now l.place v.rest v.some c.index-rest-0.result c.index-rest-0.is) c.requires.store typed.1 v.going in
+    let step = leaves s s t1 (at_next s.funcs l.task (l.place + 1)) (thread_of s.funcs c.quietly.new.task) t' c.index-rest-0.result here.0 c.in-Behind.ensures.done c.leave.ensures.exited in
     (quietly_on s s s (c.args.most - l.left) (c.args.most - (l.left - 1)) t0 t1 t' v.steps v.going step (omega (arith, some, room)), c.in-None.ensures.code)
