@@ -18,7 +18,7 @@ use Rattle.ms_operate.specs.Effects.{Effect}
 use Rattle.ms_operate.specs.Memories.{linear_on}
 use Rattle.ms_task.specs.Control.{Moved, Repeats, exit_ended, exited as exited_thread}
 use Rattle.ms_task.specs.Thread.{Activation, Begins, Do, Item, Label, Thread, sequence, thread, with_first}
-use Rattle.ms_task.specs.refinement.View.{at_next, before, frame_of, outer_of, rest_at, thread_of}
+use Rattle.ms_task.specs.refinement.View.{IsAt, at_next, before, frame_of, outer_of, rest_at, thread_of}
 use Rattle.ms_task.specs.declared.func.FuncInst.{FuncInst}
 use Rattle.ms_task.specs.declared.task.Task.{Task}
 use Rattle.ms_task.proofs.Items.{begins_past}
@@ -28,13 +28,13 @@ use Rattle.ms_machine.specs.refinement.StraightLine.{DoesAgain, DoesQuietly, Goe
 use Rattle.ms_machine.specs.declared.straight.CarriedOut.TheVariants as carried
 use Rattle.ms_machine.specs.declared.straight.Stretch.{Stretch}
 use Rattle.ms_machine.specs.declared.straight.Stretch.TheVariants as stretches
-use Rattle.ms_machine.specs.refinement.Doing.{Carries}
+use Rattle.ms_machine.specs.refinement.Doing.{Can, Carries}
 use Rattle.ms_machine.specs.refinement.Holding.{StoreFits, ThreadFits}
 use Rattle.ms_machine.specs.Moves.{Goes, move_for, move_on}
 use Rattle.ms_machine.specs.Running.{with_event}
 use Rattle.ms_machine.specs.Segments as segments
 use Rattle.ms_machine.specs.Segments.{Effect as SegmentEffect, segment_on}
-use Rattle.ms_machine.specs.Step.{Next, Outcome, act, exited, first, in_memory, in_segments, linear, moved, on_memory, on_top, set_global, set_global_at, step_of}
+use Rattle.ms_machine.specs.Step.{Next, Outcome, Stuck, act, exited, first, in_memory, in_segments, linear, moved, on_memory, on_top, set_global, set_global_at, step_of}
 use Rattle.ms_machine.specs.Store.{Store, global_address, instance_of, memory_address}
 use Rattle.ms_machine.specs.Typing.{StoreTyped, TaskTyped, outline_of}
 use Rattle.ms_machine.proofs.Moving.{move_keeps, move_stays_typed, move_unstuck}
@@ -179,19 +179,16 @@ pub stays : (s : Store) (t t1 t' : Thread) (i : Instr) → t ≡ with_first i t1
 stays s t t1 t' i starts acts begins = leaves s s t t1 t' t' i starts acts (sym (exits_none t' begins))
 
 module _ (s : Store) (code : List Instr) (t : Task) (place : ℕ) (i : Instr)
-    (code-is : code ≡ sequence s.funcs t.function t.sequence) (at : place ≡ t.place) (within : place < length code) (read : i ≡ get_or code place i) where
-  stands : thread_of s.funcs t ≡ with_first i (at_next s.funcs t (place + 1))
-  stands =
-      ap (λ p. thread (frame_of t) t.operands (rest_at s.funcs t.function t.sequence p ++ outer_of s.funcs t)) (sym at)
-      ∙ held s.funcs (frame_of t) t.operands (outer_of s.funcs t) t.function t.sequence place code i code-is within read
+    (code-is : code ≡ sequence s.funcs t.function t.sequence) (within : place < length code) (read : i ≡ get_or code place i) where
+  pub stands : at_next s.funcs t place ≡ with_first i (at_next s.funcs t (place + 1))
+  stands = held s.funcs (frame_of t) t.operands (outer_of s.funcs t) t.function t.sequence place code i code-is within read
 
   pub before_next : before s.funcs t (place + 1) ≡ Some i
   before_next = held_before s.funcs t.function t.sequence place code i code-is within read
 
   -- it finds what it takes
-  pub is_next : StoreTyped (outline_of s) → TaskTyped (outline_of s) (thread_of s.funcs t) → (thread_of s.funcs t).work ≢ [] → IsNext i (place + 1) s t
-  is_next store task going =
-      (stands, λ stuck. move_unstuck s (thread_of s.funcs t) None store task going (ap (move_on s None) (ap (step_of s) stands ∙ ap exited stuck)))
+  pub can_next : StoreTyped (outline_of s) → TaskTyped (outline_of s) (at_next s.funcs t place) → (at_next s.funcs t place).work ≢ [] → Can i (place + 1) s t
+  can_next store task going stuck = move_unstuck s (at_next s.funcs t place) None store task going (ap (move_on s None) (ap (step_of s) stands ∙ ap exited stuck))
 
 -- all from a place on
 pub rest_from : (is : List Instr) (place : ℕ) → take (length is - place) (drop place is) ≡ drop place is
@@ -212,15 +209,15 @@ begins_at : (s : Store) (w : List Item) (f q next : ℕ) → next < length (sequ
 begins_at s w f q next within = begins_past (drop next (sequence s.funcs f q)) w (λ e. absurd (omega (arith, within, length-drop next (sequence s.funcs f q), ap length e)))
 
 -- another one stands behind it
-pub carried_on : (s : Store) (t t' : Task) (i : Instr) (next : ℕ) → IsNext i next s t → Carries i next s t t' → next < length (sequence s.funcs t.function t.sequence) → DoesQuietly carried.On i next s t t'
-carried_on s t t' i next here (acts, at) within =
+pub carried_on : (s : Store) (t t' : Task) (i : Instr) (next : ℕ) → Carries i next s t t' → next < length (sequence s.funcs t.function t.sequence) → DoesQuietly carried.On i next s t t'
+carried_on s t t' i next (acts, at) within =
     let begins = begins_at s (outer_of s.funcs t') t.function t.sequence next within in
-    let e : rest_at s.funcs t.function t.sequence next ≡ rest_at s.funcs t'.function t'.sequence t'.place = rw (at.0, at.1, at.2) refl in
-    (stays s (thread_of s.funcs t) (at_next s.funcs t next) (thread_of s.funcs t') i here.0 acts (subst (λ w. Begins (w ++ outer_of s.funcs t')) e begins), at)
+    let e : rest_at s.funcs t.function t.sequence next ≡ rest_at s.funcs t'.function t'.sequence next = rw (at.0, at.1) refl in
+    (stays s (with_first i (at_next s.funcs t next)) (at_next s.funcs t next) (at_next s.funcs t' next) i refl acts (subst (λ w. Begins (w ++ outer_of s.funcs t')) e begins), at)
 
--- a task that begins a sequence there goes on in it
-pub going_at : (s : Store) (t : Task) → t.place < length (sequence s.funcs t.function t.sequence) → (thread_of s.funcs t).work ≢ []
-going_at s t within = begins_going (thread_of s.funcs t).work (begins_at s (outer_of s.funcs t) t.function t.sequence t.place within)
+-- a task whose work goes on within a sequence has something to do
+pub going_at : (s : Store) (t : Task) (place : ℕ) → place < length (sequence s.funcs t.function t.sequence) → (at_next s.funcs t place).work ≢ []
+going_at s t place within = begins_going (at_next s.funcs t place).work (begins_at s (outer_of s.funcs t) t.function t.sequence place within)
 
 -- ---- a branch to a loop, and the loop once more
 
@@ -228,20 +225,20 @@ going_at s t within = begins_going (thread_of s.funcs t).work (begins_at s (oute
 abbrev RepeatsIn : List FuncInst → Moved → List Instr → Task → Type 0
 RepeatsIn funcs m code t' = Repeats funcs m (thread_of funcs t') × (code ≡ sequence funcs t'.function t'.sequence) × (t'.place < length code)
 
-module _ (s : Store) (t t' : Task) (i : Instr) (next : ℕ) (here : IsNext i next s t) (m : List FuncInst → Moved) (acts : act s i (at_next s.funcs t next) ≡ moved s (m s.funcs)) where
-  repeated_in : (code : List Instr) → RepeatsIn s.funcs (m s.funcs) code t' → length code * 16 < 2 ^ 63 → DoesAgain code s (thread_of s.funcs t) t'
+module _ (s : Store) (t t' : Task) (i : Instr) (next : ℕ) (m : List FuncInst → Moved) (acts : act s i (at_next s.funcs t next) ≡ moved s (m s.funcs)) where
+  repeated_in : (code : List Instr) → RepeatsIn s.funcs (m s.funcs) code t' → length code * 16 < 2 ^ 63 → DoesAgain code s (with_first i (at_next s.funcs t next)) t'
   repeated_in code ((ty, b, u, branched, entered), same, within) small =
       let loop = instr.Loop ty b in
-      let t0 = thread_of s.funcs t in
+      let t0 = with_first i (at_next s.funcs t next) in
       let t1 = with_first loop u in
       let t2 = thread_of s.funcs t' in
       let begins = begins_at s (outer_of s.funcs t') t'.function t'.sequence t'.place (subst (λ (is : List Instr). t'.place < length is) same within) in
-      let first : step_of s t0 ≡ Next s t1 None = stays s t0 (at_next s.funcs t next) t1 i here.0 (acts ∙ ap (moved s) branched) (tt {0}) in
+      let first : step_of s t0 ≡ Next s t1 None = stays s t0 (at_next s.funcs t next) t1 i refl (acts ∙ ap (moved s) branched) (tt {0}) in
       let second : step_of s t1 ≡ Next s t2 None = stays s t1 u t2 loop refl (ap (moved s) (sym entered)) begins in
-      let going : t0.work ≢ [] = subst (λ (x : Thread). x.work ≢ []) (sym here.0) (begins_going (with_first i (at_next s.funcs t next)).work (tt {0})) in
+      let going : t0.work ≢ [] = begins_going t0.work (tt {0}) in
       ((s, t1, (s, t0, (refl, refl), going, first), begins_going t1.work (tt {0}), second), (same, within, begins_going t2.work begins, small))
 
-  pub repeated : (funcs : List FuncInst) (o : Option (Bor (List Instr))) → funcs ≡ s.funcs → MatchOption o (t' ≡ t) (λ code. RepeatsIn funcs (m funcs) code.now t') → IfSome o (λ code. length code.now * 16 < 2 ^ 63) → MatchOption o (t' ≡ t) (λ code. DoesAgain code.now s (thread_of s.funcs t) t')
+  pub repeated : (funcs : List FuncInst) (o : Option (Bor (List Instr))) → funcs ≡ s.funcs → MatchOption o (t' ≡ t) (λ code. RepeatsIn funcs (m funcs) code.now t') → IfSome o (λ code. length code.now * 16 < 2 ^ 63) → MatchOption o (t' ≡ t) (λ code. DoesAgain code.now s (with_first i (at_next s.funcs t next)) t')
   repeated funcs None same as-before small = as-before
   repeated funcs (Some code) same does small = repeated_in code.now (subst (λ (fs : List FuncInst). RepeatsIn fs (m fs) code.now t') same does) small
 
@@ -301,11 +298,25 @@ worked_behind s s' t t' i next event here acts behind within =
     let begins = subst Begins (sym behind) (begins_at s (outer_of s.funcs t) t.function t.sequence next within) in
     (leaves_telling s s' (thread_of s.funcs t) (at_next s.funcs t next) u u i event here.0 acts (sym (exits_none u begins)), begins_going u.work begins)
 
--- the instruction is another's
-pub met_here : (s : Store) (t0 : Thread) (n left next : ℕ) (more : Bool) (t t' : Task) (i j : Instr) → GoesQuietly s t0 n s (thread_of s.funcs t) → 0 < left → IsMet i next more s t → i ≡ j → t' ≡ t → GoesQuietly s t0 n s (thread_of s.funcs t') × (0 < left) × IsMet j next more s t'
-met_here s t0 n left next more t t' i j steps some met is same =
-    subst (λ (x : Task). GoesQuietly s t0 n s (thread_of s.funcs x) × (0 < left) × IsMet j next more s x) (sym same)
-    (steps, some, subst (λ k. IsMet k next more s t) is met)
+-- a task that is put at a place where its work went on
+module _ (s : Store) (t0 : Thread) (n place : ℕ) (t u t' : Task) (same : u ≡ t) (steps : GoesQuietly s t0 n s (at_next s.funcs t place)) (going : (at_next s.funcs t place).work ≢ [])
+    (there : thread_of s.funcs t' ≡ at_next s.funcs u place) (others : (k : ℕ) → at_next s.funcs t' k ≡ at_next s.funcs u k) (at : IsAt u place t') where
+  there_is : thread_of s.funcs t' ≡ at_next s.funcs t place
+  there_is = there ∙ ap (λ (x : Task). at_next s.funcs x place) same
+
+  pub put_at : GoesQuietly s t0 n s (thread_of s.funcs t') × ((thread_of s.funcs t').work ≢ [])
+  put_at = subst (λ (x : Thread). GoesQuietly s t0 n s x × (x.work ≢ [])) (sym there_is) (steps, going)
+
+  -- before another's instruction
+  pub met_here : (left next : ℕ) (more : Bool) (i j : Instr) → 0 < left → at_next s.funcs t place ≡ with_first i (at_next s.funcs t next) → Can i next s t → (IsTrue more → next < length (sequence s.funcs t.function t.sequence)) → i ≡ j → GoesQuietly s t0 n s (thread_of s.funcs t') × (0 < left) × IsMet j next more s t'
+  met_here left next more i j some stands can behind is =
+      let next-is : at_next s.funcs t' next ≡ at_next s.funcs t next = others next ∙ ap (λ (x : Task). at_next s.funcs x next) same in
+      let first = there_is ∙ stands ∙ ap (with_first i) (sym next-is) in
+      let finds : Can i next s t' = subst (λ (x : Thread). act s i x ≢ Stuck) (sym next-is) can in
+      let function-is = at.0 ∙ ap (λ (x : Task). x.function) same in
+      let sequence-is = at.1 ∙ ap (λ (x : Task). x.sequence) same in
+      let follows : IsTrue more → next < length (sequence s.funcs t'.function t'.sequence) = λ yes-more. rw (function-is, sequence-is) (behind yes-more) in
+      (put_at.0, some, subst (λ k. IsMet k next more s t') is (put_at.1, (first, finds), follows))
 
 -- the next sequence, wherever it is
 pub begins_there : (s : Store) (funcs : List FuncInst) (t0 : Thread) (n : ℕ) (t : Task) → funcs ≡ s.funcs → GoesQuietly s t0 n s (thread_of s.funcs t) → StoreTyped (outline_of s) → TaskTyped (outline_of s) t0 → (thread_of s.funcs t).work ≢ [] → Begins (thread_of funcs t).work

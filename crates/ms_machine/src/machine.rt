@@ -1,6 +1,6 @@
 //! One step of a task.
 
-ghost use Rattle.std.specs.Prelude.{◌≡◌, ◌≢◌, ℕ, ◌+◌, ◌<◌, ◌≤◌, ◌^◌, ◌++◌, List, [], ◌∷◌, length, IfOk, IsTrue, Option, None, Some};
+ghost use Rattle.std.specs.Prelude.{◌≡◌, ◌≢◌, ℕ, ◌+◌, ◌<◌, ◌≤◌, ◌^◌, ◌++◌, List, [], ◌∷◌, length, Err, IfOk, IsTrue, Ok, OnErr, OnOk, Option, None, Some};
 ghost use Rattle.ms_handle.specs.declared.handle.Handle.{Handle};
 ghost use Rattle.ms_machine.specs.refinement.Accesses.{counted_all};
 ghost use Rattle.ms_machine.specs.refinement.Doing.{Can, DoesFirst, LeavesStore, with_more};
@@ -15,6 +15,7 @@ ghost use Rattle.ms_machine.specs.Typing.{StoreTyped, TaskTyped, outline_of};
 ghost use Rattle.ms_segment.specs.Memory.{IsFit};
 ghost use Rattle.ms_event.specs.declared.event.Event.{Event};
 ghost use Rattle.ms_task.specs.Thread.{Begins, Thread};
+ghost use Rattle.ms_task.specs.declared.func.FuncInst.{FuncInst};
 ghost use Rattle.ms_task.specs.refinement.View.{at_next, before, thread_of};
 
 use crate::fault::Fault;
@@ -28,6 +29,7 @@ use ms_module::Instr;
 use ms_outside::{Sink, Source};
 use ms_segment::SegmentMemory;
 use ms_task::Task;
+use std::alloc::AllocError;
 
 /// The same with a word on what follows.
 #[inline(always)]
@@ -40,6 +42,26 @@ fn and_more(
     match outcome {
         Ok(event) => Ok((event, more)),
         Err(fault) => Err(fault),
+    }
+}
+
+/// The same of an instruction that left the task at its place, behind which it goes on at `next`.
+#[inline(always)]
+fn go_on(
+    done: Result<(), AllocError>,
+    task: &mut Task,
+    next: usize,
+    more: bool,
+) -> Result<(Option<Event>, bool), Fault>
+    ensures ok { OnOk done ((result ≡ Ok (None, more)) × ((funcs : List FuncInst) → thread_of funcs task.new ≡ at_next funcs task.old next)) }
+    ensures err { OnErr done (result ≡ Err Fault.Memory) }
+{
+    match done {
+        Ok(()) => {
+            task.go_to(next);
+            Ok((None, more))
+        }
+        Err(_) => Err(Fault::Memory),
     }
 }
 
@@ -62,7 +84,7 @@ fn carry_out<M: SegmentMemory>(
 {
     match *instr {
         Instr::Unreachable => Err(Fault::Trap(TrapKind::Unreachable)),
-        Instr::Nop => and_more(plain::nop(store, task, next), more),
+        Instr::Nop => go_on(plain::nop(store, task, next), task, next, more),
         Instr::Block { ty, body } => and_more(control::block(store, task, ty, body, next), false),
         Instr::Loop { ty, body } => and_more(
             control::begin_loop(store, task, ty, body, next),
@@ -80,14 +102,14 @@ fn carry_out<M: SegmentMemory>(
         Instr::Return => and_more(control::return_(store, task, next), false),
         Instr::Call(x) => and_more(control::call(store, task, x, next), false),
         Instr::CallIndirect(x) => and_more(control::call_indirect(store, task, x, next), false),
-        Instr::Drop => and_more(plain::discard(store, task, next), more),
-        Instr::Select => and_more(plain::select(store, task, next), more),
-        Instr::LocalGet(x) => and_more(plain::local_get(store, task, x, next), more),
-        Instr::LocalSet(x) => and_more(plain::local_set(store, task, x, next), more),
-        Instr::LocalTee(x) => and_more(plain::local_tee(store, task, x, next), more),
-        Instr::GlobalGet(x) => and_more(plain::global_get(store, task, x, next), more),
-        Instr::I32Const(n) => and_more(plain::i32_const(store, task, n, next), more),
-        Instr::I64Const(n) => and_more(plain::i64_const(store, task, n, next), more),
+        Instr::Drop => go_on(plain::discard(store, task, next), task, next, more),
+        Instr::Select => go_on(plain::select(store, task, next), task, next, more),
+        Instr::LocalGet(x) => go_on(plain::local_get(store, task, x, next), task, next, more),
+        Instr::LocalSet(x) => go_on(plain::local_set(store, task, x, next), task, next, more),
+        Instr::LocalTee(x) => go_on(plain::local_tee(store, task, x, next), task, next, more),
+        Instr::GlobalGet(x) => go_on(plain::global_get(store, task, x, next), task, next, more),
+        Instr::I32Const(n) => go_on(plain::i32_const(store, task, n, next), task, next, more),
+        Instr::I64Const(n) => go_on(plain::i64_const(store, task, n, next), task, next, more),
         Instr::Numeric(i) => and_more(memory::numeric(store, task, i, next), more),
         Instr::GlobalSet(_) => unreachable!(),
         Instr::Linear(_) => unreachable!(),

@@ -1,7 +1,9 @@
 //! Constants, and parametric and variable instructions (WebAssembly 1.0, 4.4.1 to 4.4.3), each in a small function.
+//!
+//! All but `global.set` leave the task at its place: who carries them out puts it behind them, or goes on there.
 
-ghost use Rattle.std.specs.Prelude.{◌≡◌};
-ghost use Rattle.ms_machine.specs.refinement.Doing.{Can, DoesInstr, Stays, TellsNone};
+ghost use Rattle.std.specs.Prelude.{◌≡◌, OnErr, OnOk};
+ghost use Rattle.ms_machine.specs.refinement.Doing.{Can, Carries, DoesInstr, TellsNone};
 ghost use Rattle.ms_module.specs.declared.instr.Instr.TheVariants as instr;
 
 use crate::fault::Fault;
@@ -11,19 +13,20 @@ use ms_event::Event;
 use ms_linear::{Cell, Value};
 use ms_segment::SegmentMemory;
 use ms_task::Task;
+use std::alloc::AllocError;
 
 /// `nop`.
 pub(crate) fn nop<M: SegmentMemory>(
     store: &Store<M>,
     task: &mut Task,
     next: usize,
-) -> Result<Option<Event>, Fault>
-    ensures does { DoesInstr instr.Nop next store.now task.old store.now task.new result }
-    ensures stays { Stays task.old next task.new result }
+) -> Result<(), AllocError>
+    ensures ok { OnOk result (Carries instr.Nop next store.now task.old task.new) }
+    ensures err { OnErr result (task.new ≡ task.old) }
 {
     let _ = store;
-    task.go_to(next);
-    Ok(None)
+    let _ = next;
+    Ok(())
 }
 
 /// `i32.const`.
@@ -32,18 +35,13 @@ pub(crate) fn i32_const<M: SegmentMemory>(
     task: &mut Task,
     n: i32,
     next: usize,
-) -> Result<Option<Event>, Fault>
-    ensures does { DoesInstr (instr.I32Const n) next store.now task.old store.now task.new result }
-    ensures stays { Stays task.old next task.new result }
+) -> Result<(), AllocError>
+    ensures ok { OnOk result (Carries (instr.I32Const n) next store.now task.old task.new) }
+    ensures err { OnErr result (task.new ≡ task.old) }
 {
     let _ = store;
-    match task.operands.push_cell(Cell::of_i32(n.cast_unsigned())) {
-        Ok(()) => {
-            task.go_to(next);
-            Ok(None)
-        }
-        Err(_) => Err(Fault::Memory),
-    }
+    let _ = next;
+    task.operands.push_cell(Cell::of_i32(n.cast_unsigned()))
 }
 
 /// `i64.const`.
@@ -52,18 +50,13 @@ pub(crate) fn i64_const<M: SegmentMemory>(
     task: &mut Task,
     n: i64,
     next: usize,
-) -> Result<Option<Event>, Fault>
-    ensures does { DoesInstr (instr.I64Const n) next store.now task.old store.now task.new result }
-    ensures stays { Stays task.old next task.new result }
+) -> Result<(), AllocError>
+    ensures ok { OnOk result (Carries (instr.I64Const n) next store.now task.old task.new) }
+    ensures err { OnErr result (task.new ≡ task.old) }
 {
     let _ = store;
-    match task.operands.push_cell(Cell::of_i64(n.cast_unsigned())) {
-        Ok(()) => {
-            task.go_to(next);
-            Ok(None)
-        }
-        Err(_) => Err(Fault::Memory),
-    }
+    let _ = next;
+    task.operands.push_cell(Cell::of_i64(n.cast_unsigned()))
 }
 
 /// `drop`.
@@ -71,15 +64,15 @@ pub(crate) fn discard<M: SegmentMemory>(
     store: &Store<M>,
     task: &mut Task,
     next: usize,
-) -> Result<Option<Event>, Fault>
+) -> Result<(), AllocError>
     requires { Can instr.Drop next store.now task.old }
-    ensures does { DoesInstr instr.Drop next store.now task.old store.now task.new result }
-    ensures stays { Stays task.old next task.new result }
+    ensures ok { OnOk result (Carries instr.Drop next store.now task.old task.new) }
+    ensures err { OnErr result (task.new ≡ task.old) }
 {
     let _ = store;
+    let _ = next;
     task.operands.cut(1);
-    task.go_to(next);
-    Ok(None)
+    Ok(())
 }
 
 /// `select`.
@@ -87,12 +80,13 @@ pub(crate) fn select<M: SegmentMemory>(
     store: &Store<M>,
     task: &mut Task,
     next: usize,
-) -> Result<Option<Event>, Fault>
+) -> Result<(), AllocError>
     requires { Can instr.Select next store.now task.old }
-    ensures does { DoesInstr instr.Select next store.now task.old store.now task.new result }
-    ensures stays { Stays task.old next task.new result }
+    ensures ok { OnOk result (Carries instr.Select next store.now task.old task.new) }
+    ensures err { OnErr result (task.new ≡ task.old) }
 {
     let _ = store;
+    let _ = next;
     let Value::I32(n) = task.operands.get(0) else {
         unreachable!()
     };
@@ -101,8 +95,7 @@ pub(crate) fn select<M: SegmentMemory>(
     if n == 0 {
         task.operands.set_top_cell(other);
     }
-    task.go_to(next);
-    Ok(None)
+    Ok(())
 }
 
 /// `local.get`.
@@ -111,25 +104,19 @@ pub(crate) fn local_get<M: SegmentMemory>(
     task: &mut Task,
     x: u32,
     next: usize,
-) -> Result<Option<Event>, Fault>
+) -> Result<(), AllocError>
     requires { Can (instr.LocalGet x) next store.now task.old }
-    ensures does { DoesInstr (instr.LocalGet x) next store.now task.old store.now task.new result }
-    ensures stays { Stays task.old next task.new result }
+    ensures ok { OnOk result (Carries (instr.LocalGet x) next store.now task.old task.new) }
+    ensures err { OnErr result (task.new ≡ task.old) }
 {
     let _ = store;
+    let _ = next;
     if let Some(cell) = task.frames.get_near(x as usize) {
         if task.operands.push_within(cell) {
-            task.go_to(next);
-            return Ok(None);
+            return Ok(());
         }
     }
-    match task.frames.push_to(x as usize, &mut task.operands) {
-        Ok(()) => {
-            task.go_to(next);
-            Ok(None)
-        }
-        Err(_) => Err(Fault::Memory),
-    }
+    task.frames.push_to(x as usize, &mut task.operands)
 }
 
 /// `local.set`.
@@ -138,21 +125,21 @@ pub(crate) fn local_set<M: SegmentMemory>(
     task: &mut Task,
     x: u32,
     next: usize,
-) -> Result<Option<Event>, Fault>
+) -> Result<(), AllocError>
     requires { Can (instr.LocalSet x) next store.now task.old }
-    ensures does { DoesInstr (instr.LocalSet x) next store.now task.old store.now task.new result }
-    ensures stays { Stays task.old next task.new result }
+    ensures ok { OnOk result (Carries (instr.LocalSet x) next store.now task.old task.new) }
+    ensures err { OnErr result (task.new ≡ task.old) }
 {
     let _ = store;
+    let _ = next;
     let cell = task.operands.cell(0);
     if !task.frames.set_near(x as usize, cell)
         && task.frames.set_to_top(x as usize, &task.operands).is_err()
     {
-        return Err(Fault::Memory);
+        return Err(AllocError);
     }
     task.operands.cut(1);
-    task.go_to(next);
-    Ok(None)
+    Ok(())
 }
 
 /// `local.tee`.
@@ -161,20 +148,20 @@ pub(crate) fn local_tee<M: SegmentMemory>(
     task: &mut Task,
     x: u32,
     next: usize,
-) -> Result<Option<Event>, Fault>
+) -> Result<(), AllocError>
     requires { Can (instr.LocalTee x) next store.now task.old }
-    ensures does { DoesInstr (instr.LocalTee x) next store.now task.old store.now task.new result }
-    ensures stays { Stays task.old next task.new result }
+    ensures ok { OnOk result (Carries (instr.LocalTee x) next store.now task.old task.new) }
+    ensures err { OnErr result (task.new ≡ task.old) }
 {
     let _ = store;
+    let _ = next;
     let cell = task.operands.cell(0);
     if !task.frames.set_near(x as usize, cell)
         && task.frames.set_to_top(x as usize, &task.operands).is_err()
     {
-        return Err(Fault::Memory);
+        return Err(AllocError);
     }
-    task.go_to(next);
-    Ok(None)
+    Ok(())
 }
 
 /// `global.get`.
@@ -183,19 +170,14 @@ pub(crate) fn global_get<M: SegmentMemory>(
     task: &mut Task,
     x: u32,
     next: usize,
-) -> Result<Option<Event>, Fault>
+) -> Result<(), AllocError>
     requires { Can (instr.GlobalGet x) next store.now task.old }
-    ensures does { DoesInstr (instr.GlobalGet x) next store.now task.old store.now task.new result }
-    ensures stays { Stays task.old next task.new result }
+    ensures ok { OnOk result (Carries (instr.GlobalGet x) next store.now task.old task.new) }
+    ensures err { OnErr result (task.new ≡ task.old) }
 {
+    let _ = next;
     let value = global(store, task, x).value;
-    match task.operands.push(value) {
-        Ok(()) => {
-            task.go_to(next);
-            Ok(None)
-        }
-        Err(_) => Err(Fault::Memory),
-    }
+    task.operands.push(value)
 }
 
 /// `global.set`.

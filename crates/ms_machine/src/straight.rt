@@ -12,7 +12,7 @@ ghost use Rattle.ms_machine.specs.Typing.{StoreTyped, TaskTyped, outline_of};
 ghost use Rattle.ms_module.specs.declared.instr.Instr.TheVariants as instr;
 ghost use Rattle.ms_segment.specs.Memory.{IsFit};
 ghost use Rattle.ms_task.specs.Control.{exited};
-ghost use Rattle.ms_task.specs.Thread.{sequence};
+ghost use Rattle.ms_task.specs.Thread.{sequence, with_first};
 ghost use Rattle.ms_task.specs.refinement.View.{at_next, before, thread_of};
 
 use crate::fault::Fault;
@@ -33,13 +33,8 @@ fn numeric<M: SegmentMemory>(store: &Store<M>, task: &mut Task, i: Numeric, next
     ensures off { result ≡ false → task.new ≡ task.old }
 {
     let _ = store;
-    match ms_operate::numeric(i, &mut task.operands) {
-        Ok(()) => {
-            task.go_to(next);
-            true
-        }
-        Err(_) => false,
-    }
+    let _ = next;
+    ms_operate::numeric(i, &mut task.operands).is_ok()
 }
 
 /// Carries out an instruction on handles alone, or says that it didn't; then nothing has changed.
@@ -55,11 +50,8 @@ fn carry_on_handles<M: SegmentMemory>(
     ensures on { IsTrue result → Carries (instr.Segment i) next store.now task.old task.new }
     ensures off { result ≡ false → task.new ≡ task.old }
 {
-    if !segment::on_handles(i, &store.segments, &mut task.operands) {
-        return false;
-    }
-    task.go_to(next);
-    true
+    let _ = next;
+    segment::on_handles(i, &store.segments, &mut task.operands)
 }
 
 /// Carries out an instruction that stays within its sequence, behind which the task goes on at `next`, or says that it
@@ -173,7 +165,7 @@ fn straight<'a, M: SegmentMemory>(
     next: usize,
     more: bool,
 ) -> CarriedOut<'a>
-    requires next { IsNext instr.now next store.now task.old }
+    requires can { Can instr.now next store.now task.old }
     requires more { IsTrue more → next < length (sequence store.now.funcs task.old.function task.old.sequence) }
     ensures done { DoesQuietly result instr.now next store.now task.old task.new }
     ensures on { result ≡ CarriedOut.On → IsTrue more }
@@ -183,10 +175,10 @@ fn straight<'a, M: SegmentMemory>(
         return CarriedOut::Not;
     }
     if more {
-        CarriedOut::On
-    } else {
-        CarriedOut::Behind
+        return CarriedOut::On;
     }
+    task.go_to(next);
+    CarriedOut::Behind
 }
 
 /// An instruction on handles alone, in the same way; of each other one on segments it says that it is one.
@@ -200,7 +192,7 @@ fn on_handles<'a, M: SegmentMemory>(
     next: usize,
     more: bool,
 ) -> CarriedOut<'a>
-    requires next { IsNext (instr.Segment i) next store.now task.old }
+    requires can { Can (instr.Segment i) next store.now task.old }
     requires more { IsTrue more → next < length (sequence store.now.funcs task.old.function task.old.sequence) }
     requires fit { Each (Fits store.now.segments) task.old.operands }
     ensures done { DoesQuietly result (instr.Segment i) next store.now task.old task.new }
@@ -211,10 +203,10 @@ fn on_handles<'a, M: SegmentMemory>(
         return CarriedOut::Segment(i);
     }
     if more {
-        CarriedOut::On
-    } else {
-        CarriedOut::Behind
+        return CarriedOut::On;
     }
+    task.go_to(next);
+    CarriedOut::Behind
 }
 
 /// A jump, behind which the task goes on at `next` where it doesn't lead elsewhere.
@@ -226,7 +218,7 @@ fn leap<'a, M: SegmentMemory>(
     next: usize,
 ) -> CarriedOut<'a>
     requires before { before store.now.funcs task.old next ≡ Some instr.now }
-    requires next { IsNext instr.now next store.now task.old }
+    requires can { Can instr.now next store.now task.old }
     ensures done { DoesQuietly result instr.now next store.now task.old task.new }
     ensures off { result ≢ CarriedOut.On }
     ensures once { ¬ IsAgain result }
@@ -246,8 +238,8 @@ fn repeat<'a, M: SegmentMemory>(
     instr: &Instr,
     next: usize,
 ) -> Option<&'a [Instr]>
-    requires { IsNext instr.now next store.now task.old }
-    ensures { MatchOption result (task.new ≡ task.old) (λ code. DoesAgain code.now store.now (thread_of store.now.funcs task.old) task.new) }
+    requires { Can instr.now next store.now task.old }
+    ensures { MatchOption result (task.new ≡ task.old) (λ code. DoesAgain code.now store.now (with_first instr.now (at_next store.now.funcs task.old next)) task.new) }
 {
     match *instr {
         Instr::Br(label) => task.repeat(&store.funcs, label),
@@ -281,18 +273,18 @@ fn branch<'a, M: SegmentMemory>(
     two: bool,
 ) -> CarriedOut<'a>
     requires before { before store.now.funcs task.old next ≡ Some instr.now }
-    requires next { IsNext instr.now next store.now task.old }
+    requires can { Can instr.now next store.now task.old }
     requires more { IsTrue more → next < length (sequence store.now.funcs task.old.function task.old.sequence) }
     ensures done { DoesQuietly result instr.now next store.now task.old task.new }
     ensures on { result ≡ CarriedOut.On → IsTrue more }
     ensures again { IsAgain result → IsTrue two }
 {
     if pass(store, task, instr, next) {
-        return if more {
-            CarriedOut::On
-        } else {
-            CarriedOut::Behind
-        };
+        if more {
+            return CarriedOut::On;
+        }
+        task.go_to(next);
+        return CarriedOut::Behind;
     }
     if !two {
         return leap(store, task, instr, next);
@@ -318,7 +310,7 @@ fn quietly<'a, M: SegmentMemory>(
     two: bool,
 ) -> CarriedOut<'a>
     requires before { before store.now.funcs task.old next ≡ Some instr.now }
-    requires next { IsNext instr.now next store.now task.old }
+    requires can { Can instr.now next store.now task.old }
     requires fit { Each (Fits store.now.segments) task.old.operands }
     requires more { IsTrue more → next < length (sequence store.now.funcs task.old.function task.old.sequence) }
     ensures done { DoesQuietly result instr.now next store.now task.old task.new }
@@ -421,14 +413,27 @@ fn go<M: SegmentMemory>(store: &Store<M>, task: &mut Task, most: u64) -> (Met, u
                 rest = &code[place..];
                 left -= 1;
             }
-            CarriedOut::Linear(i) => return (Met::Linear(i, next, more), left),
-            CarriedOut::Global(x) => return (Met::Global(x, next, more), left),
-            CarriedOut::Segment(i) => return (Met::Segment(i, next, more), left),
-            CarriedOut::Not => return (Met::Paused, left),
+            CarriedOut::Linear(i) => {
+                task.go_to(place);
+                return (Met::Linear(i, next, more), left);
+            }
+            CarriedOut::Global(x) => {
+                task.go_to(place);
+                return (Met::Global(x, next, more), left);
+            }
+            CarriedOut::Segment(i) => {
+                task.go_to(place);
+                return (Met::Segment(i, next, more), left);
+            }
+            CarriedOut::Not => {
+                task.go_to(place);
+                return (Met::Paused, left);
+            }
             CarriedOut::Memory => return (Met::Memory, left),
         }
         left -= 1;
     }
+    task.go_to(place);
     (Met::Paused, 0)
 }
 

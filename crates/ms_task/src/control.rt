@@ -172,17 +172,18 @@ impl Task {
         }
     }
 
-    /// Goes on at `next`, behind a branch at an operand that is not 0, where it is 0, and says whether it is; else nothing has
-    /// changed.
+    /// Passes a branch at an operand that is not 0, where it is 0, and says whether it is; else nothing has changed. The work goes on
+    /// at `next`, where the task is not put.
     #[inline(always)]
     pub fn pass(&mut self, funcs: &[FuncInst], label: u32, next: usize) -> bool
         requires { br_if_on label (at_next funcs.now self.old next) ≢ Stuck }
-        ensures on { IsTrue result → To (thread_of funcs.now self.new) ≡ br_if_on label (at_next funcs.now self.old next) }
-        ensures place { IsTrue result → IsAt self.old next self.new }
+        ensures on { IsTrue result → To (at_next funcs.now self.new next) ≡ br_if_on label (at_next funcs.now self.old next) }
+        ensures place { IsTrue result → IsAt self.old self.old.place self.new }
         ensures off { result ≡ false → self.new ≡ self.old }
     {
         let _ = funcs;
         let _ = label;
+        let _ = next;
         let Value::I32(n) = self.operands.get(0) else {
             unreachable!()
         };
@@ -190,7 +191,6 @@ impl Task {
             return false;
         }
         self.operands.cut(1);
-        self.place = next;
         true
     }
 

@@ -133,6 +133,7 @@ impl Task {
     /// Goes on at a place of the current sequence.
     pub fn go_to(&mut self, next: usize)
         ensures thread { (funcs : List FuncInst) → thread_of funcs self.new ≡ at_next funcs self.old next }
+        ensures others { (funcs : List FuncInst) (place : ℕ) → at_next funcs self.new place ≡ at_next funcs self.old place }
         ensures place { IsAt self.old next self.new }
     {
         self.place = next;

@@ -100,9 +100,9 @@ abbrev pub Stays : Task → ℕ → Task → Result (Option Event) Fault → Typ
 Stays t next t' (Ok event) = (event ≡ None) × IsAt t next t'
 Stays t next t' (Err fault) = t' ≡ t
 
--- The instruction was carried out so, on the store as it is.
+-- The instruction was carried out so, on the store as it is, but for the task's place: it goes on at `next` of the same sequence.
 abbrev pub Carries : Instr → ℕ → Store → Task → Task → Type 0
-Carries i next s t t' = (act s i (at_next s.funcs t next) ≡ Next s (thread_of s.funcs t') None) × IsAt t next t'
+Carries i next s t t' = (act s i (at_next s.funcs t next) ≡ Next s (at_next s.funcs t' next) None) × IsAt t t.place t'
 
 -- ---- those that leave the store as it is
 

@@ -85,10 +85,12 @@ abbrev pub IsAgain : CarriedOut → Type 0
 IsAgain (carried.Again code) = Unit {0}
 IsAgain _ = ⊥
 
+-- The instruction is the first thing to do, and `next` is the place behind it: a task's own place is not that of its thread while
+-- instructions that stay within their sequence are carried out.
 abbrev pub DoesQuietly : CarriedOut → Instr → ℕ → Store → Task → Task → Type 0
-DoesQuietly carried.On i next s t t' = StepsQuietly s (thread_of s.funcs t) s (thread_of s.funcs t') × IsAt t next t'
+DoesQuietly carried.On i next s t t' = StepsQuietly s (with_first i (at_next s.funcs t next)) s (at_next s.funcs t' next) × IsAt t t.place t'
 DoesQuietly carried.Behind i next s t t' = act s i (at_next s.funcs t next) ≡ Next s (thread_of s.funcs t') None
-DoesQuietly (carried.Again code) i next s t t' = DoesAgain code.now s (thread_of s.funcs t) t'
+DoesQuietly (carried.Again code) i next s t t' = DoesAgain code.now s (with_first i (at_next s.funcs t next)) t'
 DoesQuietly (carried.Linear j) i next s t t' = (i ≡ instr.Linear j) × (t' ≡ t)
 DoesQuietly (carried.Global x) i next s t t' = (i ≡ instr.GlobalSet x) × (t' ≡ t)
 DoesQuietly (carried.Segment j) i next s t t' = (i ≡ instr.Segment j) × (t' ≡ t)

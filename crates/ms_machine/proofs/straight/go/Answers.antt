@@ -1,12 +1,12 @@
-use Rattle.std.proofs.Common.{◌≡◌, ◌-◌, ◌+◌, ◌*◌, ◌^◌, ◌<◌, ◌∙◌, Bor, List, drop, drop-drop, length, length-drop, nat_lt, refl, sym, ap, subst, arith}
+use Rattle.std.proofs.Common.{◌≡◌, ◌≢◌, ◌-◌, ◌+◌, ◌*◌, ◌^◌, ◌<◌, ◌∙◌, Bor, List, [], drop, drop-drop, length, length-drop, nat_lt, refl, sym, ap, subst, arith}
 use Rattle.std.proofs.lemmas.Bool.{ltb-true}
 use Rattle.ms_module.specs.declared.instr.Instr.{Instr}
 use Rattle.ms_task.specs.Control.{exited}
-use Rattle.ms_task.specs.Thread.{sequence}
+use Rattle.ms_task.specs.Thread.{Thread, sequence, with_first}
 use Rattle.ms_task.specs.refinement.View.{IsAt, at_next, thread_of}
 use Rattle.ms_task.specs.declared.task.Task.{Task}
-use Rattle.ms_machine.specs.refinement.StraightLine.{DoesAgain, IsIn, StepsQuietly}
-use Rattle.ms_machine.proofs.StraightLine.{before_next, going_at, is_next, leaves, met_here, quietly_fits, quietly_on, quietly_trans, quietly_typed, rest_behind, rest_from, rest_read, rest_within}
+use Rattle.ms_machine.specs.refinement.StraightLine.{DoesAgain, GoesQuietly, IsIn, StepsQuietly}
+use Rattle.ms_machine.proofs.StraightLine.{before_next, can_next, going_at, leaves, met_here, put_at, quietly_fits, quietly_on, quietly_trans, quietly_typed, rest_behind, rest_from, rest_read, rest_within, stands}
 use Rattle.ms_machine.proofs.straight.go.Goals as goal
 use Rattle.ms_machine.proofs.straight.go.Goals.{in-On, in-Behind+in-Some, in-Again}
 
@@ -16,22 +16,22 @@ quietly-requires-clause-before g c =
     let v = l.invariant in
     let s = c.args.store.now in
     let is = sequence s.funcs l.task.function l.task.sequence in
-    before_next s is l.task l.place c.index-rest-0.result refl v.place (rest_within is l.rest.now l.place v.rest v.some) (rest_read is l.rest.now l.place v.rest v.some c.index-rest-0.result c.index-rest-0.is)
+    before_next s is l.task l.place c.index-rest-0.result refl (rest_within is l.rest.now l.place v.rest v.some) (rest_read is l.rest.now l.place v.rest v.some c.index-rest-0.result c.index-rest-0.is)
 
-pub quietly-requires-clause-next : goal.quietly-requires-clause-next
-quietly-requires-clause-next g c =
+pub quietly-requires-clause-can : goal.quietly-requires-clause-can
+quietly-requires-clause-can g c =
     let s = c.args.store.now in
     let l = c.loop-left in
     let v = l.invariant in
     let is = sequence s.funcs l.task.function l.task.sequence in
-    let typed = quietly_typed s s (thread_of s.funcs c.args.task.now) (thread_of s.funcs l.task) (c.args.most - l.left) v.steps c.requires.store c.requires.task in
-    is_next s is l.task l.place c.index-rest-0.result refl v.place (rest_within is l.rest.now l.place v.rest v.some) (rest_read is l.rest.now l.place v.rest v.some c.index-rest-0.result c.index-rest-0.is) c.requires.store typed.1 v.going
+    let typed = quietly_typed s s (thread_of s.funcs c.args.task.now) (at_next s.funcs l.task l.place) (c.args.most - l.left) v.steps c.requires.store c.requires.task in
+    can_next s is l.task l.place c.index-rest-0.result refl (rest_within is l.rest.now l.place v.rest v.some) (rest_read is l.rest.now l.place v.rest v.some c.index-rest-0.result c.index-rest-0.is) c.requires.store typed.1 v.going
 
 pub quietly-requires-clause-fit : goal.quietly-requires-clause-fit
 quietly-requires-clause-fit g c =
     let s = c.args.store.now in
     let l = c.loop-left in
-    (quietly_fits s s (thread_of s.funcs c.args.task.now) (thread_of s.funcs l.task) (c.args.most - l.left) l.invariant.steps c.requires.store_fits c.requires.task_fits).1.operands
+    (quietly_fits s s (thread_of s.funcs c.args.task.now) (at_next s.funcs l.task l.place) (c.args.most - l.left) l.invariant.steps c.requires.store_fits c.requires.task_fits).1.operands
 
 pub returns-in-Linear-clause-met : goal.returns-in-Linear-clause-met
 returns-in-Linear-clause-met g c =
@@ -39,10 +39,10 @@ returns-in-Linear-clause-met g c =
     let l = c.loop-left in
     let v = l.invariant in
     let is = sequence s.funcs l.task.function l.task.sequence in
-    let typed = quietly_typed s s (thread_of s.funcs c.args.task.now) (thread_of s.funcs l.task) (c.args.most - l.left) v.steps c.requires.store c.requires.task in
-    let here = is_next s is l.task l.place c.index-rest-0.result refl v.place (rest_within is l.rest.now l.place v.rest v.some) (rest_read is l.rest.now l.place v.rest v.some c.index-rest-0.result c.index-rest-0.is) c.requires.store typed.1 v.going in
+    let typed = quietly_typed s s (thread_of s.funcs c.args.task.now) (at_next s.funcs l.task l.place) (c.args.most - l.left) v.steps c.requires.store c.requires.task in
+    let here = can_next s is l.task l.place c.index-rest-0.result refl (rest_within is l.rest.now l.place v.rest v.some) (rest_read is l.rest.now l.place v.rest v.some c.index-rest-0.result c.index-rest-0.is) c.requires.store typed.1 v.going in
     let behind = rest_behind is l.rest.now l.place v.rest v.some in
-    met_here s (thread_of s.funcs c.args.task.now) (c.args.most - l.left) l.left (l.place + 1) (nat_lt 1 (length l.rest.now)) l.task c.quietly.new.task c.index-rest-0.result _ v.steps c.loop-left-test.true (v.going, here, behind) c.in-Linear.ensures.done.0 c.in-Linear.ensures.done.1
+    met_here s (thread_of s.funcs c.args.task.now) (c.args.most - l.left) l.place l.task c.quietly.new.task c.go_to.new.self c.in-Linear.ensures.done.1 v.steps v.going (c.go_to.ensures.thread s.funcs) (c.go_to.ensures.others s.funcs) c.go_to.ensures.place l.left (l.place + 1) (nat_lt 1 (length l.rest.now)) c.index-rest-0.result _ c.loop-left-test.true (stands s is l.task l.place c.index-rest-0.result refl (rest_within is l.rest.now l.place v.rest v.some) (rest_read is l.rest.now l.place v.rest v.some c.index-rest-0.result c.index-rest-0.is)) here behind c.in-Linear.ensures.done.0
 
 pub returns-in-Global-clause-met : goal.returns-in-Global-clause-met
 returns-in-Global-clause-met g c =
@@ -50,10 +50,10 @@ returns-in-Global-clause-met g c =
     let l = c.loop-left in
     let v = l.invariant in
     let is = sequence s.funcs l.task.function l.task.sequence in
-    let typed = quietly_typed s s (thread_of s.funcs c.args.task.now) (thread_of s.funcs l.task) (c.args.most - l.left) v.steps c.requires.store c.requires.task in
-    let here = is_next s is l.task l.place c.index-rest-0.result refl v.place (rest_within is l.rest.now l.place v.rest v.some) (rest_read is l.rest.now l.place v.rest v.some c.index-rest-0.result c.index-rest-0.is) c.requires.store typed.1 v.going in
+    let typed = quietly_typed s s (thread_of s.funcs c.args.task.now) (at_next s.funcs l.task l.place) (c.args.most - l.left) v.steps c.requires.store c.requires.task in
+    let here = can_next s is l.task l.place c.index-rest-0.result refl (rest_within is l.rest.now l.place v.rest v.some) (rest_read is l.rest.now l.place v.rest v.some c.index-rest-0.result c.index-rest-0.is) c.requires.store typed.1 v.going in
     let behind = rest_behind is l.rest.now l.place v.rest v.some in
-    met_here s (thread_of s.funcs c.args.task.now) (c.args.most - l.left) l.left (l.place + 1) (nat_lt 1 (length l.rest.now)) l.task c.quietly.new.task c.index-rest-0.result _ v.steps c.loop-left-test.true (v.going, here, behind) c.in-Global.ensures.done.0 c.in-Global.ensures.done.1
+    met_here s (thread_of s.funcs c.args.task.now) (c.args.most - l.left) l.place l.task c.quietly.new.task c.go_to-in-Global.new.self c.in-Global.ensures.done.1 v.steps v.going (c.go_to-in-Global.ensures.thread s.funcs) (c.go_to-in-Global.ensures.others s.funcs) c.go_to-in-Global.ensures.place l.left (l.place + 1) (nat_lt 1 (length l.rest.now)) c.index-rest-0.result _ c.loop-left-test.true (stands s is l.task l.place c.index-rest-0.result refl (rest_within is l.rest.now l.place v.rest v.some) (rest_read is l.rest.now l.place v.rest v.some c.index-rest-0.result c.index-rest-0.is)) here behind c.in-Global.ensures.done.0
 
 pub returns-in-Segment-clause-met : goal.returns-in-Segment-clause-met
 returns-in-Segment-clause-met g c =
@@ -61,10 +61,10 @@ returns-in-Segment-clause-met g c =
     let l = c.loop-left in
     let v = l.invariant in
     let is = sequence s.funcs l.task.function l.task.sequence in
-    let typed = quietly_typed s s (thread_of s.funcs c.args.task.now) (thread_of s.funcs l.task) (c.args.most - l.left) v.steps c.requires.store c.requires.task in
-    let here = is_next s is l.task l.place c.index-rest-0.result refl v.place (rest_within is l.rest.now l.place v.rest v.some) (rest_read is l.rest.now l.place v.rest v.some c.index-rest-0.result c.index-rest-0.is) c.requires.store typed.1 v.going in
+    let typed = quietly_typed s s (thread_of s.funcs c.args.task.now) (at_next s.funcs l.task l.place) (c.args.most - l.left) v.steps c.requires.store c.requires.task in
+    let here = can_next s is l.task l.place c.index-rest-0.result refl (rest_within is l.rest.now l.place v.rest v.some) (rest_read is l.rest.now l.place v.rest v.some c.index-rest-0.result c.index-rest-0.is) c.requires.store typed.1 v.going in
     let behind = rest_behind is l.rest.now l.place v.rest v.some in
-    met_here s (thread_of s.funcs c.args.task.now) (c.args.most - l.left) l.left (l.place + 1) (nat_lt 1 (length l.rest.now)) l.task c.quietly.new.task c.index-rest-0.result _ v.steps c.loop-left-test.true (v.going, here, behind) c.in-Segment.ensures.done.0 c.in-Segment.ensures.done.1
+    met_here s (thread_of s.funcs c.args.task.now) (c.args.most - l.left) l.place l.task c.quietly.new.task c.go_to-in-Segment.new.self c.in-Segment.ensures.done.1 v.steps v.going (c.go_to-in-Segment.ensures.thread s.funcs) (c.go_to-in-Segment.ensures.others s.funcs) c.go_to-in-Segment.ensures.place l.left (l.place + 1) (nat_lt 1 (length l.rest.now)) c.index-rest-0.result _ c.loop-left-test.true (stands s is l.task l.place c.index-rest-0.result refl (rest_within is l.rest.now l.place v.rest v.some) (rest_read is l.rest.now l.place v.rest v.some c.index-rest-0.result c.index-rest-0.is)) here behind c.in-Segment.ensures.done.0
 
 pub loop-left-preserved : goal.loop-left-preserved
 loop-left-preserved g c =
@@ -75,63 +75,63 @@ loop-left-preserved g c =
     let t' = c.match-quietly.task in
     let n = c.args.most - l.left in
     let t0 = thread_of s.funcs c.args.task.now in
-    let t1 = thread_of s.funcs l.task in
+    let t1 = at_next s.funcs l.task l.place in
     let some = c.loop-left-test.true in
     let room = v.left in
     elim c.match-quietly.branch [
       | in-On w ↦
-          let done = subst (λ (x : Task). StepsQuietly s t1 s (thread_of s.funcs x) × IsAt l.task (l.place + 1) x) (sym w.task-is) w.in-On.ensures.done in
+          let done = subst (λ (x : Task). StepsQuietly s (with_first c.index-rest-0.result (at_next s.funcs l.task (l.place + 1))) s (at_next s.funcs x (l.place + 1)) × IsAt l.task l.task.place x) (sym w.task-is) w.in-On.ensures.done in
           let at = done.1 in
+          let stand = stands s is l.task l.place c.index-rest-0.result refl (rest_within is l.rest.now l.place v.rest v.some) (rest_read is l.rest.now l.place v.rest v.some c.index-rest-0.result c.index-rest-0.is) in
+          let step : StepsQuietly s t1 s (at_next s.funcs t' c.match-quietly.place) = subst (λ p. StepsQuietly s t1 s (at_next s.funcs t' p)) (sym w.place-is) (subst (λ (x : Thread). StepsQuietly s x s (at_next s.funcs t' (l.place + 1))) (sym stand) done.0) in
           let behind = w.in-On.ensures.on refl in
           let more = ltb-true 1 (length l.rest.now) behind in
           let rests : c.match-quietly.rest.now ≡ drop 1 l.rest.now = ap (λ (b : Bor (List Instr)). b.now) w.rest-is ∙ rest_from l.rest.now 1 in
           let same : is ≡ sequence s.funcs t'.function t'.sequence = rw (at.0, at.1) refl in
-          let inside = subst (λ n. n < length is) (sym at.2) (rest_behind is l.rest.now l.place v.rest v.some behind) in
+          let within = rest_behind is l.rest.now l.place v.rest v.some behind in
+          let inside : c.match-quietly.place < length is = subst (λ p. p < length is) (sym w.place-is) within in
           let far = v.far in
           record {
-            steps = quietly_on s s s n (c.args.most - (c.match-quietly.left - 1)) t0 t1 (thread_of s.funcs t') v.steps v.going done.0 (omega (arith, some, room, w.left-is));
+            steps = quietly_on s s s n (c.args.most - (c.match-quietly.left - 1)) t0 t1 (at_next s.funcs t' c.match-quietly.place) v.steps v.going step (omega (arith, some, room, w.left-is));
             left = omega (arith, some, room, w.left-is);
-            going = going_at s t' (subst (λ (xs : List Instr). t'.place < length xs) same inside);
+            going = going_at s t' c.match-quietly.place (subst (λ (xs : List Instr). c.match-quietly.place < length xs) same inside);
             rest = rests ∙ ap (drop 1) v.rest ∙ drop-drop 1 l.place is ∙ ap (λ p. drop p is) (sym w.place-is) ∙ ap (drop c.match-quietly.place) same;
-            place = w.place-is ∙ sym at.2;
             some = omega (arith, ap length rests, length-drop 1 l.rest.now, more);
             far = omega (arith, ap length rests, length-drop 1 l.rest.now, more, w.place-is, far);
           }
       | in-Behind+in-Some w ↦
           let code = w.in-Some.code.now in
-          let typed = quietly_typed s s t0 t1 n v.steps c.requires.store c.requires.task in
-          let here = is_next s is l.task l.place c.index-rest-0.result refl v.place (rest_within is l.rest.now l.place v.rest v.some) (rest_read is l.rest.now l.place v.rest v.some c.index-rest-0.result c.index-rest-0.is) c.requires.store typed.1 v.going in
           let left = subst (λ (x : Task). thread_of s.funcs x ≡ exited (thread_of s.funcs c.quietly.new.task)) (sym w.task-is) w.in-Some.ensures.exited in
           let there = subst (λ (x : Task). IsIn code s.funcs x) (sym w.task-is) w.in-Some.ensures.code in
-          let step = leaves s s t1 (at_next s.funcs l.task (l.place + 1)) (thread_of s.funcs c.quietly.new.task) (thread_of s.funcs t') c.index-rest-0.result here.0 w.in-Behind.ensures.done left in
+          let step = leaves s s t1 (at_next s.funcs l.task (l.place + 1)) (thread_of s.funcs c.quietly.new.task) (thread_of s.funcs t') c.index-rest-0.result (stands s is l.task l.place c.index-rest-0.result refl (rest_within is l.rest.now l.place v.rest v.some) (rest_read is l.rest.now l.place v.rest v.some c.index-rest-0.result c.index-rest-0.is)) w.in-Behind.ensures.done left in
           let rests : c.match-quietly.rest.now ≡ drop w.place-place-in-Some.result code = ap (λ (b : Bor (List Instr)). b.now) w.rest-is ∙ rest_from code w.place-place-in-Some.result in
           let places = w.place-is ∙ w.place-place-in-Some.ensures ∙ ap (λ (x : Task). x.place) (sym w.task-is) in
+          let at_place : thread_of s.funcs t' ≡ at_next s.funcs t' c.match-quietly.place = ap (λ p. at_next s.funcs t' p) (sym places) in
           let within = there.1 in
           let far = there.3 in
           record {
-            steps = quietly_on s s s n (c.args.most - (c.match-quietly.left - 1)) t0 t1 (thread_of s.funcs t') v.steps v.going step (omega (arith, some, room, w.left-is));
+            steps = subst (λ (x : Thread). GoesQuietly s t0 (c.args.most - (c.match-quietly.left - 1)) s x) at_place (quietly_on s s s n (c.args.most - (c.match-quietly.left - 1)) t0 t1 (thread_of s.funcs t') v.steps v.going step (omega (arith, some, room, w.left-is)));
             left = omega (arith, some, room, w.left-is);
-            going = there.2;
+            going = subst (λ (x : Thread). x.work ≢ []) at_place there.2;
             rest = rests ∙ ap (λ p. drop p code) (sym w.place-is) ∙ ap (drop c.match-quietly.place) there.0;
-            place = places;
             some = omega (arith, ap length rests, length-drop w.place-place-in-Some.result code, w.place-is, places, within);
             far = omega (arith, ap length rests, length-drop w.place-place-in-Some.result code, w.place-is, places, within, far);
           }
       | in-Again w ↦
           let code = w.in-Again.code.now in
-          let done = subst (λ (x : Task). DoesAgain code s t1 x) (sym w.task-is) w.in-Again.ensures.done in
+          let done = subst (λ (x : Task). DoesAgain code s t1 x) (sym w.task-is) (subst (λ (x : Thread). DoesAgain code s x c.quietly.new.task) (sym (stands s is l.task l.place c.index-rest-0.result refl (rest_within is l.rest.now l.place v.rest v.some) (rest_read is l.rest.now l.place v.rest v.some c.index-rest-0.result c.index-rest-0.is))) w.in-Again.ensures.done) in
           let there = done.1 in
           let rests : c.match-quietly.rest.now ≡ drop w.place-place-in-Again.result code = ap (λ (b : Bor (List Instr)). b.now) w.rest-is ∙ rest_from code w.place-place-in-Again.result in
           let places = w.place-is ∙ w.place-place-in-Again.ensures ∙ ap (λ (x : Task). x.place) (sym w.task-is) in
           let two = ltb-true 1 l.left (w.in-Again.ensures.again (tt {0})) in
+          let at_place : thread_of s.funcs t' ≡ at_next s.funcs t' c.match-quietly.place = ap (λ p. at_next s.funcs t' p) (sym places) in
           let within = there.1 in
           let far = there.3 in
           record {
-            steps = quietly_trans s s s n 2 (c.args.most - (c.match-quietly.left - 1)) t0 t1 (thread_of s.funcs t') v.steps done.0 (omega (arith, room, two, w.left-is));
+            steps = subst (λ (x : Thread). GoesQuietly s t0 (c.args.most - (c.match-quietly.left - 1)) s x) at_place (quietly_trans s s s n 2 (c.args.most - (c.match-quietly.left - 1)) t0 t1 (thread_of s.funcs t') v.steps done.0 (omega (arith, room, two, w.left-is)));
             left = omega (arith, room, two, w.left-is);
-            going = there.2;
+            going = subst (λ (x : Thread). x.work ≢ []) at_place there.2;
             rest = rests ∙ ap (λ p. drop p code) (sym w.place-is) ∙ ap (drop c.match-quietly.place) there.0;
-            place = places;
             some = omega (arith, ap length rests, length-drop w.place-place-in-Again.result code, w.place-is, places, within);
             far = omega (arith, ap length rests, length-drop w.place-place-in-Again.result code, w.place-is, places, within, far);
           }
@@ -146,9 +146,9 @@ returns-in-None-clause-met g c =
     let some = c.loop-left-test.true in
     let room = v.left in
     let t0 = thread_of s.funcs c.args.task.now in
-    let t1 = thread_of s.funcs l.task in
+    let t1 = at_next s.funcs l.task l.place in
     let t' = thread_of s.funcs c.leave.new.task in
     let typed = quietly_typed s s t0 t1 (c.args.most - l.left) v.steps c.requires.store c.requires.task in
-    let here = is_next s is l.task l.place c.index-rest-0.result refl v.place (rest_within is l.rest.now l.place v.rest v.some) (rest_read is l.rest.now l.place v.rest v.some c.index-rest-0.result c.index-rest-0.is) c.requires.store typed.1 v.going in
-    let step = leaves s s t1 (at_next s.funcs l.task (l.place + 1)) (thread_of s.funcs c.quietly.new.task) t' c.index-rest-0.result here.0 c.in-Behind.ensures.done c.leave.ensures.exited in
+    let here = can_next s is l.task l.place c.index-rest-0.result refl (rest_within is l.rest.now l.place v.rest v.some) (rest_read is l.rest.now l.place v.rest v.some c.index-rest-0.result c.index-rest-0.is) c.requires.store typed.1 v.going in
+    let step = leaves s s t1 (at_next s.funcs l.task (l.place + 1)) (thread_of s.funcs c.quietly.new.task) t' c.index-rest-0.result (stands s is l.task l.place c.index-rest-0.result refl (rest_within is l.rest.now l.place v.rest v.some) (rest_read is l.rest.now l.place v.rest v.some c.index-rest-0.result c.index-rest-0.is)) c.in-Behind.ensures.done c.leave.ensures.exited in
     (quietly_on s s s (c.args.most - l.left) (c.args.most - (l.left - 1)) t0 t1 t' v.steps v.going step (omega (arith, some, room)), c.in-None.ensures.code)
