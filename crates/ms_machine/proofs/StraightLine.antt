@@ -1,5 +1,5 @@
 -- Steps in a row of which the outside sees nothing.
-use Rattle.std.proofs.Common.{◌≡◌, ◌≢◌, ◌<◌, ◌≤◌, ◌+◌, ◌-◌, ◌*◌, ◌^◌, Bor, IfSome, IsTrue, MatchOption, ℕ, zero, suc, Bool, false, List, [], ◌∷◌, ◌++◌, Option, Some, None, append-nil, drop, get_or, get_or-drop, length, length-drop, nat_lt, slice_get, take, take_all, refl, sym, ap, subst, ◌∙◌, arith}
+use Rattle.std.proofs.Common.{◌≡◌, ◌≢◌, ◌==◌, ◌<◌, ◌≤◌, ◌+◌, ◌-◌, ◌*◌, ◌^◌, Bor, IfSome, IsTrue, MatchOption, ℕ, zero, suc, Bool, false, List, [], ◌∷◌, ◌++◌, Option, Some, None, append-nil, drop, get_or, get_or-drop, length, length-drop, nat_lt, slice_get, take, take_all, refl, sym, ap, subst, ◌∙◌, arith}
 use Rattle.std.proofs.lemmas.Bool.{ltb-true}
 use Rattle.ms_event.specs.declared.event.Event.{Event}
 use Rattle.ms_event.specs.declared.tally.Tally.{Tally}
@@ -24,8 +24,7 @@ use Rattle.ms_task.specs.declared.task.Task.{Task}
 use Rattle.ms_task.proofs.Items.{begins_past}
 use Rattle.ms_task.proofs.Places.{held, held_before}
 use Rattle.ms_segment.specs.Memory.{IsFit}
-use Rattle.ms_machine.specs.refinement.StraightLine.{DoesAgain, DoesQuietly, GoesCounted, GoesQuietly, GoesTelling, IsCalm, IsHalted, IsMet, IsNext, StepsCounted, StepsQuietly}
-use Rattle.ms_machine.specs.declared.straight.CarriedOut.TheVariants as carried
+use Rattle.ms_machine.specs.refinement.StraightLine.{DoesAgain, GoesCounted, GoesQuietly, GoesTelling, IsCalm, IsHalted, IsMet, IsNext, StepsCounted, StepsQuietly}
 use Rattle.ms_machine.specs.declared.straight.Stretch.{Stretch}
 use Rattle.ms_machine.specs.declared.straight.Stretch.TheVariants as stretches
 use Rattle.ms_machine.specs.refinement.Doing.{Can, Carries}
@@ -194,6 +193,10 @@ module _ (s : Store) (code : List Instr) (t : Task) (place : ℕ) (i : Instr)
 pub rest_from : (is : List Instr) (place : ℕ) → take (length is - place) (drop place is) ≡ drop place is
 rest_from is place = take_all (length is - place) (drop place is) (omega (arith, length-drop place is))
 
+pub some_left : (n : ℕ) → (n == 0) ≡ false → 0 < n
+some_left zero e = cc
+some_left (suc n) e = omega arith
+
 -- where the rest of a sequence begins at a place
 module _ (is rest : List Instr) (place : ℕ) (rest-is : rest ≡ drop place is) (some : 0 < length rest) where
   pub rest_within : place < length is
@@ -202,6 +205,9 @@ module _ (is rest : List Instr) (place : ℕ) (rest-is : rest ≡ drop place is)
   pub rest_read : (i : Instr) → i ≡ get_or rest 0 i → i ≡ get_or is place i
   rest_read i read = let e : place + 0 ≡ place = omega arith in read ∙ ap (λ xs. get_or xs 0 i) rest-is ∙ get_or-drop place is 0 i ∙ ap (λ n. get_or is n i) e
 
+  pub rest_more : 0 < length (drop 1 rest) → place + 1 < length is
+  rest_more more = omega (arith, length-drop place is, ap length rest-is, length-drop 1 rest, more)
+
   pub rest_behind : IsTrue (nat_lt 1 (length rest)) → place + 1 < length is
   rest_behind more-is = let more = ltb-true 1 (length rest) more-is in omega (arith, length-drop place is, ap length rest-is, more)
 
@@ -209,11 +215,11 @@ begins_at : (s : Store) (w : List Item) (f q next : ℕ) → next < length (sequ
 begins_at s w f q next within = begins_past (drop next (sequence s.funcs f q)) w (λ e. absurd (omega (arith, within, length-drop next (sequence s.funcs f q), ap length e)))
 
 -- another one stands behind it
-pub carried_on : (s : Store) (t t' : Task) (i : Instr) (next : ℕ) → Carries i next s t t' → next < length (sequence s.funcs t.function t.sequence) → DoesQuietly carried.On i next s t t'
+pub carried_on : (s : Store) (t t' : Task) (i : Instr) (next : ℕ) → Carries i next s t t' → next < length (sequence s.funcs t.function t.sequence) → StepsQuietly s (with_first i (at_next s.funcs t next)) s (at_next s.funcs t' next)
 carried_on s t t' i next (acts, at) within =
     let begins = begins_at s (outer_of s.funcs t') t.function t.sequence next within in
     let e : rest_at s.funcs t.function t.sequence next ≡ rest_at s.funcs t'.function t'.sequence next = rw (at.0, at.1) refl in
-    (stays s (with_first i (at_next s.funcs t next)) (at_next s.funcs t next) (at_next s.funcs t' next) i refl acts (subst (λ w. Begins (w ++ outer_of s.funcs t')) e begins), at)
+    stays s (with_first i (at_next s.funcs t next)) (at_next s.funcs t next) (at_next s.funcs t' next) i refl acts (subst (λ w. Begins (w ++ outer_of s.funcs t')) e begins)
 
 -- a task whose work goes on within a sequence has something to do
 pub going_at : (s : Store) (t : Task) (place : ℕ) → place < length (sequence s.funcs t.function t.sequence) → (at_next s.funcs t place).work ≢ []

@@ -137,7 +137,7 @@ fn call<M: SegmentMemory>(store: &Store<M>, task: &mut Task, x: u32, next: usize
 /// What came of an instruction.
 #[derive(Clone, Copy)]
 pub(crate) enum CarriedOut<'a> {
-    /// It was carried out, and the task goes on behind it in the same sequence.
+    /// It was carried out, but that the task was left at its place: it goes on behind the instruction, in the same sequence.
     On,
     /// It was carried out, but for the exit of blocks and calls that are then at their ends.
     Behind,
@@ -155,30 +155,22 @@ pub(crate) enum CarriedOut<'a> {
     Memory,
 }
 
-/// An instruction that stays within its sequence, behind which the task goes on at `next`, where `more` says that another
-/// one stands.
+/// An instruction that stays within its sequence, behind which the task goes on at `next`.
 #[inline(always)]
 fn straight<'a, M: SegmentMemory>(
     store: &'a Store<M>,
     task: &mut Task,
     instr: &Instr,
     next: usize,
-    more: bool,
 ) -> CarriedOut<'a>
     requires can { Can instr.now next store.now task.old }
-    requires more { IsTrue more → next < length (sequence store.now.funcs task.old.function task.old.sequence) }
     ensures done { DoesQuietly result instr.now next store.now task.old task.new }
-    ensures on { result ≡ CarriedOut.On → IsTrue more }
     ensures once { ¬ IsAgain result }
 {
     if !carry_straight(store, task, instr, next) {
         return CarriedOut::Not;
     }
-    if more {
-        return CarriedOut::On;
-    }
-    task.go_to(next);
-    CarriedOut::Behind
+    CarriedOut::On
 }
 
 /// An instruction on handles alone, in the same way; of each other one on segments it says that it is one.
@@ -190,23 +182,16 @@ fn on_handles<'a, M: SegmentMemory>(
     task: &mut Task,
     i: Segment,
     next: usize,
-    more: bool,
 ) -> CarriedOut<'a>
     requires can { Can (instr.Segment i) next store.now task.old }
-    requires more { IsTrue more → next < length (sequence store.now.funcs task.old.function task.old.sequence) }
     requires fit { Each (Fits store.now.segments) task.old.operands }
     ensures done { DoesQuietly result (instr.Segment i) next store.now task.old task.new }
-    ensures on { result ≡ CarriedOut.On → IsTrue more }
     ensures once { ¬ IsAgain result }
 {
     if !carry_on_handles(store, task, i, next) {
         return CarriedOut::Segment(i);
     }
-    if more {
-        return CarriedOut::On;
-    }
-    task.go_to(next);
-    CarriedOut::Behind
+    CarriedOut::On
 }
 
 /// A jump, behind which the task goes on at `next` where it doesn't lead elsewhere.
@@ -261,30 +246,22 @@ fn pass<M: SegmentMemory>(store: &Store<M>, task: &mut Task, instr: &Instr, next
     }
 }
 
-/// A branch, behind which another instruction stands in its sequence where `more` says so. Where `two` steps may be made, one to
-/// a loop begins it again.
+/// A branch. Where `two` steps may be made, one to a loop begins it again.
 #[inline(always)]
 fn branch<'a, M: SegmentMemory>(
     store: &'a Store<M>,
     task: &mut Task,
     instr: &Instr,
     next: usize,
-    more: bool,
     two: bool,
 ) -> CarriedOut<'a>
     requires before { before store.now.funcs task.old next ≡ Some instr.now }
     requires can { Can instr.now next store.now task.old }
-    requires more { IsTrue more → next < length (sequence store.now.funcs task.old.function task.old.sequence) }
     ensures done { DoesQuietly result instr.now next store.now task.old task.new }
-    ensures on { result ≡ CarriedOut.On → IsTrue more }
     ensures again { IsAgain result → IsTrue two }
 {
     if pass(store, task, instr, next) {
-        if more {
-            return CarriedOut::On;
-        }
-        task.go_to(next);
-        return CarriedOut::Behind;
+        return CarriedOut::On;
     }
     if !two {
         return leap(store, task, instr, next);
@@ -295,9 +272,8 @@ fn branch<'a, M: SegmentMemory>(
     }
 }
 
-/// Carries out an instruction that takes the store as it is, behind which the task goes on at `next`, where `more` says
-/// that another one stands, or two of them, where `two` says that so many may be carried out; or it says what the
-/// instruction is.
+/// Carries out an instruction that takes the store as it is, behind which the task goes on at `next`, or two of them, where `two`
+/// says that so many may be carried out; or it says what the instruction is.
 ///
 /// Each has an arm of its own, so that one jump of the processor leads to its code.
 #[inline(always)]
@@ -306,34 +282,31 @@ fn quietly<'a, M: SegmentMemory>(
     task: &mut Task,
     instr: &Instr,
     next: usize,
-    more: bool,
     two: bool,
 ) -> CarriedOut<'a>
     requires before { before store.now.funcs task.old next ≡ Some instr.now }
     requires can { Can instr.now next store.now task.old }
     requires fit { Each (Fits store.now.segments) task.old.operands }
-    requires more { IsTrue more → next < length (sequence store.now.funcs task.old.function task.old.sequence) }
     ensures done { DoesQuietly result instr.now next store.now task.old task.new }
-    ensures on { result ≡ CarriedOut.On → IsTrue more }
     ensures again { IsAgain result → IsTrue two }
 {
     match *instr {
-        Instr::Nop => straight(store, task, instr, next, more),
-        Instr::Drop => straight(store, task, instr, next, more),
-        Instr::Select => straight(store, task, instr, next, more),
-        Instr::LocalGet(_) => straight(store, task, instr, next, more),
-        Instr::LocalSet(_) => straight(store, task, instr, next, more),
-        Instr::LocalTee(_) => straight(store, task, instr, next, more),
-        Instr::GlobalGet(_) => straight(store, task, instr, next, more),
-        Instr::I32Const(_) => straight(store, task, instr, next, more),
-        Instr::I64Const(_) => straight(store, task, instr, next, more),
-        Instr::Numeric(_) => straight(store, task, instr, next, more),
-        Instr::Segment(i) => on_handles(store, task, i, next, more),
+        Instr::Nop => straight(store, task, instr, next),
+        Instr::Drop => straight(store, task, instr, next),
+        Instr::Select => straight(store, task, instr, next),
+        Instr::LocalGet(_) => straight(store, task, instr, next),
+        Instr::LocalSet(_) => straight(store, task, instr, next),
+        Instr::LocalTee(_) => straight(store, task, instr, next),
+        Instr::GlobalGet(_) => straight(store, task, instr, next),
+        Instr::I32Const(_) => straight(store, task, instr, next),
+        Instr::I64Const(_) => straight(store, task, instr, next),
+        Instr::Numeric(_) => straight(store, task, instr, next),
+        Instr::Segment(i) => on_handles(store, task, i, next),
         Instr::Block { .. } => leap(store, task, instr, next),
         Instr::Loop { .. } => leap(store, task, instr, next),
         Instr::If { .. } => leap(store, task, instr, next),
-        Instr::Br(_) => branch(store, task, instr, next, more, two),
-        Instr::BrIf(_) => branch(store, task, instr, next, more, two),
+        Instr::Br(_) => branch(store, task, instr, next, two),
+        Instr::BrIf(_) => branch(store, task, instr, next, two),
         Instr::BrTable(_) => leap(store, task, instr, next),
         Instr::Return => leap(store, task, instr, next),
         Instr::Call(x) => match call(store, task, x, next) {
@@ -396,10 +369,21 @@ fn go<M: SegmentMemory>(store: &Store<M>, task: &mut Task, most: u64) -> (Met, u
     while left > 0 {
         let next = place + 1;
         let more = rest.len() > 1;
-        match quietly(store, task, &rest[0], next, more, left > 1) {
+        match quietly(store, task, &rest[0], next, left > 1) {
             CarriedOut::On => {
                 rest = &rest[1..];
-                place = next;
+                if rest.is_empty() {
+                    task.go_to(next);
+                    match leave(store, task) {
+                        Some(code) => {
+                            place = task.place();
+                            rest = &code[place..];
+                        }
+                        None => return (Met::Ended, left - 1),
+                    }
+                } else {
+                    place = next;
+                }
             }
             CarriedOut::Behind => match leave(store, task) {
                 Some(code) => {

@@ -6,10 +6,10 @@ use Rattle.ms_event.specs.refinement.Tally.{all_tallied}
 use Rattle.ms_module.specs.declared.instr.Instr.{Instr}
 use Rattle.ms_module.specs.declared.instr.Instr.TheVariants as instr
 use Rattle.ms_task.specs.Thread.{Thread, sequence, with_first}
-use Rattle.ms_task.specs.refinement.View.{IsAt, at_next, thread_of}
+use Rattle.ms_task.specs.refinement.View.{at_next, thread_of}
 use Rattle.ms_task.specs.declared.func.FuncInst.{FuncInst}
 use Rattle.ms_task.specs.declared.task.Task.{Task}
-use Rattle.ms_machine.specs.refinement.Doing.{Can}
+use Rattle.ms_machine.specs.refinement.Doing.{Can, Carries}
 use Rattle.ms_machine.specs.Running.{with_event}
 use Rattle.ms_machine.specs.Step.{Next, act, step_of}
 use Rattle.ms_machine.specs.Store.{Store}
@@ -88,7 +88,7 @@ IsAgain _ = ⊥
 -- The instruction is the first thing to do, and `next` is the place behind it: a task's own place is not that of its thread while
 -- instructions that stay within their sequence are carried out.
 abbrev pub DoesQuietly : CarriedOut → Instr → ℕ → Store → Task → Task → Type 0
-DoesQuietly carried.On i next s t t' = StepsQuietly s (with_first i (at_next s.funcs t next)) s (at_next s.funcs t' next) × IsAt t t.place t'
+DoesQuietly carried.On i next s t t' = Carries i next s t t'
 DoesQuietly carried.Behind i next s t t' = act s i (at_next s.funcs t next) ≡ Next s (thread_of s.funcs t') None
 DoesQuietly (carried.Again code) i next s t t' = DoesAgain code.now s (with_first i (at_next s.funcs t next)) t'
 DoesQuietly (carried.Linear j) i next s t t' = (i ≡ instr.Linear j) × (t' ≡ t)

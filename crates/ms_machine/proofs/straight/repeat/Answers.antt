@@ -1,4 +1,4 @@
-use Rattle.std.proofs.Common.{◌≢◌, List, ap, refl, subst, sym, ◌∙◌}
+use Rattle.std.proofs.Common.{◌≢◌, List, ap, subst, sym, ◌∙◌}
 use Rattle.ms_module.specs.declared.instr.Instr.{Instr}
 use Rattle.ms_task.specs.Control as control
 use Rattle.ms_task.specs.Control.{br_if_on, branch}
