@@ -1,10 +1,10 @@
 """The program whose instructions `bench/counts` counts: loops of the machine, and segments made and freed, over the crates alone.
 
-How many steps are made at most and whether events are kept is known to no compiler, as in the program itself: with constants for these
-the quick loop would have two values less in its registers.
+How many steps are made at most and whether events are kept is known to no compiler, and a general step calls what the quick loop calls,
+as in the program itself.
 """
 
-CRATES = "ms_machine ms_task ms_operate ms_linear ms_module ms_segment ms_tagged ms_live ms_event ms_handle ms_types".split()
+CRATES = "ms_machine ms_outside ms_task ms_operate ms_linear ms_module ms_segment ms_tagged ms_live ms_event ms_handle ms_types".split()
 # Those of the quick loop: they are taken without their contracts.
 STRIPPED = ("ms_linear", "ms_operate", "ms_task", "ms_machine")
 
@@ -85,7 +85,8 @@ use ms_event::Tally;
 use ms_handle::Kind;
 use ms_linear::{Linear as Memory, Room};
 use ms_live::{Gaps, Live, TreeGaps};
-use ms_machine::{Instance, Store, Stretch, run_quietly, start};
+use ms_machine::{Instance, Store, Stretch, run_quietly, start, step};
+use ms_outside::{MemSink, MemSource};
 use ms_module::{
     BinOp, Builder, Code, Instr, Linear, LoadOp, Locals, MemArg, Numeric, Opening, RelOp, Segment,
     StoreOp, Width,
@@ -287,6 +288,13 @@ fn execute(alloc: Global, which: u32, turns: u32) -> Result<u8, AllocError>
     let room = Room::new(alloc)?;
     let mut task = start(alloc, &room, &store, 0)?;
     let mut tally = Tally::new();
+    if which > @PAIRS@ {
+        let mut input = MemSource::new(alloc, Vec::new(alloc));
+        let mut out = MemSink::new(alloc, 16)?;
+        for _ in 0..turns {
+            step(&mut store, &mut task, &mut input, &mut out);
+        }
+    }
     let most = 1_000_000 * (u64::from(turns) + 1);
     let (stretch, _) = run_quietly(&mut store, &mut task, most, which > @PAIRS@, &mut tally);
     match stretch {
