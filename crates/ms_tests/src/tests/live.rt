@@ -124,103 +124,113 @@ fn lists<G: Gaps, R: Abort>(rt: &R, memory: &Memory<G>, live: &[u64]) {
     }
 }
 
+/// Of a capacity, what is done, and which segments are live then.
+const FIRST_FITS: [(u32, &[Step], &[u64]); 7] = [
+    (
+        0,
+        &[
+            Step::Full(1),
+            Step::Enter(0, 0),
+            Step::Full(1),
+            Step::Full(u32::MAX),
+        ],
+        &[1],
+    ),
+    (
+        16,
+        &[
+            Step::Full(17),
+            Step::Enter(16, 0),
+            Step::Full(1),
+            Step::Full(16),
+            Step::Full(u32::MAX),
+            Step::Enter(0, 0),
+            Step::Leave(1),
+            Step::Enter(1, 0),
+            Step::Full(1),
+            Step::Enter(0, 0),
+        ],
+        &[2, 3, 4],
+    ),
+    // A gap between two segments, and the bytes behind a segment that no place begins in.
+    (
+        128,
+        &[
+            Step::Enter(16, 0),
+            Step::Enter(16, 16),
+            Step::Enter(16, 32),
+            Step::Leave(2),
+            Step::Enter(17, 48),
+            Step::Enter(16, 16),
+            Step::Full(49),
+            Step::Enter(48, 80),
+            Step::Full(1),
+            Step::Leave(4),
+            Step::Full(33),
+            Step::Enter(32, 48),
+            Step::Full(1),
+        ],
+        &[1, 3, 5, 6, 7],
+    ),
+    (
+        100,
+        &[
+            Step::Enter(1, 0),
+            Step::Enter(16, 16),
+            Step::Enter(17, 32),
+            Step::Enter(1, 64),
+            Step::Full(21),
+            Step::Enter(20, 80),
+            Step::Full(1),
+            Step::Leave(1),
+            Step::Leave(2),
+            Step::Full(33),
+            Step::Enter(32, 0),
+        ],
+        &[3, 4, 5, 6],
+    ),
+    (
+        64,
+        &[
+            Step::Enter(0, 0),
+            Step::Enter(40, 0),
+            Step::Enter(0, 0),
+            Step::Enter(16, 48),
+            Step::Full(1),
+            Step::Leave(2),
+            Step::Enter(48, 0),
+            Step::Full(1),
+        ],
+        &[1, 3, 4, 5],
+    ),
+    (
+        u32::MAX,
+        &[
+            Step::Enter(u32::MAX, 0),
+            Step::Full(1),
+            Step::Full(u32::MAX),
+            Step::Enter(0, 0),
+            Step::Leave(2),
+        ],
+        &[1],
+    ),
+    (
+        u32::MAX,
+        &[
+            Step::Enter(u32::MAX - 15, 0),
+            Step::Full(16),
+            Step::Enter(15, u32::MAX - 15),
+            Step::Full(1),
+            Step::Leave(1),
+            Step::Enter(16, 0),
+        ],
+        &[2, 3],
+    ),
+];
+
 #[test]
 fn first_fit(rt: HostRuntime) -> Result<(), Fail> {
-    use Step::{Enter, Full, Leave};
-    let table: [(u32, &[Step], &[u64]); 7] = [
-        (0, &[Full(1), Enter(0, 0), Full(1), Full(u32::MAX)], &[1]),
-        (
-            16,
-            &[
-                Full(17),
-                Enter(16, 0),
-                Full(1),
-                Full(16),
-                Full(u32::MAX),
-                Enter(0, 0),
-                Leave(1),
-                Enter(1, 0),
-                Full(1),
-                Enter(0, 0),
-            ],
-            &[2, 3, 4],
-        ),
-        // A gap between two segments, and the bytes behind a segment that no place begins in.
-        (
-            128,
-            &[
-                Enter(16, 0),
-                Enter(16, 16),
-                Enter(16, 32),
-                Leave(2),
-                Enter(17, 48),
-                Enter(16, 16),
-                Full(49),
-                Enter(48, 80),
-                Full(1),
-                Leave(4),
-                Full(33),
-                Enter(32, 48),
-                Full(1),
-            ],
-            &[1, 3, 5, 6, 7],
-        ),
-        (
-            100,
-            &[
-                Enter(1, 0),
-                Enter(16, 16),
-                Enter(17, 32),
-                Enter(1, 64),
-                Full(21),
-                Enter(20, 80),
-                Full(1),
-                Leave(1),
-                Leave(2),
-                Full(33),
-                Enter(32, 0),
-            ],
-            &[3, 4, 5, 6],
-        ),
-        (
-            64,
-            &[
-                Enter(0, 0),
-                Enter(40, 0),
-                Enter(0, 0),
-                Enter(16, 48),
-                Full(1),
-                Leave(2),
-                Enter(48, 0),
-                Full(1),
-            ],
-            &[1, 3, 4, 5],
-        ),
-        (
-            u32::MAX,
-            &[
-                Enter(u32::MAX, 0),
-                Full(1),
-                Full(u32::MAX),
-                Enter(0, 0),
-                Leave(2),
-            ],
-            &[1],
-        ),
-        (
-            u32::MAX,
-            &[
-                Enter(u32::MAX - 15, 0),
-                Full(16),
-                Enter(15, u32::MAX - 15),
-                Full(1),
-                Leave(1),
-                Enter(16, 0),
-            ],
-            &[2, 3],
-        ),
-    ];
-    for (capacity, steps, live) in table {
+    for (capacity, steps, live) in FIRST_FITS {
         run::<ListGaps, HostRuntime>(&rt, rt.alloc(), capacity, steps, live)?;
         run::<TreeGaps, HostRuntime>(&rt, rt.alloc(), capacity, steps, live)?;
     }

@@ -70,115 +70,117 @@ fn first_rejected(alloc: Global, capacity: u32, lines: &[&str]) -> Result<usize,
     Ok(0)
 }
 
+/// Of a capacity, which line is rejected first, counted from 1, or 0, and the lines.
+const TRACES: [(u32, usize, &[&str]); 21] = [
+    // accepted
+    (64, 0, &[]),
+    (64, 0, &["alloc 1 0 4", "free 1", "alloc 2 0 4"]),
+    (64, 0, &["alloc 1 0 64", "refused 1"]),
+    (
+        64,
+        0,
+        &[
+            "alloc 3 16 0",
+            "alloc 2 16 0",
+            "alloc 1 4294967280 0",
+            "refused 65",
+            "free 2",
+        ],
+    ),
+    // painted by another colour; by the same
+    (64, 2, &["alloc 1 0 4", "alloc 2 0 4"]),
+    (
+        64,
+        4,
+        &[
+            "alloc 1 32 8",
+            "alloc 2 0 16",
+            "alloc 3 16 16",
+            "alloc 4 16 32",
+        ],
+    ),
+    // a colour that was used
+    (64, 3, &["alloc 1 0 4", "free 1", "alloc 1 0 4"]),
+    // not divisible by 16; beyond the capacity
+    (64, 1, &["alloc 1 8 4"]),
+    (64, 1, &["alloc 1 48 17"]),
+    // places outside the shade; a shade that isn't known
+    (64, 3, &["alloc 1 0 8", "slice 1 0 8 4 8", "read 1 4 8 0 4"]),
+    (
+        64,
+        4,
+        &[
+            "alloc 1 0 8",
+            "slice 1 0 8 2 6",
+            "write 1 2 6 2 4",
+            "write 1 2 6 3 4",
+        ],
+    ),
+    (64, 2, &["alloc 1 0 8", "read 1 0 7 0 1"]),
+    // the next allocation's address
+    (
+        64,
+        5,
+        &[
+            "alloc 1 32 8",
+            "alloc 2 0 32",
+            "read 1 0 8 32 8",
+            "write 2 0 32 24 8",
+            "read 2 0 32 24 9",
+        ],
+    ),
+    // after the end; shades stay known, and no address is touched by an access of no bytes
+    (64, 3, &["alloc 1 0 8", "free 1", "read 1 0 8 0 1"]),
+    (
+        64,
+        5,
+        &[
+            "alloc 1 0 8",
+            "free 1",
+            "slice 1 0 8 2 4",
+            "read 1 2 4 0 0",
+            "write 1 2 4 2 1",
+        ],
+    ),
+    (64, 3, &["alloc 1 0 8", "free 1", "free 1"]),
+    (64, 1, &["free 7"]),
+    // a part that is no part
+    (
+        64,
+        3,
+        &["alloc 1 0 8", "slice 1 0 8 4 8", "slice 1 4 8 3 5"],
+    ),
+    (64, 2, &["alloc 1 0 8", "slice 1 0 8 6 4"]),
+    // there is room, between two and behind the last
+    (
+        64,
+        6,
+        &[
+            "alloc 1 16 16",
+            "alloc 18446744073709551615 0 16",
+            "alloc 0 32 32",
+            "free 1",
+            "refused 17",
+            "refused 16",
+        ],
+    ),
+    (
+        20,
+        6,
+        &[
+            "alloc 1 0 4",
+            "alloc 2 16 4",
+            "refused 1",
+            "free 2",
+            "refused 5",
+            "refused 4",
+        ],
+    ),
+];
+
 #[test]
 fn traces_judged_by_hand(rt: HostRuntime) -> Result<(), Fail> {
-    let table: [(u32, usize, &[&str]); 21] = [
-        // accepted
-        (64, 0, &[]),
-        (64, 0, &["alloc 1 0 4", "free 1", "alloc 2 0 4"]),
-        (64, 0, &["alloc 1 0 64", "refused 1"]),
-        (
-            64,
-            0,
-            &[
-                "alloc 3 16 0",
-                "alloc 2 16 0",
-                "alloc 1 4294967280 0",
-                "refused 65",
-                "free 2",
-            ],
-        ),
-        // painted by another colour; by the same
-        (64, 2, &["alloc 1 0 4", "alloc 2 0 4"]),
-        (
-            64,
-            4,
-            &[
-                "alloc 1 32 8",
-                "alloc 2 0 16",
-                "alloc 3 16 16",
-                "alloc 4 16 32",
-            ],
-        ),
-        // a colour that was used
-        (64, 3, &["alloc 1 0 4", "free 1", "alloc 1 0 4"]),
-        // not divisible by 16; beyond the capacity
-        (64, 1, &["alloc 1 8 4"]),
-        (64, 1, &["alloc 1 48 17"]),
-        // places outside the shade; a shade that isn't known
-        (64, 3, &["alloc 1 0 8", "slice 1 0 8 4 8", "read 1 4 8 0 4"]),
-        (
-            64,
-            4,
-            &[
-                "alloc 1 0 8",
-                "slice 1 0 8 2 6",
-                "write 1 2 6 2 4",
-                "write 1 2 6 3 4",
-            ],
-        ),
-        (64, 2, &["alloc 1 0 8", "read 1 0 7 0 1"]),
-        // the next allocation's address
-        (
-            64,
-            5,
-            &[
-                "alloc 1 32 8",
-                "alloc 2 0 32",
-                "read 1 0 8 32 8",
-                "write 2 0 32 24 8",
-                "read 2 0 32 24 9",
-            ],
-        ),
-        // after the end; shades stay known, and no address is touched by an access of no bytes
-        (64, 3, &["alloc 1 0 8", "free 1", "read 1 0 8 0 1"]),
-        (
-            64,
-            5,
-            &[
-                "alloc 1 0 8",
-                "free 1",
-                "slice 1 0 8 2 4",
-                "read 1 2 4 0 0",
-                "write 1 2 4 2 1",
-            ],
-        ),
-        (64, 3, &["alloc 1 0 8", "free 1", "free 1"]),
-        (64, 1, &["free 7"]),
-        // a part that is no part
-        (
-            64,
-            3,
-            &["alloc 1 0 8", "slice 1 0 8 4 8", "slice 1 4 8 3 5"],
-        ),
-        (64, 2, &["alloc 1 0 8", "slice 1 0 8 6 4"]),
-        // there is room, between two and behind the last
-        (
-            64,
-            6,
-            &[
-                "alloc 1 16 16",
-                "alloc 18446744073709551615 0 16",
-                "alloc 0 32 32",
-                "free 1",
-                "refused 17",
-                "refused 16",
-            ],
-        ),
-        (
-            20,
-            6,
-            &[
-                "alloc 1 0 4",
-                "alloc 2 16 4",
-                "refused 1",
-                "free 2",
-                "refused 5",
-                "refused 4",
-            ],
-        ),
-    ];
-    for (capacity, rejected, lines) in &table {
+    for (capacity, rejected, lines) in &TRACES {
         let first = first_rejected(rt.alloc(), *capacity, lines)?;
         assert_eq!(rt; first, *rejected, "{lines:?}");
     }
