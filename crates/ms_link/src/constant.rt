@@ -63,7 +63,7 @@ fn value_at(globals: &[GlobalInst], a: u32) -> Value
     ensures { result ≡ linked.value_at globals.now a }
 {
     match globals.get(a as usize) {
-        Some(global) => global.value,
+        Some(global) => global.value.value(),
         None => Value::I32(0),
     }
 }

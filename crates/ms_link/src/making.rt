@@ -10,7 +10,7 @@ ghost use Rattle.ms_module.specs.declared.module.Module.{Module};
 
 use crate::constant::constant;
 use crate::hosting::{funcs_in, push_hosts};
-use ms_linear::{GlobalInst, Linear, Table};
+use ms_linear::{Cell, GlobalInst, Linear, Table};
 use ms_machine::Extern;
 use ms_module::{Func, Global as ModuleGlobal};
 use ms_task::{FuncInst, SharedLocals};
@@ -143,7 +143,7 @@ fn own_global(globals: &[GlobalInst], imported: &[u32], global: &ModuleGlobal) -
     ensures { result ≡ linked.own_global (linked.values_at globals.now imported.now) global.now }
 {
     GlobalInst {
-        value: constant(globals, imported, &global.init),
+        value: Cell::of(constant(globals, imported, &global.init)),
         mutable: global.ty.mutable,
     }
 }

@@ -13,6 +13,6 @@ mod list_gaps;
 mod order;
 mod tree_gaps;
 
-pub use gaps::{ALIGNMENT, GAP_LEVELS, Gaps, Live, MOST_LIVE};
+pub use gaps::{ALIGNMENT, Gaps, Live, MOST_LIVE};
 pub use list_gaps::ListGaps;
 pub use tree_gaps::{TreeGaps, levels_for};

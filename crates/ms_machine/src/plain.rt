@@ -132,12 +132,7 @@ pub(crate) fn local_set<M: SegmentMemory>(
 {
     let _ = store;
     let _ = next;
-    let cell = task.operands.cell(0);
-    if !task.frames.set_near(x as usize, cell)
-        && task.frames.set_to_top(x as usize, &task.operands).is_err()
-    {
-        return Err(AllocError);
-    }
+    task.frames.set_to_top(x as usize, &task.operands)?;
     task.operands.cut(1);
     Ok(())
 }
@@ -155,13 +150,7 @@ pub(crate) fn local_tee<M: SegmentMemory>(
 {
     let _ = store;
     let _ = next;
-    let cell = task.operands.cell(0);
-    if !task.frames.set_near(x as usize, cell)
-        && task.frames.set_to_top(x as usize, &task.operands).is_err()
-    {
-        return Err(AllocError);
-    }
-    Ok(())
+    task.frames.set_to_top(x as usize, &task.operands)
 }
 
 /// `global.get`.
@@ -176,8 +165,8 @@ pub(crate) fn global_get<M: SegmentMemory>(
     ensures err { OnErr result (task.new ≡ task.old) }
 {
     let _ = next;
-    let value = global(store, task, x).value;
-    task.operands.push(value)
+    let cell = global(store, task, x).value;
+    task.operands.push_cell(cell)
 }
 
 /// `global.set`.
@@ -192,7 +181,7 @@ pub(crate) fn global_set<M: SegmentMemory>(
     ensures tells { TellsNone result }
 {
     let address = global_address(store, task, x);
-    store.set_global(address, task.operands.get(0));
+    store.set_global(address, task.operands.cell(0));
     task.operands.cut(1);
     task.go_to(next);
     Ok(None)

@@ -5,7 +5,7 @@ ghost use Rattle.ms_machine.specs.Step.{host_in};
 ghost use Rattle.ms_machine.specs.Store.{at, number_of_instance, with_globals};
 
 use ms_host::Host;
-use ms_linear::{GlobalInst, Linear, Table, Value};
+use ms_linear::{Cell, GlobalInst, Linear, Table};
 use ms_module::Export;
 use ms_segment::SegmentMemory;
 use ms_task::FuncInst;
@@ -126,7 +126,7 @@ impl<M: SegmentMemory> Store<M> {
     }
 
     /// Gives the global of an address a value.
-    pub(crate) fn set_global(&mut self, address: u32, value: Value)
+    pub(crate) fn set_global(&mut self, address: u32, value: Cell)
         requires { slice_get self.old.globals address ≢ None }
         ensures { MatchOption (slice_get self.old.globals address) ⊥ (λ g. self.new ≡ with_globals self.old (slice_set self.old.globals address (record { value = value; mutable = g.mutable }))) }
     {

@@ -153,7 +153,7 @@ fn add_global(
     ensures { OnOk result (Gathers live.now (value_at globals.now address) closing.old closing.new) }
 {
     match globals.get(address as usize) {
-        Some(global) => closing.add_value(live, global.value),
+        Some(global) => closing.add_value(live, global.value.value()),
         None => Ok(()),
     }
 }

@@ -135,7 +135,7 @@ impl Frames {
 
     /// Writes the local of this index of the current frame where it is near, and says whether it is; else nothing has changed.
     #[inline(always)]
-    pub fn set_near(&mut self, i: usize, v: Cell) -> bool
+    fn set_near(&mut self, i: usize, v: Cell) -> bool
         requires { i < length self.old.1 }
         ensures near { IsTrue result → self.new ≡ (self.old.0, slice_set self.old.1 i v) }
         ensures far { result ≡ false → self.new ≡ self.old }
@@ -152,18 +152,28 @@ impl Frames {
 
     /// Writes the topmost operand to the local of this index of the current frame. It fails where that isn't near and its memory or
     /// room has ended; then nothing has changed.
-    #[inline(never)]
+    #[inline(always)]
     pub fn set_to_top(&mut self, i: usize, operands: &Operands) -> Result<(), AllocError>
         requires index { i < length self.old.1 }
         requires some { 0 < length operands.now }
         ensures ok { OnOk result ((v : Value) → slice_get operands.now 0 ≡ Some v → self.new ≡ (self.old.0, slice_set self.old.1 i v)) }
         ensures err { OnErr result (self.new ≡ self.old) }
     {
-        let cell = operands.cell(0);
-        if self.set_near(i, cell) {
+        if self.set_near(i, operands.cell(0)) {
             return Ok(());
         }
-        self.set_far(i, cell)
+        self.set_far_to_top(i, operands)
+    }
+
+    /// The same of a local that isn't near.
+    #[inline(never)]
+    fn set_far_to_top(&mut self, i: usize, operands: &Operands) -> Result<(), AllocError>
+        requires index { i < length self.old.1 }
+        requires some { 0 < length operands.now }
+        ensures ok { OnOk result ((v : Value) → slice_get operands.now 0 ≡ Some v → self.new ≡ (self.old.0, slice_set self.old.1 i v)) }
+        ensures err { OnErr result (self.new ≡ self.old) }
+    {
+        self.set_far(i, operands.cell(0))
     }
 
     /// Writes the local of this index of the current frame, which isn't near. It fails where its memory or room has ended; then

@@ -169,8 +169,6 @@ returns-in-None-clause-met g c =
     let t0 = thread_of s.funcs c.args.task.now in
     let t1 = at_next s.funcs l.task l.place in
     let t' = thread_of s.funcs c.leave.new.task in
-    let typed = quietly_typed s s t0 t1 (c.args.most - l.left) v.steps c.requires.store c.requires.task in
-    let here = can_next s is l.task l.place c.index-rest-0.result refl (rest_within is l.rest.now l.place v.rest v.some) (rest_read is l.rest.now l.place v.rest v.some c.index-rest-0.result c.index-rest-0.is) c.requires.store typed.1 v.going in
     let step = leaves s s t1 (at_next s.funcs l.task (l.place + 1)) (thread_of s.funcs c.go_to.new.self) t' c.index-rest-0.result (stands s is l.task l.place c.index-rest-0.result refl (rest_within is l.rest.now l.place v.rest v.some) (rest_read is l.rest.now l.place v.rest v.some c.index-rest-0.result c.index-rest-0.is)) (c.in-On.ensures.done.0 ∙ ap (λ (x : Thread). Next s x None) (sym (c.go_to.ensures.thread s.funcs))) c.leave.ensures.exited in
     (quietly_on s s s (c.args.most - l.left) (c.args.most - (l.left - 1)) t0 t1 t' v.steps v.going step (omega (arith, some, room)), c.in-None.ensures.code)
 
@@ -185,7 +183,5 @@ returns-in-None-leave-clause-met g c =
     let t0 = thread_of s.funcs c.args.task.now in
     let t1 = at_next s.funcs l.task l.place in
     let t' = thread_of s.funcs c.leave-in-Behind.new.task in
-    let typed = quietly_typed s s t0 t1 (c.args.most - l.left) v.steps c.requires.store c.requires.task in
-    let here = can_next s is l.task l.place c.index-rest-0.result refl (rest_within is l.rest.now l.place v.rest v.some) (rest_read is l.rest.now l.place v.rest v.some c.index-rest-0.result c.index-rest-0.is) c.requires.store typed.1 v.going in
     let step = leaves s s t1 (at_next s.funcs l.task (l.place + 1)) (thread_of s.funcs c.quietly.new.task) t' c.index-rest-0.result (stands s is l.task l.place c.index-rest-0.result refl (rest_within is l.rest.now l.place v.rest v.some) (rest_read is l.rest.now l.place v.rest v.some c.index-rest-0.result c.index-rest-0.is)) c.in-Behind.ensures.done c.leave-in-Behind.ensures.exited in
     (quietly_on s s s (c.args.most - l.left) (c.args.most - (l.left - 1)) t0 t1 t' v.steps v.going step (omega (arith, some, room)), c.in-None-leave.ensures.code)

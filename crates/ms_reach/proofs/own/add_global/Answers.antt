@@ -1,4 +1,4 @@
-use Rattle.std.proofs.Common.{length, refl, sym, ap, [], ◌∷◌}
+use Rattle.std.proofs.Common.{length, refl, sym, ap, subst, ◌∙◌, [], ◌∷◌}
 use Rattle.std.proofs.lemmas.Option.{slice_get_past, slice_get_read}
 use Rattle.std.proofs.lemmas.Result.{on_ok_weaker}
 use Rattle.ms_reach.specs.refinement.Leading.{IsValueInside}
@@ -12,7 +12,7 @@ add_value-requires-clause-inside c =
     let globals = c.args.globals.now in
     let global = c.in-Some.global.now in
     let h = c.in-Some.ensures.lookup in
-    global_get (IsValueInside c.args.live.now) globals c.args.address global c.requires.inside (slice_get_read globals (length globals) c.args.address global refl h.3.0 h.1)
+    subst (IsValueInside c.args.live.now) (sym c.value.ensures) (global_get (IsValueInside c.args.live.now) globals c.args.address global c.requires.inside (slice_get_read globals (length globals) c.args.address global refl h.3.0 h.1))
 
 pub returns-in-Some : goal.returns-in-Some
 returns-in-Some c =
@@ -20,7 +20,7 @@ returns-in-Some c =
     let global = c.in-Some.global.now in
     let h = c.in-Some.ensures.lookup in
     let is = slice_get_read globals (length globals) c.args.address global refl h.3.0 h.1 in
-    on_ok_weaker c.add_value.result (gather_is c.args.live.now (global.value ∷ []) (value_at globals c.args.address) c.args.closing.now c.add_value.new.self (sym (ap value_if is))) c.add_value.ensures
+    on_ok_weaker c.add_value.result (gather_is c.args.live.now (c.value.result ∷ []) (value_at globals c.args.address) c.args.closing.now c.add_value.new.self (ap (λ v. v ∷ []) c.value.ensures ∙ sym (ap value_if is))) c.add_value.ensures
 
 pub returns-in-None : goal.returns-in-None
 returns-in-None c =
