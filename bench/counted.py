@@ -1,12 +1,12 @@
 """The program whose instructions `bench/counts` counts: loops of the machine, and segments made and freed, over the crates alone.
 
-How many steps are made at most and whether events are kept is known to no compiler, and a general step calls what the quick loop calls,
-as in the program itself.
+They are run by a crew, as jobs are: how many tasks it has, their schedule, how many steps are made at most and whether events are kept is known to
+no compiler. So LLVM makes of the quick loop what it makes of it in the program itself, to the register.
 """
 
-CRATES = "ms_machine ms_outside ms_task ms_operate ms_linear ms_module ms_segment ms_tagged ms_live ms_event ms_handle ms_types".split()
-# Those of the quick loop: they are taken without their contracts.
-STRIPPED = ("ms_linear", "ms_operate", "ms_task", "ms_machine")
+CRATES = "ms_tasks ms_machine ms_outside ms_task ms_operate ms_linear ms_module ms_segment ms_tagged ms_live ms_event ms_handle ms_types".split()
+# Those of the quick loop, and who calls it: they are taken without their contracts.
+STRIPPED = ("ms_linear", "ms_operate", "ms_task", "ms_machine", "ms_tasks")
 
 NAME = "counted"
 # What is run, by its number, and how many turns it makes.
@@ -81,19 +81,19 @@ def source():
 TEMPLATE = """//! Loops of the machine, to be counted.
 #![tactic(auto)]
 
-use ms_event::Tally;
 use ms_handle::Kind;
-use ms_linear::{Linear as Memory, Room};
+use ms_linear::Linear as Memory;
 use ms_live::{Gaps, Live, TreeGaps};
-use ms_machine::{Instance, Store, Stretch, run_quietly, start, step};
+use ms_machine::{Instance, Store};
 use ms_outside::{MemSink, MemSource};
 use ms_module::{
-    BinOp, Builder, Code, Instr, Linear, LoadOp, Locals, MemArg, Numeric, Opening, RelOp, Segment,
+    BinOp, Builder, Code, Export, ExportDesc, Instr, Linear, LoadOp, Locals, MemArg, Name, Numeric, Opening, RelOp, Segment,
     StoreOp, Width,
 };
 use ms_segment::Segments;
 use ms_tagged::Granules;
 use ms_task::{FuncInst, SharedLocals};
+use ms_tasks::{Crew, Entries, Log, Ran, Schedule};
 use ms_types::{FuncType, Limits, SharedType, ValType, Vector};
 use std::alloc::{AllocError, Global};
 use std::process::ExitCode;
@@ -223,6 +223,20 @@ fn funcs_of(alloc: Global, which: u32, turns: u32) -> Result<Vec<FuncInst>, Allo
     Ok(funcs)
 }
 
+fn exports_of(alloc: Global) -> Result<Vector<Export>, AllocError>
+    requires { ⊥ }
+{
+    let mut exports = Vec::new(alloc);
+    let export = Export {
+        name: Name::new(alloc, "main")?,
+        desc: ExportDesc::Func(0),
+    };
+    match exports.push(export) {
+        Ok(()) => Ok(Vector::from_vec(exports)),
+        Err(_) => Err(AllocError),
+    }
+}
+
 fn instance_of(alloc: Global) -> Result<Instance, AllocError>
     requires { ⊥ }
 {
@@ -236,7 +250,7 @@ fn instance_of(alloc: Global) -> Result<Instance, AllocError>
         table: None,
         memory: Some(0),
         globals: Vector::new(alloc),
-        exports: Vector::new(alloc),
+        exports: exports_of(alloc)?,
         start: None,
     })
 }
@@ -280,25 +294,52 @@ fn store_of(alloc: Global, which: u32, turns: u32) -> Result<Store<SegmentMemory
     ))
 }
 
+/// A task, and more of them for numbers that are never given.
+fn tasks_of(alloc: Global, which: u32) -> Result<Vec<(u32, Name)>, AllocError>
+    requires { ⊥ }
+{
+    let mut tasks = Vec::new(alloc);
+    for _ in 0..1 + which / 100 {
+        match tasks.push((0, Name::new(alloc, "main")?)) {
+            Ok(()) => {}
+            Err(_) => return Err(AllocError),
+        }
+    }
+    Ok(tasks)
+}
+
+/// Turns of 1, and a list for numbers that are never given.
+fn schedule_of(alloc: Global, which: u32) -> Schedule
+    requires { ⊥ }
+{
+    if which > 1000 {
+        return Schedule {
+            entries: Entries::Listed(Vec::new(alloc)),
+            only: None,
+        };
+    }
+    Schedule {
+        entries: Entries::Turns(1),
+        only: None,
+    }
+}
+
 /// Goes through a loop. It gives 0 where the loop came to its end.
 fn execute(alloc: Global, which: u32, turns: u32) -> Result<u8, AllocError>
     requires { ⊥ }
 {
-    let mut store = store_of(alloc, which, turns)?;
-    let room = Room::new(alloc)?;
-    let mut task = start(alloc, &room, &store, 0)?;
-    let mut tally = Tally::new();
-    if which > @PAIRS@ {
-        let mut input = MemSource::new(alloc, Vec::new(alloc));
-        let mut out = MemSink::new(alloc, 16)?;
-        for _ in 0..turns {
-            step(&mut store, &mut task, &mut input, &mut out);
-        }
-    }
+    let store = store_of(alloc, which, turns)?;
+    let tasks = tasks_of(alloc, which)?;
+    let Ok(mut crew) = Crew::new(alloc, store, tasks) else {
+        return Err(AllocError);
+    };
+    let schedule = schedule_of(alloc, which);
+    let mut input = MemSource::new(alloc, Vec::new(alloc));
+    let mut out = MemSink::new(alloc, 16)?;
+    let mut log = Log::new(alloc, which > @PAIRS@);
     let most = 1_000_000 * (u64::from(turns) + 1);
-    let (stretch, _) = run_quietly(&mut store, &mut task, most, which > @PAIRS@, &mut tally);
-    match stretch {
-        Stretch::Ended => Ok(0),
+    match crew.run(&schedule, most, &mut input, &mut out, &mut log) {
+        Ran::Results => Ok(0),
         _ => Ok(1),
     }
 }

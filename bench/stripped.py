@@ -17,7 +17,7 @@ import sys
 
 from parts import TOP
 
-CLAUSE = re.compile(r"\s*(requires|ensures)\*?(\s+\w+)?\s*\{")
+CLAUSE = re.compile(r"\s*(?://[^\n]*\s+)*(requires|ensures)\*?(\s+\w+)?\s*\{")
 # Functions of the kit's traits, whose contracts are the traits' own.
 OF_TRAITS = ("from", "eq", "fmt", "drop")
 NEVER = "\n    requires { ⊥ }\n"
